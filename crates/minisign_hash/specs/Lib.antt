@@ -1,0 +1,3 @@
+pub mod Words
+pub mod Blake2b
+pub mod Fed
