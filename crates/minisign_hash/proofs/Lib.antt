@@ -1,2 +1,3 @@
+pub mod Bits
 pub mod Lists
 pub mod Feeding

@@ -1,5 +1,5 @@
--- Lists of four, eight and sixteen words as their members, and bounds on the members of lists.
-use Rattle.std.proofs.Common.{◌≡◌, ℕ, zero, suc, ◌+◌, ◌%◌, add-one, ◌<◌, Bool, true, false, ◌&&◌, refl, w64, nat_lt, List, [], ◌∷◌, ◌++◌, length, take, get_or, slice_index, slice_index_or, sym, ap, ◌∙◌}
+-- Lists of eight and sixteen words as their members, bounds on the members of lists, and steps of loops.
+use Rattle.std.proofs.Common.{◌≡◌, ℕ, zero, suc, ◌+◌, ◌%◌, add-one, ◌<◌, Bool, true, false, ◌&&◌, refl, w64, nat_lt, List, [], ◌∷◌, ◌++◌, length, take, slice_index, slice_index_or, sym, ap, ◌∙◌}
 use Rattle.std.specs.Int.{to_le_bytes}
 use Rattle.std.specs.List.{flat_map, list_all}
 use Rattle.std.proofs.lemmas.List.{append-nil, take_more}
@@ -8,9 +8,6 @@ use Rattle.std.proofs.lemmas.List.Concat.{flat_map-append}
 use Rattle.minisign_hash.specs.Blake2b.{round, rounds, sigma}
 use Rattle.minisign_hash.specs.Words.{bytes_of}
 use Rattle.std.proofs.lemmas.Simd.{pick_l_whole}
-
-pub four_of : (xs : List ℕ) → length xs ≡ 4 → xs ≡ slice_index xs 0 ∷ slice_index xs 1 ∷ slice_index xs 2 ∷ slice_index xs 3 ∷ []
-four_of xs h = sym (pick_l_whole 0 xs 4 h)
 
 pub eight_of : (xs : List ℕ) → length xs ≡ 8 → xs ≡ slice_index xs 0 ∷ slice_index xs 1 ∷ slice_index xs 2 ∷ slice_index xs 3
     ∷ slice_index xs 4 ∷ slice_index xs 5 ∷ slice_index xs 6 ∷ slice_index xs 7 ∷ []

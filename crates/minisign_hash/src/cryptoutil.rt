@@ -14,7 +14,8 @@ pub fn write_u64_le(dst: &mut [u8], input: u64)
     requires { length dst.old ≡ 8 }
     ensures { dst.new ≡ to_le_bytes w64 input }
 {
-    dst.copy_from_slice(&input.to_le_bytes());
+    let bytes: [u8; 8] = input.to_le_bytes();
+    dst.copy_from_slice(&bytes);
 }
 
 /// Writes the words of `input` into `dst`, eight bytes a word, the lowest byte of each first.
@@ -34,7 +35,8 @@ pub fn write_u32_le(dst: &mut [u8], input: u32)
     requires { length dst.old ≡ 4 }
     ensures { dst.new ≡ to_le_bytes w32 input }
 {
-    dst.copy_from_slice(&input.to_le_bytes());
+    let bytes: [u8; 4] = input.to_le_bytes();
+    dst.copy_from_slice(&bytes);
 }
 
 // Word number `i` of `input`.
@@ -100,10 +102,14 @@ impl<W: Write> WriteExt for W {
     }
 
     fn write_u32_le(&mut self, val: u32) -> io::Result<()> {
-        self.write_all(&val.to_le_bytes())
+        let mut bytes = [0u8; 4];
+        write_u32_le(&mut bytes, val);
+        self.write_all(&bytes)
     }
 
     fn write_u64_le(&mut self, val: u64) -> io::Result<()> {
-        self.write_all(&val.to_le_bytes())
+        let mut bytes = [0u8; 8];
+        write_u64_le(&mut bytes, val);
+        self.write_all(&bytes)
     }
 }

@@ -7,7 +7,7 @@ use Rattle.minisign_hash.proofs.blake2b.compress.Goals as goal
 
 pub rounds-init : goal.rounds-init
 unfolding rounds
-rounds-init c = c.start-v.ensures
+rounds-init c = c.work_vector-v.ensures
 
 pub rounds-preserved : goal.rounds-preserved
 rounds-preserved c =

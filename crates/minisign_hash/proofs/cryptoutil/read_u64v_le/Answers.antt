@@ -1,4 +1,4 @@
-use Rattle.std.proofs.Common.{◌≡◌, ◌/◌, ℕ, ◌<◌, length, slice_index, arith}
+use Rattle.std.proofs.Common.{◌/◌, length, arith}
 use Rattle.std.proofs.lemmas.List.FromFn.{fill_by_all}
 use Rattle.minisign_hash.specs.Words.{word_at, words_of}
 use Rattle.minisign_hash.proofs.cryptoutil.read_u64v_le.Goals as goal

@@ -1,4 +1,4 @@
-use Rattle.std.proofs.Common.{◌≡◌, ◌+◌, ◌++◌, length, take, refl, arith}
+use Rattle.std.proofs.Common.{◌+◌, length, refl, arith}
 use Rattle.std.proofs.lemmas.Slice.{take-put_mid}
 use Rattle.minisign_hash.specs.Fed.{Holds}
 use Rattle.minisign_hash.proofs.Feeding.{held_more}

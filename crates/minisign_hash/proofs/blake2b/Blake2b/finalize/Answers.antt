@@ -1,4 +1,4 @@
-use Rattle.std.proofs.Common.{◌≡◌, List, ℕ, take, ap, ◌∙◌}
+use Rattle.std.proofs.Common.{ℕ, take, ap, ◌∙◌}
 use Rattle.minisign_hash.specs.Blake2b.{blake2b_digest}
 use Rattle.minisign_hash.specs.Words.{bytes_of}
 use Rattle.minisign_hash.specs.Fed.{Holds, IsFed, output_length}

@@ -1,4 +1,4 @@
-use Rattle.std.proofs.Common.{◌≡◌, refl, arith, sym, ap, ◌∙◌}
+use Rattle.std.proofs.Common.{refl, arith, ◌∙◌}
 use Rattle.minisign_hash.specs.Fed.{Holds, IsFed}
 use Rattle.minisign_hash.proofs.Feeding.{held_last}
 use Rattle.minisign_hash.proofs.blake2b.Blake2b.last_state.Goals as goal

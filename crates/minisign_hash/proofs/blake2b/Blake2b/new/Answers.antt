@@ -6,4 +6,4 @@ use Rattle.minisign_hash.proofs.blake2b.Blake2b.new.Goals as goal
 
 pub returns-clause-fed : goal.returns-clause-fed
 unfolding Holds IsFed state_after
-returns-clause-fed c = ((0, held_none _ _ _ c.begin.ensures), λ some. absurd (omega arith))
+returns-clause-fed c = ((0, held_none _ _ _ c.first_state.ensures), λ some. absurd (omega arith))

@@ -1,5 +1,5 @@
-use Rattle.std.proofs.Common.{◌≡◌, ℕ, List, ◌++◌, length, false}
-use Rattle.minisign_hash.specs.Fed.{IsFed, has_finalized, output_length}
+use Rattle.std.proofs.Common.{◌≡◌, ℕ, List, ◌++◌, length}
+use Rattle.minisign_hash.specs.Fed.{IsFed}
 use Rattle.minisign_hash.proofs.blake2b.Blake2b.update.Given as goal
 
 abbrev pub invariant-pieces : goal.invariant-pieces

@@ -1,8 +1,8 @@
 use Rattle.std.proofs.Common.{◌≡◌, length, refl, arith}
 use Rattle.minisign_hash.specs.Blake2b.{iv, work_vector}
 use Rattle.minisign_hash.proofs.Lists.{eight_of}
-use Rattle.minisign_hash.proofs.blake2b.start.Goals as goal
-use Rattle.minisign_hash.proofs.blake2b.start.Goals.{then-last, else-last}
+use Rattle.minisign_hash.proofs.blake2b.work_vector.Goals as goal
+use Rattle.minisign_hash.proofs.blake2b.work_vector.Goals.{then-last, else-last}
 
 pub returns : goal.returns
 unfolding iv work_vector
