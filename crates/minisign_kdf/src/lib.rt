@@ -1,13 +1,13 @@
-// A library with one function.
+//! Key derivation: HMAC and PBKDF2 with SHA-256, and scrypt (RFC 2104, RFC 8018, RFC 7914).
+//!
+//! What each call computes stands in `specs/`, in the words of its RFC.
+
 #![tactic(auto)]
 
-ghost use Rattle.std.specs.Prelude.{◌≡◌};
-ghost use Rattle.minisign_kdf.specs.Echo.{echo_of};
-
-// The `ensures` clause is the contract: what `echo` returns is `echo_of` of its argument, a definition
-// in `specs/Echo.antt`, which a caller's clause can cite too.
-pub fn echo(x: usize) -> usize
-    ensures { result ≡ echo_of x }
-{
-    x
-}
+mod block_mix;
+pub mod hmac;
+pub mod params;
+pub mod pbkdf2;
+mod rom_mix;
+mod salsa;
+pub mod scrypt;

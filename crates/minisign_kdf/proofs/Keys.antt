@@ -1,0 +1,52 @@
+-- The key of HMAC, and the keys that PBKDF2 derives.
+use Rattle.std.proofs.Common.{◌≡◌, ℕ, ◌+◌, ◌-◌, ◌*◌, ◌/◌, ◌<◌, ◌≤◌, Bool, List, [], ◌∷◌, ◌++◌, length, take, map, replicate, slice_index, slice_set, bit_xor, if◌then◌else◌, sym, ap, ◌∙◌, arith}
+use Rattle.std.proofs.lemmas.Bool.{le-ltb, lt-ltb}
+use Rattle.std.proofs.Math.Seq.{take-append-add}
+use Rattle.std.proofs.lemmas.List.{append-nil, nil_from_length, take_all, get_or-map, length-map, take_more, take_more_set}
+use Rattle.sha2.specs.Sha256.{sha256}
+use Rattle.minisign_kdf.specs.Blocks.{joined}
+use Rattle.minisign_kdf.specs.Hmac.{key_block, shortened_key}
+use Rattle.minisign_kdf.specs.Pbkdf2.{derived_block, pbkdf2}
+use Rattle.minisign_kdf.proofs.Joined.{joined_next}
+
+pub key_block_long : (key digest block : List ℕ) → 64 < length key → digest ≡ sha256 key → block ≡ digest ++ replicate (64 - length digest) 0 → block ≡ key_block key
+unfolding key_block
+key_block_long key digest block long ed eb =
+    let chosen : shortened_key key ≡ sha256 key = ap (λ (t : Bool). if t then sha256 key else key) (lt-ltb 64 (length key) long) in
+    eb ∙ ap (λ (l : List ℕ). l ++ replicate (64 - length l) 0) (ed ∙ sym chosen)
+
+pub key_block_short : (key block : List ℕ) → length key ≤ 64 → block ≡ key ++ replicate (64 - length key) 0 → block ≡ key_block key
+unfolding key_block
+key_block_short key block short eb =
+    let chosen : shortened_key key ≡ key = ap (λ (t : Bool). if t then sha256 key else key) (le-ltb 64 (length key) short) in
+    eb ∙ ap (λ (l : List ℕ). l ++ replicate (64 - length l) 0) (sym chosen)
+
+-- one more byte is padded
+pub padded_next : (pad i : ℕ) (block out : List ℕ) → take i out ≡ take i (map (λ b. bit_xor b pad) block) → i < length out → i < length block
+    → take (i + 1) (slice_set out i (bit_xor (slice_index block i) pad)) ≡ take (i + 1) (map (λ b. bit_xor b pad) block)
+padded_next pad i block out done lo lb =
+    let f : ℕ → ℕ = λ b. bit_xor b pad in
+    take_more_set out i _ lo
+    ∙ (λ t. done t ++ sym (get_or-map f block i 0 0 lb) t ∷ [])
+    ∙ sym (take_more (map f block) i 0 (omega (arith, length-map block f)))
+
+-- a derived key of whole blocks
+pub pbkdf2_whole : (password salt w rest : List ℕ) (count len : ℕ) → w ≡ joined (λ i. derived_block password salt (i + 1)) count → length w ≡ 32 * count
+    → len ≡ 32 * count → length rest ≡ 0 → w ++ rest ≡ pbkdf2 password salt len
+unfolding pbkdf2
+pbkdf2_whole password salt w rest count len ew lw el none =
+    let blocks : (len + 31) / 32 ≡ count = omega arith in
+    ap (λ (l : List ℕ). w ++ l) (nil_from_length rest none) ∙ append-nil w ∙ sym (take_all len w (omega arith))
+    ∙ ap (take len) (ew ∙ ap (joined (λ (i : ℕ). derived_block password salt (i + 1))) (sym blocks))
+
+-- a derived key whose last block is cut
+pub pbkdf2_cut : (password salt w y : List ℕ) (count n len : ℕ) → w ≡ joined (λ i. derived_block password salt (i + 1)) count → length w ≡ 32 * count
+    → len ≡ 32 * count + n → 0 < n → n ≤ 32 → y ≡ take n (derived_block password salt (count + 1)) → w ++ y ≡ pbkdf2 password salt len
+unfolding pbkdf2
+pbkdf2_cut password salt w y count n len ew lw el some few ey =
+    let f : ℕ → List ℕ = λ i. derived_block password salt (i + 1) in
+    let blocks : (len + 31) / 32 ≡ count + 1 = omega arith in
+    let at : len ≡ length w + n = omega arith in
+    ap (λ (l : List ℕ). w ++ l) ey ∙ sym (take-append-add w (f count) n)
+    ∙ (λ t. take (sym at t) (ew t ++ f count))
+    ∙ ap (take len) (sym (joined_next f count) ∙ ap (joined f) (sym blocks))

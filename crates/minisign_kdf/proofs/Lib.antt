@@ -1,0 +1,9 @@
+pub mod Sixteen
+pub mod Bytes
+pub mod Joined
+pub mod Keys
+pub mod Mixing
+pub mod Derivation
+pub mod ParamsFacts
+pub mod Rows
+pub mod Parts

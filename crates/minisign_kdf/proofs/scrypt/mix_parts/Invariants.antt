@@ -1,0 +1,7 @@
+use Rattle.std.proofs.Common.{◌^◌}
+use Rattle.minisign_kdf.specs.Scrypt.{rom_mix}
+use Rattle.minisign_kdf.proofs.Parts.{AreChanged}
+use Rattle.minisign_kdf.proofs.scrypt.mix_parts.Given as goal
+
+abbrev pub invariant-parts : goal.invariant-parts
+invariant-parts l = AreChanged (rom_mix l.r (2 ^ l.n_log2)) l.len l.i l.fn.parts l.parts

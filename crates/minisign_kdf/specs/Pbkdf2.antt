@@ -1,0 +1,17 @@
+-- PBKDF2 (RFC 8018, section 5.2) with one iteration of HMAC with SHA-256.
+use Rattle.std.specs.Prelude.{ℕ, ◌+◌, ◌-◌, ◌*◌, ◌/◌, ◌^◌, List, ◌++◌, take}
+use Rattle.std.specs.Int.{w32, to_be_bytes}
+use Rattle.minisign_kdf.specs.Blocks.{joined}
+use Rattle.minisign_kdf.specs.Hmac.{hmac}
+
+-- the greatest length of a derived key: 2 ^ 32 - 1 blocks of 32 bytes
+abbrev pub longest_key : ℕ
+longest_key = (2 ^ 32 - 1) * 32
+
+-- T_i, for i from 1: U_1 alone, whose text ends with i as four bytes, high byte first
+unfoldable pub derived_block : List ℕ → List ℕ → ℕ → List ℕ
+derived_block password salt i = hmac password (salt ++ to_be_bytes w32 i)
+
+-- the first len bytes of T_1, T_2, .. joined
+unfoldable pub pbkdf2 : List ℕ → List ℕ → ℕ → List ℕ
+pbkdf2 password salt len = take len (joined (λ i. derived_block password salt (i + 1)) ((len + 31) / 32))

@@ -1,0 +1,62 @@
+//! HMAC with SHA-256 (RFC 2104), of a text that is handed over in parts.
+
+ghost use Rattle.std.specs.Prelude.{◌≡◌, ◌++◌, ◌-◌, ◌≤◌, length, map, replicate, bit_xor};
+ghost use Rattle.std.specs.List.{flat_map};
+ghost use Rattle.sha2.specs.Sha256.{sha256};
+ghost use Rattle.minisign_kdf.specs.Hmac.{hmac, key_block, padded_key};
+
+use sha2::{Digest, Sha256};
+
+// How many bytes a block of SHA-256 has.
+const BLOCK_LEN: usize = 64;
+
+// The bytes, filled up with zeros to a block.
+fn filled(key: &[u8]) -> [u8; 64]
+    requires { length key.now ≤ 64 }
+    ensures { result ≡ key.now ++ replicate (64 - length key.now) 0 }
+{
+    let mut block = [0u8; 64];
+    let (front, _) = block.split_at_mut(key.len());
+    front.copy_from_slice(key);
+    block
+}
+
+// The key as a block: its digest in its place, where it is longer.
+fn key_block(key: &[u8]) -> [u8; 64]
+    ensures { result ≡ key_block key.now }
+{
+    if key.len() > BLOCK_LEN {
+        filled(&Sha256::digest(key))
+    } else {
+        filled(key)
+    }
+}
+
+// A block, each byte xored with the pad.
+fn padded(block: &[u8; 64], pad: u8) -> [u8; 64]
+    ensures { result ≡ map (λ b. bit_xor b pad) block.now }
+{
+    let mut padded = [0u8; 64];
+    'bytes: for i in 0..64 {
+        padded[i] = block[i] ^ pad;
+    }
+    padded
+}
+
+/// HMAC with SHA-256 (RFC 2104, section 2) under `key` of the joined `parts`. A key of any length
+/// will do; one longer than 64 bytes counts as its digest. Takes no memory.
+pub fn hmac_sha256(key: &[u8], parts: &[&[u8]]) -> [u8; 32]
+    ensures { result ≡ hmac key.now (flat_map (λ part. part.now) parts.now) }
+{
+    let block = key_block(key);
+    let mut inner = Sha256::new();
+    inner.update(&padded(&block, 0x36));
+    'parts: for part in parts {
+        inner.update(*part);
+    }
+    let digest = inner.finalize();
+    let mut outer = Sha256::new();
+    outer.update(&padded(&block, 0x5c));
+    outer.update(&digest);
+    outer.finalize()
+}

@@ -1,0 +1,84 @@
+//! The parameters of scrypt (RFC 7914, section 2).
+
+ghost use Rattle.std.specs.Prelude.{◌≡◌, ◌↔◌, ◌*◌, ◌^◌, ◌<◌, ◌≤◌, IsOk, IfOk, Some, codes, is_ok, nat_lt};
+ghost use Rattle.minisign_kdf.specs.Params.{IsAccepted, is_accepted};
+
+use std::fmt;
+
+/// Parameters of scrypt that can be used: the cost N as its logarithm to base 2, the block size r and
+/// the parallelization p.
+#[derive(Clone, Copy, Debug, PartialEq)]
+pub struct Params {
+    n_log2: u8,
+    r: u32,
+    p: u32,
+    pub ghost accepted: { IsAccepted n_log2 r p },
+}
+
+/// Parameters that scrypt can't be used with.
+#[derive(Clone, Copy, Debug, PartialEq)]
+pub struct InvalidParams;
+
+impl fmt::Display for InvalidParams {
+    ghost output = { λ _. Some (codes "invalid scrypt parameters") };
+
+    fn fmt<W: fmt::Write>(&self, f: &mut fmt::Formatter<W>) -> fmt::Result {
+        f.write_str("invalid scrypt parameters")
+    }
+}
+
+// Whether 64 bits can count the bytes of a part's rows.
+fn is_countable(n_log2: u8, r: u32) -> bool
+    requires { 1 ≤ r }
+    ensures { result ≡ nat_lt (128 * r * 2 ^ n_log2) (2 ^ 64) }
+{
+    if n_log2 >= 64 {
+        return false;
+    }
+    (128 * u64::from(r)).checked_mul(1 << n_log2).is_some()
+}
+
+impl Params {
+    /// The parameters N = 2^`n_log2`, `r` and `p`. All three are at least 1, `n_log2` is below 16 * r,
+    /// r * p is below 2^30, and the 128 * r * N bytes of a part's rows are below 2^64; anything else
+    /// is refused (RFC 7914, section 2). Takes no memory.
+    pub fn new(n_log2: u8, r: u32, p: u32) -> Result<Params, InvalidParams>
+        ensures accepted { IsOk result ↔ IsAccepted n_log2 r p }
+        ensures test { is_ok result ≡ is_accepted n_log2 r p }
+        ensures n_log2 { IfOk result (λ v. v.n_log2 ≡ n_log2) }
+        ensures r { IfOk result (λ v. v.r ≡ r) }
+        ensures p { IfOk result (λ v. v.p ≡ p) }
+    {
+        if n_log2 < 1 || r < 1 || p < 1 {
+            return Err(InvalidParams);
+        }
+        if u64::from(n_log2) >= 16 * u64::from(r) || u64::from(r) * u64::from(p) >= 1 << 30 {
+            return Err(InvalidParams);
+        }
+        if !is_countable(n_log2, r) {
+            return Err(InvalidParams);
+        }
+        Ok(Params { n_log2, r, p })
+    }
+
+    /// The logarithm of the cost N to base 2.
+    pub fn n_log2(&self) -> u8
+        ensures { result ≡ self.now.n_log2 }
+    {
+        self.n_log2
+    }
+
+    /// The block size.
+    pub fn r(&self) -> u32
+        ensures { result ≡ self.now.r }
+    {
+        self.r
+    }
+
+    /// The parallelization.
+    pub fn p(&self) -> u32
+        ensures { result ≡ self.now.p }
+    {
+        self.p
+    }
+}

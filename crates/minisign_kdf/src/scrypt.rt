@@ -1,0 +1,161 @@
+//! scrypt (RFC 7914, section 6).
+
+ghost use Rattle.std.specs.Prelude.{◌≡◌, ℕ, ◌+◌, ◌*◌, ◌^◌, ◌<◌, ◌≤◌, ◌&&◌, IfErr, IfOk, IsTrue, Some, codes, OnErr, OnOk, if◌then◌else◌, is_ok, length, nat_le, vec_len};
+ghost use Rattle.minisign_kdf.specs.Blocks.{block, joined};
+ghost use Rattle.minisign_kdf.specs.Pbkdf2.{longest_key};
+ghost use Rattle.minisign_kdf.specs.Scrypt.{is_key_length, rom_mix, scrypt};
+
+use crate::params::Params;
+use crate::pbkdf2::pbkdf2_once;
+use crate::rom_mix::{rom_mix, row_count};
+use std::alloc::{AllocError, Global};
+use std::fmt;
+
+// The greatest length of a derived key: 2^32 - 1 blocks of 32 bytes.
+const LONGEST_KEY: usize = 137438953440;
+
+/// A derived key can't have so many bytes.
+#[derive(Clone, Copy, Debug, PartialEq)]
+pub struct InvalidOutputLen;
+
+impl fmt::Display for InvalidOutputLen {
+    ghost output = { λ _. Some (codes "invalid output length") };
+
+    fn fmt<W: fmt::Write>(&self, f: &mut fmt::Formatter<W>) -> fmt::Result {
+        f.write_str("invalid output length")
+    }
+}
+
+/// Why no key was derived.
+#[derive(Clone, Copy, Debug, PartialEq)]
+pub enum KdfError {
+    /// A growth was refused.
+    OutOfMemory,
+    /// The output is empty or longer than 137438953440 bytes.
+    InvalidOutputLen,
+}
+
+impl fmt::Display for KdfError {
+    ghost use Rattle.minisign_kdf.specs.Faults.{error_text};
+
+    ghost output = { λ e. Some (error_text e) };
+
+    fn fmt<W: fmt::Write>(&self, f: &mut fmt::Formatter<W>) -> fmt::Result {
+        match self {
+            KdfError::OutOfMemory => f.write_str("out of memory"),
+            KdfError::InvalidOutputLen => f.write_str("invalid output length"),
+        }
+    }
+}
+
+impl From<AllocError> for KdfError {
+    ghost use Rattle.minisign_kdf.specs.declared.scrypt.KdfError.TheVariants.{OutOfMemory};
+
+    ghost from_gives = { λ _ e. e ≡ OutOfMemory };
+
+    fn from(_: AllocError) -> KdfError {
+        KdfError::OutOfMemory
+    }
+}
+
+impl From<InvalidOutputLen> for KdfError {
+    ghost use Rattle.minisign_kdf.specs.declared.scrypt.KdfError.TheVariants.{InvalidOutputLen};
+
+    ghost from_gives = { λ _ e. e ≡ InvalidOutputLen };
+
+    fn from(_: InvalidOutputLen) -> KdfError {
+        KdfError::InvalidOutputLen
+    }
+}
+
+// Refuses a length that no derived key has.
+fn check_len(len: usize) -> Result<(), InvalidOutputLen>
+    ensures { is_ok result ≡ is_key_length len }
+{
+    if len == 0 || len > LONGEST_KEY {
+        return Err(InvalidOutputLen);
+    }
+    Ok(())
+}
+
+// A buffer of so many words.
+fn words(alloc: Global, len: usize) -> Result<Vec<u32>, AllocError>
+    ensures { IfOk result (λ v. vec_len v ≡ len) }
+{
+    vec![in alloc; 0u32; len]
+}
+
+// A buffer of so many bytes.
+fn bytes(alloc: Global, len: usize) -> Result<Vec<u8>, AllocError>
+    ensures { IfOk result (λ v. vec_len v ≡ len) }
+{
+    vec![in alloc; 0u8; len]
+}
+
+// scryptROMix of each of the p parts, in place. What the rows and `work` held is not read.
+fn mix_parts(r: usize, n_log2: u8, p: usize, parts: &mut [u8], rows: &mut [u32], work: &mut [u32])
+    requires some { 1 ≤ r }
+    requires small { r < 2 ^ 32 }
+    requires cost { n_log2 < 64 }
+    requires parts_len { length parts.old ≡ 128 * r * p }
+    requires rows_len { length rows.old ≡ 32 * r * 2 ^ n_log2 }
+    requires work_len { length work.old ≡ 64 * r }
+    ensures { parts.new ≡ joined (λ i. rom_mix r (2 ^ n_log2) (block (128 * r) parts.old i)) p }
+{
+    let len = 128 * r;
+    'parts: for i in 0..p {
+        rom_mix(r, n_log2, &mut parts[len * i..len * i + len], rows, work);
+    }
+}
+
+// Derives the key in buffers whose content is not read.
+fn derive(
+    password: &[u8],
+    salt: &[u8],
+    params: &Params,
+    parts: &mut [u8],
+    rows: &mut [u32],
+    work: &mut [u32],
+    out: &mut [u8],
+)
+    requires parts_len { length parts.old ≡ 128 * params.now.r * params.now.p }
+    requires rows_len { length rows.old ≡ 32 * params.now.r * 2 ^ params.now.n_log2 }
+    requires work_len { length work.old ≡ 64 * params.now.r }
+    requires out_len { length out.old ≤ longest_key }
+    ensures { out.new ≡ scrypt password.now salt.now (2 ^ params.now.n_log2) params.now.r params.now.p (length out.old) }
+{
+    let r = params.r() as usize;
+    let p = params.p() as usize;
+    pbkdf2_once(password, salt, parts);
+    mix_parts(r, params.n_log2(), p, parts, rows, work);
+    pbkdf2_once(password, parts, out);
+}
+
+/// Derives a key that fills `out` from a password and a salt, by scrypt (RFC 7914, section 6).
+///
+/// `InvalidOutputLen` is answered exactly where `out` is empty or longer than 137438953440 bytes,
+/// `OutOfMemory` where a growth was refused: N * 128 * r bytes for the rows, in one request, and 128 *
+/// r * (p + 2) bytes besides. A refusal leaves `out` as it was.
+pub fn scrypt(
+    alloc: Global,
+    password: &[u8],
+    salt: &[u8],
+    params: &Params,
+    out: &mut [u8],
+) -> Result<(), KdfError>
+    ensures fits { OnOk result (IsTrue (is_key_length (length out.old))) }
+    ensures derived { OnOk result (out.new ≡ scrypt password.now salt.now (2 ^ params.now.n_log2) params.now.r params.now.p (length out.old)) }
+    ensures fault { IfErr result (λ e. e ≡ (if is_key_length (length out.old) then KdfError.OutOfMemory else KdfError.InvalidOutputLen)) }
+    ensures unchanged { OnErr result (out.new ≡ out.old) }
+{
+    check_len(out.len())?;
+    let r = params.r() as usize;
+    let p = params.p() as usize;
+    let mut rows = words(alloc, 32 * r * row_count(params.n_log2()))?;
+    let mut work = words(alloc, 64 * r)?;
+    let mut parts = bytes(alloc, 128 * r * p)?;
+    derive(
+        password, salt, params, &mut parts, &mut rows, &mut work, out,
+    );
+    Ok(())
+}
