@@ -1,13 +1,13 @@
-// A library with one function.
+//! What keys, boxes and signatures stand on: faults, the devices that bytes come from and go to, and
+//! the interface of a signature scheme.
 #![tactic(auto)]
 
-ghost use Rattle.std.specs.Prelude.{◌≡◌};
-ghost use Rattle.minisign_base.specs.Echo.{echo_of};
+pub mod devices;
+pub mod errors;
+pub mod faults;
+pub mod identifiers;
+pub mod scheme;
+pub mod toy;
 
-// The `ensures` clause is the contract: what `echo` returns is `echo_of` of its argument, a definition
-// in `specs/Echo.antt`, which a caller's clause can cite too.
-pub fn echo(x: usize) -> usize
-    ensures { result ≡ echo_of x }
-{
-    x
-}
+pub use errors::{ErrorKind, PError, Result};
+pub use identifiers::Identifier;

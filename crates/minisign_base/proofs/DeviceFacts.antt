@@ -1,0 +1,29 @@
+-- What follows for a sink from one write after another, for callers that write a text in parts.
+use Rattle.std.proofs.Common.{ℕ, ◌+◌, min, Option, None, Some, List, ◌++◌, length, take, ap, sym, ◌∙◌, append_assoc, append-nil, arith}
+use Rattle.std.proofs.lemmas.List.{take-append-le, take_min}
+use Rattle.std.proofs.Math.Seq.{take-append-add}
+use Rattle.std.specs.Io.KnownBytes.{Appends, Keeps}
+use Rattle.minisign_base.specs.Devices.{AppendsFront}
+
+-- nothing taken is a beginning of every text
+pub AppendsFront-keeps : (a b : Option (List ℕ)) (bs : List ℕ) → Keeps a b → AppendsFront a b bs
+AppendsFront-keeps None b bs k = (0, tt)
+AppendsFront-keeps (Some x) None bs k = absurd k
+AppendsFront-keeps (Some x) (Some y) bs k = (0, ap Some (k ∙ sym (append-nil x)))
+
+-- a whole part, and then a beginning of the next
+pub AppendsFront-after : (a b c : Option (List ℕ)) (bs cs : List ℕ) → Appends a b bs → AppendsFront b c cs → AppendsFront a c (bs ++ cs)
+AppendsFront-after None b c bs cs p q = (0, tt)
+AppendsFront-after (Some x) None c bs cs p q = absurd p
+AppendsFront-after (Some x) (Some y) c bs cs p (n, q) = (
+  length bs + n,
+  q ∙ ap Some (ap (λ l. l ++ take n cs) p ∙ append_assoc x bs (take n cs) ∙ ap (λ l. x ++ l) (sym (take-append-add bs cs n))),
+)
+
+-- a beginning of a part is one of the whole text
+pub AppendsFront-more : (a b : Option (List ℕ)) (bs cs : List ℕ) → AppendsFront a b bs → AppendsFront a b (bs ++ cs)
+AppendsFront-more None b bs cs p = (0, tt)
+AppendsFront-more (Some x) b bs cs (n, p) = (
+  min n (length bs),
+  p ∙ ap (λ l. Some (x ++ l)) (sym (take-append-le (min n (length bs)) bs cs (omega arith) ∙ take_min n bs)),
+)

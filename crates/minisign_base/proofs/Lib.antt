@@ -1,0 +1,4 @@
+pub mod DeviceFacts
+mod Filled
+mod HexDigits
+mod Folding

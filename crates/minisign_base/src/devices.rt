@@ -1,0 +1,27 @@
+//! The devices that bytes come from and go to. A contract sees of each the bytes, where it tells
+//! them, and a count of its faults, which stays at its greatest value once it is there.
+
+pub mod random_sources;
+pub mod sinks;
+pub mod sources;
+
+ghost use Rattle.std.specs.Prelude.{◌≡◌, ◌+◌, min};
+ghost use Rattle.minisign_base.specs.Devices.{most_faults};
+
+/// A device failed. Each call names its own fault by the device that failed.
+#[derive(Clone, Copy, Debug, PartialEq, Eq)]
+pub struct DeviceFault;
+
+// How often a device failed.
+#[derive(Clone, Copy, Debug)]
+struct FaultCount(u64);
+
+impl FaultCount {
+    // One more fault. The count stays at its greatest value.
+    fn raise(&mut self) -> DeviceFault
+        ensures { self.new.0 ≡ min (self.old.0 + 1) most_faults }
+    {
+        self.0 = self.0.saturating_add(1);
+        DeviceFault
+    }
+}

@@ -1,0 +1,132 @@
+//! What random bytes are drawn from.
+
+ghost use Rattle.std.specs.Prelude.{Option, ◌≡◌, ℕ, ◌≤◌, ◌↔◌, List, length, drop, Some, IsSomeAnd, IsOk, OnOk, OnErr, ◌⊎◌};
+ghost use Rattle.std.specs.Io.KnownBytes.{Consumes, IsAtEnd};
+ghost use Rattle.minisign_base.specs.Devices.{Rose, HasGiven};
+
+use super::sources::Source;
+use super::{DeviceFault, FaultCount};
+
+/// What gives random bytes.
+pub trait RandomSource {
+    // The bytes that draws will give, where the source tells them.
+    ghost random_ahead: { Self → Option (List ℕ) };
+
+    // How many faults there were.
+    ghost random_faults: { Self → ℕ };
+
+    /// Fills `buf` with the next bytes. Too few bytes is a fault. After a fault some bytes of the
+    /// front may be gone, or the bytes are told no more, and what `buf` holds is left open.
+    fn fill(&mut self, buf: &mut [u8]) -> Result<(), DeviceFault>
+        ensures bytes { OnOk result (Consumes (random_ahead self.old) (random_ahead self.new) buf.new) }
+        ensures calm { OnOk result (random_faults self.new ≡ random_faults self.old) }
+        ensures fault { OnErr result (Rose (random_faults self.old) (random_faults self.new)) }
+        ensures given { OnErr result (HasGiven (random_ahead self.old) (random_ahead self.new)) };
+}
+
+/// The bytes of a slice, in their order. It fails exactly where too few are left, and then gives
+/// none.
+#[derive(Debug, Drop)]
+pub struct FixedRandom<'a> {
+    rest: &'a [u8],
+    faults: FaultCount,
+}
+
+impl<'a> FixedRandom<'a> {
+    /// All of the slice is still to be drawn.
+    pub fn new(bytes: &'a [u8]) -> FixedRandom<'a>
+        ensures ahead { ⟦<FixedRandom<'a> as RandomSource>⟧.random_ahead result ≡ Some bytes.now }
+        ensures faults { ⟦<FixedRandom<'a> as RandomSource>⟧.random_faults result ≡ 0 }
+    {
+        FixedRandom {
+            rest: bytes,
+            faults: FaultCount(0),
+        }
+    }
+}
+
+impl<'a> RandomSource for FixedRandom<'a> {
+    ghost random_ahead = { λ s. Some s.rest.now };
+
+    ghost random_faults = { λ s. s.faults.0 };
+
+    // A fault exactly where fewer bytes than `buf` has are left. None is then given.
+    fn fill(&mut self, buf: &mut [u8]) -> Result<(), DeviceFault>
+        ensures enough { IsOk result ↔ IsSomeAnd (⟦<FixedRandom<'a> as RandomSource>⟧.random_ahead self.old) (λ xs. length buf.old ≤ length xs) }
+        ensures bytes { OnOk result (Consumes (⟦<FixedRandom<'a> as RandomSource>⟧.random_ahead self.old) (⟦<FixedRandom<'a> as RandomSource>⟧.random_ahead self.new) buf.new) }
+        ensures calm { OnOk result (⟦<FixedRandom<'a> as RandomSource>⟧.random_faults self.new ≡ ⟦<FixedRandom<'a> as RandomSource>⟧.random_faults self.old) }
+        ensures fault { OnErr result (Rose (⟦<FixedRandom<'a> as RandomSource>⟧.random_faults self.old) (⟦<FixedRandom<'a> as RandomSource>⟧.random_faults self.new)) }
+        ensures given { OnErr result (HasGiven (⟦<FixedRandom<'a> as RandomSource>⟧.random_ahead self.old) (⟦<FixedRandom<'a> as RandomSource>⟧.random_ahead self.new)) }
+        ensures kept { OnErr result (⟦<FixedRandom<'a> as RandomSource>⟧.random_ahead self.new ≡ ⟦<FixedRandom<'a> as RandomSource>⟧.random_ahead self.old) }
+    {
+        if self.rest.len() < buf.len() {
+            return Err(self.faults.raise());
+        }
+        let (front, rest) = self.rest.split_at(buf.len());
+        buf.copy_from_slice(front);
+        self.rest = rest;
+        Ok(())
+    }
+}
+
+/// The bytes of a source, in their order. It fails only where the source failed or ended.
+#[derive(Debug, Drop)]
+pub struct SourceRandom<S> {
+    /// What the bytes come from.
+    pub source: S,
+    faults: FaultCount,
+}
+
+impl<S: Source> SourceRandom<S> {
+    /// All that is ahead of the source is still to be drawn.
+    pub fn new(source: S) -> SourceRandom<S>
+        ensures ahead { ⟦<SourceRandom<S> as RandomSource>⟧.random_ahead result ≡ S.ahead source }
+        ensures faults { ⟦<SourceRandom<S> as RandomSource>⟧.random_faults result ≡ 0 }
+        ensures source { result.source ≡ source }
+    {
+        SourceRandom {
+            source,
+            faults: FaultCount(0),
+        }
+    }
+}
+
+impl<S: Source> RandomSource for SourceRandom<S> {
+    ghost random_ahead = { λ s. S.ahead s.source };
+
+    ghost random_faults = { λ s. s.faults.0 };
+
+    // A fault only where the source failed or ended.
+    fn fill(&mut self, buf: &mut [u8]) -> Result<(), DeviceFault>
+        ensures bytes { OnOk result (Consumes (⟦<SourceRandom<S> as RandomSource>⟧.random_ahead self.old) (⟦<SourceRandom<S> as RandomSource>⟧.random_ahead self.new) buf.new) }
+        ensures calm { OnOk result (⟦<SourceRandom<S> as RandomSource>⟧.random_faults self.new ≡ ⟦<SourceRandom<S> as RandomSource>⟧.random_faults self.old) }
+        ensures fault { OnErr result (Rose (⟦<SourceRandom<S> as RandomSource>⟧.random_faults self.old) (⟦<SourceRandom<S> as RandomSource>⟧.random_faults self.new)) }
+        ensures given { OnErr result (HasGiven (⟦<SourceRandom<S> as RandomSource>⟧.random_ahead self.old) (⟦<SourceRandom<S> as RandomSource>⟧.random_ahead self.new)) }
+        ensures source_calm { OnOk result (S.faults self.new.source ≡ S.faults self.old.source) }
+        ensures source_fault { OnErr result (Rose (S.faults self.old.source) (S.faults self.new.source)
+            ⊎ IsAtEnd (S.ahead self.new.source)) }
+    {
+        match fill_from(&mut self.source, buf) {
+            Ok(()) => Ok(()),
+            Err(_) => Err(self.faults.raise()),
+        }
+    }
+}
+
+/// Fills `buf` with the next bytes of a source. It fails where the source fails or ends before.
+pub fn fill_from<S: Source>(source: &mut S, buf: &mut [u8]) -> Result<(), DeviceFault>
+    ensures bytes { OnOk result (Consumes (S.ahead source.old) (S.ahead source.new) buf.new) }
+    ensures calm { OnOk result (S.faults source.new ≡ S.faults source.old) }
+    ensures fault { OnErr result (Rose (S.faults source.old) (S.faults source.new)
+        ⊎ IsAtEnd (S.ahead source.new)) }
+    ensures given { OnErr result (HasGiven (S.ahead source.old) (S.ahead source.new)) }
+{
+    let mut at = 0;
+    'rest: while at < buf.len() {
+        match source.read(&mut buf[at..])? {
+            0 => return Err(DeviceFault),
+            n => at += n,
+        }
+    }
+    Ok(())
+}

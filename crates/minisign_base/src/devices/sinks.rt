@@ -1,0 +1,152 @@
+//! What bytes are written to.
+
+ghost use Rattle.std.specs.Prelude.{Option, ◌≡◌, ℕ, ◌<◌, ◌≤◌, List, [], length, take, Some, IsOk, IfOk, OnOk, OnErr};
+ghost use Rattle.std.specs.Io.KnownBytes.{Appends, Keeps};
+ghost use Rattle.minisign_base.specs.Devices.{Rose, AppendsFront};
+
+use super::{DeviceFault, FaultCount};
+use std::alloc::{AllocError, Global};
+use std::io::Write;
+
+/// What takes bytes.
+pub trait Sink {
+    // The bytes taken so far, where the sink tells them.
+    ghost taken: { Self → Option (List ℕ) };
+
+    // How many faults there were.
+    ghost sink_faults: { Self → ℕ };
+
+    /// Takes a beginning of `bytes` and answers how long it is: of something at least one byte. After
+    /// a fault nothing was taken.
+    fn write(&mut self, bytes: &[u8]) -> Result<usize, DeviceFault>
+        ensures bound { IfOk result (λ n. n ≤ length bytes.now) }
+        ensures some { IfOk result (λ n. 0 < length bytes.now → 0 < n) }
+        ensures bytes { IfOk result (λ n. Appends (taken self.old) (taken self.new) (take n bytes.now)) }
+        ensures calm { OnOk result (sink_faults self.new ≡ sink_faults self.old) }
+        ensures fault { OnErr result (Rose (sink_faults self.old) (sink_faults self.new)) }
+        ensures kept { OnErr result (Keeps (taken self.old) (taken self.new)) };
+
+    /// Passes on what was taken. It takes nothing itself.
+    fn flush(&mut self) -> Result<(), DeviceFault>
+        ensures bytes { Keeps (taken self.old) (taken self.new) }
+        ensures calm { OnOk result (sink_faults self.new ≡ sink_faults self.old) }
+        ensures fault { OnErr result (Rose (sink_faults self.old) (sink_faults self.new)) };
+}
+
+/// Writes all of `bytes`. After a fault the sink took a beginning of them.
+pub fn put_all<S: Sink>(sink: &mut S, bytes: &[u8]) -> Result<(), DeviceFault>
+    ensures bytes { OnOk result (Appends (S.taken sink.old) (S.taken sink.new) bytes.now) }
+    ensures calm { OnOk result (S.sink_faults sink.new ≡ S.sink_faults sink.old) }
+    ensures fault { OnErr result (Rose (S.sink_faults sink.old) (S.sink_faults sink.new)) }
+    ensures front { OnErr result (AppendsFront (S.taken sink.old) (S.taken sink.new) bytes.now) }
+{
+    let mut at = 0;
+    'rest: while at < bytes.len() {
+        at += sink.write(&bytes[at..])?;
+    }
+    Ok(())
+}
+
+/// A buffer that grows. It fails only where a growth is refused.
+#[derive(Debug, Drop)]
+pub struct VecSink {
+    bytes: Vec<u8>,
+    faults: FaultCount,
+}
+
+impl VecSink {
+    /// An empty buffer, which grows by this allocator.
+    pub fn new(alloc: Global) -> VecSink
+        ensures taken { ⟦<VecSink as Sink>⟧.taken result ≡ Some [] }
+        ensures faults { ⟦<VecSink as Sink>⟧.sink_faults result ≡ 0 }
+    {
+        VecSink {
+            bytes: Vec::new(alloc),
+            faults: FaultCount(0),
+        }
+    }
+
+    /// The bytes taken so far.
+    pub fn as_slice(&self) -> &[u8]
+        ensures { ⟦<VecSink as Sink>⟧.taken self.now ≡ Some result.now }
+    {
+        self.bytes.as_slice()
+    }
+
+    /// The bytes taken, as a buffer.
+    pub fn into_vec(self) -> Vec<u8>
+        ensures { ⟦<VecSink as Sink>⟧.taken self ≡ Some result.items }
+    {
+        let VecSink { bytes, faults: _ } = self;
+        bytes
+    }
+}
+
+impl Sink for VecSink {
+    ghost taken = { λ s. Some s.bytes.items };
+
+    ghost sink_faults = { λ s. s.faults.0 };
+
+    // All of the bytes, or a fault where the growth is refused.
+    fn write(&mut self, bytes: &[u8]) -> Result<usize, DeviceFault>
+        ensures takes { IfOk result (λ n. n ≡ length bytes.now) }
+        ensures bytes { OnOk result (Appends (⟦<VecSink as Sink>⟧.taken self.old) (⟦<VecSink as Sink>⟧.taken self.new) bytes.now) }
+        ensures calm { OnOk result (⟦<VecSink as Sink>⟧.sink_faults self.new ≡ ⟦<VecSink as Sink>⟧.sink_faults self.old) }
+        ensures fault { OnErr result (Rose (⟦<VecSink as Sink>⟧.sink_faults self.old) (⟦<VecSink as Sink>⟧.sink_faults self.new)) }
+        ensures kept { OnErr result (Keeps (⟦<VecSink as Sink>⟧.taken self.old) (⟦<VecSink as Sink>⟧.taken self.new)) }
+    {
+        match self.bytes.extend_from_slice(bytes) {
+            Ok(()) => Ok(bytes.len()),
+            Err(AllocError) => Err(self.faults.raise()),
+        }
+    }
+
+    // Never a fault.
+    fn flush(&mut self) -> Result<(), DeviceFault>
+        ensures succeeds { IsOk result }
+        ensures same { self.new ≡ self.old }
+    {
+        Ok(())
+    }
+}
+
+/// Any writer of std. It tells its bytes where the writer does. A writer that takes nothing of
+/// something, or says that it took more than there was, has failed.
+#[derive(Debug, Drop)]
+pub struct WriterSink<W> {
+    writer: W,
+    faults: FaultCount,
+}
+
+impl<W: Write> WriterSink<W> {
+    /// What the writer holds counts as taken.
+    pub fn new(writer: W) -> WriterSink<W>
+        ensures taken { ⟦<WriterSink<W> as Sink>⟧.taken result ≡ W.contents writer }
+        ensures faults { ⟦<WriterSink<W> as Sink>⟧.sink_faults result ≡ 0 }
+    {
+        WriterSink {
+            writer,
+            faults: FaultCount(0),
+        }
+    }
+}
+
+impl<W: Write> Sink for WriterSink<W> {
+    ghost taken = { λ s. W.contents s.writer };
+
+    ghost sink_faults = { λ s. s.faults.0 };
+
+    fn write(&mut self, bytes: &[u8]) -> Result<usize, DeviceFault> {
+        match self.writer.write(bytes) {
+            Ok(n) if n <= bytes.len() && (n > 0 || bytes.is_empty()) => Ok(n),
+            _ => Err(self.faults.raise()),
+        }
+    }
+
+    fn flush(&mut self) -> Result<(), DeviceFault> {
+        match self.writer.flush() {
+            Ok(()) => Ok(()),
+            Err(_) => Err(self.faults.raise()),
+        }
+    }
+}

@@ -1,0 +1,217 @@
+//! What bytes are read from.
+
+ghost use Rattle.std.specs.Prelude.{Option, ◌≡◌, ◌==◌, ℕ, ◌+◌, ◌-◌, ◌<◌, ◌≤◌, ◌^◌, ◌↔◌, min, List, length, take, Some, None, IsSome, IsOk, IsErr, IsOkAnd, IsNone, IfOk, IfSome, OnOk, OnErr, if◌then◌else◌, ⊤};
+ghost use Rattle.std.specs.Option.{option_map};
+ghost use Rattle.std.specs.Io.KnownBytes.{Consumes, IsAtEnd};
+ghost use Rattle.minisign_base.specs.Devices.{Rose, StaysOrHides};
+
+use super::{DeviceFault, FaultCount};
+use std::io::Read;
+
+/// What gives bytes, a finite number of them.
+pub trait Source {
+    // The bytes ahead, where the source tells them.
+    ghost ahead: { Self → Option (List ℕ) };
+
+    // The bytes that going back to the mark would put ahead, where that is known.
+    ghost behind: { Self → Option (List ℕ) } = { λ _. None };
+
+    // How many bytes it can still give.
+    ghost left: { Self → ℕ };
+
+    // How many faults there were.
+    ghost faults: { Self → ℕ };
+
+    /// Moves the next bytes to the front of `buf`, as many as it likes up to all of it, and answers
+    /// how many. The answer is 0 only where `buf` is empty or no byte is left. After a fault the
+    /// bytes ahead are those before the call, or are told no more.
+    fn read(&mut self, buf: &mut [u8]) -> Result<usize, DeviceFault>
+        ensures bound { IfOk result (λ n. n ≤ length buf.new) }
+        ensures bytes { IfOk result (λ n. Consumes (ahead self.old) (ahead self.new) (take n buf.new)) }
+        ensures end { IfOk result (λ n. n ≡ 0 → 0 < length buf.new → IsAtEnd (ahead self.new)) }
+        ensures left { IfOk result (λ n. left self.new + n ≡ left self.old) }
+        ensures calm { OnOk result (faults self.new ≡ faults self.old) }
+        ensures mark { OnOk result (behind self.new ≡ behind self.old) }
+        ensures fault { OnErr result (Rose (faults self.old) (faults self.new)) }
+        ensures kept { OnErr result (StaysOrHides (ahead self.old) (ahead self.new)) }
+        ensures err_left { OnErr result (left self.new ≤ left self.old) };
+}
+
+/// A source that can be read again from a place that was marked.
+pub trait Rereader: Source {
+    // Going back brings the bytes that were ahead at the mark.
+    ghost steady: { Self → Type 0 };
+
+    /// Remembers the place. The bytes ahead stay; after a fault they stay or are told no more.
+    fn mark(&mut self) -> Result<(), DeviceFault>
+        ensures bytes { OnOk result (Self.ahead self.new ≡ Self.ahead self.old) }
+        ensures mark { steady self.old → OnOk result (Self.behind self.new ≡ Self.ahead self.old) }
+        ensures calm { OnOk result (Self.faults self.new ≡ Self.faults self.old) }
+        ensures fault { OnErr result (Rose (Self.faults self.old) (Self.faults self.new)) }
+        ensures kept { OnErr result (StaysOrHides (Self.ahead self.old) (Self.ahead self.new)) };
+
+    /// Returns to the place that was marked last. Without a mark it is a fault.
+    fn back(&mut self) -> Result<(), DeviceFault>
+        ensures bytes { OnOk result (IfSome (Self.behind self.old) (λ xs. Self.ahead self.new ≡ Some xs)) }
+        ensures calm { OnOk result (Self.faults self.new ≡ Self.faults self.old) }
+        ensures fault { OnErr result (Rose (Self.faults self.old) (Self.faults self.new)) };
+}
+
+/// The bytes of a slice. It fails only in `back` without a mark.
+#[derive(Debug, Drop)]
+pub struct SliceSource<'a> {
+    rest: &'a [u8],
+    marked: Option<&'a [u8]>,
+    faults: FaultCount,
+}
+
+impl<'a> SliceSource<'a> {
+    /// All of the slice is ahead, and nothing is marked.
+    pub fn new(bytes: &'a [u8]) -> SliceSource<'a>
+        ensures ahead { ⟦<SliceSource<'a> as Source>⟧.ahead result ≡ Some bytes.now }
+        ensures behind { ⟦<SliceSource<'a> as Source>⟧.behind result ≡ None }
+        ensures faults { ⟦<SliceSource<'a> as Source>⟧.faults result ≡ 0 }
+    {
+        SliceSource {
+            rest: bytes,
+            marked: None,
+            faults: FaultCount(0),
+        }
+    }
+}
+
+impl<'a> Source for SliceSource<'a> {
+    ghost ahead = { λ s. Some s.rest.now };
+
+    ghost behind = { λ s. option_map (λ m. m.now) s.marked };
+
+    ghost left = { λ s. length s.rest.now };
+
+    ghost faults = { λ s. s.faults.0 };
+
+    // As many bytes as there is room for, or are left, and never a fault.
+    fn read(&mut self, buf: &mut [u8]) -> Result<usize, DeviceFault>
+        ensures gives { IsOkAnd result (λ n. n ≡ min (length buf.new) (⟦<SliceSource<'a> as Source>⟧.left self.old)) }
+        ensures bound { IfOk result (λ n. n ≤ length buf.new) }
+        ensures bytes { IfOk result (λ n. Consumes (⟦<SliceSource<'a> as Source>⟧.ahead self.old) (⟦<SliceSource<'a> as Source>⟧.ahead self.new)
+            (take n buf.new)) }
+        ensures end { IfOk result (λ n. n ≡ 0 → 0 < length buf.new → IsAtEnd (⟦<SliceSource<'a> as Source>⟧.ahead self.new)) }
+        ensures left { IfOk result (λ n. ⟦<SliceSource<'a> as Source>⟧.left self.new + n ≡ ⟦<SliceSource<'a> as Source>⟧.left self.old) }
+        ensures calm { OnOk result (⟦<SliceSource<'a> as Source>⟧.faults self.new ≡ ⟦<SliceSource<'a> as Source>⟧.faults self.old) }
+        ensures mark { OnOk result (⟦<SliceSource<'a> as Source>⟧.behind self.new ≡ ⟦<SliceSource<'a> as Source>⟧.behind self.old) }
+        ensures fault { OnErr result (Rose (⟦<SliceSource<'a> as Source>⟧.faults self.old) (⟦<SliceSource<'a> as Source>⟧.faults self.new)) }
+        ensures kept { OnErr result (StaysOrHides (⟦<SliceSource<'a> as Source>⟧.ahead self.old) (⟦<SliceSource<'a> as Source>⟧.ahead self.new)) }
+        ensures err_left { OnErr result (⟦<SliceSource<'a> as Source>⟧.left self.new ≤ ⟦<SliceSource<'a> as Source>⟧.left self.old) }
+    {
+        let n = buf.len().min(self.rest.len());
+        let (front, rest) = self.rest.split_at(n);
+        buf[..n].copy_from_slice(front);
+        self.rest = rest;
+        Ok(n)
+    }
+}
+
+impl<'a> Rereader for SliceSource<'a> {
+    ghost steady = { λ _. ⊤ };
+
+    // Never a fault.
+    fn mark(&mut self) -> Result<(), DeviceFault>
+        ensures succeeds { IsOk result }
+        ensures bytes { OnOk result (⟦<SliceSource<'a> as Source>⟧.ahead self.new ≡ ⟦<SliceSource<'a> as Source>⟧.ahead self.old) }
+        ensures mark { ⟦<SliceSource<'a> as Rereader>⟧.steady self.old
+            → OnOk result (⟦<SliceSource<'a> as Source>⟧.behind self.new ≡ ⟦<SliceSource<'a> as Source>⟧.ahead self.old) }
+        ensures calm { OnOk result (⟦<SliceSource<'a> as Source>⟧.faults self.new ≡ ⟦<SliceSource<'a> as Source>⟧.faults self.old) }
+        ensures fault { OnErr result (Rose (⟦<SliceSource<'a> as Source>⟧.faults self.old) (⟦<SliceSource<'a> as Source>⟧.faults self.new)) }
+        ensures kept { OnErr result (StaysOrHides (⟦<SliceSource<'a> as Source>⟧.ahead self.old) (⟦<SliceSource<'a> as Source>⟧.ahead self.new)) }
+    {
+        self.marked = Some(self.rest);
+        Ok(())
+    }
+
+    // A fault exactly where nothing was marked. The bytes ahead then stay.
+    fn back(&mut self) -> Result<(), DeviceFault>
+        ensures succeeds { IsOk result ↔ IsSome (⟦<SliceSource<'a> as Source>⟧.behind self.old) }
+        ensures bytes { OnOk result (IfSome (⟦<SliceSource<'a> as Source>⟧.behind self.old) (λ xs. ⟦<SliceSource<'a> as Source>⟧.ahead self.new ≡ Some xs)) }
+        ensures stays_marked { ⟦<SliceSource<'a> as Source>⟧.behind self.new ≡ ⟦<SliceSource<'a> as Source>⟧.behind self.old }
+        ensures calm { OnOk result (⟦<SliceSource<'a> as Source>⟧.faults self.new ≡ ⟦<SliceSource<'a> as Source>⟧.faults self.old) }
+        ensures fault { OnErr result (Rose (⟦<SliceSource<'a> as Source>⟧.faults self.old) (⟦<SliceSource<'a> as Source>⟧.faults self.new)) }
+        ensures kept { OnErr result (⟦<SliceSource<'a> as Source>⟧.ahead self.new ≡ ⟦<SliceSource<'a> as Source>⟧.ahead self.old) }
+    {
+        match self.marked {
+            Some(marked) => {
+                self.rest = marked;
+                Ok(())
+            }
+            None => Err(self.faults.raise()),
+        }
+    }
+}
+
+/// The bytes of any reader of std, 2^63 - 1 at most: a read after that is a fault. It tells its
+/// bytes where the reader does, until the first fault. It can't go back.
+#[derive(Debug, Drop)]
+pub struct ReaderSource<R> {
+    reader: R,
+    left: u64,
+    faults: FaultCount,
+}
+
+impl<R: Read> ReaderSource<R> {
+    /// All that the reader has left is ahead.
+    pub fn new(reader: R) -> ReaderSource<R>
+        ensures ahead { ⟦<ReaderSource<R> as Source>⟧.ahead result ≡ R.remaining reader }
+        ensures left { ⟦<ReaderSource<R> as Source>⟧.left result ≡ 2 ^ 63 - 1 }
+        ensures faults { ⟦<ReaderSource<R> as Source>⟧.faults result ≡ 0 }
+    {
+        ReaderSource {
+            reader,
+            left: i64::MAX as u64,
+            faults: FaultCount(0),
+        }
+    }
+}
+
+impl<R: Read> Source for ReaderSource<R> {
+    ghost ahead = { λ s. (if s.faults.0 == 0 then R.remaining s.reader else None) };
+
+    ghost left = { λ s. s.left };
+
+    ghost faults = { λ s. s.faults.0 };
+
+    fn read(&mut self, buf: &mut [u8]) -> Result<usize, DeviceFault> {
+        if self.left == 0 && !buf.is_empty() {
+            return Err(self.faults.raise());
+        }
+        let room = self.left.min(buf.len() as u64) as usize;
+        match self.reader.read(&mut buf[..room]) {
+            Ok(n) if n <= room => {
+                self.left -= n as u64;
+                Ok(n)
+            }
+            _ => Err(self.faults.raise()),
+        }
+    }
+}
+
+impl<R: Read> Rereader for ReaderSource<R> {
+    ghost steady = { λ _. ⊥ };
+
+    // Always a fault. No byte is told after it.
+    fn mark(&mut self) -> Result<(), DeviceFault>
+        ensures fails { IsErr result }
+        ensures fault { Rose (⟦<ReaderSource<R> as Source>⟧.faults self.old) (⟦<ReaderSource<R> as Source>⟧.faults self.new) }
+        ensures hides { IsNone (⟦<ReaderSource<R> as Source>⟧.ahead self.new) }
+    {
+        let no_way_back = self.faults.raise();
+        Err(no_way_back)
+    }
+
+    // Always a fault. No byte is told after it.
+    fn back(&mut self) -> Result<(), DeviceFault>
+        ensures fails { IsErr result }
+        ensures fault { Rose (⟦<ReaderSource<R> as Source>⟧.faults self.old) (⟦<ReaderSource<R> as Source>⟧.faults self.new) }
+        ensures hides { IsNone (⟦<ReaderSource<R> as Source>⟧.ahead self.new) }
+    {
+        self.mark()
+    }
+}

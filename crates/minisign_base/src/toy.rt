@@ -1,0 +1,114 @@
+//! A scheme for tests. It is insecure: whoever knows the public key can sign.
+
+ghost use Rattle.std.specs.Prelude.{◌≡◌, ℕ, List, ◌++◌, Option, length, take, drop, bit_xor};
+ghost use Rattle.std.specs.Simd.Lanes.{zip2};
+ghost use Rattle.minisign_base.specs.Toy.{toy_public_of, fold_of, toy_signature_of, toy_accepts};
+ghost use Rattle.minisign_base.specs.ToyLaw.{own_accepted};
+
+use crate::scheme::Scheme;
+use std::simd::u8x32;
+
+/// A scheme that meets the laws and protects nothing, for tests only.
+///
+/// The public key is the seed with each byte xored with `5a`. A signature is a random half of 32
+/// bytes, zeros where no random bytes were given, and the xor of that half, the public key and the
+/// folded message; a message is folded into 32 bytes, of which byte i is the xor of its bytes number
+/// i, i + 32, i + 64 and so on.
+#[derive(Clone, Copy, Debug)]
+pub struct ToyScheme(());
+
+impl ToyScheme {
+    /// The scheme that accepts what is signed in its way, and nothing else.
+    pub fn new() -> ToyScheme
+        ensures public_of { (seed : List ℕ) → ⟦<ToyScheme as Scheme>⟧.public_of result seed ≡ toy_public_of seed }
+        ensures signature_of { (m secret : List ℕ) (z : Option (List ℕ))
+            → ⟦<ToyScheme as Scheme>⟧.signature_of result m secret z ≡ toy_signature_of m secret z }
+        ensures accepts { (m key signature : List ℕ)
+            → ⟦<ToyScheme as Scheme>⟧.accepts result m key signature ≡ toy_accepts m key signature }
+    {
+        ToyScheme(())
+    }
+}
+
+impl Scheme for ToyScheme {
+    ghost public_of = { λ _ seed. toy_public_of seed };
+
+    ghost signature_of = { λ _ m secret z. toy_signature_of m secret z };
+
+    ghost accepts = { λ _ m key signature. toy_accepts m key signature };
+
+    fn keypair(&self, seed: &[u8; 32]) -> ([u8; 64], [u8; 32]) {
+        let public_key = masked(seed);
+        (joined(seed, &public_key), public_key)
+    }
+
+    fn signature(&self, message: &[u8], secret_key: &[u8; 64], z: Option<&[u8; 64]>) -> [u8; 64] {
+        let random = match z {
+            Some(z) => first_half(z),
+            None => [0; 32],
+        };
+        joined(&random, &tied(&random, &second_half(secret_key), message))
+    }
+
+    fn verify(&self, message: &[u8], public_key: &[u8; 32], signature: &[u8; 64]) -> bool {
+        let expected = tied(&first_half(signature), public_key, message);
+        let (_, given) = signature.split_at(32);
+        given == expected.as_slice()
+    }
+
+    ghost accepts_own = { λ _. own_accepted };
+}
+
+// The seed with each byte xored with `5a`.
+fn masked(seed: &[u8; 32]) -> [u8; 32]
+    ensures { result ≡ toy_public_of seed.now }
+{
+    (u8x32::from_array(*seed) ^ u8x32::splat(0x5a)).to_array()
+}
+
+// The half of a signature that is tied to the other, to the key and to the message.
+fn tied(random: &[u8; 32], public_key: &[u8; 32], message: &[u8]) -> [u8; 32]
+    ensures { result ≡ zip2 bit_xor (zip2 bit_xor random.now public_key.now) (fold_of message.now) }
+{
+    let keyed = u8x32::from_array(*random) ^ u8x32::from_array(*public_key);
+    (keyed ^ u8x32::from_array(fold(message))).to_array()
+}
+
+// The xor of the message's bytes in 32 columns.
+fn fold(message: &[u8]) -> [u8; 32]
+    ensures { result ≡ fold_of message.now }
+{
+    let mut columns = [0u8; 32];
+    for (j, byte) in message.iter().enumerate() {
+        columns[j % 32] ^= *byte;
+    }
+    columns
+}
+
+fn first_half(bytes: &[u8; 64]) -> [u8; 32]
+    ensures { result ≡ take 32 bytes.now }
+{
+    let (front, _) = bytes.split_at(32);
+    let mut half = [0u8; 32];
+    half.copy_from_slice(front);
+    half
+}
+
+fn second_half(bytes: &[u8; 64]) -> [u8; 32]
+    ensures { result ≡ drop 32 bytes.now }
+{
+    let (_, back) = bytes.split_at(32);
+    let mut half = [0u8; 32];
+    half.copy_from_slice(back);
+    half
+}
+
+fn joined(left: &[u8; 32], right: &[u8; 32]) -> [u8; 64]
+    ensures { result ≡ left.now ++ right.now }
+{
+    let mut bytes = [0u8; 64];
+    let (front, back) = bytes.split_at_mut(32);
+    front.copy_from_slice(left);
+    back.copy_from_slice(right);
+    bytes
+}
