@@ -1,4 +1,4 @@
--- Lists of eight and sixteen words as their members, bounds on the members of lists, and steps of loops.
+-- Lists of eight words as their members, bounds on the members of lists, and steps of loops.
 use Rattle.std.proofs.Common.{◌≡◌, ℕ, zero, suc, ◌+◌, ◌%◌, add-one, ◌<◌, Bool, true, false, ◌&&◌, refl, w64, nat_lt, List, [], ◌∷◌, ◌++◌, length, take, slice_index, slice_index_or, sym, ap, ◌∙◌}
 use Rattle.std.specs.Int.{to_le_bytes}
 use Rattle.std.specs.List.{flat_map, list_all}
@@ -12,11 +12,6 @@ use Rattle.std.proofs.lemmas.Simd.{pick_l_whole}
 pub eight_of : (xs : List ℕ) → length xs ≡ 8 → xs ≡ slice_index xs 0 ∷ slice_index xs 1 ∷ slice_index xs 2 ∷ slice_index xs 3
     ∷ slice_index xs 4 ∷ slice_index xs 5 ∷ slice_index xs 6 ∷ slice_index xs 7 ∷ []
 eight_of xs h = sym (pick_l_whole 0 xs 8 h)
-
-pub sixteen_of : (xs : List ℕ) → length xs ≡ 16 → xs ≡ slice_index xs 0 ∷ slice_index xs 1 ∷ slice_index xs 2 ∷ slice_index xs 3
-    ∷ slice_index xs 4 ∷ slice_index xs 5 ∷ slice_index xs 6 ∷ slice_index xs 7 ∷ slice_index xs 8 ∷ slice_index xs 9
-    ∷ slice_index xs 10 ∷ slice_index xs 11 ∷ slice_index xs 12 ∷ slice_index xs 13 ∷ slice_index xs 14 ∷ slice_index xs 15 ∷ []
-sixteen_of xs h = sym (pick_l_whole 0 xs 16 h)
 
 -- the bytes of one word more
 pub bytes_of_more : (xs : List ℕ) (i : ℕ) → i < length xs → bytes_of (take (i + 1) xs) ≡ bytes_of (take i xs) ++ to_le_bytes w64 (slice_index xs i)
