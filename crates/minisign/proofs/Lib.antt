@@ -1,0 +1,3 @@
+pub mod RecordFields
+pub mod Beginnings
+pub mod SignedBoxes

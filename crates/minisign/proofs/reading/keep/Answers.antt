@@ -1,0 +1,16 @@
+use Rattle.std.proofs.Common.{◌≡◌, ◌∙◌, append_assoc, refl}
+use Rattle.std.proofs.KnownBytes.{Consumes-trans}
+use Rattle.minisign.proofs.reading.keep.Goals as goal
+
+pub pieces-preserved : goal.pieces-preserved
+pieces-preserved g c =
+    let (done, given, kept) = c.pieces.invariant.given in
+    record {
+      calm = c.in-Ok.ensures.calm ∙ c.pieces.invariant.calm;
+      mark = c.in-Ok.ensures.mark ∙ c.pieces.invariant.mark;
+      given = (
+        _,
+        Consumes-trans _ _ _ _ _ given c.in-Ok.ensures.bytes,
+        rw (c.in_ok-extend_from_slice-in-Ok.ensures.items, kept, append_assoc) refl,
+      );
+    }

@@ -1,0 +1,5 @@
+pub mod Records
+pub mod Reading
+pub mod Acceptance
+pub mod Sealing
+pub mod Signing

@@ -1,0 +1,111 @@
+-- The records that keys and signatures are stored as: fields of fixed lengths, joined in their order.
+use Rattle.std.specs.Prelude.{◌≡◌, ℕ, Bool, ◌<◌, ◌≤◌, List, ◌++◌, length, take, Option, ◌⊎◌, codes, bytes_eq, false}
+use Rattle.std.specs.Fmt.{digits}
+use Rattle.std.specs.List.{flat_map}
+use Rattle.minisign_base.specs.Fault.{Fault}
+use Rattle.minisign_base.specs.Faults.{record_too_short, unsupported_signature_algorithm}
+
+-- a public key: 2 bytes of algorithm, 8 of identifier, 32 of key
+pub record PublicKeyRecord : Type 0 where
+  pub algorithm : List ℕ
+  pub keynum : List ℕ
+  pub key : List ℕ
+
+-- the 42 bytes of a public key
+abbrev pub public_key_bytes : PublicKeyRecord → List ℕ
+public_key_bytes k = k.algorithm ++ k.keynum ++ k.key
+
+-- the bytes begin with the record of the key; what follows it does not matter
+pub record ReadsPublicKey (bytes : List ℕ) (k : PublicKeyRecord) : Type 0 where
+  pub algorithm_length : length k.algorithm ≡ 2
+  pub keynum_length : length k.keynum ≡ 8
+  pub key_length : length k.key ≡ 32
+  pub front : (rest : List ℕ) × (bytes ≡ public_key_bytes k ++ rest)
+
+-- a signature: 2 bytes of algorithm, 8 of identifier, 64 of signature
+pub record SignatureRecord : Type 0 where
+  pub algorithm : List ℕ
+  pub keynum : List ℕ
+  pub signature : List ℕ
+
+-- the 74 bytes of a signature
+abbrev pub signature_bytes : SignatureRecord → List ℕ
+signature_bytes s = s.algorithm ++ s.keynum ++ s.signature
+
+-- the bytes begin with the record of the signature; what follows it does not matter
+pub record ReadsSignature (bytes : List ℕ) (s : SignatureRecord) : Type 0 where
+  pub algorithm_length : length s.algorithm ≡ 2
+  pub keynum_length : length s.keynum ≡ 8
+  pub signature_length : length s.signature ≡ 64
+  pub front : (rest : List ℕ) × (bytes ≡ signature_bytes s ++ rest)
+
+-- the algorithm of a signature over the data itself
+abbrev pub legacy_algorithm : List ℕ
+legacy_algorithm = codes "Ed"
+
+-- the algorithm of a signature over the digest of the data
+abbrev pub prehashed_algorithm : List ℕ
+prehashed_algorithm = codes "ED"
+
+-- an algorithm of signatures
+abbrev pub IsKnownAlgorithm : List ℕ → Type 0
+IsKnownAlgorithm a = (a ≡ legacy_algorithm) ⊎ (a ≡ prehashed_algorithm)
+
+-- a bare signature is refused: the bytes are too few, or else the algorithm is not known
+abbrev pub IsBonesFault : List ℕ → Fault → Type 0
+IsBonesFault bytes e =
+    ((e ≡ record_too_short) × (length bytes < 74))
+    ⊎ ((e ≡ unsupported_signature_algorithm) × (74 ≤ length bytes) × ¬ (IsKnownAlgorithm (take 2 bytes)))
+
+-- the signature is over the digest of the data
+abbrev pub is_prehashed : SignatureRecord → Bool
+is_prehashed s = bytes_eq s.algorithm prehashed_algorithm
+
+-- a comment that nothing vouches for, a comment that is signed, and the signature of the box's
+-- signature and that comment, of any length
+pub record CommentsRecord : Type 0 where
+  pub untrusted : List ℕ
+  pub trusted : List ℕ
+  pub signature : List ℕ
+
+-- what a signature box holds: a signature, and the comments unless it was made from a bare signature
+pub record SignatureBoxRecord : Type 0 where
+  pub signature : SignatureRecord
+  pub comments : Option CommentsRecord
+
+-- a secret key: 2 bytes of algorithm, 2 of key derivation, 2 of checksum algorithm, 32 of salt, 8 of
+-- operations limit, 8 of memory limit (both little endian), 8 of identifier, 64 of secret, 32 of checksum
+pub record SecretKeyRecord : Type 0 where
+  pub algorithm : List ℕ
+  pub kdf : List ℕ
+  pub checksum_algorithm : List ℕ
+  pub salt : List ℕ
+  pub operations_limit : List ℕ
+  pub memory_limit : List ℕ
+  pub keynum : List ℕ
+  pub secret : List ℕ
+  pub checksum : List ℕ
+
+-- the 158 bytes of a secret key; the last three fields, 104 bytes, are those that are sealed
+abbrev pub secret_key_bytes : SecretKeyRecord → List ℕ
+secret_key_bytes k =
+    (k.algorithm ++ k.kdf ++ k.checksum_algorithm)
+    ++ (k.salt ++ k.operations_limit ++ k.memory_limit)
+    ++ (k.keynum ++ k.secret ++ k.checksum)
+
+-- the bytes begin with the record of the key; what follows it does not matter
+pub record ReadsSecretKey (bytes : List ℕ) (k : SecretKeyRecord) : Type 0 where
+  pub algorithm_length : length k.algorithm ≡ 2
+  pub kdf_length : length k.kdf ≡ 2
+  pub checksum_algorithm_length : length k.checksum_algorithm ≡ 2
+  pub salt_length : length k.salt ≡ 32
+  pub operations_limit_length : length k.operations_limit ≡ 8
+  pub memory_limit_length : length k.memory_limit ≡ 8
+  pub keynum_length : length k.keynum ≡ 8
+  pub secret_length : length k.secret ≡ 64
+  pub checksum_length : length k.checksum ≡ 32
+  pub front : (rest : List ℕ) × (bytes ≡ secret_key_bytes k ++ rest)
+
+-- how secret bytes are shown: each in lower hexadecimal with no leading zeros
+abbrev pub secret_text : List ℕ → List ℕ
+secret_text bytes = flat_map (digits 16 false) bytes

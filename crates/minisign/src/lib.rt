@@ -1,0 +1,28 @@
+//! Minisign: keys, signatures, and whether a signature vouches for data under a public key.
+//!
+//! Whoever signs and verifies hands in a signature scheme, random bytes and the devices that bytes
+//! come from and go to.
+#![tactic(auto)]
+
+mod constants;
+mod fields;
+pub mod keynum;
+pub mod public_key;
+pub mod reading;
+pub mod secret_key;
+pub mod signature;
+pub mod signature_bones;
+pub mod signature_box;
+pub mod signing;
+pub mod verifying;
+
+pub use minisign_base as base;
+pub use minisign_base::{ErrorKind, PError, Result};
+pub use minisign_hash as hash;
+pub use public_key::PublicKey;
+pub use secret_key::SecretKey;
+pub use signature::Signature;
+pub use signature_bones::SignatureBones;
+pub use signature_box::SignatureBox;
+pub use signing::sign;
+pub use verifying::verify;

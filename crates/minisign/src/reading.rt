@@ -1,0 +1,111 @@
+//! Reading data to its end: hashed as it comes, or kept whole.
+ghost use Rattle.std.specs.Prelude.{◌≡◌, ℕ, ◌<◌, List, ◌++◌, false, length, vec_len, IfOk, IfErr, OnOk, OnErr, IfSome};
+ghost use Rattle.std.specs.Io.KnownBytes.{IsAtEnd};
+ghost use Rattle.minisign_hash.specs.Blake2b.{blake2b_digest};
+ghost use Rattle.minisign_hash.specs.Fed.{IsFed, has_finalized, output_length};
+ghost use Rattle.minisign_base.specs.Devices.{Rose, HasGiven};
+ghost use Rattle.minisign_base.specs.Faults.{out_of_memory};
+ghost use Rattle.minisign.specs.Reading.{IsReadFault};
+
+use minisign_base::devices::DeviceFault;
+use minisign_base::devices::sources::Source;
+use minisign_base::{Result, faults};
+use minisign_hash::blake2b::Blake2b;
+use std::alloc::Global;
+
+// How many bytes a read asks for.
+const PIECE_BYTES: usize = 65536;
+
+// A buffer of zeros.
+fn zeros(alloc: Global, len: usize) -> Result<Vec<u8>>
+    ensures len { IfOk result (λ v. vec_len v ≡ len) }
+    ensures refused { IfErr result (λ e. e ≡ out_of_memory) }
+{
+    Ok(vec![in alloc; 0u8; len]?)
+}
+
+// Feeds all that is ahead to the hash, through the buffer.
+fn feed<S: Source>(
+    source: &mut S,
+    buf: &mut [u8],
+    hasher: &mut Blake2b,
+) -> std::result::Result<(), DeviceFault>
+    requires some { 0 < length buf.old }
+    requires open { has_finalized hasher.old ≡ false }
+    ensures fed { OnOk result (IfSome (S.ahead source.old) (λ xs.
+        (m : List ℕ) → IsFed hasher.old m → IsFed hasher.new (m ++ xs))) }
+    ensures length { output_length hasher.new ≡ output_length hasher.old }
+    ensures end { OnOk result (IsAtEnd (S.ahead source.new)) }
+    ensures mark { OnOk result (S.behind source.new ≡ S.behind source.old) }
+    ensures calm { OnOk result (S.faults source.new ≡ S.faults source.old) }
+    ensures fault { OnErr result (Rose (S.faults source.old) (S.faults source.new)) }
+    ensures given { HasGiven (S.ahead source.old) (S.ahead source.new) }
+{
+    'pieces: loop {
+        let n = source.read(buf)?;
+        if n == 0 {
+            return Ok(());
+        }
+        hasher.update(&buf[..n]);
+    }
+}
+
+// The Blake2b digest of 64 bytes of all that is ahead, which is read in pieces, so that memory does
+// not grow with it.
+pub(crate) fn prehash<S: Source>(alloc: Global, source: &mut S) -> Result<[u8; 64]>
+    ensures digest { IfOk result (λ d. IfSome (S.ahead source.old) (λ xs. d ≡ blake2b_digest 64 xs)) }
+    ensures end { OnOk result (IsAtEnd (S.ahead source.new)) }
+    ensures mark { OnOk result (S.behind source.new ≡ S.behind source.old) }
+    ensures calm { OnOk result (S.faults source.new ≡ S.faults source.old) }
+    ensures fault { IfErr result (IsReadFault (S.faults source.old) (S.faults source.new)) }
+    ensures given { HasGiven (S.ahead source.old) (S.ahead source.new) }
+{
+    let mut buf = zeros(alloc, PIECE_BYTES)?;
+    let mut hasher = Blake2b::new(64);
+    match feed(source, &mut buf, &mut hasher) {
+        Ok(()) => {
+            let mut digest = [0u8; 64];
+            hasher.finalize(&mut digest);
+            Ok(digest)
+        }
+        Err(_) => Err(faults::reading_failed()),
+    }
+}
+
+// Adds all that is ahead, through the buffer.
+fn keep<S: Source>(source: &mut S, buf: &mut [u8], kept: &mut Vec<u8>) -> Result<()>
+    requires { 0 < length buf.old }
+    ensures kept { OnOk result (IfSome (S.ahead source.old) (λ xs. kept.new.items ≡ kept.old.items ++ xs)) }
+    ensures end { OnOk result (IsAtEnd (S.ahead source.new)) }
+    ensures mark { OnOk result (S.behind source.new ≡ S.behind source.old) }
+    ensures calm { OnOk result (S.faults source.new ≡ S.faults source.old) }
+    ensures fault { IfErr result (IsReadFault (S.faults source.old) (S.faults source.new)) }
+    ensures given { HasGiven (S.ahead source.old) (S.ahead source.new) }
+{
+    'pieces: loop {
+        match source.read(buf) {
+            Ok(n) => {
+                if n == 0 {
+                    return Ok(());
+                }
+                kept.extend_from_slice(&buf[..n])?;
+            }
+            Err(_) => return Err(faults::reading_failed()),
+        }
+    }
+}
+
+/// All that is ahead, in memory.
+pub fn read_to_end<S: Source>(alloc: Global, source: &mut S) -> Result<Vec<u8>>
+    ensures bytes { IfOk result (λ v. IfSome (S.ahead source.old) (λ xs. v.items ≡ xs)) }
+    ensures end { OnOk result (IsAtEnd (S.ahead source.new)) }
+    ensures mark { OnOk result (S.behind source.new ≡ S.behind source.old) }
+    ensures calm { OnOk result (S.faults source.new ≡ S.faults source.old) }
+    ensures fault { IfErr result (IsReadFault (S.faults source.old) (S.faults source.new)) }
+    ensures given { HasGiven (S.ahead source.old) (S.ahead source.new) }
+{
+    let mut buf = zeros(alloc, PIECE_BYTES)?;
+    let mut kept = Vec::new(alloc);
+    keep(source, &mut buf, &mut kept)?;
+    Ok(kept)
+}

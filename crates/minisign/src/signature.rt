@@ -1,0 +1,100 @@
+//! A signature as it is stored: algorithm, identifier, signature.
+ghost use Rattle.std.specs.Prelude.{◌≡◌, ◌<◌, ◌++◌, length, vec_len, replicate, MatchResult, IfOk, IfErr};
+ghost use Rattle.minisign_base.specs.Scheme.{IsBytes};
+ghost use Rattle.minisign_base.specs.Faults.{out_of_memory, record_too_short};
+
+use crate::fields::split_field;
+use minisign_base::Result;
+use std::alloc::Global;
+use std::marker::Model;
+
+/// A signature: an algorithm of 2 bytes, the identifier of the key of 8, and the signature of 64.
+#[derive(Clone, Drop)]
+pub struct Signature {
+    /// The algorithm, kept as it was read.
+    pub sig_alg: [u8; 2],
+    /// The identifier of the key that signed.
+    pub keynum: [u8; 8],
+    /// The signature of the data, or of its digest.
+    pub sig: [u8; 64],
+}
+
+impl Model for Signature {
+    ghost use Rattle.minisign.specs.Records.{SignatureRecord};
+
+    ghost Value = { SignatureRecord };
+
+    ghost view = { λ s. record { algorithm = s.sig_alg; keynum = s.keynum; signature = s.sig } };
+}
+
+impl Signature {
+    ghost use Rattle.minisign.specs.Records.{ReadsSignature, signature_bytes};
+
+    /// The length of a stored signature in bytes.
+    pub const BYTES: usize = 74;
+
+    /// The 74 bytes that `from_bytes` reads as this signature. Only want of memory is refused.
+    pub fn to_bytes(&self, alloc: Global) -> Result<Vec<u8>>
+        ensures bytes { IfOk result (λ v. v.items ≡ signature_bytes self.now) }
+        ensures reads_back { IfOk result (λ v. ReadsSignature v.items self.now) }
+        ensures len { IfOk result (λ v. vec_len v ≡ Self.BYTES) }
+        ensures refused { IfErr result (λ e. e ≡ out_of_memory) }
+    {
+        let mut bytes = Vec::with_capacity(alloc, Self::BYTES)?;
+        bytes.extend_from_slice(&self.sig_alg)?;
+        bytes.extend_from_slice(&self.keynum)?;
+        bytes.extend_from_slice(&self.sig)?;
+        Ok(bytes)
+    }
+
+    /// Reads the 74 bytes at the front: algorithm, identifier, signature. Fewer bytes are refused, and
+    /// later ones are ignored. Takes no memory.
+    pub fn from_bytes(bytes: &[u8]) -> Result<Signature>
+        ensures { MatchResult result (ReadsSignature bytes.now) (λ e. (e ≡ record_too_short) × (length bytes.now < 74)) }
+    {
+        let (sig_alg, rest) = split_field(bytes)?;
+        let (keynum, rest) = split_field(rest)?;
+        let (sig, _) = split_field(rest)?;
+        Ok(Signature {
+            sig_alg,
+            keynum,
+            sig,
+        })
+    }
+}
+
+impl Signature {
+    // What a comment signature is over: the signature followed by the trusted comment.
+    pub(crate) fn with_comment(&self, alloc: Global, trusted_comment: &str) -> Result<Vec<u8>>
+        ensures bytes { IfOk result (λ v. v.items ≡ self.now.signature ++ trusted_comment.now) }
+        ensures each { IfOk result (λ v. IsBytes v.items) }
+        ensures refused { IfErr result (λ e. e ≡ out_of_memory) }
+    {
+        joined(alloc, &self.sig, trusted_comment.as_bytes())
+    }
+}
+
+// The two lists, one after the other.
+fn joined(alloc: Global, front: &[u8], back: &[u8]) -> Result<Vec<u8>>
+    ensures bytes { IfOk result (λ v. v.items ≡ front.now ++ back.now) }
+    ensures each { IfOk result (λ v. IsBytes v.items) }
+    ensures refused { IfErr result (λ e. e ≡ out_of_memory) }
+{
+    let mut bytes = Vec::new(alloc);
+    bytes.extend_from_slice(front)?;
+    bytes.extend_from_slice(back)?;
+    Ok(bytes)
+}
+
+/// 74 zeros.
+impl Default for Signature {
+    ghost is_default = { λ s. s ≡ record { algorithm = replicate 2 0; keynum = replicate 8 0; signature = replicate 64 0 } };
+
+    fn default() -> Signature {
+        Signature {
+            sig_alg: [0; 2],
+            keynum: [0; 8],
+            sig: [0; 64],
+        }
+    }
+}

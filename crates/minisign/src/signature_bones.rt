@@ -1,0 +1,62 @@
+//! A signature with no comments.
+ghost use Rattle.std.specs.Prelude.{◌≡◌, ◌≢◌, ◌<◌, length, vec_len, ◌⊎◌, MatchResult, IfOk, IfErr};
+ghost use Rattle.minisign_base.specs.Faults.{out_of_memory, record_too_short, unsupported_signature_algorithm};
+
+use crate::constants::{SIGALG, SIGALG_PREHASHED};
+use crate::signature::Signature;
+use minisign_base::{Result, faults};
+use std::alloc::Global;
+use std::marker::Model;
+
+/// A bare signature, of an algorithm that is known.
+#[derive(Clone, Drop)]
+pub struct SignatureBones {
+    pub(crate) signature: Signature,
+}
+
+impl Model for SignatureBones {
+    ghost use Rattle.minisign.specs.Records.{SignatureRecord, IsKnownAlgorithm};
+
+    ghost Value = { SignatureRecord };
+
+    ghost view = { λ b. b.signature };
+
+    ghost invariant = { λ b. IsKnownAlgorithm b.signature.algorithm };
+}
+
+impl SignatureBones {
+    ghost use Rattle.minisign.specs.Records.{ReadsSignature, IsBonesFault, signature_bytes, is_prehashed, IsKnownAlgorithm};
+
+    /// The length of a stored signature in bytes.
+    pub const BYTES: usize = Signature::BYTES;
+
+    /// Whether the signature is over the digest of the data and not over the data itself.
+    pub fn is_prehashed(&self) -> bool
+        ensures { result ≡ is_prehashed self.now }
+    {
+        self.signature.sig_alg == SIGALG_PREHASHED
+    }
+
+    /// Reads the 74 bytes at the front. Fewer bytes are refused, then an algorithm other than `Ed` and
+    /// `ED`; later bytes are ignored. Takes no memory.
+    pub fn from_bytes(bytes: &[u8]) -> Result<SignatureBones>
+        ensures read { IfOk result (λ s. ReadsSignature bytes.now s × IsKnownAlgorithm s.algorithm) }
+        ensures refused { IfErr result (IsBonesFault bytes.now) }
+    {
+        let signature = Signature::from_bytes(bytes)?;
+        if signature.sig_alg != SIGALG && signature.sig_alg != SIGALG_PREHASHED {
+            return Err(faults::unsupported_signature_algorithm());
+        }
+        Ok(SignatureBones { signature })
+    }
+
+    /// The 74 bytes that `from_bytes` reads as this signature. Only want of memory is refused.
+    pub fn to_bytes(&self, alloc: Global) -> Result<Vec<u8>>
+        ensures bytes { IfOk result (λ v. v.items ≡ signature_bytes self.now) }
+        ensures reads_back { IfOk result (λ v. ReadsSignature v.items self.now) }
+        ensures len { IfOk result (λ v. vec_len v ≡ Self.BYTES) }
+        ensures refused { IfErr result (λ e. e ≡ out_of_memory) }
+    {
+        self.signature.to_bytes(alloc)
+    }
+}

@@ -1,0 +1,186 @@
+//! Whether a signature box vouches for data under a public key.
+ghost use Rattle.std.specs.Prelude.{◌≡◌, ℕ, ◌+◌, ◌≤◌, ◌++◌, List, [], true, false, if◌then◌else◌, ◌⊎◌, length, IfOk, IfErr, OnOk, OnErr, IfSome, None, Some, take};
+ghost use Rattle.std.specs.Io.KnownBytes.{Appends, IsAtEnd};
+ghost use Rattle.minisign_base.specs.Devices.{Rose, HasGiven, AppendsFront};
+ghost use Rattle.minisign_base.specs.Faults.{out_of_memory, reading_failed, writing_failed};
+ghost use Rattle.minisign.specs.Acceptance.{Accepts, Refuses, judged, accepts_comment, accepts_comments, first_refusal, line, status_lines};
+
+use crate::public_key::PublicKey;
+use crate::reading::{prehash, read_to_end};
+use crate::signature::Signature;
+use crate::signature_box::{Comments, SignatureBox};
+use minisign_base::devices::DeviceFault;
+use minisign_base::devices::sinks::{Sink, put_all};
+use minisign_base::devices::sources::Rereader;
+use minisign_base::scheme::Scheme;
+use minisign_base::{Result, faults};
+use std::alloc::Global;
+
+/// Verifies that `signature_box` vouches for all the data ahead of `data_reader` under `pk`.
+///
+/// The data is read to its end first; where the box is prehashed it is hashed in pieces of 64 KiB,
+/// else it is kept in memory. Then these are refused, in this order: an identifier other than the
+/// public key's, a signature over the data itself unless `allow_legacy`, a signature that the scheme
+/// does not accept, a comment signature that has under 64 bytes or is not accepted. After a refusal
+/// `status` is untouched; on success it gets a line, and another one with the trusted comment where
+/// there is one, unless `quiet`. `status` is not flushed.
+///
+/// A failing `data_reader` is refused before anything is judged, and a failing `status` last.
+pub fn verify<S: Scheme, R: Rereader, W: Sink, O: Sink>(
+    alloc: Global,
+    scheme: &S,
+    pk: &PublicKey,
+    signature_box: &SignatureBox,
+    data_reader: &mut R,
+    quiet: bool,
+    output: bool,
+    allow_legacy: bool,
+    status: &mut W,
+    out: &mut O,
+) -> Result<()>
+    requires { output ≡ false }
+
+    // What is accepted is vouched for, and this was said of it.
+    ensures accepted { OnOk result (IfSome (R.ahead data_reader.old) (λ message.
+        Accepts (S.accepts scheme.now) pk.now signature_box.now message allow_legacy)) }
+    ensures said { OnOk result (Appends (W.taken status.old) (W.taken status.new)
+        (if quiet then [] else status_lines signature_box.now)) }
+    ensures all_read { OnOk result (IsAtEnd (R.ahead data_reader.new)) }
+
+    // Why it was refused.
+    ensures refused { IfErr result (λ e.
+        ((e ≡ out_of_memory) × (status.new ≡ status.old))
+        ⊎ ((e ≡ reading_failed) × Rose (R.faults data_reader.old) (R.faults data_reader.new) × (status.new ≡ status.old))
+        ⊎ ((e ≡ writing_failed) × Rose (W.sink_faults status.old) (W.sink_faults status.new) × IsAtEnd (R.ahead data_reader.new))
+        ⊎ (IfSome (R.ahead data_reader.old) (λ message.
+        Refuses (S.accepts scheme.now) pk.now signature_box.now message allow_legacy e)
+        × IsAtEnd (R.ahead data_reader.new) × (status.new ≡ status.old))) }
+    ensures said_front { OnErr result (AppendsFront (W.taken status.old) (W.taken status.new)
+        (if quiet then [] else status_lines signature_box.now)) }
+
+    ensures given { HasGiven (R.ahead data_reader.old) (R.ahead data_reader.new) }
+    ensures out { out.new ≡ out.old }
+{
+    if signature_box.is_prehashed() {
+        let digest = prehash(alloc, data_reader)?;
+        judge(alloc, scheme, pk, signature_box, &digest, allow_legacy)?;
+    } else {
+        let message = read_to_end(alloc, data_reader)?;
+        judge(alloc, scheme, pk, signature_box, &message, allow_legacy)?;
+    }
+    if quiet {
+        return Ok(());
+    }
+    match say(status, signature_box) {
+        Ok(()) => Ok(()),
+        Err(_) => Err(faults::writing_failed()),
+    }
+}
+
+// Tests the conditions in their order over what the signature is over: the digest, or the data.
+fn judge<S: Scheme>(
+    alloc: Global,
+    scheme: &S,
+    pk: &PublicKey,
+    signature_box: &SignatureBox,
+    judged_message: &[u8],
+    allow_legacy: bool,
+) -> Result<()>
+    ensures accepted { OnOk result ((message : List ℕ) → judged_message.now ≡ judged signature_box.now message →
+        first_refusal (S.accepts scheme.now) pk.now signature_box.now message allow_legacy ≡ None) }
+    ensures refused { IfErr result (λ e. (e ≡ out_of_memory)
+        ⊎ ((message : List ℕ) → judged_message.now ≡ judged signature_box.now message →
+        first_refusal (S.accepts scheme.now) pk.now signature_box.now message allow_legacy ≡ Some e)) }
+{
+    let signature = &signature_box.signature;
+    let keynum_pk = &pk.keynum_pk;
+    if signature.keynum != keynum_pk.keynum {
+        return Err(faults::different_key_ids(signature.keynum, keynum_pk.keynum));
+    }
+    if !signature_box.is_prehashed() && !allow_legacy {
+        return Err(faults::legacy_not_accepted());
+    }
+    if !scheme.verify(judged_message, &keynum_pk.pk, &signature.sig) {
+        return Err(faults::signature_refused());
+    }
+    if !accepts_comments(alloc, scheme, pk, signature_box)? {
+        return Err(faults::comment_signature_refused());
+    }
+    Ok(())
+}
+
+// Whether the comment signature is accepted; a bare signature has none to test. Only the 32 bytes of
+// the key count.
+pub(crate) fn accepts_comments<S: Scheme>(
+    alloc: Global,
+    scheme: &S,
+    pk: &PublicKey,
+    signature_box: &SignatureBox,
+) -> Result<bool>
+    ensures answer { IfOk result (λ b. b ≡ accepts_comments (S.accepts scheme.now) pk.now signature_box.now) }
+    ensures refused { IfErr result (λ e. e ≡ out_of_memory) }
+{
+    match &signature_box.comments {
+        Some(comments) => accepts_comment(alloc, scheme, pk, &signature_box.signature, comments),
+        None => Ok(true),
+    }
+}
+
+// Whether the comment signature has at least 64 bytes, and the first 64 are accepted for the signature
+// followed by the trusted comment.
+fn accepts_comment<S: Scheme>(
+    alloc: Global,
+    scheme: &S,
+    pk: &PublicKey,
+    signature: &Signature,
+    comments: &Comments,
+) -> Result<bool>
+    ensures answer { IfOk result (λ b. b ≡ accepts_comment (S.accepts scheme.now) pk.now signature.now comments.now) }
+    ensures refused { IfErr result (λ e. e ≡ out_of_memory) }
+{
+    if comments.global_sig.len() < 64 {
+        return Ok(false);
+    }
+    let (front, _) = comments.global_sig.split_at(64);
+    let mut global_sig = [0u8; 64];
+    global_sig.copy_from_slice(front);
+    let signed = signature.with_comment(alloc, comments.trusted_comment.as_str())?;
+    Ok(scheme.verify(&signed, &pk.keynum_pk.pk, &global_sig))
+}
+
+// Writes what is said of a box that was accepted.
+#[tactic(auto, unfolding(crate::specs::Acceptance::verified_text, crate::specs::Acceptance::trusted_comment_text))]
+fn say<W: Sink>(
+    status: &mut W,
+    signature_box: &SignatureBox,
+) -> std::result::Result<(), DeviceFault>
+    ensures said { OnOk result (Appends (W.taken status.old) (W.taken status.new) (status_lines signature_box.now)) }
+    ensures fault { OnErr result (Rose (W.sink_faults status.old) (W.sink_faults status.new)) }
+    ensures front { OnErr result (AppendsFront (W.taken status.old) (W.taken status.new) (status_lines signature_box.now)) }
+{
+    put_line(status, b"Signature and comment signature verified", b"")?;
+    if let Some(comments) = &signature_box.comments {
+        put_line(
+            status,
+            b"Trusted comment: ",
+            comments.trusted_comment.as_bytes(),
+        )?;
+    }
+    Ok(())
+}
+
+// Writes a label, a text and a line feed.
+fn put_line<W: Sink>(
+    sink: &mut W,
+    label: &[u8],
+    text: &[u8],
+) -> std::result::Result<(), DeviceFault>
+    ensures bytes { OnOk result (Appends (W.taken sink.old) (W.taken sink.new) (line (label.now ++ text.now))) }
+    ensures calm { OnOk result (W.sink_faults sink.new ≡ W.sink_faults sink.old) }
+    ensures fault { OnErr result (Rose (W.sink_faults sink.old) (W.sink_faults sink.new)) }
+    ensures front { OnErr result (AppendsFront (W.taken sink.old) (W.taken sink.new) (line (label.now ++ text.now))) }
+{
+    put_all(sink, label)?;
+    put_all(sink, text)?;
+    put_all(sink, b"\n")
+}
