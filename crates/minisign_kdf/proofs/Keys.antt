@@ -1,25 +1,10 @@
 -- The key of HMAC, and the keys that PBKDF2 derives.
-use Rattle.std.proofs.Common.{◌≡◌, ℕ, ◌+◌, ◌-◌, ◌*◌, ◌/◌, ◌<◌, ◌≤◌, Bool, List, [], ◌∷◌, ◌++◌, length, take, map, replicate, slice_index, slice_set, bit_xor, if◌then◌else◌, sym, ap, ◌∙◌, arith}
-use Rattle.std.proofs.lemmas.Bool.{le-ltb, lt-ltb}
+use Rattle.std.proofs.Common.{◌≡◌, ℕ, ◌+◌, ◌*◌, ◌/◌, ◌<◌, ◌≤◌, List, [], ◌∷◌, ◌++◌, length, take, map, slice_index, slice_set, bit_xor, sym, ap, ◌∙◌, arith}
 use Rattle.std.proofs.Math.Seq.{take-append-add}
 use Rattle.std.proofs.lemmas.List.{append-nil, nil_from_length, take_all, get_or-map, length-map, take_more, take_more_set}
-use Rattle.sha2.specs.Sha256.{sha256}
 use Rattle.minisign_kdf.specs.Blocks.{joined}
-use Rattle.minisign_kdf.specs.Hmac.{key_block, shortened_key}
 use Rattle.minisign_kdf.specs.Pbkdf2.{derived_block, pbkdf2}
 use Rattle.minisign_kdf.proofs.Joined.{joined_next}
-
-pub key_block_long : (key digest block : List ℕ) → 64 < length key → digest ≡ sha256 key → block ≡ digest ++ replicate (64 - length digest) 0 → block ≡ key_block key
-unfolding key_block
-key_block_long key digest block long ed eb =
-    let chosen : shortened_key key ≡ sha256 key = ap (λ (t : Bool). if t then sha256 key else key) (lt-ltb 64 (length key) long) in
-    eb ∙ ap (λ (l : List ℕ). l ++ replicate (64 - length l) 0) (ed ∙ sym chosen)
-
-pub key_block_short : (key block : List ℕ) → length key ≤ 64 → block ≡ key ++ replicate (64 - length key) 0 → block ≡ key_block key
-unfolding key_block
-key_block_short key block short eb =
-    let chosen : shortened_key key ≡ key = ap (λ (t : Bool). if t then sha256 key else key) (le-ltb 64 (length key) short) in
-    eb ∙ ap (λ (l : List ℕ). l ++ replicate (64 - length l) 0) (sym chosen)
 
 -- one more byte is padded
 pub padded_next : (pad i : ℕ) (block out : List ℕ) → take i out ≡ take i (map (λ b. bit_xor b pad) block) → i < length out → i < length block

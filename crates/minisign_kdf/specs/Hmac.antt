@@ -10,7 +10,7 @@ shortened_key key = if nat_lt 64 (length key) then sha256 key else key
 unfoldable pub key_block : List ℕ → List ℕ
 key_block key = shortened_key key ++ replicate (64 - length (shortened_key key)) 0
 
--- a block with each byte xored with ipad or opad
+-- that block, each byte xored with ipad, 0x36, or with opad, 0x5c
 abbrev pub padded_key : List ℕ → ℕ → List ℕ
 padded_key key pad = map (λ b. bit_xor b pad) (key_block key)
 

@@ -2,6 +2,7 @@
 -- parallelization p (RFC 7914, section 2).
 use Rattle.std.specs.Prelude.{ℕ, ◌*◌, ◌^◌, ◌<◌, ◌≤◌, Bool, ◌&&◌, nat_lt, nat_le}
 
+-- the six conditions
 pub record IsAccepted (n_log2 r p : ℕ) : Type 0 where
   pub cost : 1 ≤ n_log2
   pub block_size : 1 ≤ r

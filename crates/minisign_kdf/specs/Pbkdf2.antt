@@ -12,6 +12,6 @@ longest_key = (2 ^ 32 - 1) * 32
 unfoldable pub derived_block : List ℕ → List ℕ → ℕ → List ℕ
 derived_block password salt i = hmac password (salt ++ to_be_bytes w32 i)
 
--- the first len bytes of T_1, T_2, .. joined
+-- T_1, .., T_l joined and cut to len bytes, l being len / 32 rounded up
 unfoldable pub pbkdf2 : List ℕ → List ℕ → ℕ → List ℕ
 pbkdf2 password salt len = take len (joined (λ i. derived_block password salt (i + 1)) ((len + 31) / 32))

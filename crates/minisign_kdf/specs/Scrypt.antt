@@ -1,4 +1,5 @@
--- scrypt (RFC 7914, sections 4 to 6). A block has 64 bytes, a part 2 * r blocks.
+-- scrypt (RFC 7914, sections 2 and 4 to 6), on lists of bytes. A block has 64 bytes, and a part, which
+-- the RFC calls B, has 2 * r blocks.
 use Rattle.std.specs.Prelude.{ℕ, zero, suc, ◌+◌, ◌-◌, ◌*◌, ◌%◌, List, ◌++◌, Bool, ◌&&◌, bit_xor, nat_le}
 use Rattle.std.specs.Simd.Lanes.{zip2, number_l}
 use Rattle.minisign_kdf.specs.Blocks.{block, joined}

@@ -22,6 +22,7 @@ fn filled(key: &[u8]) -> [u8; 64]
 }
 
 // The key as a block: its digest in its place, where it is longer.
+#[tactic(auto, unfolding(crate::specs::Hmac::key_block))]
 fn key_block(key: &[u8]) -> [u8; 64]
     ensures { result ≡ key_block key.now }
 {

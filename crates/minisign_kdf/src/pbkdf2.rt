@@ -10,6 +10,7 @@ use crate::hmac::hmac_sha256;
 const BLOCK_LEN: usize = 32;
 
 // T_i.
+#[tactic(auto, unfolding(crate::specs::Pbkdf2::derived_block))]
 fn derived_block(password: &[u8], salt: &[u8], i: u32) -> [u8; 32]
     ensures { result ≡ derived_block password.now salt.now i }
 {

@@ -6,6 +6,7 @@ ghost use Rattle.minisign_kdf.specs.Salsa20.{add32, column_round, double_round, 
 
 // The four words after one quarter of a round.
 #[inline(always)]
+#[tactic(auto, unfolding(crate::specs::Salsa20::quarter_round))]
 fn quarter_round(a: u32, b: u32, c: u32, d: u32) -> [u32; 4]
     ensures { result ≡ quarter_round a b c d }
 {
@@ -78,6 +79,7 @@ fn sum_of(x: [u32; 16], y: [u32; 16]) -> [u32; 16]
 
 // Salsa20/8 of sixteen words.
 #[inline(always)]
+#[tactic(auto, unfolding(crate::specs::Salsa20::salsa_words))]
 pub(crate) fn salsa20_8(x: [u32; 16]) -> [u32; 16]
     ensures { result ≡ salsa_words x }
 {
