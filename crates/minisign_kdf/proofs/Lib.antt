@@ -7,3 +7,4 @@ pub mod Derivation
 pub mod ParamsFacts
 pub mod Rows
 pub mod Parts
+pub mod KeyFacts

@@ -14,7 +14,7 @@ use std::fmt;
 // The greatest length of a derived key: 2^32 - 1 blocks of 32 bytes.
 const LONGEST_KEY: usize = 137438953440;
 
-/// A derived key can't have so many bytes.
+/// The output is empty or longer than 137438953440 bytes.
 #[derive(Clone, Copy, Debug, PartialEq)]
 pub struct InvalidOutputLen;
 
@@ -133,9 +133,15 @@ fn derive(
 
 /// Derives a key that fills `out` from a password and a salt, by scrypt (RFC 7914, section 6).
 ///
-/// `InvalidOutputLen` is answered exactly where `out` is empty or longer than 137438953440 bytes,
-/// `OutOfMemory` where a growth was refused: N * 128 * r bytes for the rows, in one request, and 128 *
-/// r * (p + 2) bytes besides. A refusal leaves `out` as it was.
+/// `InvalidOutputLen` is answered exactly where `out` is empty or longer than 137438953440 bytes, before
+/// any memory is asked for; `OutOfMemory` where a growth was refused: 128 * r * N bytes for the rows, in
+/// one request, then 128 * r * (p + 2) bytes, all before any mixing. A refusal leaves `out` as it was.
+///
+/// ```
+/// let params = Params::new(15, 8, 1)?;
+/// let mut key = [0u8; 32];
+/// scrypt(alloc, b"password", b"salt", &params, &mut key)?;
+/// ```
 pub fn scrypt(
     alloc: Global,
     password: &[u8],

@@ -1,0 +1,76 @@
+-- What callers need of a derived key: its length, and that it is bytes.
+use Rattle.std.proofs.Common.{◌≡◌, ℕ, zero, suc, ◌+◌, ◌*◌, ◌/◌, ◌^◌, ◌<◌, List, [], ◌∷◌, length, slice_index, All, mod-lt, lit<, subst, refl, sym, ap, ◌∙◌, arith, add-one, length-append}
+use Rattle.std.proofs.Math.Nat.{suc-mul}
+use Rattle.std.proofs.lemmas.List.{length-take-le}
+use Rattle.std.proofs.lemmas.List.Elements.{All-append, All-get_or, All-take}
+use Rattle.std.specs.Int.{w32, to_be_bytes}
+use Rattle.sha2.specs.Sha256.{digest_bytes, sha256}
+use Rattle.minisign_kdf.specs.Blocks.{joined}
+use Rattle.minisign_kdf.specs.Hmac.{hmac}
+use Rattle.minisign_kdf.specs.Pbkdf2.{derived_block, pbkdf2}
+use Rattle.minisign_kdf.specs.Scrypt.{scrypt}
+use Rattle.minisign_kdf.proofs.Joined.{joined_next, joined_none}
+
+pub length-hmac : (key text : List ℕ) → length (hmac key text) ≡ 32
+unfolding hmac sha256 digest_bytes
+length-hmac key text = refl
+
+length-derived_block : (password salt : List ℕ) (i : ℕ) → length (derived_block password salt i) ≡ 32
+unfolding derived_block
+length-derived_block password salt i = length-hmac password _
+
+length-joined : (f : ℕ → List ℕ) (k n : ℕ) → ((i : ℕ) → length (f i) ≡ k) → length (joined f n) ≡ n * k
+length-joined f k zero each = ap length (joined_none f) ∙ omega arith
+length-joined f k (suc n) each =
+    let before : length (joined f n) ≡ n * k = length-joined f k n each in
+    ap (λ (m : ℕ). length (joined f m)) (sym (add-one n)) ∙ ap length (joined_next f n) ∙ length-append (joined f n) (f n) ∙ (λ t. before t + each n t) ∙ sym (suc-mul n k)
+
+pub length-pbkdf2 : (password salt : List ℕ) (len : ℕ) → length (pbkdf2 password salt len) ≡ len
+unfolding pbkdf2
+length-pbkdf2 password salt len =
+    let whole = length-joined (λ (i : ℕ). derived_block password salt (i + 1)) 32 ((len + 31) / 32) (λ i. length-derived_block password salt (i + 1)) in
+    length-take-le len (joined (λ i. derived_block password salt (i + 1)) ((len + 31) / 32)) (omega (arith, whole))
+
+pub length-scrypt : (password salt : List ℕ) (n r p len : ℕ) → length (scrypt password salt n r p len) ≡ len
+unfolding scrypt
+length-scrypt password salt n r p len = length-pbkdf2 password _ len
+
+-- ---- what is derived are bytes
+
+abbrev IsByte : ℕ → Type 0
+IsByte b = b < 2 ^ 8
+
+four_are : (w x y z : ℕ) → IsByte w → IsByte x → IsByte y → IsByte z → All IsByte (w ∷ x ∷ y ∷ z ∷ [])
+four_are w x y z hw hx hy hz zero d lt = hw
+four_are w x y z hw hx hy hz (suc zero) d lt = hx
+four_are w x y z hw hx hy hz (suc (suc zero)) d lt = hy
+four_are w x y z hw hx hy hz (suc (suc (suc zero))) d lt = hz
+four_are w x y z hw hx hy hz (suc (suc (suc (suc k)))) d lt = absurd (omega arith)
+
+word_is : (n : ℕ) → All IsByte (to_be_bytes w32 n)
+word_is n = four_are _ _ _ _ (mod-lt (n / 2 ^ 24) (lit< tt)) (mod-lt (n / 2 ^ 16) (lit< tt)) (mod-lt (n / 2 ^ 8) (lit< tt)) (mod-lt n (lit< tt))
+
+digest_is : (h : List ℕ) (n : ℕ) → All IsByte (digest_bytes h n)
+unfolding digest_bytes
+digest_is h zero = λ k d lt. absurd (omega arith)
+digest_is h (suc n) = All-append IsByte (digest_bytes h n) (to_be_bytes w32 (slice_index h n)) (digest_is h n) (word_is (slice_index h n))
+
+hmac_is : (key text : List ℕ) → All IsByte (hmac key text)
+unfolding hmac sha256
+hmac_is key text = digest_is _ 8
+
+joined_is : (f : ℕ → List ℕ) (n : ℕ) → ((i : ℕ) → All IsByte (f i)) → All IsByte (joined f n)
+joined_is f zero each = subst (All IsByte) (sym (joined_none f)) (λ k d lt. absurd (omega arith))
+joined_is f (suc n) each =
+    subst (All IsByte) (sym (joined_next f n) ∙ ap (joined f) (add-one n)) (All-append IsByte (joined f n) (f n) (joined_is f n each) (each n))
+
+pbkdf2_is : (password salt : List ℕ) (len : ℕ) → All IsByte (pbkdf2 password salt len)
+unfolding pbkdf2 derived_block
+pbkdf2_is password salt len =
+    All-take IsByte len _ (joined_is (λ (i : ℕ). derived_block password salt (i + 1)) ((len + 31) / 32) (λ i. hmac_is password _))
+
+pub scrypt_bytes : (password salt : List ℕ) (n r p len : ℕ) (i : ℕ) → i < len → slice_index (scrypt password salt n r p len) i < 2 ^ 8
+unfolding scrypt
+scrypt_bytes password salt n r p len i lt =
+    let l : i < length (scrypt password salt n r p len) = omega (arith, length-scrypt password salt n r p len) in
+    All-get_or IsByte _ i 0 l (pbkdf2_is password _ len)
