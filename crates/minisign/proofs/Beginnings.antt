@@ -1,9 +1,10 @@
 -- What a sink took and a source gave, put together from one call after the other.
-use Rattle.std.proofs.Common.{◌≡◌, ℕ, ◌+◌, ◌≤◌, List, [], ◌++◌, length, take, min, Option, None, Some, Result, Ok, Err, OnErr, arith, append_assoc, refl, ap, sym, ◌∙◌}
+use Rattle.std.proofs.Common.{◌≡◌, ℕ, ◌+◌, List, ◌++◌, length, take, min, Option, None, Some, Result, Ok, Err, OnErr, arith, append_assoc, ap, sym, ◌∙◌, append-nil}
 use Rattle.std.proofs.Math.Seq.{take-append-add}
 use Rattle.std.proofs.lemmas.List.{take-append-le, take_min}
-use Rattle.std.specs.Io.KnownBytes.{Appends, Consumes}
+use Rattle.std.specs.Io.KnownBytes.{Appends, Consumes, IsAtEnd}
 use Rattle.minisign_base.specs.Devices.{AppendsFront, HasGiven}
+use Rattle.minisign.specs.Reading.{IsAhead}
 
 -- what holds anyway holds after a refusal
 pub on_err_of : {T E : Type 0} (r : Result T E) (P : Type 0) → P → OnErr r P
@@ -32,3 +33,9 @@ given_behind old mid None a all given = tt
 given_behind None mid (Some ys) a all given = tt
 given_behind (Some xs) None (Some ys) a all given = absurd all
 given_behind (Some xs) (Some ms) (Some ys) a all (front, more) = (a ++ front, all ∙ ap (λ (l : List ℕ). a ++ l) more ∙ sym (append_assoc a front ys))
+
+-- what was given up to the end is all that was ahead
+pub given_is_ahead : (old new : Option (List ℕ)) (a : List ℕ) → Consumes old new a → IsAtEnd new → IsAhead old a
+given_is_ahead None new a all end = tt
+given_is_ahead (Some xs) None a all end = absurd all
+given_is_ahead (Some xs) (Some ys) a all end = all ∙ ap (λ (l : List ℕ). a ++ l) end ∙ append-nil a

@@ -1,3 +1,4 @@
 pub mod RecordFields
 pub mod Beginnings
 pub mod SignedBoxes
+pub mod Unvouched

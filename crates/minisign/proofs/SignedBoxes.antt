@@ -1,10 +1,10 @@
 -- The box that signing makes, and why it is accepted.
-use Rattle.std.proofs.Common.{◌≡◌, ℕ, ◌≤◌, true, IsTrue, List, ◌++◌, length, take, Option, Some, inl, refl, sym, ap, ◌∙◌, arith}
+use Rattle.std.proofs.Common.{◌≡◌, ℕ, true, List, ◌++◌, length, Option, Some, inl, refl, sym, ◌∙◌, arith}
 use Rattle.std.proofs.lemmas.List.{take_all}
 use Rattle.minisign_hash.specs.Blake2b.{blake2b_digest}
 use Rattle.minisign_base.specs.Scheme.{IsBytes, IsNonce}
-use Rattle.minisign.specs.Records.{PublicKeyRecord, SecretKeyRecord, SignatureBoxRecord, prehashed_algorithm}
-use Rattle.minisign.specs.Acceptance.{Acceptance, Accepts, AcceptedUnder}
+use Rattle.minisign.specs.Records.{SecretKeyRecord, SignatureBoxRecord, prehashed_algorithm}
+use Rattle.minisign.specs.Acceptance.{Acceptance, AcceptedUnder}
 use Rattle.minisign.specs.Signing.{Signer, signed_box, IsGenuine}
 
 -- a box of these parts

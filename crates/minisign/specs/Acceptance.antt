@@ -1,6 +1,6 @@
 -- When a signature box vouches for data under a public key, which condition fails first where it does
 -- not, and what is said where it does.
-use Rattle.std.specs.Prelude.{◌≡◌, ℕ, ◌≤◌, Bool, true, IsTrue, ◌⊎◌, ◌||◌, ◌&&◌, if◌then◌else◌, nat_le, List, [], ◌∷◌, ◌++◌, length, take, Option, None, Some, IfSome, codes, bytes_eq}
+use Rattle.std.specs.Prelude.{◌≡◌, ⊤, ℕ, ◌≤◌, Bool, true, IsTrue, ◌⊎◌, ◌||◌, ◌&&◌, if◌then◌else◌, nat_le, List, [], ◌∷◌, ◌++◌, length, take, Option, None, Some, IfSome, codes, bytes_eq}
 use Rattle.std.specs.Option.{option_map_or}
 use Rattle.minisign_hash.specs.Blake2b.{blake2b_digest}
 use Rattle.minisign_base.specs.Fault.{Fault}
@@ -54,6 +54,21 @@ first_refusal accepts pk x message legacy =
     else Some signature_refused)
     else Some legacy_not_accepted)
     else Some (different_key_ids x.signature.keynum pk.keynum)
+
+-- comments with the same trusted comment and the same first 64 bytes of the comment signature, or none
+abbrev pub SameComments : Option CommentsRecord → Option CommentsRecord → Type 0
+SameComments None None = ⊤
+SameComments None (Some d) = ⊥
+SameComments (Some c) None = ⊥
+SameComments (Some c) (Some d) = (d.trusted ≡ c.trusted) × (take 64 d.signature ≡ take 64 c.signature)
+
+-- keys and boxes that differ at most in the key's algorithm, the untrusted comment, and the bytes past
+-- the 64th of the comment signature
+pub record SameWhereVouched (pk other : PublicKeyRecord) (x y : SignatureBoxRecord) : Type 0 where
+  pub keynum : other.keynum ≡ pk.keynum
+  pub key : other.key ≡ pk.key
+  pub signature : y.signature ≡ x.signature
+  pub comments : SameComments x.comments y.comments
 
 -- the box does not vouch for the message, and this is why
 pub record Refuses (accepts : Acceptance) (pk : PublicKeyRecord) (x : SignatureBoxRecord) (message : List ℕ) (legacy : Bool) (e : Fault) : Type 0 where

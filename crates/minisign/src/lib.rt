@@ -16,6 +16,7 @@ pub mod signature_box;
 pub mod signing;
 pub mod verifying;
 
+pub use constants::DEFAULT_COMMENT;
 pub use minisign_base as base;
 pub use minisign_base::{ErrorKind, PError, Result};
 pub use minisign_hash as hash;

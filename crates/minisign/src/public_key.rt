@@ -28,7 +28,7 @@ impl Model for PublicKey {
 }
 
 impl PublicKey {
-    ghost use Rattle.minisign.specs.Records.{ReadsPublicKey, public_key_bytes};
+    ghost use Rattle.minisign.specs.Records.{PublicKeyRecord, ReadsPublicKey, public_key_bytes};
 
     /// The identifier, 8 bytes.
     pub fn keynum(&self) -> &[u8]
@@ -55,6 +55,7 @@ impl PublicKey {
     pub fn to_bytes(&self, alloc: Global) -> Result<Vec<u8>>
         ensures bytes { IfOk result (λ v. v.items ≡ public_key_bytes self.now) }
         ensures reads_back { IfOk result (λ v. ReadsPublicKey v.items self.now) }
+        ensures one_reading { IfOk result (λ v. (other : PublicKeyRecord) → ReadsPublicKey v.items other → other ≡ self.now) }
         ensures refused { IfErr result (λ e. e ≡ out_of_memory) }
     {
         let mut bytes = Vec::with_capacity(alloc, 42)?;

@@ -1,11 +1,11 @@
 //! Reading data to its end: hashed as it comes, or kept whole.
-ghost use Rattle.std.specs.Prelude.{◌≡◌, ℕ, ◌<◌, List, ◌++◌, false, length, vec_len, IfOk, IfErr, OnOk, OnErr, IfSome};
+ghost use Rattle.std.specs.Prelude.{◌≡◌, ℕ, ◌<◌, List, ◌++◌, false, length, vec_len, IfOk, IfErr, OnOk, OnErr};
 ghost use Rattle.std.specs.Io.KnownBytes.{IsAtEnd};
 ghost use Rattle.minisign_hash.specs.Blake2b.{blake2b_digest};
 ghost use Rattle.minisign_hash.specs.Fed.{IsFed, has_finalized, output_length};
 ghost use Rattle.minisign_base.specs.Devices.{Rose, HasGiven};
 ghost use Rattle.minisign_base.specs.Faults.{out_of_memory};
-ghost use Rattle.minisign.specs.Reading.{IsReadFault};
+ghost use Rattle.minisign.specs.Reading.{IsAhead, IsReadFault};
 
 use minisign_base::devices::DeviceFault;
 use minisign_base::devices::sources::Source;
@@ -32,8 +32,8 @@ fn feed<S: Source>(
 ) -> std::result::Result<(), DeviceFault>
     requires some { 0 < length buf.old }
     requires open { has_finalized hasher.old ≡ false }
-    ensures fed { OnOk result (IfSome (S.ahead source.old) (λ xs.
-        (m : List ℕ) → IsFed hasher.old m → IsFed hasher.new (m ++ xs))) }
+    ensures fed { OnOk result ((xs : List ℕ) × IsAhead (S.ahead source.old) xs
+        × ((m : List ℕ) → IsFed hasher.old m → IsFed hasher.new (m ++ xs))) }
     ensures length { output_length hasher.new ≡ output_length hasher.old }
     ensures end { OnOk result (IsAtEnd (S.ahead source.new)) }
     ensures mark { OnOk result (S.behind source.new ≡ S.behind source.old) }
@@ -53,7 +53,7 @@ fn feed<S: Source>(
 // The Blake2b digest of 64 bytes of all that is ahead, which is read in pieces, so that memory does
 // not grow with it.
 pub(crate) fn prehash<S: Source>(alloc: Global, source: &mut S) -> Result<[u8; 64]>
-    ensures digest { IfOk result (λ d. IfSome (S.ahead source.old) (λ xs. d ≡ blake2b_digest 64 xs)) }
+    ensures digest { IfOk result (λ d. (xs : List ℕ) × IsAhead (S.ahead source.old) xs × (d ≡ blake2b_digest 64 xs)) }
     ensures end { OnOk result (IsAtEnd (S.ahead source.new)) }
     ensures mark { OnOk result (S.behind source.new ≡ S.behind source.old) }
     ensures calm { OnOk result (S.faults source.new ≡ S.faults source.old) }
@@ -75,7 +75,7 @@ pub(crate) fn prehash<S: Source>(alloc: Global, source: &mut S) -> Result<[u8; 6
 // Adds all that is ahead, through the buffer.
 fn keep<S: Source>(source: &mut S, buf: &mut [u8], kept: &mut Vec<u8>) -> Result<()>
     requires { 0 < length buf.old }
-    ensures kept { OnOk result (IfSome (S.ahead source.old) (λ xs. kept.new.items ≡ kept.old.items ++ xs)) }
+    ensures kept { OnOk result ((xs : List ℕ) × IsAhead (S.ahead source.old) xs × (kept.new.items ≡ kept.old.items ++ xs)) }
     ensures end { OnOk result (IsAtEnd (S.ahead source.new)) }
     ensures mark { OnOk result (S.behind source.new ≡ S.behind source.old) }
     ensures calm { OnOk result (S.faults source.new ≡ S.faults source.old) }
@@ -97,7 +97,7 @@ fn keep<S: Source>(source: &mut S, buf: &mut [u8], kept: &mut Vec<u8>) -> Result
 
 /// All that is ahead, in memory.
 pub fn read_to_end<S: Source>(alloc: Global, source: &mut S) -> Result<Vec<u8>>
-    ensures bytes { IfOk result (λ v. IfSome (S.ahead source.old) (λ xs. v.items ≡ xs)) }
+    ensures bytes { IfOk result (λ v. IsAhead (S.ahead source.old) v.items) }
     ensures end { OnOk result (IsAtEnd (S.ahead source.new)) }
     ensures mark { OnOk result (S.behind source.new ≡ S.behind source.old) }
     ensures calm { OnOk result (S.faults source.new ≡ S.faults source.old) }

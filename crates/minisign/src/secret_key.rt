@@ -38,7 +38,7 @@ impl Model for SecretKey {
 }
 
 impl SecretKey {
-    ghost use Rattle.minisign.specs.Records.{ReadsSecretKey, secret_key_bytes};
+    ghost use Rattle.minisign.specs.Records.{SecretKeyRecord, ReadsSecretKey, secret_key_bytes};
     ghost use Rattle.minisign.specs.Sealing.{checksum_of, is_encrypted};
 
     // The checksum that the other fields call for.
@@ -98,6 +98,7 @@ impl SecretKey {
     pub fn to_bytes(&self, alloc: Global) -> Result<Vec<u8>>
         ensures bytes { IfOk result (λ v. v.items ≡ secret_key_bytes self.now) }
         ensures reads_back { IfOk result (λ v. ReadsSecretKey v.items self.now) }
+        ensures one_reading { IfOk result (λ v. (other : SecretKeyRecord) → ReadsSecretKey v.items other → other ≡ self.now) }
         ensures refused { IfErr result (λ e. e ≡ out_of_memory) }
     {
         let mut bytes = Vec::with_capacity(alloc, 158)?;

@@ -28,7 +28,7 @@ impl Model for Signature {
 }
 
 impl Signature {
-    ghost use Rattle.minisign.specs.Records.{ReadsSignature, signature_bytes};
+    ghost use Rattle.minisign.specs.Records.{SignatureRecord, ReadsSignature, signature_bytes};
 
     /// The length of a stored signature in bytes.
     pub const BYTES: usize = 74;
@@ -37,6 +37,7 @@ impl Signature {
     pub fn to_bytes(&self, alloc: Global) -> Result<Vec<u8>>
         ensures bytes { IfOk result (λ v. v.items ≡ signature_bytes self.now) }
         ensures reads_back { IfOk result (λ v. ReadsSignature v.items self.now) }
+        ensures one_reading { IfOk result (λ v. (other : SignatureRecord) → ReadsSignature v.items other → other ≡ self.now) }
         ensures len { IfOk result (λ v. vec_len v ≡ Self.BYTES) }
         ensures refused { IfErr result (λ e. e ≡ out_of_memory) }
     {

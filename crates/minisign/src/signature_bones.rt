@@ -4,6 +4,7 @@ ghost use Rattle.minisign_base.specs.Faults.{out_of_memory, record_too_short, un
 
 use crate::constants::{SIGALG, SIGALG_PREHASHED};
 use crate::signature::Signature;
+use crate::signature_box::SignatureBox;
 use minisign_base::{Result, faults};
 use std::alloc::Global;
 use std::marker::Model;
@@ -25,7 +26,7 @@ impl Model for SignatureBones {
 }
 
 impl SignatureBones {
-    ghost use Rattle.minisign.specs.Records.{ReadsSignature, IsBonesFault, signature_bytes, is_prehashed, IsKnownAlgorithm};
+    ghost use Rattle.minisign.specs.Records.{SignatureRecord, ReadsSignature, IsBonesFault, signature_bytes, is_prehashed, IsKnownAlgorithm};
 
     /// The length of a stored signature in bytes.
     pub const BYTES: usize = Signature::BYTES;
@@ -54,9 +55,21 @@ impl SignatureBones {
     pub fn to_bytes(&self, alloc: Global) -> Result<Vec<u8>>
         ensures bytes { IfOk result (λ v. v.items ≡ signature_bytes self.now) }
         ensures reads_back { IfOk result (λ v. ReadsSignature v.items self.now) }
+        ensures one_reading { IfOk result (λ v. (other : SignatureRecord) → ReadsSignature v.items other → other ≡ self.now) }
         ensures len { IfOk result (λ v. vec_len v ≡ Self.BYTES) }
         ensures refused { IfErr result (λ e. e ≡ out_of_memory) }
     {
         self.signature.to_bytes(alloc)
+    }
+}
+
+/// The signature of a box, without its comments. Takes no memory.
+impl From<SignatureBox> for SignatureBones {
+    ghost from_gives = { λ signature_box bones. bones ≡ signature_box.signature };
+
+    fn from(signature_box: SignatureBox) -> SignatureBones {
+        SignatureBones {
+            signature: signature_box.signature,
+        }
     }
 }

@@ -9,7 +9,7 @@ use minisign_base::{Result, faults};
 use std::alloc::Global;
 use std::marker::Model;
 
-/// A signature, and the comments unless it was made from a bare signature.
+/// A signature of an algorithm that is known, and the comments unless it was made from a bare signature.
 #[derive(Drop)]
 pub struct SignatureBox {
     pub(crate) signature: Signature,
@@ -35,11 +35,13 @@ impl Model for Comments {
 }
 
 impl Model for SignatureBox {
-    ghost use Rattle.minisign.specs.Records.{SignatureBoxRecord};
+    ghost use Rattle.minisign.specs.Records.{SignatureBoxRecord, IsKnownAlgorithm};
 
     ghost Value = { SignatureBoxRecord };
 
     ghost view = { λ b. record { signature = b.signature; comments = b.comments } };
+
+    ghost invariant = { λ b. IsKnownAlgorithm b.signature.algorithm };
 }
 
 impl SignatureBox {

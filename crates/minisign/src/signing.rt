@@ -6,6 +6,7 @@ ghost use Rattle.minisign_hash.specs.Blake2b.{blake2b_digest};
 ghost use Rattle.minisign_base.specs.Devices.{Rose, HasGiven};
 ghost use Rattle.minisign_base.specs.Scheme.{IsNonce};
 ghost use Rattle.minisign_base.specs.Faults.{out_of_memory, reading_failed, random_source_failed, encrypted_key_refused, refused_by_given_key};
+ghost use Rattle.minisign.specs.Reading.{IsAhead};
 ghost use Rattle.minisign.specs.Records.{SignatureBoxRecord};
 ghost use Rattle.minisign.specs.Sealing.{is_encrypted};
 ghost use Rattle.minisign.specs.Acceptance.{AcceptedUnder, accepts_comments};
@@ -42,6 +43,7 @@ fn draw<Z: RandomSource>(random: &mut Z) -> Result<[u8; 64]>
 // Twice 64 random bytes.
 fn draw_twice<Z: RandomSource>(random: &mut Z) -> Result<([u8; 64], [u8; 64])>
     ensures drawn { IfOk result (λ z. Consumes (Z.random_ahead random.old) (Z.random_ahead random.new) (z.0 ++ z.1)) }
+    ensures calm { OnOk result (Z.random_faults random.new ≡ Z.random_faults random.old) }
     ensures first { IfOk result (λ z. IsNonce (Some z.0)) }
     ensures second { IfOk result (λ z. IsNonce (Some z.1)) }
     ensures refused { IfErr result (λ e. (e ≡ random_source_failed)
@@ -94,6 +96,7 @@ fn make_box<S: Scheme, Z: RandomSource>(
     ensures genuine { IfOk result (λ x. (message seed : List ℕ) → digest.now ≡ blake2b_digest 64 message →
         IsGenuine (S.public_of scheme.now) sk.now seed →
         AcceptedUnder (S.accepts scheme.now) (S.public_of scheme.now seed) sk.now.keynum message x) }
+    ensures calm { OnOk result (Z.random_faults random.new ≡ Z.random_faults random.old) }
     ensures refused { IfErr result (λ e. (e ≡ out_of_memory)
         ⊎ ((e ≡ random_source_failed) × Rose (Z.random_faults random.old) (Z.random_faults random.new))) }
     ensures given { HasGiven (Z.random_ahead random.old) (Z.random_ahead random.new) }
@@ -140,33 +143,36 @@ pub fn sign<S: Scheme, R: Source, Z: RandomSource>(
     random: &mut Z,
     moment: u64,
 ) -> Result<SignatureBox>
-    // The box that is answered, made with an opened key from all of the data.
-    ensures signed { IfOk result (λ x. IfSome (R.ahead data_reader.old) (λ message.
-        IsSigned (S.signature_of scheme.now) sk.now message
+    // The box that is answered, made with an opened key from all of the data, and what vouches for it: a
+    // genuine key's box is accepted under its own public key, whatever the comments.
+    ensures signed { IfOk result (λ x. (message : List ℕ) × IsAhead (R.ahead data_reader.old) message
+        × IsSigned (S.signature_of scheme.now) sk.now message
         (comment_or (option_map (λ s. s.now) trusted_comment.entry) (default_trusted_comment moment))
         (comment_or (option_map (λ s. s.now) untrusted_comment.entry) default_untrusted_comment)
-        (Z.random_ahead random.old) (Z.random_ahead random.new) x)) }
+        (Z.random_ahead random.old) (Z.random_ahead random.new) x
+        × ((seed : List ℕ) → IsGenuine (S.public_of scheme.now) sk.now seed →
+        AcceptedUnder (S.accepts scheme.now) (S.public_of scheme.now seed) sk.now.keynum message x)) }
     ensures opened { OnOk result (is_encrypted sk.now ≡ false) }
     ensures given_key { IfOk result (λ x. IfSome pk.entry (λ p. accepts_comments (S.accepts scheme.now) p.now x ≡ true)) }
     ensures all_read { OnOk result (IsAtEnd (R.ahead data_reader.new)) }
-
-    // What a genuine key signed is accepted under its own public key, whatever the comments.
-    ensures genuine { IfOk result (λ x. IfSome (R.ahead data_reader.old) (λ message. (seed : List ℕ) →
-        IsGenuine (S.public_of scheme.now) sk.now seed →
-        AcceptedUnder (S.accepts scheme.now) (S.public_of scheme.now seed) sk.now.keynum message x)) }
+    ensures calm { OnOk result (R.faults data_reader.new ≡ R.faults data_reader.old) }
+    ensures random_calm { OnOk result (Z.random_faults random.new ≡ Z.random_faults random.old) }
 
     // Why it was refused.
     ensures refused { IfErr result (λ e.
         ((e ≡ encrypted_key_refused) × (is_encrypted sk.now ≡ true) × (data_reader.new ≡ data_reader.old) × (random.new ≡ random.old))
         ⊎ ((e ≡ out_of_memory) × (is_encrypted sk.now ≡ false))
         ⊎ ((e ≡ reading_failed) × (is_encrypted sk.now ≡ false) × Rose (R.faults data_reader.old) (R.faults data_reader.new) × (random.new ≡ random.old))
-        ⊎ ((e ≡ random_source_failed) × (is_encrypted sk.now ≡ false) × Rose (Z.random_faults random.old) (Z.random_faults random.new) × IsAtEnd (R.ahead data_reader.new))
-        ⊎ (IsSomeAnd pk.entry (λ p. (e ≡ refused_by_given_key p.now.keynum) × (is_encrypted sk.now ≡ false) × IsAtEnd (R.ahead data_reader.new)
-        × IfSome (R.ahead data_reader.old) (λ message. (x : SignatureBoxRecord) × (accepts_comments (S.accepts scheme.now) p.now x ≡ false)
+        ⊎ ((e ≡ random_source_failed) × (is_encrypted sk.now ≡ false) × Rose (Z.random_faults random.old) (Z.random_faults random.new)
+        × IsAtEnd (R.ahead data_reader.new) × (R.faults data_reader.new ≡ R.faults data_reader.old))
+        ⊎ (IsSomeAnd pk.entry (λ p. (e ≡ refused_by_given_key p.now.keynum) × (is_encrypted sk.now ≡ false)
+        × IsAtEnd (R.ahead data_reader.new) × (R.faults data_reader.new ≡ R.faults data_reader.old)
+        × (message : List ℕ) × IsAhead (R.ahead data_reader.old) message
+        × (x : SignatureBoxRecord) × (accepts_comments (S.accepts scheme.now) p.now x ≡ false)
         × IsSigned (S.signature_of scheme.now) sk.now message
         (comment_or (option_map (λ s. s.now) trusted_comment.entry) (default_trusted_comment moment))
         (comment_or (option_map (λ s. s.now) untrusted_comment.entry) default_untrusted_comment)
-        (Z.random_ahead random.old) (Z.random_ahead random.new) x)))) }
+        (Z.random_ahead random.old) (Z.random_ahead random.new) x))) }
     ensures given { HasGiven (R.ahead data_reader.old) (R.ahead data_reader.new) }
     ensures drawn { HasGiven (Z.random_ahead random.old) (Z.random_ahead random.new) }
 {

@@ -3,7 +3,9 @@ ghost use Rattle.std.specs.Prelude.{◌≡◌, ℕ, ◌+◌, ◌≤◌, ◌++◌
 ghost use Rattle.std.specs.Io.KnownBytes.{Appends, IsAtEnd};
 ghost use Rattle.minisign_base.specs.Devices.{Rose, HasGiven, AppendsFront};
 ghost use Rattle.minisign_base.specs.Faults.{out_of_memory, reading_failed, writing_failed};
-ghost use Rattle.minisign.specs.Acceptance.{Accepts, Refuses, judged, accepts_comment, accepts_comments, first_refusal, line, status_lines};
+ghost use Rattle.minisign.specs.Reading.{IsAhead};
+ghost use Rattle.minisign.specs.Records.{PublicKeyRecord, SignatureBoxRecord};
+ghost use Rattle.minisign.specs.Acceptance.{Accepts, Refuses, SameWhereVouched, judged, accepts_comment, accepts_comments, first_refusal, line, status_lines};
 
 use crate::public_key::PublicKey;
 use crate::reading::{prehash, read_to_end};
@@ -11,7 +13,7 @@ use crate::signature::Signature;
 use crate::signature_box::{Comments, SignatureBox};
 use minisign_base::devices::DeviceFault;
 use minisign_base::devices::sinks::{Sink, put_all};
-use minisign_base::devices::sources::Rereader;
+use minisign_base::devices::sources::{Rereader, Source};
 use minisign_base::scheme::Scheme;
 use minisign_base::{Result, faults};
 use std::alloc::Global;
@@ -25,7 +27,9 @@ use std::alloc::Global;
 /// `status` is untouched; on success it gets a line, and another one with the trusted comment where
 /// there is one, unless `quiet`. `status` is not flushed.
 ///
-/// A failing `data_reader` is refused before anything is judged, and a failing `status` last.
+/// A failing `data_reader` is refused before anything is judged, and a failing `status` last. Copying the
+/// data to `out` is not there yet: `output` has to be false, and `out` stays as it is.
+#[tactic(auto, using(crate::proofs::Unvouched::unvouched_same))]
 pub fn verify<S: Scheme, R: Rereader, W: Sink, O: Sink>(
     alloc: Global,
     scheme: &S,
@@ -41,39 +45,76 @@ pub fn verify<S: Scheme, R: Rereader, W: Sink, O: Sink>(
     requires { output ≡ false }
 
     // What is accepted is vouched for, and this was said of it.
-    ensures accepted { OnOk result (IfSome (R.ahead data_reader.old) (λ message.
-        Accepts (S.accepts scheme.now) pk.now signature_box.now message allow_legacy)) }
+    ensures accepted { OnOk result ((message : List ℕ) × IsAhead (R.ahead data_reader.old) message
+        × Accepts (S.accepts scheme.now) pk.now signature_box.now message allow_legacy) }
     ensures said { OnOk result (Appends (W.taken status.old) (W.taken status.new)
         (if quiet then [] else status_lines signature_box.now)) }
+    ensures quiet { quiet ≡ true → status.new ≡ status.old }
     ensures all_read { OnOk result (IsAtEnd (R.ahead data_reader.new)) }
+    ensures calm { OnOk result (R.faults data_reader.new ≡ R.faults data_reader.old) }
+    ensures status_calm { OnOk result (W.sink_faults status.new ≡ W.sink_faults status.old) }
 
     // Why it was refused.
     ensures refused { IfErr result (λ e.
         ((e ≡ out_of_memory) × (status.new ≡ status.old))
         ⊎ ((e ≡ reading_failed) × Rose (R.faults data_reader.old) (R.faults data_reader.new) × (status.new ≡ status.old))
-        ⊎ ((e ≡ writing_failed) × Rose (W.sink_faults status.old) (W.sink_faults status.new) × IsAtEnd (R.ahead data_reader.new))
-        ⊎ (IfSome (R.ahead data_reader.old) (λ message.
-        Refuses (S.accepts scheme.now) pk.now signature_box.now message allow_legacy e)
-        × IsAtEnd (R.ahead data_reader.new) × (status.new ≡ status.old))) }
+        ⊎ ((message : List ℕ) × IsAhead (R.ahead data_reader.old) message
+        × IsAtEnd (R.ahead data_reader.new) × (R.faults data_reader.new ≡ R.faults data_reader.old)
+        × (R.behind data_reader.new ≡ R.behind data_reader.old)
+        × (((e ≡ writing_failed) × (quiet ≡ false) × Rose (W.sink_faults status.old) (W.sink_faults status.new)
+        × Accepts (S.accepts scheme.now) pk.now signature_box.now message allow_legacy)
+        ⊎ (Refuses (S.accepts scheme.now) pk.now signature_box.now message allow_legacy e × (status.new ≡ status.old))))) }
     ensures said_front { OnErr result (AppendsFront (W.taken status.old) (W.taken status.new)
         (if quiet then [] else status_lines signature_box.now)) }
 
+    // What the verdict does not depend on.
+    ensures unvouched { (key : PublicKeyRecord) (other : SignatureBoxRecord) (message : List ℕ) →
+        SameWhereVouched pk.now key signature_box.now other →
+        first_refusal (S.accepts scheme.now) key other message allow_legacy
+        ≡ first_refusal (S.accepts scheme.now) pk.now signature_box.now message allow_legacy }
+
     ensures given { HasGiven (R.ahead data_reader.old) (R.ahead data_reader.new) }
+    ensures mark { OnOk result (R.behind data_reader.new ≡ R.behind data_reader.old) }
     ensures out { out.new ≡ out.old }
 {
-    if signature_box.is_prehashed() {
-        let digest = prehash(alloc, data_reader)?;
-        judge(alloc, scheme, pk, signature_box, &digest, allow_legacy)?;
-    } else {
-        let message = read_to_end(alloc, data_reader)?;
-        judge(alloc, scheme, pk, signature_box, &message, allow_legacy)?;
-    }
+    reach_verdict(alloc, scheme, pk, signature_box, data_reader, allow_legacy)?;
     if quiet {
         return Ok(());
     }
     match say(status, signature_box) {
         Ok(()) => Ok(()),
         Err(_) => Err(faults::writing_failed()),
+    }
+}
+
+// Reads the data to its end, hashed where the box is prehashed, and then judges.
+fn reach_verdict<S: Scheme, R: Source>(
+    alloc: Global,
+    scheme: &S,
+    pk: &PublicKey,
+    signature_box: &SignatureBox,
+    data_reader: &mut R,
+    allow_legacy: bool,
+) -> Result<()>
+    ensures accepted { OnOk result ((message : List ℕ) × IsAhead (R.ahead data_reader.old) message
+        × Accepts (S.accepts scheme.now) pk.now signature_box.now message allow_legacy) }
+    ensures all_read { OnOk result (IsAtEnd (R.ahead data_reader.new)) }
+    ensures mark { OnOk result (R.behind data_reader.new ≡ R.behind data_reader.old) }
+    ensures calm { OnOk result (R.faults data_reader.new ≡ R.faults data_reader.old) }
+    ensures refused { IfErr result (λ e. (e ≡ out_of_memory)
+        ⊎ ((e ≡ reading_failed) × Rose (R.faults data_reader.old) (R.faults data_reader.new))
+        ⊎ ((message : List ℕ) × IsAhead (R.ahead data_reader.old) message
+        × IsAtEnd (R.ahead data_reader.new) × (R.faults data_reader.new ≡ R.faults data_reader.old)
+        × (R.behind data_reader.new ≡ R.behind data_reader.old)
+        × Refuses (S.accepts scheme.now) pk.now signature_box.now message allow_legacy e)) }
+    ensures given { HasGiven (R.ahead data_reader.old) (R.ahead data_reader.new) }
+{
+    if signature_box.is_prehashed() {
+        let digest = prehash(alloc, data_reader)?;
+        judge(alloc, scheme, pk, signature_box, &digest, allow_legacy)
+    } else {
+        let message = read_to_end(alloc, data_reader)?;
+        judge(alloc, scheme, pk, signature_box, &message, allow_legacy)
     }
 }
 
@@ -87,10 +128,10 @@ fn judge<S: Scheme>(
     allow_legacy: bool,
 ) -> Result<()>
     ensures accepted { OnOk result ((message : List ℕ) → judged_message.now ≡ judged signature_box.now message →
-        first_refusal (S.accepts scheme.now) pk.now signature_box.now message allow_legacy ≡ None) }
+        Accepts (S.accepts scheme.now) pk.now signature_box.now message allow_legacy) }
     ensures refused { IfErr result (λ e. (e ≡ out_of_memory)
         ⊎ ((message : List ℕ) → judged_message.now ≡ judged signature_box.now message →
-        first_refusal (S.accepts scheme.now) pk.now signature_box.now message allow_legacy ≡ Some e)) }
+        Refuses (S.accepts scheme.now) pk.now signature_box.now message allow_legacy e)) }
 {
     let signature = &signature_box.signature;
     let keynum_pk = &pk.keynum_pk;
@@ -155,6 +196,7 @@ fn say<W: Sink>(
     signature_box: &SignatureBox,
 ) -> std::result::Result<(), DeviceFault>
     ensures said { OnOk result (Appends (W.taken status.old) (W.taken status.new) (status_lines signature_box.now)) }
+    ensures calm { OnOk result (W.sink_faults status.new ≡ W.sink_faults status.old) }
     ensures fault { OnErr result (Rose (W.sink_faults status.old) (W.sink_faults status.new)) }
     ensures front { OnErr result (AppendsFront (W.taken status.old) (W.taken status.new) (status_lines signature_box.now)) }
 {

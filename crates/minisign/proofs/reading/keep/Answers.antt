@@ -1,4 +1,4 @@
-use Rattle.std.proofs.Common.{◌≡◌, ◌∙◌, append_assoc, refl}
+use Rattle.std.proofs.Common.{◌∙◌, append_assoc, refl}
 use Rattle.std.proofs.KnownBytes.{Consumes-trans}
 use Rattle.minisign.proofs.reading.keep.Goals as goal
 

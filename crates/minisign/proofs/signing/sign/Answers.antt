@@ -1,6 +1,11 @@
-use Rattle.std.proofs.lemmas.Option.{IfSome_then}
 use Rattle.minisign.proofs.signing.sign.Goals as goal
 
-pub returns-clause-genuine : goal.returns-clause-genuine
-returns-clause-genuine g c =
-    IfSome_then (g.R.Source.ahead c.args.data_reader.now) c.in_ok-digest.ensures.digest (λ message same seed genuine. c.in_ok-signature_box.ensures.genuine message seed same genuine)
+pub returns-clause-signed : goal.returns-clause-signed
+returns-clause-signed g c =
+    let (message, ahead, same) = c.in_ok-digest.ensures.digest in
+    let made = c.in_ok-signature_box.ensures in (
+      message,
+      ahead,
+      rw (← c.in_ok-trusted.ensures.comment, ← c.in_ok-untrusted.ensures.comment) (made.signed message same),
+      λ seed genuine. made.genuine message seed same genuine,
+    )

@@ -1,9 +1,9 @@
-use Rattle.std.proofs.Common.{◌≡◌, List, ℕ, ◌++◌, Option, None, Some, OnErr, Result, append-nil, ap, sym, ◌∙◌}
+use Rattle.std.proofs.Common.{◌≡◌, List, ℕ, ◌++◌, Option, None, Some, append-nil, ap, sym, ◌∙◌}
 use Rattle.std.proofs.KnownBytes.{Appends-trans}
 use Rattle.std.specs.Io.KnownBytes.{Appends}
 use Rattle.minisign_base.specs.Devices.{AppendsFront}
 use Rattle.minisign.specs.Records.{CommentsRecord, SignatureBoxRecord}
-use Rattle.minisign.specs.Acceptance.{verified_text, trusted_comment_text, line, comment_line, status_lines}
+use Rattle.minisign.specs.Acceptance.{verified_text, trusted_comment_text, line, status_lines}
 use Rattle.minisign.proofs.Beginnings.{on_err_of, front_of_more, front_behind}
 use Rattle.minisign.proofs.verifying.say.Goals as goal
 

@@ -1,5 +1,6 @@
-use Rattle.std.proofs.Common.{arith, append-nil, [], rules}
+use Rattle.std.proofs.Common.{arith, append-nil, []}
 use Rattle.std.proofs.lemmas.Grind.{common_steps}
+use Rattle.minisign.proofs.RecordFields.{one_secret_key}
 use Rattle.minisign.proofs.secret_key.SecretKey.to_bytes.Goals as goal
 
 pub returns-clause-reads_back : goal.returns-clause-reads_back
@@ -15,3 +16,7 @@ returns-clause-reads_back c = record {
   checksum_length = grind (arith, common_steps);
   front = ([], rw append-nil (grind (arith, common_steps)));
 }
+
+pub returns-clause-one_reading : goal.returns-clause-one_reading
+returns-clause-one_reading c = λ other read.
+    one_secret_key c.extend_from_slice-9.new.self.items other c.args.self.now read (returns-clause-reads_back c)

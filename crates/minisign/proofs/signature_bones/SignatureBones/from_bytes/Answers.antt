@@ -1,5 +1,4 @@
-use Rattle.std.proofs.Common.{◌≡◌, ◌∙◌, ap, sym, inr, take, subst}
-use Rattle.minisign.specs.Records.{IsKnownAlgorithm}
+use Rattle.std.proofs.Common.{◌≡◌, ◌∙◌, ap, sym, inr, take}
 use Rattle.minisign.proofs.RecordFields.{stored_algorithm, stored_length, unknown_algorithm}
 use Rattle.minisign.proofs.signature_bones.SignatureBones.from_bytes.Goals as goal
 
