@@ -5,18 +5,30 @@ import subprocess
 import time
 
 
+def greatest_memory(process):
+    """The greatest resident memory so far of a running process in MiB, or 0 where it has ended."""
+    try:
+        with open(f"/proc/{process.pid}/status") as status:
+            lines = [line for line in status if line.startswith("VmHWM")]
+    except OSError:
+        lines = []
+    return int(lines[0].split()[1]) / 1024 if lines else 0.0
+
+
 def timed(command, stdin_path=None):
     """Runs a command, and answers its seconds, its greatest resident memory in MiB and its output."""
+    memory = 0.0
     with open(stdin_path or os.devnull, "rb") as stdin:
         begun = time.perf_counter()
-        child = subprocess.Popen(command, stdin=stdin, stdout=subprocess.PIPE, stderr=subprocess.STDOUT)
-        output = child.stdout.read()
-        _, status, usage = os.wait4(child.pid, 0)
+        process = subprocess.Popen(command, stdin=stdin, stdout=subprocess.PIPE, stderr=subprocess.STDOUT)
+        while process.poll() is None:
+            memory = max(memory, greatest_memory(process))
+            time.sleep(0.005)
         seconds = time.perf_counter() - begun
-    child.returncode = os.waitstatus_to_exitcode(status)
-    if child.returncode != 0:
-        raise SystemExit(f"{command[0]} ended with {child.returncode}: {output.decode(errors='replace')}")
-    return seconds, usage.ru_maxrss / 1024, output.decode()
+        output = process.stdout.read().decode(errors="replace")
+    if process.returncode != 0:
+        raise SystemExit(f"{command[0]} ended with {process.returncode}: {output}")
+    return seconds, memory, output
 
 
 def compare(runs, rounds=3):
