@@ -2,3 +2,4 @@ pub mod DeviceFacts
 mod Filled
 mod HexDigits
 mod Folding
+pub mod LeastCost

@@ -1,7 +1,9 @@
+pub mod Derivation
 pub mod Devices
 pub mod Fault
 pub mod Faults
 pub mod Identifiers
+pub mod Limits
 pub mod Scheme
 pub mod Toy
 pub mod ToyLaw

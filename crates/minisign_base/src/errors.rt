@@ -1,12 +1,15 @@
-//! What can go wrong: a kind and a text, and what the faults of std become.
+//! What can go wrong: a kind and a text, and what the faults of std and of key derivation become.
 
 ghost use Rattle.std.specs.Prelude.{◌≡◌, Some, codes, string_bytes};
 ghost use Rattle.minisign_base.specs.Fault.{different_key_ids_text, refused_by_given_key_text};
-ghost use Rattle.minisign_base.specs.Faults.{out_of_memory, input_or_output_failed, formatting_failed, invalid_utf8};
+ghost use Rattle.minisign_base.specs.Faults.{out_of_memory, input_or_output_failed, formatting_failed, invalid_utf8, invalid_parameters, invalid_output_length};
+ghost use Rattle.minisign_base.specs.Derivation.{derivation_fault};
 ghost use Rattle.minisign_base.specs.declared.errors.ErrorKind.TheVariants.{Verify};
 
 use crate::faults;
 use crate::identifiers::Identifier;
+use minisign_kdf::params::InvalidParams;
+use minisign_kdf::scrypt::{InvalidOutputLen, KdfError};
 use std::alloc::{AllocError, AllocFailed};
 use std::marker::Model;
 use std::string::FromUtf8Error;
@@ -182,5 +185,32 @@ impl From<FromUtf8Error> for PError {
 
     fn from(_error: FromUtf8Error) -> PError {
         faults::invalid_utf8()
+    }
+}
+
+impl From<InvalidParams> for PError {
+    ghost from_gives = { λ _ e. e ≡ invalid_parameters };
+
+    fn from(_error: InvalidParams) -> PError {
+        faults::invalid_parameters()
+    }
+}
+
+impl From<InvalidOutputLen> for PError {
+    ghost from_gives = { λ _ e. e ≡ invalid_output_length };
+
+    fn from(_error: InvalidOutputLen) -> PError {
+        faults::invalid_output_length()
+    }
+}
+
+impl From<KdfError> for PError {
+    ghost from_gives = { λ d e. e ≡ derivation_fault d };
+
+    fn from(error: KdfError) -> PError {
+        match error {
+            KdfError::OutOfMemory => faults::out_of_memory(),
+            KdfError::InvalidOutputLen => faults::invalid_output_length(),
+        }
     }
 }

@@ -1,0 +1,61 @@
+-- The parameters of scrypt that a key's memory limit, in bytes, and its operations limit lead to. All
+-- divisions round down.
+use Rattle.std.specs.Prelude.{◌≡◌, ◌⊎◌, ℕ, ◌/◌, ◌%◌, ◌^◌, ◌<◌, ◌≤◌, min, max, nat_lt, if◌then◌else◌, Result, Ok, Err}
+use Rattle.std.specs.List.{find, range_with_len}
+use Rattle.std.specs.Option.{unwrap_or}
+use Rattle.minisign_kdf.specs.Params.{is_accepted}
+use Rattle.minisign_base.specs.Fault.{Fault}
+use Rattle.minisign_base.specs.Faults.{parameters_too_high, invalid_parameters}
+
+-- the cost N of scrypt as its logarithm to base 2, the block size and the parallelization
+pub record Numbers : Type 0 where
+  pub n_log2 : ℕ
+  pub r : ℕ
+  pub p : ℕ
+
+-- the operations that count: at least 32768
+abbrev pub operations : ℕ → ℕ
+operations opslimit = max 32768 opslimit
+
+-- what N is measured by: the operations where they are below a 32nd of the memory, else the memory
+abbrev pub greatest_cost : ℕ → ℕ → ℕ
+greatest_cost memlimit opslimit =
+    if nat_lt (operations opslimit) (memlimit / 32) then operations opslimit / 32 else memlimit / 1024
+
+-- n is the least number from 1 whose power of two is above half of the greatest cost, at most 63
+pub record IsCostLog2 (greatest n : ℕ) : Type 0 where
+  pub from_one : 1 ≤ n
+  pub at_most : n ≤ 63
+  pub none_smaller : (k : ℕ) → 1 ≤ k → k < n → 2 ^ k ≤ greatest / 2
+  pub enough : (greatest / 2 < 2 ^ n) ⊎ (n ≡ 63)
+
+-- that number: the first such one of 1 to 62, or 63
+unfoldable pub cost_log2 : ℕ → ℕ
+cost_log2 greatest = unwrap_or (find (λ n. nat_lt (greatest / 2) (2 ^ n)) (range_with_len 1 62)) 63
+
+-- p where the memory is the measure: a quarter of the counted operations divided by N, of that the low
+-- 32 bits, of those at most 0x3fffffff, divided by r
+abbrev pub parallelization : ℕ → ℕ → ℕ
+parallelization count n_log2 = min 0x3fffffff (count / 4 / 2 ^ n_log2 % 2 ^ 32) / 8
+
+-- the numbers of a memory limit and an operations limit
+abbrev pub numbers : ℕ → ℕ → Numbers
+numbers memlimit opslimit =
+    let n_log2 = cost_log2 (greatest_cost memlimit opslimit) in
+    let p = if nat_lt (operations opslimit) (memlimit / 32) then 1 else parallelization (operations opslimit) n_log2 in
+    record { n_log2 = n_log2; r = 8; p = p }
+
+-- a cost above the allowed one is refused, and then what scrypt does not take
+abbrev pub checked : Numbers → ℕ → Result Numbers Fault
+checked v n_log2_max =
+    if nat_lt n_log2_max v.n_log2 then Err parameters_too_high
+    else (if is_accepted v.n_log2 v.r v.p then Ok v else Err invalid_parameters)
+
+-- the parameters that two limits lead to, or the fault
+unfoldable pub limits : ℕ → ℕ → ℕ → Result Numbers Fault
+limits memlimit opslimit n_log2_max = checked (numbers memlimit opslimit) n_log2_max
+
+-- the limits of sealing and opening: at most 1073741824 bytes, and N at most 2 ^ 20
+abbrev pub sealing_limits : ℕ → ℕ → Result Numbers Fault
+sealing_limits memlimit opslimit =
+    if nat_lt 1073741824 memlimit then Err parameters_too_high else limits memlimit opslimit 20

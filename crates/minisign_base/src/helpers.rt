@@ -1,0 +1,79 @@
+//! Numbers as bytes, and the parameters of scrypt that a key's limits lead to.
+
+ghost use Rattle.std.specs.Prelude.{◌≡◌, ◌^◌, ◌<◌, ◌≤◌, Ok, Err, MatchResult, length, take};
+ghost use Rattle.std.specs.Int.{from_le_bytes, to_le_bytes, w64};
+ghost use Rattle.minisign_base.specs.Limits.{IsCostLog2, cost_log2, greatest_cost, limits, numbers, parallelization};
+
+use crate::errors::Result;
+use crate::faults;
+use minisign_kdf::params::Params;
+
+// The block size r of every derivation.
+const BLOCK_SIZE: u32 = 8;
+
+/// The eight bytes of a number, the least significant first. Takes no memory.
+pub fn store_u64_le(x: u64) -> [u8; 8]
+    ensures { result ≡ to_le_bytes w64 x }
+{
+    x.to_le_bytes()
+}
+
+/// The number that the first eight of at least eight bytes spell, the least significant first. Takes
+/// no memory.
+pub fn load_u64_le(bytes: &[u8]) -> u64
+    requires { 8 ≤ length bytes.now }
+    ensures { result ≡ from_le_bytes w64 (take 8 bytes.now) }
+{
+    let (front, _) = bytes.split_at(8);
+    let mut first = [0u8; 8];
+    first.copy_from_slice(front);
+    u64::from_le_bytes(first)
+}
+
+// The least number from 1 whose power of two is above half of the greatest cost. No cost that two
+// limits lead to is large enough for the cap of 63.
+fn cost_log2(greatest: u64) -> u8
+    requires { greatest < 2 ^ 59 }
+    ensures least { IsCostLog2 greatest result }
+    ensures value { result ≡ cost_log2 greatest }
+{
+    let half = (greatest / 2).max(1);
+    half.ilog2() as u8 + 1
+}
+
+// The parallelization where the memory is the measure: the quotient is cut to 32 bits first.
+fn parallelization(operations: u64, n_log2: u8) -> u32
+    requires n_log2 { n_log2 < 64 }
+    ensures { result ≡ parallelization operations n_log2 }
+{
+    let quotient = (operations / 4) >> n_log2;
+    let low = (quotient & 0xffff_ffff) as u32;
+    low.min(0x3fff_ffff) / BLOCK_SIZE
+}
+
+/// The parameters of scrypt that a memory limit in bytes and an operations limit lead to, as
+/// `specs/Limits` says: r is 8, the operations count for at least 32768, and where they are below a
+/// 32nd of the memory they bound N and p is 1, else the memory bounds N and the operations give p.
+///
+/// `parameters_too_high` is answered exactly where N would be above 2^`n_log2_max`, and else
+/// `invalid_parameters` exactly where scrypt does not take the parameters (RFC 7914, section 2). Takes
+/// no memory.
+#[tactic(auto, unfolding(crate::specs::Limits::limits))]
+pub fn raw_scrypt_params(memlimit: u64, opslimit: u64, n_log2_max: u8) -> Result<Params>
+    ensures outcome { MatchResult result
+        (λ v. limits memlimit opslimit n_log2_max ≡ Ok (record { n_log2 = v.n_log2; r = v.r; p = v.p }))
+        (λ e. limits memlimit opslimit n_log2_max ≡ Err e) }
+    ensures least { IsCostLog2 (greatest_cost memlimit opslimit) (numbers memlimit opslimit).n_log2 }
+{
+    let operations = opslimit.max(32768);
+    let (n_log2, p) = if operations < memlimit / 32 {
+        (cost_log2(operations / 32), 1)
+    } else {
+        let n_log2 = cost_log2(memlimit / 1024);
+        (n_log2, parallelization(operations, n_log2))
+    };
+    if n_log2 > n_log2_max {
+        return Err(faults::parameters_too_high());
+    }
+    Ok(Params::new(n_log2, BLOCK_SIZE, p)?)
+}
