@@ -2,6 +2,8 @@
 #![tactic(auto)]
 
 mod report;
+#[cfg(test)]
+mod tests;
 mod verify_raw;
 
 use minisign::base::devices::sinks::{Sink, WriterSink};
