@@ -1,6 +1,6 @@
 //! A signature with no comments.
-ghost use Rattle.std.specs.Prelude.{◌≡◌, ◌≢◌, ◌<◌, length, vec_len, ◌⊎◌, MatchResult, IfOk, IfErr};
-ghost use Rattle.minisign_base.specs.Faults.{out_of_memory, record_too_short, unsupported_signature_algorithm};
+ghost use Rattle.std.specs.Prelude.{◌≡◌, ◌<◌, length, vec_len, IfOk, IfErr};
+ghost use Rattle.minisign_base.specs.Faults.{out_of_memory, unsupported_signature_algorithm};
 
 use crate::constants::{SIGALG, SIGALG_PREHASHED};
 use crate::signature::Signature;

@@ -1,5 +1,5 @@
 //! Signing with an opened secret key.
-ghost use Rattle.std.specs.Prelude.{◌≡◌, ℕ, true, false, Bool, List, ◌++◌, Some, ◌⊎◌, string_bytes, IfOk, IfErr, OnOk, IfSome, IsSomeAnd};
+ghost use Rattle.std.specs.Prelude.{◌≡◌, ℕ, true, false, List, ◌++◌, Some, ◌⊎◌, string_bytes, IfOk, IfErr, OnOk, IfSome, IsSomeAnd};
 ghost use Rattle.std.specs.Option.{option_map};
 ghost use Rattle.std.specs.Io.KnownBytes.{Consumes, IsAtEnd};
 ghost use Rattle.minisign_hash.specs.Blake2b.{blake2b_digest};

@@ -1,5 +1,5 @@
 //! Whether a signature box vouches for data under a public key.
-ghost use Rattle.std.specs.Prelude.{◌≡◌, ℕ, ◌+◌, ◌≤◌, ◌++◌, List, [], true, false, if◌then◌else◌, ◌⊎◌, length, IfOk, IfErr, OnOk, OnErr, IfSome, None, Some, take};
+ghost use Rattle.std.specs.Prelude.{◌≡◌, ℕ, ◌++◌, List, [], true, false, if◌then◌else◌, ◌⊎◌, IfOk, IfErr, OnOk, OnErr};
 ghost use Rattle.std.specs.Io.KnownBytes.{Appends, IsAtEnd};
 ghost use Rattle.minisign_base.specs.Devices.{Rose, HasGiven, AppendsFront};
 ghost use Rattle.minisign_base.specs.Faults.{out_of_memory, reading_failed, writing_failed};

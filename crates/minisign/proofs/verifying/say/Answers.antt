@@ -4,7 +4,8 @@ use Rattle.std.specs.Io.KnownBytes.{Appends}
 use Rattle.minisign_base.specs.Devices.{AppendsFront}
 use Rattle.minisign.specs.Records.{CommentsRecord, SignatureBoxRecord}
 use Rattle.minisign.specs.Acceptance.{verified_text, trusted_comment_text, line, status_lines}
-use Rattle.minisign.proofs.Beginnings.{on_err_of, front_of_more, front_behind}
+use Rattle.minisign_base.proofs.DeviceFacts.{AppendsFront-after, AppendsFront-more}
+use Rattle.minisign.proofs.Beginnings.{on_err_of}
 use Rattle.minisign.proofs.verifying.say.Goals as goal
 
 -- the line of a box with no comments
@@ -22,12 +23,12 @@ said_both old mid new x c t both same first second = rw (both, ← same) (Append
 said_front : (old mid new : Option (List ℕ)) (x : SignatureBoxRecord) (c : CommentsRecord) (t : List ℕ) → x.comments ≡ Some c → t ≡ c.trusted
     → Appends old mid (line verified_text) → AppendsFront mid new (line (trusted_comment_text ++ t))
     → AppendsFront old new (status_lines x)
-said_front old mid new x c t both same first second = rw (both, ← same) (front_behind old mid new _ _ first second)
+said_front old mid new x c t both same first second = rw (both, ← same) (AppendsFront-after old mid new _ _ first second)
 
 pub returns-in_err-put_line-clause-front : goal.returns-in_err-put_line-clause-front
 unfolding verified_text
 returns-in_err-put_line-clause-front g c =
-    on_err_of _ _ (front_of_more (g.W.Sink.taken c.args.status.now) (g.W.Sink.taken c.put_line.new.sink) (line verified_text) _ c.in_err-put_line.ensures.front)
+    on_err_of _ _ (AppendsFront-more (g.W.Sink.taken c.args.status.now) (g.W.Sink.taken c.put_line.new.sink) (line verified_text) _ c.in_err-put_line.ensures.front)
 
 pub returns-in_err-put_line-2-clause-front : goal.returns-in_err-put_line-2-clause-front
 unfolding verified_text trusted_comment_text
