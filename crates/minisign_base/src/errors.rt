@@ -1,6 +1,6 @@
 //! What can go wrong: a kind and a text, and what the faults of std and of key derivation become.
 
-ghost use Rattle.std.specs.Prelude.{◌≡◌, Some, codes, string_bytes};
+ghost use Rattle.std.specs.Prelude.{◌≡◌, Some, string_bytes};
 ghost use Rattle.minisign_base.specs.Fault.{different_key_ids_text, refused_by_given_key_text};
 ghost use Rattle.minisign_base.specs.Faults.{out_of_memory, input_or_output_failed, formatting_failed, invalid_utf8, invalid_parameters, invalid_output_length};
 ghost use Rattle.minisign_base.specs.Derivation.{derivation_fault};

@@ -1,6 +1,6 @@
 //! How a key's identifier is shown.
 
-ghost use Rattle.std.specs.Prelude.{◌≡◌, Some, ◌<◌};
+ghost use Rattle.std.specs.Prelude.{Some, ◌<◌};
 ghost use Rattle.std.specs.Fmt.{WritesOnOk};
 ghost use Rattle.minisign_base.specs.Identifiers.{hex_digits, identifier_text};
 

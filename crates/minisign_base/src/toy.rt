@@ -1,6 +1,6 @@
 //! A scheme for tests. It is insecure: whoever knows the public key can sign.
 
-ghost use Rattle.std.specs.Prelude.{◌≡◌, ℕ, List, ◌++◌, Option, length, take, drop, bit_xor};
+ghost use Rattle.std.specs.Prelude.{◌≡◌, ℕ, List, ◌++◌, Option, take, drop, bit_xor};
 ghost use Rattle.std.specs.Simd.Lanes.{zip2};
 ghost use Rattle.minisign_base.specs.Toy.{toy_public_of, fold_of, toy_signature_of, toy_accepts};
 ghost use Rattle.minisign_base.specs.ToyLaw.{own_accepted};

@@ -2,8 +2,7 @@
 
 ghost use Rattle.std.specs.Prelude.{◌≡◌, ◌++◌, ◌-◌, ◌≤◌, length, map, replicate, bit_xor};
 ghost use Rattle.std.specs.List.{flat_map};
-ghost use Rattle.sha2.specs.Sha256.{sha256};
-ghost use Rattle.minisign_kdf.specs.Hmac.{hmac, key_block, padded_key};
+ghost use Rattle.minisign_kdf.specs.Hmac.{hmac, key_block};
 
 use sha2::{Digest, Sha256};
 

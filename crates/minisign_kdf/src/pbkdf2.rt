@@ -1,6 +1,6 @@
 //! PBKDF2 (RFC 8018, section 5.2) with one iteration of HMAC with SHA-256.
 
-ghost use Rattle.std.specs.Prelude.{◌≡◌, ℕ, ◌+◌, ◌*◌, ◌^◌, ◌<◌, ◌≤◌, length};
+ghost use Rattle.std.specs.Prelude.{◌≡◌, ◌+◌, ◌*◌, ◌^◌, ◌≤◌, length};
 ghost use Rattle.minisign_kdf.specs.Blocks.{joined};
 ghost use Rattle.minisign_kdf.specs.Pbkdf2.{derived_block, longest_key, pbkdf2};
 

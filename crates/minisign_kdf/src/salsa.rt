@@ -1,6 +1,6 @@
 //! The Salsa20/8 Core (RFC 7914, section 3), on words.
 
-ghost use Rattle.std.specs.Prelude.{◌≡◌, length, bit_xor};
+ghost use Rattle.std.specs.Prelude.{◌≡◌};
 ghost use Rattle.std.specs.Simd.Lanes.{zip2};
 ghost use Rattle.minisign_kdf.specs.Salsa20.{add32, column_round, double_round, quarter_round, row_round, salsa_words};
 

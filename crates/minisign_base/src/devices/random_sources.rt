@@ -1,6 +1,6 @@
 //! What random bytes are drawn from.
 
-ghost use Rattle.std.specs.Prelude.{Option, ◌≡◌, ℕ, ◌≤◌, ◌↔◌, List, length, drop, Some, IsSomeAnd, IsOk, OnOk, OnErr, ◌⊎◌};
+ghost use Rattle.std.specs.Prelude.{Option, ◌≡◌, ℕ, ◌≤◌, ◌↔◌, List, length, Some, IsSomeAnd, IsOk, OnOk, OnErr, ◌⊎◌};
 ghost use Rattle.std.specs.Io.KnownBytes.{Consumes, IsAtEnd};
 ghost use Rattle.minisign_base.specs.Devices.{Rose, HasGiven};
 
