@@ -1,0 +1,158 @@
+//! Devices that cut bytes as finely as they can, or fail after so many.
+
+ghost use Rattle.std.specs.Prelude.{⊤};
+
+use minisign_base::devices::DeviceFault;
+use minisign_base::devices::sinks::{Sink, VecSink};
+use minisign_base::devices::sources::{Rereader, SliceSource, Source};
+use std::alloc::Global;
+
+/// The bytes of a slice, one byte a read.
+#[derive(Drop)]
+pub struct OneByOne<'a> {
+    source: SliceSource<'a>,
+}
+
+impl<'a> OneByOne<'a> {
+    /// All of the slice is ahead.
+    pub fn new(bytes: &'a [u8]) -> OneByOne<'a> {
+        OneByOne {
+            source: SliceSource::new(bytes),
+        }
+    }
+}
+
+impl<'a> Source for OneByOne<'a> {
+    ghost ahead = { λ s. ⟦<SliceSource<'a> as Source>⟧.ahead s.source };
+
+    ghost behind = { λ s. ⟦<SliceSource<'a> as Source>⟧.behind s.source };
+
+    ghost left = { λ s. ⟦<SliceSource<'a> as Source>⟧.left s.source };
+
+    ghost faults = { λ s. ⟦<SliceSource<'a> as Source>⟧.faults s.source };
+
+    fn read(&mut self, buf: &mut [u8]) -> Result<usize, DeviceFault> {
+        let room = buf.len().min(1);
+        self.source.read(&mut buf[..room])
+    }
+}
+
+impl<'a> Rereader for OneByOne<'a> {
+    ghost steady = { λ _. ⊤ };
+
+    fn mark(&mut self) -> Result<(), DeviceFault> {
+        self.source.mark()
+    }
+
+    fn back(&mut self) -> Result<(), DeviceFault> {
+        self.source.back()
+    }
+}
+
+/// The bytes of a slice, one byte a read, until so many reads were made: each later one fails.
+#[derive(Drop)]
+pub struct FailsAfter<'a> {
+    source: OneByOne<'a>,
+    reads: u64,
+    faults: u64,
+}
+
+impl<'a> FailsAfter<'a> {
+    /// All of the slice is ahead, and so many reads are made before one fails.
+    pub fn new(bytes: &'a [u8], reads: u64) -> FailsAfter<'a> {
+        FailsAfter {
+            source: OneByOne::new(bytes),
+            reads,
+            faults: 0,
+        }
+    }
+}
+
+impl<'a> Source for FailsAfter<'a> {
+    ghost ahead = { λ s. ⟦<OneByOne<'a> as Source>⟧.ahead s.source };
+
+    ghost behind = { λ s. ⟦<OneByOne<'a> as Source>⟧.behind s.source };
+
+    ghost left = { λ s. ⟦<OneByOne<'a> as Source>⟧.left s.source };
+
+    ghost faults = { λ s. s.faults };
+
+    fn read(&mut self, buf: &mut [u8]) -> Result<usize, DeviceFault> {
+        if self.reads > 0 {
+            self.reads -= 1;
+            if let Ok(n) = self.source.read(buf) {
+                return Ok(n);
+            }
+        }
+        self.faults = self.faults.saturating_add(1);
+        Err(DeviceFault)
+    }
+}
+
+impl<'a> Rereader for FailsAfter<'a> {
+    ghost steady = { λ _. ⊤ };
+
+    fn mark(&mut self) -> Result<(), DeviceFault> {
+        if let Ok(()) = self.source.mark() {
+            return Ok(());
+        }
+        self.faults = self.faults.saturating_add(1);
+        Err(DeviceFault)
+    }
+
+    fn back(&mut self) -> Result<(), DeviceFault> {
+        if let Ok(()) = self.source.back() {
+            return Ok(());
+        }
+        self.faults = self.faults.saturating_add(1);
+        Err(DeviceFault)
+    }
+}
+
+/// A buffer that takes so many bytes, and then fails. It can't be flushed.
+#[derive(Drop)]
+pub struct Narrow {
+    taken: VecSink,
+    room: usize,
+    faults: u64,
+}
+
+impl Narrow {
+    /// Nothing is taken, and there is room for so many bytes.
+    pub fn new(alloc: Global, room: usize) -> Narrow {
+        Narrow {
+            taken: VecSink::new(alloc),
+            room,
+            faults: 0,
+        }
+    }
+
+    /// The bytes taken so far.
+    pub fn as_slice(&self) -> &[u8] {
+        self.taken.as_slice()
+    }
+}
+
+impl Sink for Narrow {
+    ghost taken = { λ s. ⟦<VecSink as Sink>⟧.taken s.taken };
+
+    ghost sink_faults = { λ s. s.faults };
+
+    fn write(&mut self, bytes: &[u8]) -> Result<usize, DeviceFault> {
+        let n = bytes.len().min(self.room);
+        if n > 0 || bytes.is_empty() {
+            let (front, _) = bytes.split_at(n);
+            if let Ok(taken) = self.taken.write(front) {
+                self.room -= taken;
+                return Ok(taken);
+            }
+        }
+        self.faults = self.faults.saturating_add(1);
+        Err(DeviceFault)
+    }
+
+    fn flush(&mut self) -> Result<(), DeviceFault> {
+        self.faults = self.faults.saturating_add(1);
+        Err(DeviceFault)
+    }
+}

@@ -1,0 +1,33 @@
+//! Published vectors and worked examples of the crates below, run as tests, and an example of a caller.
+//!
+//! Each expected value comes from outside: from a standard, from Python's hashlib, or worked out by hand
+//! from a definition. None is what a crate of this repository answered.
+#![tactic(auto)]
+
+#[cfg(test)]
+mod devices;
+#[cfg(test)]
+mod devices_for_tests;
+pub mod example;
+#[cfg(test)]
+mod faults;
+#[cfg(test)]
+mod hash;
+#[cfg(test)]
+mod key_derivation;
+#[cfg(test)]
+mod keys_for_tests;
+#[cfg(test)]
+mod limits;
+#[cfg(test)]
+mod records;
+#[cfg(test)]
+mod sign;
+#[cfg(test)]
+mod toy;
+#[cfg(test)]
+mod two_signatures;
+#[cfg(test)]
+mod verify;
+#[cfg(test)]
+mod words;
