@@ -68,30 +68,38 @@ pub const TIED_TO_NO_COMMENT: [u8; 32] = [
 /// The record of a public key.
 pub fn public_record(identifier: &[u8; 8], key: &[u8; 32]) -> [u8; 42] {
     let mut record = [0u8; 42];
-    record[..2].copy_from_slice(b"Ed");
-    record[2..10].copy_from_slice(identifier);
-    record[10..].copy_from_slice(key);
+    let (algorithm_part, rest) = record.split_at_mut(2);
+    let (identifier_part, key_part) = rest.split_at_mut(8);
+    algorithm_part.copy_from_slice(b"Ed");
+    identifier_part.copy_from_slice(identifier);
+    key_part.copy_from_slice(key);
     record
 }
 
 /// The record of a signature that has 32 zeros in front of `tied`.
 pub fn signature_record(algorithm: &[u8; 2], identifier: &[u8; 8], tied: &[u8; 32]) -> [u8; 74] {
     let mut record = [0u8; 74];
-    record[..2].copy_from_slice(algorithm);
-    record[2..10].copy_from_slice(identifier);
-    record[42..].copy_from_slice(tied);
+    let (front, tied_part) = record.split_at_mut(42);
+    let (algorithm_part, rest) = front.split_at_mut(2);
+    let (identifier_part, _) = rest.split_at_mut(8);
+    algorithm_part.copy_from_slice(algorithm);
+    identifier_part.copy_from_slice(identifier);
+    tied_part.copy_from_slice(tied);
     record
 }
 
 /// Key A's secret record with this key derivation and this checksum. Salt, limits and seed are zeros.
 pub fn secret_record(kdf: &[u8; 2], checksum: &[u8; 32]) -> [u8; 158] {
     let mut record = [0u8; 158];
-    record[..2].copy_from_slice(b"Ed");
-    record[2..4].copy_from_slice(kdf);
-    record[4..6].copy_from_slice(b"B2");
-    record[54..62].copy_from_slice(&IDENTIFIER);
-    record[94..126].copy_from_slice(&PUBLIC_BYTES);
-    record[126..].copy_from_slice(checksum);
+    let (front, back) = record.split_at_mut(62);
+    let (algorithms, rest) = front.split_at_mut(6);
+    let (_, identifier_part) = rest.split_at_mut(48);
+    let (secret, checksum_part) = back.split_at_mut(64);
+    let (_, public_part) = secret.split_at_mut(32);
+    algorithms.copy_from_slice(&[b'E', b'd', kdf[0], kdf[1], b'B', b'2']);
+    identifier_part.copy_from_slice(&IDENTIFIER);
+    public_part.copy_from_slice(&PUBLIC_BYTES);
+    checksum_part.copy_from_slice(checksum);
     record
 }
 

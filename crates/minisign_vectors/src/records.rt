@@ -20,7 +20,8 @@ fn keys_are_read_back(rt: HostRuntime) -> Result<(), Fail> {
     let mut longer = [b'!'; 43];
     longer[..42].copy_from_slice(&record);
     assert!(rt; is_record(&PublicKey::from_bytes(&longer)?.to_bytes(alloc), &record));
-    let short = PublicKey::from_bytes(&record[..41]);
+    let (short, _) = record.split_at(41);
+    let short = PublicKey::from_bytes(short);
     assert_eq!(rt; outcome(alloc, &short).as_str(), TOO_SHORT);
 
     let record = secret_record(&[0, 0], &CHECKSUM);
@@ -30,7 +31,8 @@ fn keys_are_read_back(rt: HostRuntime) -> Result<(), Fail> {
     let mut longer = [b'!'; 159];
     longer[..158].copy_from_slice(&record);
     assert!(rt; is_record(&SecretKey::from_bytes(&longer)?.to_bytes(alloc), &record));
-    let short = SecretKey::from_bytes(&record[..157]);
+    let (short, _) = record.split_at(157);
+    let short = SecretKey::from_bytes(short);
     assert_eq!(rt; outcome(alloc, &short).as_str(), TOO_SHORT);
     Ok(())
 }
@@ -58,9 +60,11 @@ fn signatures_are_read_back(rt: HostRuntime) -> Result<(), Fail> {
             &record
         )
     );
-    let short = Signature::from_bytes(&record[..73]);
+    let (short, _) = record.split_at(73);
+    let short = Signature::from_bytes(short);
     assert_eq!(rt; outcome(alloc, &short).as_str(), TOO_SHORT);
-    let short = SignatureBones::from_bytes(&record[..73]);
+    let (short, _) = record.split_at(73);
+    let short = SignatureBones::from_bytes(short);
     assert_eq!(rt; outcome(alloc, &short).as_str(), TOO_SHORT);
     assert!(rt; is_record(&Signature::default().to_bytes(alloc), &[0; 74]));
     assert_eq!(rt; (Signature::BYTES, SignatureBones::BYTES), (74, 74));

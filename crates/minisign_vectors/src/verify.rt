@@ -119,6 +119,9 @@ fn bare_signatures_are_judged(rt: HostRuntime) {
     let legacy = signature_record(b"Ed", &IDENTIFIER, &TIED_TO_LEGACY_ABC);
     let unknown = signature_record(b"Ex", &IDENTIFIER, &TIED_TO_ABC);
     let of_nothing = signature_record(b"ED", &IDENTIFIER, &TIED_TO_NOTHING);
+    let (short_key, _) = key.split_at(41);
+    let (short, _) = good.split_at(73);
+    let (short_and_unknown, _) = unknown.split_at(73);
     let mut longer = [b'!'; 75];
     longer[..74].copy_from_slice(&good);
     let mut longer_key = [b'!'; 43];
@@ -171,17 +174,10 @@ fn bare_signatures_are_judged(rt: HostRuntime) {
             true,
             REFUSED,
         ),
-        (
-            "signature of 73 bytes",
-            &key,
-            &good[..73],
-            abc,
-            false,
-            too_short,
-        ),
+        ("signature of 73 bytes", &key, short, abc, false, too_short),
         (
             "public key of 41 bytes",
-            &key[..41],
+            short_key,
             &good,
             abc,
             false,
@@ -198,7 +194,7 @@ fn bare_signatures_are_judged(rt: HostRuntime) {
         (
             "unknown algorithm of 73 bytes",
             &key,
-            &unknown[..73],
+            short_and_unknown,
             abc,
             false,
             too_short,
