@@ -1,5 +1,5 @@
 -- What a genuine key signed is not refused under its own public key.
-use Rattle.std.specs.Prelude.{◌≡◌, List, ℕ, Option, Some, Result, Ok, Err, IfErr, IsErrAnd, IfSome, false}
+use Rattle.std.specs.Prelude.{◌≡◌, List, ℕ, Option, Some, Result, Ok, Err, IfErr, IsErrAnd, false}
 use Rattle.std.proofs.Common.{subst, sym, ◌∙◌}
 use Rattle.minisign_base.specs.Fault.{Fault}
 use Rattle.minisign.specs.Records.{PublicKeyRecord, SignatureBoxRecord}

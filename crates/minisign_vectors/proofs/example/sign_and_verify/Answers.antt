@@ -1,6 +1,5 @@
-use Rattle.std.proofs.Common.{rules, ◌≡◌, ◌⊎◌, inl, inr, ⊎_elim}
+use Rattle.std.proofs.Common.{inl, inr, ⊎_elim}
 use Rattle.std.proofs.lemmas.Bool.{true≢false}
-use Rattle.minisign_base.specs.Faults.{out_of_memory, reading_failed, random_source_failed}
 use Rattle.minisign_vectors.proofs.Refusals.{never_refused, passed_up}
 use Rattle.minisign_vectors.proofs.example.sign_and_verify.Goals as goal
 
