@@ -34,7 +34,17 @@ impl Model for SecretKey {
 
     ghost Value = { SecretKeyRecord };
 
-    ghost view = { λ k. record { algorithm = k.sig_alg; kdf = k.kdf_alg; checksum_algorithm = k.chk_alg; salt = k.kdf_salt; operations_limit = k.kdf_opslimit_le; memory_limit = k.kdf_memlimit_le; keynum = k.keynum_sk.keynum; secret = k.keynum_sk.sk; checksum = k.keynum_sk.chk } };
+    ghost view = { λ k. record {
+      algorithm = k.sig_alg;
+      kdf = k.kdf_alg;
+      checksum_algorithm = k.chk_alg;
+      salt = k.kdf_salt;
+      operations_limit = k.kdf_opslimit_le;
+      memory_limit = k.kdf_memlimit_le;
+      keynum = k.keynum_sk.keynum;
+      secret = k.keynum_sk.sk;
+      checksum = k.keynum_sk.chk;
+    } };
 }
 
 impl SecretKey {

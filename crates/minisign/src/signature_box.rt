@@ -31,7 +31,11 @@ impl Model for Comments {
 
     ghost Value = { CommentsRecord };
 
-    ghost view = { λ c. record { untrusted = string_bytes c.untrusted_comment; trusted = string_bytes c.trusted_comment; signature = c.global_sig.items } };
+    ghost view = { λ c. record {
+      untrusted = string_bytes c.untrusted_comment;
+      trusted = string_bytes c.trusted_comment;
+      signature = c.global_sig.items;
+    } };
 }
 
 impl Model for SignatureBox {
