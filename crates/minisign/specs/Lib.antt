@@ -5,3 +5,4 @@ pub mod Acceptance
 pub mod SecretKeyText
 pub mod Sealing
 pub mod Signing
+pub mod Opening

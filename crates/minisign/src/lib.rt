@@ -7,6 +7,7 @@
 mod constants;
 mod fields;
 pub mod keynum;
+mod opening;
 pub mod public_key;
 pub mod reading;
 mod sealing;
