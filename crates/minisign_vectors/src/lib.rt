@@ -22,6 +22,8 @@ mod limits;
 #[cfg(test)]
 mod records;
 #[cfg(test)]
+mod secret_keys;
+#[cfg(test)]
 mod sign;
 #[cfg(test)]
 mod toy;
