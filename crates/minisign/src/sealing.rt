@@ -22,8 +22,10 @@ impl SecretKey {
     // Xors the last 104 bytes of the record with the stream under the password: opens a sealed key, and
     // seals an opened one. Limits that are not allowed are refused before anything is derived, and then
     // a parallelization above `max_p`; neither takes memory.
+    #[tactic(auto, using(crate::proofs::SealedParts::restored_key))]
     pub(crate) fn unseal(&mut self, alloc: Global, password: &[u8], max_p: u32) -> Result<()>
         ensures unsealed { OnOk result (self.new ≡ unsealed self.old password.now) }
+        ensures restores { OnOk result (unsealed self.new password.now ≡ self.old) }
         ensures allowed { OnOk result (work_refusal self.old max_p ≡ None) }
         ensures refused { IfErr result (λ e. ((e ≡ out_of_memory) × (work_refusal self.old max_p ≡ None))
             ⊎ (work_refusal self.old max_p ≡ Some e)) }
