@@ -60,6 +60,7 @@ fn xor_bytes(bytes: &mut [u8], stream: &[u8])
 }
 
 // The stream under the password.
+#[tactic(auto, using(crate::proofs::SealingLimits::derived_stream))]
 fn derive_stream(alloc: Global, sk: &SecretKey, password: &[u8], max_p: u32) -> Result<[u8; 104]>
     ensures stream { IfOk result (λ s. s ≡ stream_of sk.now password.now) }
     ensures allowed { OnOk result (work_refusal sk.now max_p ≡ None) }
