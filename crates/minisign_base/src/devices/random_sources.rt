@@ -4,7 +4,7 @@ ghost use Rattle.std.specs.Prelude.{Option, ◌≡◌, ℕ, ◌≤◌, ◌↔◌
 ghost use Rattle.std.specs.Io.KnownBytes.{Consumes, IsAtEnd};
 ghost use Rattle.minisign_base.specs.Devices.{Rose, HasGiven};
 
-use super::sources::Source;
+use super::sources::{Source, fill_from};
 use super::{DeviceFault, FaultCount};
 
 /// What gives random bytes.
@@ -111,22 +111,4 @@ impl<S: Source> RandomSource for SourceRandom<S> {
             Err(_) => Err(self.faults.raise()),
         }
     }
-}
-
-/// Fills `buf` with the next bytes of a source. It fails where the source fails or ends before.
-pub fn fill_from<S: Source>(source: &mut S, buf: &mut [u8]) -> Result<(), DeviceFault>
-    ensures bytes { OnOk result (Consumes (S.ahead source.old) (S.ahead source.new) buf.new) }
-    ensures calm { OnOk result (S.faults source.new ≡ S.faults source.old) }
-    ensures fault { OnErr result (Rose (S.faults source.old) (S.faults source.new)
-        ⊎ IsAtEnd (S.ahead source.new)) }
-    ensures given { OnErr result (HasGiven (S.ahead source.old) (S.ahead source.new)) }
-{
-    let mut at = 0;
-    'rest: while at < buf.len() {
-        match source.read(&mut buf[at..])? {
-            0 => return Err(DeviceFault),
-            n => at += n,
-        }
-    }
-    Ok(())
 }

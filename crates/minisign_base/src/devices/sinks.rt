@@ -1,10 +1,12 @@
 //! What bytes are written to.
 
-ghost use Rattle.std.specs.Prelude.{Option, ◌≡◌, ℕ, ◌<◌, ◌≤◌, List, [], length, take, Some, IsOk, IfOk, OnOk, OnErr};
+ghost use Rattle.std.specs.Prelude.{Option, ◌≡◌, ◌⊎◌, ℕ, ◌<◌, ◌≤◌, List, [], ◌∷◌, ◌++◌, length, take, Some, IsOk, IfOk, IfErr, OnOk, OnErr};
 ghost use Rattle.std.specs.Io.KnownBytes.{Appends, Keeps};
 ghost use Rattle.minisign_base.specs.Devices.{Rose, AppendsFront};
+ghost use Rattle.minisign_base.specs.Faults.{out_of_memory, writing_failed};
 
 use super::{DeviceFault, FaultCount};
+use crate::{errors, faults};
 use std::alloc::{AllocError, Global};
 use std::io::Write;
 
@@ -31,6 +33,42 @@ pub trait Sink {
         ensures bytes { Keeps (taken self.old) (taken self.new) }
         ensures calm { OnOk result (sink_faults self.new ≡ sink_faults self.old) }
         ensures fault { OnErr result (Rose (sink_faults self.old) (sink_faults self.new)) };
+}
+
+/// Writes a label, a text and a line feed in one call of `put_all`, so that programs that run side by
+/// side do not mix their lines: a sink that takes all that it is given gets one write.
+///
+/// Memory is wanted for the line. Where it is wanting, that is `out_of_memory`, and the sink is as it was.
+/// Where the sink fails, that is `writing_failed`, and the sink took a beginning of the line.
+pub fn put_line<S: Sink>(
+    alloc: Global,
+    sink: &mut S,
+    label: &[u8],
+    text: &[u8],
+) -> errors::Result<()>
+    ensures bytes { OnOk result (Appends (S.taken sink.old) (S.taken sink.new) (label.now ++ text.now ++ 10 ∷ [])) }
+    ensures calm { OnOk result (S.sink_faults sink.new ≡ S.sink_faults sink.old) }
+    ensures fault { IfErr result (λ e. ((e ≡ out_of_memory) × (sink.new ≡ sink.old))
+        ⊎ ((e ≡ writing_failed) × Rose (S.sink_faults sink.old) (S.sink_faults sink.new))) }
+    ensures front { OnErr result (AppendsFront (S.taken sink.old) (S.taken sink.new) (label.now ++ text.now ++ 10 ∷ [])) }
+{
+    let line = line_of(alloc, label, text)?;
+    match put_all(sink, &line) {
+        Ok(()) => Ok(()),
+        Err(_) => Err(faults::writing_failed()),
+    }
+}
+
+// A label, a text and a line feed.
+fn line_of(alloc: Global, label: &[u8], text: &[u8]) -> errors::Result<Vec<u8>>
+    ensures line { IfOk result (λ v. v.items ≡ label.now ++ text.now ++ 10 ∷ []) }
+    ensures refused { IfErr result (λ e. e ≡ out_of_memory) }
+{
+    let mut line = Vec::new(alloc);
+    line.extend_from_slice(label)?;
+    line.extend_from_slice(text)?;
+    line.push(b'\n')?;
+    Ok(line)
 }
 
 /// Writes all of `bytes`. After a fault the sink took a beginning of them.

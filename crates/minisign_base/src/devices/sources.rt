@@ -1,9 +1,9 @@
 //! What bytes are read from.
 
-ghost use Rattle.std.specs.Prelude.{Option, ◌≡◌, ◌==◌, ℕ, ◌+◌, ◌-◌, ◌<◌, ◌≤◌, ◌^◌, ◌↔◌, min, List, length, take, Some, None, IsSome, IsOk, IsErr, IsOkAnd, IsNone, IfOk, IfSome, OnOk, OnErr, if◌then◌else◌, ⊤};
+ghost use Rattle.std.specs.Prelude.{Option, ◌≡◌, ◌==◌, ℕ, ◌+◌, ◌-◌, ◌<◌, ◌≤◌, ◌^◌, ◌↔◌, min, List, length, take, Some, None, IsSome, IsOk, IsErr, IsOkAnd, IsNone, IfOk, IfSome, OnOk, OnErr, if◌then◌else◌, ⊤, ◌⊎◌};
 ghost use Rattle.std.specs.Option.{option_map};
 ghost use Rattle.std.specs.Io.KnownBytes.{Consumes, IsAtEnd};
-ghost use Rattle.minisign_base.specs.Devices.{Rose, StaysOrHides};
+ghost use Rattle.minisign_base.specs.Devices.{Rose, StaysOrHides, HasGiven};
 
 use super::{DeviceFault, FaultCount};
 use std::io::Read;
@@ -55,6 +55,24 @@ pub trait Rereader: Source {
         ensures bytes { OnOk result (IfSome (Self.behind self.old) (λ xs. Self.ahead self.new ≡ Some xs)) }
         ensures calm { OnOk result (Self.faults self.new ≡ Self.faults self.old) }
         ensures fault { OnErr result (Rose (Self.faults self.old) (Self.faults self.new)) };
+}
+
+/// Fills `buf` with the next bytes of a source. It fails where the source fails or ends before.
+pub fn fill_from<S: Source>(source: &mut S, buf: &mut [u8]) -> Result<(), DeviceFault>
+    ensures bytes { OnOk result (Consumes (S.ahead source.old) (S.ahead source.new) buf.new) }
+    ensures calm { OnOk result (S.faults source.new ≡ S.faults source.old) }
+    ensures fault { OnErr result (Rose (S.faults source.old) (S.faults source.new)
+        ⊎ IsAtEnd (S.ahead source.new)) }
+    ensures given { OnErr result (HasGiven (S.ahead source.old) (S.ahead source.new)) }
+{
+    let mut at = 0;
+    'rest: while at < buf.len() {
+        match source.read(&mut buf[at..])? {
+            0 => return Err(DeviceFault),
+            n => at += n,
+        }
+    }
+    Ok(())
 }
 
 /// The bytes of a slice. It fails only in `back` without a mark.
