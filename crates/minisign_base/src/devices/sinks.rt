@@ -2,7 +2,7 @@
 
 ghost use Rattle.std.specs.Prelude.{Option, ◌≡◌, ◌⊎◌, ℕ, ◌<◌, ◌≤◌, List, [], ◌∷◌, ◌++◌, length, take, Some, IsOk, IfOk, IfErr, OnOk, OnErr};
 ghost use Rattle.std.specs.Io.KnownBytes.{Appends, Keeps};
-ghost use Rattle.minisign_base.specs.Devices.{Rose, AppendsFront};
+ghost use Rattle.minisign_base.specs.Devices.{Rose, AppendsFront, HasWritten, HasFlushed};
 ghost use Rattle.minisign_base.specs.Faults.{out_of_memory, writing_failed};
 
 use super::{DeviceFault, FaultCount};
@@ -21,18 +21,11 @@ pub trait Sink {
     /// Takes a beginning of `bytes` and answers how long it is: of something at least one byte. After
     /// a fault nothing was taken.
     fn write(&mut self, bytes: &[u8]) -> Result<usize, DeviceFault>
-        ensures bound { IfOk result (λ n. n ≤ length bytes.now) }
-        ensures some { IfOk result (λ n. 0 < length bytes.now → 0 < n) }
-        ensures bytes { IfOk result (λ n. Appends (taken self.old) (taken self.new) (take n bytes.now)) }
-        ensures calm { OnOk result (sink_faults self.new ≡ sink_faults self.old) }
-        ensures fault { OnErr result (Rose (sink_faults self.old) (sink_faults self.new)) }
-        ensures kept { OnErr result (Keeps (taken self.old) (taken self.new)) };
+        ensures { HasWritten taken sink_faults self.old self.new bytes.now result };
 
     /// Passes on what was taken. It takes nothing itself.
     fn flush(&mut self) -> Result<(), DeviceFault>
-        ensures bytes { Keeps (taken self.old) (taken self.new) }
-        ensures calm { OnOk result (sink_faults self.new ≡ sink_faults self.old) }
-        ensures fault { OnErr result (Rose (sink_faults self.old) (sink_faults self.new)) };
+        ensures { HasFlushed taken sink_faults self.old self.new result };
 }
 
 /// Writes a label, a text and a line feed in one call of `put_all`, so that programs that run side by
@@ -129,9 +122,7 @@ impl Sink for VecSink {
     fn write(&mut self, bytes: &[u8]) -> Result<usize, DeviceFault>
         ensures takes { IfOk result (λ n. n ≡ length bytes.now) }
         ensures bytes { OnOk result (Appends (⟦<VecSink as Sink>⟧.taken self.old) (⟦<VecSink as Sink>⟧.taken self.new) bytes.now) }
-        ensures calm { OnOk result (⟦<VecSink as Sink>⟧.sink_faults self.new ≡ ⟦<VecSink as Sink>⟧.sink_faults self.old) }
-        ensures fault { OnErr result (Rose (⟦<VecSink as Sink>⟧.sink_faults self.old) (⟦<VecSink as Sink>⟧.sink_faults self.new)) }
-        ensures kept { OnErr result (Keeps (⟦<VecSink as Sink>⟧.taken self.old) (⟦<VecSink as Sink>⟧.taken self.new)) }
+        ensures write { HasWritten ⟦<VecSink as Sink>⟧.taken ⟦<VecSink as Sink>⟧.sink_faults self.old self.new bytes.now result }
     {
         match self.bytes.extend_from_slice(bytes) {
             Ok(()) => Ok(bytes.len()),
