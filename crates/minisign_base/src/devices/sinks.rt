@@ -28,56 +28,6 @@ pub trait Sink {
         ensures { HasFlushed taken sink_faults self.old self.new result };
 }
 
-/// Writes a label, a text and a line feed in one call of `put_all`, so that programs that run side by
-/// side do not mix their lines: a sink that takes all that it is given gets one write.
-///
-/// Memory is wanted for the line. Where it is wanting, that is `out_of_memory`, and the sink is as it was.
-/// Where the sink fails, that is `writing_failed`, and the sink took a beginning of the line.
-pub fn put_line<S: Sink>(
-    alloc: Global,
-    sink: &mut S,
-    label: &[u8],
-    text: &[u8],
-) -> errors::Result<()>
-    ensures bytes { OnOk result (Appends (S.taken sink.old) (S.taken sink.new) (label.now ++ text.now ++ 10 ∷ [])) }
-    ensures calm { OnOk result (S.sink_faults sink.new ≡ S.sink_faults sink.old) }
-    ensures fault { IfErr result (λ e. ((e ≡ out_of_memory) × (sink.new ≡ sink.old))
-        ⊎ ((e ≡ writing_failed) × Rose (S.sink_faults sink.old) (S.sink_faults sink.new))) }
-    ensures front { OnErr result (AppendsFront (S.taken sink.old) (S.taken sink.new) (label.now ++ text.now ++ 10 ∷ [])) }
-{
-    let line = line_of(alloc, label, text)?;
-    match put_all(sink, &line) {
-        Ok(()) => Ok(()),
-        Err(_) => Err(faults::writing_failed()),
-    }
-}
-
-// A label, a text and a line feed.
-fn line_of(alloc: Global, label: &[u8], text: &[u8]) -> errors::Result<Vec<u8>>
-    ensures line { IfOk result (λ v. v.items ≡ label.now ++ text.now ++ 10 ∷ []) }
-    ensures refused { IfErr result (λ e. e ≡ out_of_memory) }
-{
-    let mut line = Vec::new(alloc);
-    line.extend_from_slice(label)?;
-    line.extend_from_slice(text)?;
-    line.push(b'\n')?;
-    Ok(line)
-}
-
-/// Writes all of `bytes`. After a fault the sink took a beginning of them.
-pub fn put_all<S: Sink>(sink: &mut S, bytes: &[u8]) -> Result<(), DeviceFault>
-    ensures bytes { OnOk result (Appends (S.taken sink.old) (S.taken sink.new) bytes.now) }
-    ensures calm { OnOk result (S.sink_faults sink.new ≡ S.sink_faults sink.old) }
-    ensures fault { OnErr result (Rose (S.sink_faults sink.old) (S.sink_faults sink.new)) }
-    ensures front { OnErr result (AppendsFront (S.taken sink.old) (S.taken sink.new) bytes.now) }
-{
-    let mut at = 0;
-    'rest: while at < bytes.len() {
-        at += sink.write(&bytes[at..])?;
-    }
-    Ok(())
-}
-
 /// A buffer that grows. It fails only where a growth is refused.
 #[derive(Debug, Drop)]
 pub struct VecSink {
@@ -178,4 +128,54 @@ impl<W: Write> Sink for WriterSink<W> {
             Err(_) => Err(self.faults.raise()),
         }
     }
+}
+
+/// Writes a label, a text and a line feed in one call of `put_all`, so that programs that run side by
+/// side do not mix their lines: a sink that takes all that it is given gets one write.
+///
+/// Memory is wanted for the line. Where it is wanting, that is `out_of_memory`, and the sink is as it was.
+/// Where the sink fails, that is `writing_failed`, and the sink took a beginning of the line.
+pub fn put_line<S: Sink>(
+    alloc: Global,
+    sink: &mut S,
+    label: &[u8],
+    text: &[u8],
+) -> errors::Result<()>
+    ensures bytes { OnOk result (Appends (S.taken sink.old) (S.taken sink.new) (label.now ++ text.now ++ 10 ∷ [])) }
+    ensures calm { OnOk result (S.sink_faults sink.new ≡ S.sink_faults sink.old) }
+    ensures fault { IfErr result (λ e. ((e ≡ out_of_memory) × (sink.new ≡ sink.old))
+        ⊎ ((e ≡ writing_failed) × Rose (S.sink_faults sink.old) (S.sink_faults sink.new))) }
+    ensures front { OnErr result (AppendsFront (S.taken sink.old) (S.taken sink.new) (label.now ++ text.now ++ 10 ∷ [])) }
+{
+    let line = line_of(alloc, label, text)?;
+    match put_all(sink, &line) {
+        Ok(()) => Ok(()),
+        Err(_) => Err(faults::writing_failed()),
+    }
+}
+
+/// Writes all of `bytes`. After a fault the sink took a beginning of them.
+pub fn put_all<S: Sink>(sink: &mut S, bytes: &[u8]) -> Result<(), DeviceFault>
+    ensures bytes { OnOk result (Appends (S.taken sink.old) (S.taken sink.new) bytes.now) }
+    ensures calm { OnOk result (S.sink_faults sink.new ≡ S.sink_faults sink.old) }
+    ensures fault { OnErr result (Rose (S.sink_faults sink.old) (S.sink_faults sink.new)) }
+    ensures front { OnErr result (AppendsFront (S.taken sink.old) (S.taken sink.new) bytes.now) }
+{
+    let mut at = 0;
+    'rest: while at < bytes.len() {
+        at += sink.write(&bytes[at..])?;
+    }
+    Ok(())
+}
+
+// A label, a text and a line feed.
+fn line_of(alloc: Global, label: &[u8], text: &[u8]) -> errors::Result<Vec<u8>>
+    ensures line { IfOk result (λ v. v.items ≡ label.now ++ text.now ++ 10 ∷ []) }
+    ensures refused { IfErr result (λ e. e ≡ out_of_memory) }
+{
+    let mut line = Vec::new(alloc);
+    line.extend_from_slice(label)?;
+    line.extend_from_slice(text)?;
+    line.push(b'\n')?;
+    Ok(line)
 }

@@ -43,24 +43,6 @@ pub trait Rereader: Source {
         ensures { HasGoneBack Self.ahead Self.behind Self.faults self.old self.new result };
 }
 
-/// Fills `buf` with the next bytes of a source. It fails where the source fails or ends before.
-pub fn fill_from<S: Source>(source: &mut S, buf: &mut [u8]) -> Result<(), DeviceFault>
-    ensures bytes { OnOk result (Consumes (S.ahead source.old) (S.ahead source.new) buf.new) }
-    ensures calm { OnOk result (S.faults source.new ≡ S.faults source.old) }
-    ensures fault { OnErr result (Rose (S.faults source.old) (S.faults source.new)
-        ⊎ IsAtEnd (S.ahead source.new)) }
-    ensures given { OnErr result (HasGiven (S.ahead source.old) (S.ahead source.new)) }
-{
-    let mut at = 0;
-    'rest: while at < buf.len() {
-        match source.read(&mut buf[at..])? {
-            0 => return Err(DeviceFault),
-            n => at += n,
-        }
-    }
-    Ok(())
-}
-
 /// The bytes of a slice. It fails only in `back` without a mark.
 #[derive(Debug, Drop)]
 pub struct SliceSource<'a> {
@@ -204,4 +186,22 @@ impl<R: Read> Rereader for ReaderSource<R> {
     {
         self.mark()
     }
+}
+
+/// Fills `buf` with the next bytes of a source. It fails where the source fails or ends before.
+pub fn fill_from<S: Source>(source: &mut S, buf: &mut [u8]) -> Result<(), DeviceFault>
+    ensures bytes { OnOk result (Consumes (S.ahead source.old) (S.ahead source.new) buf.new) }
+    ensures calm { OnOk result (S.faults source.new ≡ S.faults source.old) }
+    ensures fault { OnErr result (Rose (S.faults source.old) (S.faults source.new)
+        ⊎ IsAtEnd (S.ahead source.new)) }
+    ensures given { OnErr result (HasGiven (S.ahead source.old) (S.ahead source.new)) }
+{
+    let mut at = 0;
+    'rest: while at < buf.len() {
+        match source.read(&mut buf[at..])? {
+            0 => return Err(DeviceFault),
+            n => at += n,
+        }
+    }
+    Ok(())
 }
