@@ -1,5 +1,6 @@
 pub mod DeviceFacts
 mod Filled
-mod HexDigits
 mod Folding
 pub mod LeastCost
+pub mod Facts
+mod PromptLines

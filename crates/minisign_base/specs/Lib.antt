@@ -1,9 +1,11 @@
+pub mod Decoding
 pub mod Derivation
 pub mod Devices
 pub mod Fault
 pub mod Faults
 pub mod Identifiers
 pub mod Limits
+pub mod Prompts
 pub mod Scheme
 pub mod Toy
 pub mod ToyLaw
