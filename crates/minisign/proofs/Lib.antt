@@ -9,3 +9,4 @@ pub mod FirstLine
 pub mod Base64Texts
 pub mod SecretKeyTexts
 pub mod Openings
+pub mod Asking

@@ -1,15 +1,20 @@
 //! The key of a text: opened with a password where it is sealed.
 
-ghost use Rattle.std.specs.Prelude.{◌≡◌, ◌⊎◌, ℕ, None, Some, string_bytes, MatchResult, IfOk, IfErr, OnOk, IfSome};
-ghost use Rattle.minisign_base.specs.Faults.{out_of_memory, corrupted_key, wrong_password};
+ghost use Rattle.std.specs.Prelude.{◌≡◌, ◌⊎◌, ℕ, List, ◌++◌, None, Some, Ok, string_bytes, MatchResult, IfOk, IfErr, OnOk, IfSome};
+ghost use Rattle.minisign_base.specs.Faults.{out_of_memory, writing_failed, wrong_password};
 ghost use Rattle.minisign.specs.Records.{SecretKeyRecord};
 ghost use Rattle.minisign.specs.SecretKeyText.{SecretKeyText};
 ghost use Rattle.minisign.specs.Sealing.{checksum_refusal, kdf_refusal, password_refusal, unencrypted_refusal, unsealed, work_refusal};
-ghost use Rattle.minisign.specs.Opening.{IsRefused, IsOpened, RefusesOpening, IsUnencryptedText, RefusesUnencrypted};
+ghost use Rattle.minisign.specs.Opening.{IsRefused, IsOpened, RefusesOpening, IsUnencryptedText, RefusesUnencrypted, HasSaid, HasAskedAndSaid, HasAskedAndNotSaid, IsToldRefusal, asking_text, deriving_text, done_text};
+ghost use Rattle.minisign_base.specs.Prompts.{HasAsked, IsAskingFault, HasNotSaid};
 
 use crate::constants::{KDF_ALG, KDF_NONE};
 use crate::secret_key::SecretKey;
 use crate::secret_key_box::SecretKeyBox;
+use minisign_base::devices::sinks::Sink;
+use minisign_base::devices::sources::Source;
+use minisign_base::helpers::get_password;
+use minisign_base::prompt::Prompt;
 use minisign_base::{Result, faults};
 use std::alloc::Global;
 
@@ -94,6 +99,47 @@ impl SecretKey {
         Ok(())
     }
 
+    // Asks for a password, and opens a sealed key with it.
+    fn open_asking<R: Source, W: Sink>(
+        self,
+        alloc: Global,
+        prompt: &mut Prompt<R, W>,
+        max_p: u32,
+    ) -> Result<SecretKey>
+        ensures opened { IfOk result (λ v. (bytes : List ℕ) × (password : List ℕ) × (v ≡ unsealed self password)
+            × (password_refusal self password max_p ≡ None)
+            × HasAskedAndSaid R.ahead R.left R.faults W.taken W.sink_faults prompt.old prompt.new bytes password (deriving_text ++ done_text)) }
+        ensures refused { IfErr result (λ e.
+            IsAskingFault R.ahead R.left R.faults W.taken W.sink_faults prompt.old prompt.new asking_text e
+            ⊎ ((bytes : List ℕ) × (password : List ℕ)
+            × IsToldRefusal (HasAskedAndSaid R.ahead R.left R.faults W.taken W.sink_faults prompt.old prompt.new bytes password)
+            (HasAskedAndNotSaid R.ahead R.left R.faults W.taken W.sink_faults prompt.old prompt.new bytes password) self password max_p e)) }
+    {
+        let password = ask_password(alloc, prompt)?;
+        self.open_telling(alloc, password.as_bytes(), prompt, max_p)
+    }
+
+    // Opens a sealed key, and says so before the derivation and behind it.
+    fn open_telling<R: Source, W: Sink>(
+        self,
+        alloc: Global,
+        password: &[u8],
+        prompt: &mut Prompt<R, W>,
+        max_p: u32,
+    ) -> Result<SecretKey>
+        ensures opened { IfOk result (λ v. (v ≡ unsealed self password.now) × (password_refusal self password.now max_p ≡ None)
+            × HasSaid W.taken W.sink_faults prompt.old prompt.new (deriving_text ++ done_text)) }
+        ensures refused { IfErr result (λ e. IsToldRefusal (HasSaid W.taken W.sink_faults prompt.old prompt.new)
+            (HasNotSaid W.taken W.sink_faults prompt.old prompt.new) self password.now max_p e) }
+    {
+        say_deriving(prompt)?;
+        let mut sk = self;
+        sk.unseal(alloc, password, max_p)?;
+        say_done(prompt)?;
+        sk.check_restored()?;
+        Ok(sk)
+    }
+
     // Opens a sealed key with a password that was handed in.
     fn open_with(self, alloc: Global, password: &[u8], max_p: u32) -> Result<SecretKey>
         ensures opened { IfOk result (λ v. (v ≡ unsealed self password.now) × (password_refusal self password.now max_p ≡ None)) }
@@ -115,4 +161,32 @@ impl SecretKey {
         }
         Ok(())
     }
+}
+
+// Asks for the password.
+#[tactic(auto, unfolding(crate::specs::Opening::asking_text))]
+fn ask_password<R: Source, W: Sink>(alloc: Global, prompt: &mut Prompt<R, W>) -> Result<String>
+    ensures asked { IfOk result (λ password. (bytes : List ℕ)
+        × HasAsked R.ahead R.left R.faults W.taken W.sink_faults prompt.old prompt.new asking_text bytes (Ok (string_bytes password))) }
+    ensures refused { IfErr result (λ e. IsAskingFault R.ahead R.left R.faults W.taken W.sink_faults prompt.old prompt.new asking_text e) }
+{
+    get_password(alloc, prompt, "Password: ")
+}
+
+// Says that the key is being derived.
+#[tactic(auto, unfolding(crate::specs::Opening::deriving_text))]
+fn say_deriving<R: Source, W: Sink>(prompt: &mut Prompt<R, W>) -> Result<()>
+    ensures said { OnOk result (HasSaid W.taken W.sink_faults prompt.old prompt.new deriving_text) }
+    ensures refused { IfErr result (λ e. (e ≡ writing_failed) × HasNotSaid W.taken W.sink_faults prompt.old prompt.new deriving_text) }
+{
+    prompt.say("Deriving a key from the password and decrypting the secret key... ")
+}
+
+// Says that the key was derived.
+#[tactic(auto, unfolding(crate::specs::Opening::done_text))]
+fn say_done<R: Source, W: Sink>(prompt: &mut Prompt<R, W>) -> Result<()>
+    ensures said { OnOk result (HasSaid W.taken W.sink_faults prompt.old prompt.new done_text) }
+    ensures refused { IfErr result (λ e. (e ≡ writing_failed) × HasNotSaid W.taken W.sink_faults prompt.old prompt.new done_text) }
+{
+    prompt.say("done\n")
 }
