@@ -8,8 +8,10 @@ use Rattle.minisign_base.specs.Prompts.{HasAsked, HasNotSaid, HasReadLine, IsAsk
 use Rattle.minisign_base.proofs.DeviceFacts.{AppendsFront-after}
 use Rattle.minisign.specs.Records.{SecretKeyRecord}
 use Rattle.minisign_base.specs.Faults.{out_of_memory}
-use Rattle.minisign.specs.Sealing.{password_refusal, unsealed, work_refusal}
-use Rattle.minisign.specs.Opening.{HasSaid, HasAskedAndSaid, HasAskedAndNotSaid, IsToldRefusal, asking_text, deriving_text}
+use Rattle.minisign.specs.Sealing.{kdf_refusal, password_refusal, unsealed, work_refusal}
+use Rattle.minisign.specs.SecretKeyText.{SecretKeyText}
+use Rattle.minisign.specs.Opening.{HasSaid, HasAskedAndSaid, HasAskedAndNotSaid, IsOpened, IsOpenedAsking, IsRefused, IsToldRefusal, RefusesAsking, asking_text, deriving_text, done_text}
+use Rattle.minisign.proofs.Openings.{kdf_held, opened_text}
 
 pub asked_said : {R W : Type 0} (ahead : R → Option (List ℕ)) (left faults : R → ℕ) (taken : W → Option (List ℕ)) (sink_faults : W → ℕ) (old mid new : Prompt R W) (bytes password text : List ℕ)
     → HasAsked ahead left faults taken sink_faults old mid asking_text bytes (Ok password) → HasSaid taken sink_faults mid new text
@@ -93,3 +95,29 @@ asked_refused ahead left faults taken sink_faults old mid new k max_p bytes pass
       (λ text said. asked_said ahead left faults taken sink_faults old mid new bytes password text asked said)
       (λ text failed. asked_not_said ahead left faults taken sink_faults old mid new bytes password text asked failed) refused,
 )
+
+-- a text that no password opens: nothing was asked
+pub nothing_asked : {R W : Type 0} (ahead : R → Option (List ℕ)) (left faults : R → ℕ) (taken : W → Option (List ℕ)) (sink_faults : W → ℕ) (old new : Prompt R W)
+    (text : List ℕ) (max_p : ℕ) (e : Fault) → new ≡ old → (e ≡ out_of_memory) ⊎ IsRefused text kdf_refusal e
+    → RefusesAsking ahead left faults taken sink_faults old new text max_p e
+nothing_asked ahead left faults taken sink_faults old new text max_p e same (inl memory) = inl (memory, same)
+nothing_asked ahead left faults taken sink_faults old new text max_p e same (inr refused) = inr (inl (refused, same))
+
+-- what opening with a password that is asked for says of the text
+pub asking_opened : {R W : Type 0} (ahead : R → Option (List ℕ)) (left faults : R → ℕ) (taken : W → Option (List ℕ)) (sink_faults : W → ℕ) (old new : Prompt R W)
+    (text : List ℕ) (max_p : ℕ) (k : SecretKeyRecord) (r : Result SecretKeyRecord Fault) → SecretKeyText text k → kdf_refusal k ≡ None
+    → IfOk r (λ v. (bytes : List ℕ) × (password : List ℕ) × (v ≡ unsealed k password) × (password_refusal k password max_p ≡ None)
+      × HasAskedAndSaid ahead left faults taken sink_faults old new bytes password (deriving_text ++ done_text))
+    → IfOk r (λ v. IsOpenedAsking ahead left faults taken sink_faults old new text max_p v)
+asking_opened ahead left faults taken sink_faults old new text max_p k (Ok v) read kdf (bytes, password, is, none, asked) =
+    (bytes, password, opened_text text password max_p k v read kdf is none, asked)
+asking_opened ahead left faults taken sink_faults old new text max_p k (Err e) read kdf h = tt
+
+pub asking_refused : {R W : Type 0} (ahead : R → Option (List ℕ)) (left faults : R → ℕ) (taken : W → Option (List ℕ)) (sink_faults : W → ℕ) (old new : Prompt R W)
+    (text : List ℕ) (max_p : ℕ) (k : SecretKeyRecord) (r : Result SecretKeyRecord Fault) → SecretKeyText text k → kdf_refusal k ≡ None
+    → IfErr r (λ e. IsAskingFault ahead left faults taken sink_faults old new asking_text e
+      ⊎ ((bytes : List ℕ) × (password : List ℕ) × IsToldRefusal (HasAskedAndSaid ahead left faults taken sink_faults old new bytes password)
+        (HasAskedAndNotSaid ahead left faults taken sink_faults old new bytes password) k password max_p e))
+    → IfErr r (λ e. RefusesAsking ahead left faults taken sink_faults old new text max_p e)
+asking_refused ahead left faults taken sink_faults old new text max_p k (Ok v) read kdf h = tt
+asking_refused ahead left faults taken sink_faults old new text max_p k (Err e) read kdf refused = inr (inr (k, read, kdf_held k kdf, refused))

@@ -64,7 +64,7 @@ kdf_tests true scrypt h = absurd (cc)
 kdf_tests false true h = refl
 kdf_tests false false h = absurd (cc)
 
-kdf_held : (k : SecretKeyRecord) → kdf_refusal k ≡ None → k.kdf ≡ scrypt_kdf
+pub kdf_held : (k : SecretKeyRecord) → kdf_refusal k ≡ None → k.kdf ≡ scrypt_kdf
 kdf_held k h = (bytes_eq-Decides k.kdf scrypt_kdf).0 (kdf_tests (bytes_eq k.kdf no_kdf) _ h)
 
 kdf_none : (k : SecretKeyRecord) → k.kdf ≡ scrypt_kdf → kdf_refusal k ≡ None
@@ -119,14 +119,23 @@ any_password text password max_p e (inr refused) = inr (record {
   closed = λ k read h. not_refused text kdf_refusal e k refused read (kdf_none k h.opens.kdf);
 })
 
+-- a key that was opened
+pub opened_text : (text password : List ℕ) (max_p : ℕ) (sealed k : SecretKeyRecord) → SecretKeyText text sealed → kdf_refusal sealed ≡ None
+    → k ≡ unsealed sealed password → password_refusal sealed password max_p ≡ None → IsOpened text password max_p k
+opened_text text password max_p sealed k read kdf is none = record {
+  sealed = sealed;
+  read = read;
+  opens = opening_held sealed password max_p (ap (λ (o : Option Fault). option_or o (password_refusal sealed password max_p)) kdf ∙ none);
+  key = is;
+}
+
 -- what opening says of the text
 pub opening_outcome : (text password : List ℕ) (max_p : ℕ) (sealed : SecretKeyRecord) (r : Result SecretKeyRecord Fault)
     → SecretKeyText text sealed → kdf_refusal sealed ≡ None
     → IfOk r (λ k. (k ≡ unsealed sealed password) × (password_refusal sealed password max_p ≡ None))
     → IfErr r (λ e. ((e ≡ out_of_memory) × (work_refusal sealed max_p ≡ None)) ⊎ (password_refusal sealed password max_p ≡ Some e))
     → MatchResult r (IsOpened text password max_p) (λ e. (e ≡ out_of_memory) ⊎ RefusesOpening text password max_p e)
-opening_outcome text password max_p sealed (Ok k) read kdf (is, none) refused =
-    record { sealed = sealed; read = read; opens = opening_held sealed password max_p (ap (λ (o : Option Fault). option_or o (password_refusal sealed password max_p)) kdf ∙ none); key = is }
+opening_outcome text password max_p sealed (Ok k) read kdf (is, none) refused = opened_text text password max_p sealed k read kdf is none
 opening_outcome text password max_p sealed (Err e) read kdf ok (inl (memory, work)) = inl memory
 opening_outcome text password max_p sealed (Err e) read kdf ok (inr refused) =
     let first : opening_refusal sealed password max_p ≡ Some e = ap (λ (o : Option Fault). option_or o (password_refusal sealed password max_p)) kdf ∙ refused in

@@ -5,7 +5,7 @@ ghost use Rattle.minisign_base.specs.Faults.{out_of_memory, writing_failed, wron
 ghost use Rattle.minisign.specs.Records.{SecretKeyRecord};
 ghost use Rattle.minisign.specs.SecretKeyText.{SecretKeyText};
 ghost use Rattle.minisign.specs.Sealing.{checksum_refusal, kdf_refusal, password_refusal, unencrypted_refusal, unsealed, work_refusal};
-ghost use Rattle.minisign.specs.Opening.{IsRefused, IsOpened, RefusesOpening, IsUnencryptedText, RefusesUnencrypted, HasSaid, HasAskedAndSaid, HasAskedAndNotSaid, IsToldRefusal, asking_text, deriving_text, done_text};
+ghost use Rattle.minisign.specs.Opening.{IsRefused, IsOpened, RefusesOpening, IsUnencryptedText, RefusesUnencrypted, HasSaid, HasAskedAndSaid, HasAskedAndNotSaid, IsOpenedAsking, IsToldRefusal, RefusesAsking, asking_text, deriving_text, done_text};
 ghost use Rattle.minisign_base.specs.Prompts.{HasAsked, IsAskingFault, HasNotSaid};
 
 use crate::constants::{KDF_ALG, KDF_NONE};
@@ -97,6 +97,20 @@ impl SecretKey {
             return Err(faults::unsupported_encryption_algorithm());
         }
         Ok(())
+    }
+
+    // Reads the text of a sealed key, and opens it with a password that is asked for.
+    fn asked_from_text<R: Source, W: Sink>(
+        alloc: Global,
+        text: &str,
+        prompt: &mut Prompt<R, W>,
+        max_p: u32,
+    ) -> Result<SecretKey>
+        ensures opened { IfOk result (IsOpenedAsking R.ahead R.left R.faults W.taken W.sink_faults prompt.old prompt.new text.now max_p) }
+        ensures refused { IfErr result (RefusesAsking R.ahead R.left R.faults W.taken W.sink_faults prompt.old prompt.new text.now max_p) }
+    {
+        let sk = SecretKey::sealed_from_text(alloc, text)?;
+        sk.open_asking(alloc, prompt, max_p)
     }
 
     // Asks for a password, and opens a sealed key with it.
