@@ -107,7 +107,7 @@ nothing_asked ahead left faults taken sink_faults old new text max_p e same (inr
 pub asking_opened : {R W : Type 0} (ahead : R → Option (List ℕ)) (left faults : R → ℕ) (taken : W → Option (List ℕ)) (sink_faults : W → ℕ) (old new : Prompt R W)
     (text : List ℕ) (max_p : ℕ) (k : SecretKeyRecord) (r : Result SecretKeyRecord Fault) → SecretKeyText text k → kdf_refusal k ≡ None
     → IfOk r (λ v. (bytes : List ℕ) × (password : List ℕ) × (v ≡ unsealed k password) × (password_refusal k password max_p ≡ None)
-      × HasAskedAndSaid ahead left faults taken sink_faults old new bytes password (deriving_text ++ done_text))
+    × HasAskedAndSaid ahead left faults taken sink_faults old new bytes password (deriving_text ++ done_text))
     → IfOk r (λ v. IsOpenedAsking ahead left faults taken sink_faults old new text max_p v)
 asking_opened ahead left faults taken sink_faults old new text max_p k (Ok v) read kdf (bytes, password, is, none, asked) =
     (bytes, password, opened_text text password max_p k v read kdf is none, asked)
@@ -116,8 +116,8 @@ asking_opened ahead left faults taken sink_faults old new text max_p k (Err e) r
 pub asking_refused : {R W : Type 0} (ahead : R → Option (List ℕ)) (left faults : R → ℕ) (taken : W → Option (List ℕ)) (sink_faults : W → ℕ) (old new : Prompt R W)
     (text : List ℕ) (max_p : ℕ) (k : SecretKeyRecord) (r : Result SecretKeyRecord Fault) → SecretKeyText text k → kdf_refusal k ≡ None
     → IfErr r (λ e. IsAskingFault ahead left faults taken sink_faults old new asking_text e
-      ⊎ ((bytes : List ℕ) × (password : List ℕ) × IsToldRefusal (HasAskedAndSaid ahead left faults taken sink_faults old new bytes password)
-        (HasAskedAndNotSaid ahead left faults taken sink_faults old new bytes password) k password max_p e))
+    ⊎ ((bytes : List ℕ) × (password : List ℕ) × IsToldRefusal (HasAskedAndSaid ahead left faults taken sink_faults old new bytes password)
+    (HasAskedAndNotSaid ahead left faults taken sink_faults old new bytes password) k password max_p e))
     → IfErr r (λ e. RefusesAsking ahead left faults taken sink_faults old new text max_p e)
 asking_refused ahead left faults taken sink_faults old new text max_p k (Ok v) read kdf h = tt
 asking_refused ahead left faults taken sink_faults old new text max_p k (Err e) read kdf refused = inr (inr (k, read, kdf_held k kdf, refused))

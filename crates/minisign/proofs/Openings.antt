@@ -1,14 +1,15 @@
 -- When a secret key's text gives a key, and what a refusal says.
-use Rattle.std.proofs.Common.{◌≡◌, ◌⊎◌, ℕ, ◌<◌, ◌≤◌, Bool, true, false, if◌then◌else◌, nat_lt, bytes_eq, List, Option, None, Some, Result, Ok, Err, MatchResult, IfOk, IfErr, refl, sym, ap, ◌∙◌, inl, inr, arith}
+use Rattle.std.proofs.Common.{◌≡◌, ◌⊎◌, ℕ, ◌<◌, ◌≤◌, Bool, true, false, if◌then◌else◌, nat_lt, bytes_eq, List, Option, None, Some, Result, Ok, Err, MatchResult, IfOk, IfErr, IfSome, refl, sym, ap, ◌∙◌, inl, inr, arith, lit≤}
 use Rattle.std.specs.Option.{option_or}
+use Rattle.std.specs.Result.{result_err}
 use Rattle.std.proofs.lemmas.Bool.{le-ltb, ltb-false}
 use Rattle.std.proofs.lemmas.Slice.Eq.{bytes_eq-Decides}
 use Rattle.minisign_base.specs.Fault.{Fault}
 use Rattle.minisign_base.specs.Faults.{out_of_memory, key_might_be_encrypted, corrupted_key, wrong_password, key_not_encrypted, unsupported_encryption_algorithm, work_too_high}
-use Rattle.minisign_base.specs.Limits.{Numbers}
+use Rattle.minisign_base.specs.Limits.{Numbers, parallelization}
 use Rattle.minisign.specs.Records.{SecretKeyRecord}
 use Rattle.minisign.specs.SecretKeyText.{SecretKeyText, RefusesSecretKeyText}
-use Rattle.minisign.specs.Sealing.{IsUnencrypted, OpensWithin, bound_refusal, checksum_of, checksum_refusal, kdf_refusal, key_limits, key_numbers, no_kdf, scrypt_kdf, opening_refusal, password_refusal, unencrypted_refusal, unsealed, work_refusal}
+use Rattle.minisign.specs.Sealing.{IsUnencrypted, Opens, OpensWithin, bound_refusal, checksum_of, checksum_refusal, kdf_refusal, key_limits, key_numbers, no_kdf, scrypt_kdf, opening_refusal, password_refusal, unbounded_refusal, unencrypted_refusal, unsealed, work_refusal}
 use Rattle.minisign.specs.Opening.{IsRefused, IsOpened, RefusesOpening, IsUnencryptedText, RefusesUnencrypted}
 use Rattle.minisign.proofs.SecretKeyTexts.{one_key_text}
 use Rattle.minisign.proofs.SealingLimits.{allowed_numbers, within_bound}
@@ -162,3 +163,43 @@ opening_headline text password max_p (Ok v) opened k read kdf =
 opening_headline text password max_p (Err e) (inl memory) k read kdf = inl memory
 opening_headline text password max_p (Err e) (inr refused) k read kdf =
     inr (refused.closed k read, refused_key text password max_p e k refused.first read kdf)
+
+-- no parallelization is above the greatest bound
+small_p : (b : Bool) (count n_log2 : ℕ) → (if b then 1 else parallelization count n_log2) ≤ 4294967295
+small_p true count n_log2 = lit≤ tt
+small_p false count n_log2 = omega arith
+
+small_numbers : (k : SecretKeyRecord) → (key_numbers k).p ≤ 4294967295
+unfolding key_numbers
+small_numbers k = small_p _ _ _
+
+unbounded_work : (k : SecretKeyRecord) (r : Result Numbers Fault) → r ≡ key_limits k → bound_refusal r 4294967295 ≡ result_err r
+unbounded_work k (Err e) same = refl
+unbounded_work k (Ok v) same =
+    let numbers : key_numbers k ≡ v = allowed_numbers k v (sym same) in
+    let within : v.p ≤ 4294967295 = rw (← numbers) (small_numbers k) in
+    rw (le-ltb 4294967295 v.p within) refl
+
+-- what the greatest bound says is said without a bound
+pub unbounded_headline : (k : SecretKeyRecord) (password : List ℕ) (r : Result SecretKeyRecord Fault)
+    → MatchResult r (λ v. OpensWithin k password 4294967295 × (v ≡ unsealed k password))
+    (λ e. (e ≡ out_of_memory) ⊎ (¬ (OpensWithin k password 4294967295) × (password_refusal k password 4294967295 ≡ Some e)))
+    → MatchResult r (λ v. Opens k password × (v ≡ unsealed k password))
+    (λ e. (e ≡ out_of_memory) ⊎ (¬ (Opens k password) × (unbounded_refusal k password ≡ Some e)))
+unbounded_headline k password (Ok v) (opens, is) = (opens.opens, is)
+unbounded_headline k password (Err e) (inl memory) = inl memory
+unbounded_headline k password (Err e) (inr (closed, refused)) = inr (
+  λ opens. closed (record { opens = opens; bounded = small_numbers k }),
+  ap (λ (o : Option Fault). option_or o (checksum_refusal (unsealed k password) wrong_password)) (sym (unbounded_work k (key_limits k) refl)) ∙ refused,
+)
+
+-- the same where a password is handed in
+pub unbounded_headlines : {P : Type 0} (text : List ℕ) (bytes_of : P → List ℕ) (password : Option P) (r : Result SecretKeyRecord Fault)
+    → IfSome password (λ p. (k : SecretKeyRecord) → SecretKeyText text k → k.kdf ≡ scrypt_kdf
+    → MatchResult r (λ v. OpensWithin k (bytes_of p) 4294967295 × (v ≡ unsealed k (bytes_of p)))
+    (λ e. (e ≡ out_of_memory) ⊎ (¬ (OpensWithin k (bytes_of p) 4294967295) × (password_refusal k (bytes_of p) 4294967295 ≡ Some e))))
+    → IfSome password (λ p. (k : SecretKeyRecord) → SecretKeyText text k → k.kdf ≡ scrypt_kdf
+    → MatchResult r (λ v. Opens k (bytes_of p) × (v ≡ unsealed k (bytes_of p)))
+    (λ e. (e ≡ out_of_memory) ⊎ (¬ (Opens k (bytes_of p)) × (unbounded_refusal k (bytes_of p) ≡ Some e))))
+unbounded_headlines text bytes_of None r h = tt
+unbounded_headlines text bytes_of (Some p) r h = λ k read kdf. unbounded_headline k (bytes_of p) r (h k read kdf)
