@@ -7,10 +7,10 @@ use Rattle.minisign_base.specs.Fault.{Fault}
 use Rattle.minisign_base.specs.Prompts.{HasAsked, HasNotSaid, HasReadLine, IsAskingFault}
 use Rattle.minisign_base.proofs.DeviceFacts.{AppendsFront-after}
 use Rattle.minisign.specs.Records.{SecretKeyRecord}
-use Rattle.minisign_base.specs.Faults.{out_of_memory}
-use Rattle.minisign.specs.Sealing.{kdf_refusal, password_refusal, unsealed, work_refusal}
+use Rattle.minisign_base.specs.Faults.{out_of_memory, writing_failed, wrong_password}
+use Rattle.minisign.specs.Sealing.{checksum_refusal, kdf_refusal, password_refusal, unsealed, work_refusal}
 use Rattle.minisign.specs.SecretKeyText.{SecretKeyText}
-use Rattle.minisign.specs.Opening.{HasSaid, HasAskedAndSaid, HasAskedAndNotSaid, IsOpened, IsOpenedAsking, IsRefused, IsToldRefusal, RefusesAsking, asking_text, deriving_text, done_text}
+use Rattle.minisign.specs.Opening.{HasSaid, HasAskedAndSaid, HasAskedAndNotSaid, IsOpenedAsking, IsRefused, IsToldRefusal, RefusesAsking, asking_text, deriving_text, done_text}
 use Rattle.minisign.proofs.Openings.{kdf_held, opened_text}
 
 pub asked_said : {R W : Type 0} (ahead : R → Option (List ℕ)) (left faults : R → ℕ) (taken : W → Option (List ℕ)) (sink_faults : W → ℕ) (old mid new : Prompt R W) (bytes password text : List ℕ)
@@ -121,3 +121,14 @@ pub asking_refused : {R W : Type 0} (ahead : R → Option (List ℕ)) (left faul
     → IfErr r (λ e. RefusesAsking ahead left faults taken sink_faults old new text max_p e)
 asking_refused ahead left faults taken sink_faults old new text max_p k (Ok v) read kdf h = tt
 asking_refused ahead left faults taken sink_faults old new text max_p k (Err e) read kdf refused = inr (inr (k, read, kdf_held k kdf, refused))
+
+-- what was refused behind the derivation
+pub end_told : {R W : Type 0} (taken : W → Option (List ℕ)) (sink_faults : W → ℕ) (old mid new : Prompt R W) (k : SecretKeyRecord) (password : List ℕ) (max_p : ℕ) (e : Fault)
+    → work_refusal k max_p ≡ None → HasSaid taken sink_faults old mid deriving_text
+    → ((e ≡ writing_failed) × HasNotSaid taken sink_faults mid new done_text)
+      ⊎ ((checksum_refusal (unsealed k password) wrong_password ≡ Some e) × HasSaid taken sink_faults mid new done_text)
+    → IsToldRefusal (HasSaid taken sink_faults old new) (HasNotSaid taken sink_faults old new) k password max_p e
+end_told taken sink_faults old mid new k password max_p e work said (inl (is, failed)) =
+    inr (inr (inr (inl (is, work, said_one taken sink_faults old mid new deriving_text done_text said failed))))
+end_told taken sink_faults old mid new k password max_p e work said (inr (is, done)) =
+    inr (inr (inr (inr (work, is, said_both taken sink_faults old mid new deriving_text done_text said done))))

@@ -1,5 +1,5 @@
 -- When a secret key's text gives a key, and what a refusal says.
-use Rattle.std.proofs.Common.{◌≡◌, ◌⊎◌, ℕ, ◌<◌, ◌≤◌, Bool, true, false, if◌then◌else◌, nat_lt, bytes_eq, List, Option, None, Some, Result, Ok, Err, MatchResult, IfOk, IfErr, IfSome, refl, sym, ap, ◌∙◌, inl, inr, arith, lit≤}
+use Rattle.std.proofs.Common.{◌≡◌, ◌⊎◌, ℕ, ◌≤◌, Bool, true, false, if◌then◌else◌, nat_lt, bytes_eq, List, Option, None, Some, Result, Ok, Err, MatchResult, IfOk, IfErr, IfSome, refl, sym, ap, ◌∙◌, inl, inr, arith, lit≤}
 use Rattle.std.specs.Option.{option_or}
 use Rattle.std.specs.Result.{result_err}
 use Rattle.std.proofs.lemmas.Bool.{le-ltb, ltb-false}
@@ -8,7 +8,7 @@ use Rattle.minisign_base.specs.Fault.{Fault}
 use Rattle.minisign_base.specs.Faults.{out_of_memory, key_might_be_encrypted, corrupted_key, wrong_password, key_not_encrypted, unsupported_encryption_algorithm, work_too_high}
 use Rattle.minisign_base.specs.Limits.{Numbers, parallelization}
 use Rattle.minisign.specs.Records.{SecretKeyRecord}
-use Rattle.minisign.specs.SecretKeyText.{SecretKeyText, RefusesSecretKeyText}
+use Rattle.minisign.specs.SecretKeyText.{SecretKeyText}
 use Rattle.minisign.specs.Sealing.{IsUnencrypted, Opens, OpensWithin, bound_refusal, checksum_of, checksum_refusal, kdf_refusal, key_limits, key_numbers, no_kdf, scrypt_kdf, opening_refusal, password_refusal, unbounded_refusal, unencrypted_refusal, unsealed, work_refusal}
 use Rattle.minisign.specs.Opening.{IsRefused, IsOpened, RefusesOpening, IsUnencryptedText, RefusesUnencrypted}
 use Rattle.minisign.proofs.SecretKeyTexts.{one_key_text}

@@ -1,11 +1,10 @@
 -- The limits of a sealed key.
-use Rattle.std.proofs.Common.{◌≡◌, ℕ, ◌^◌, ◌≤◌, Bool, true, false, if◌then◌else◌, List, length, take, Option, None, Some, Result, Ok, Err, refl, sym, ap, ◌∙◌, arith}
+use Rattle.std.proofs.Common.{◌≡◌, ℕ, ◌^◌, ◌≤◌, Bool, true, false, if◌then◌else◌, List, length, take, None, Result, Ok, Err, refl, sym, ap, ◌∙◌, arith}
 use Rattle.std.proofs.lemmas.Bool.{le-ltb}
 use Rattle.std.proofs.lemmas.List.{take_all}
 use Rattle.std.specs.Int.{w64, from_le_bytes}
-use Rattle.minisign_kdf.specs.Params.{is_accepted}
 use Rattle.minisign_base.specs.Fault.{Fault}
-use Rattle.minisign_base.specs.Limits.{Numbers, numbers, limits, checked, sealing_limits}
+use Rattle.minisign_base.specs.Limits.{Numbers, numbers, limits, sealing_limits}
 use Rattle.minisign.specs.Records.{SecretKeyRecord}
 use Rattle.minisign.specs.Sealing.{key_limits, key_numbers, stream_of, work_refusal, bound_refusal}
 use Rattle.minisign_kdf.specs.Scrypt.{scrypt}

@@ -1,13 +1,13 @@
 -- What the two lines of a text say of the secret key that it reads as.
-use Rattle.std.proofs.Common.{◌≡◌, ℕ, ◌+◌, ◌<◌, ◌≤◌, ◌⊎◌, true, false, List, ◌∷◌, ◌++◌, length, nat_le, Some, Result, Ok, Err, MatchResult, IfOk, refl, sym, ap, ◌∙◌, inr, arith}
+use Rattle.std.proofs.Common.{◌≡◌, ℕ, ◌<◌, ◌≤◌, ◌⊎◌, true, false, List, ◌∷◌, length, nat_le, Result, Ok, Err, MatchResult, IfOk, refl, ap, ◌∙◌, inr, arith}
 use Rattle.std.proofs.lemmas.Bool.{lt-ltb, lt-leb}
 use Rattle.std.proofs.lemmas.List.{length-append}
 use Rattle.std.specs.Str.Lines.{lines}
 use Rattle.minisign_base.specs.Fault.{Fault}
 use Rattle.minisign_base.specs.Faults.{out_of_memory, secret_key_not_base64, record_too_short}
-use Rattle.minisign.specs.Records.{SecretKeyRecord, ReadsSecretKey, secret_key_bytes}
-use Rattle.minisign.specs.SecretKeyText.{SecretKeyText, RefusesSecretKeyText, secret_key_text_tests}
-use Rattle.minisign.specs.Texts.{IsBase64Of, base64_bytes, first_failing, has_line, is_base64, line_at}
+use Rattle.minisign.specs.Records.{SecretKeyRecord, ReadsSecretKey}
+use Rattle.minisign.specs.SecretKeyText.{SecretKeyText, RefusesSecretKeyText}
+use Rattle.minisign.specs.Texts.{IsBase64Of, base64_bytes, has_line, is_base64, line_at}
 use Rattle.minisign.proofs.Base64Texts.{bytes_read, is_read, one_decoding}
 use Rattle.minisign.proofs.RecordFields.{one_secret_key}
 

@@ -248,9 +248,20 @@ impl SecretKey {
         say_deriving(prompt)?;
         let mut sk = self;
         sk.unseal(alloc, password, max_p)?;
-        say_done(prompt)?;
-        sk.check_restored()?;
+        sk.finish_telling(prompt)?;
         Ok(sk)
+    }
+
+    // Says that the key was derived, and only then tests that opening restored the checksum.
+    fn finish_telling<R: Source, W: Sink>(&self, prompt: &mut Prompt<R, W>) -> Result<()>
+        ensures said { OnOk result (HasSaid W.taken W.sink_faults prompt.old prompt.new done_text) }
+        ensures restored { OnOk result (checksum_refusal self.now wrong_password ≡ None) }
+        ensures refused { IfErr result (λ e.
+            ((e ≡ writing_failed) × HasNotSaid W.taken W.sink_faults prompt.old prompt.new done_text)
+            ⊎ ((checksum_refusal self.now wrong_password ≡ Some e) × HasSaid W.taken W.sink_faults prompt.old prompt.new done_text)) }
+    {
+        say_done(prompt)?;
+        self.check_restored()
     }
 
     // Opens a sealed key with a password that was handed in.

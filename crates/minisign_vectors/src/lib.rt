@@ -24,6 +24,8 @@ mod lines;
 #[cfg(test)]
 mod records;
 #[cfg(test)]
+mod sealed_keys;
+#[cfg(test)]
 mod secret_keys;
 #[cfg(test)]
 mod sign;

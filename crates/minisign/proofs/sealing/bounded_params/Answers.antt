@@ -1,4 +1,4 @@
-use Rattle.std.proofs.Common.{◌≡◌, ◌∙◌, arith}
+use Rattle.std.proofs.Common.{arith}
 use Rattle.minisign.proofs.SealingLimits.{allowed_numbers, within_bound}
 use Rattle.minisign.proofs.sealing.bounded_params.Goals as goal
 

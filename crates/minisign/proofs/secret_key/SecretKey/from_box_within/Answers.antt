@@ -1,4 +1,4 @@
-use Rattle.std.proofs.Common.{◌≡◌, string_bytes}
+use Rattle.std.proofs.Common.{string_bytes}
 use Rattle.minisign.proofs.Openings.{opening_headline}
 use Rattle.minisign.proofs.secret_key.SecretKey.from_box_within.Goals as goal
 

@@ -1,4 +1,3 @@
-use Rattle.std.proofs.Common.{◌≡◌, ◌∙◌, sym}
 use Rattle.minisign.proofs.Openings.{unencrypted_outcome}
 use Rattle.minisign.proofs.secret_key.SecretKey.from_unencrypted_box.Goals as goal
 

@@ -1,4 +1,4 @@
-use Rattle.std.proofs.Common.{◌≡◌, inl}
+use Rattle.std.proofs.Common.{inl}
 use Rattle.std.proofs.lemmas.Result.{err_from_is_err_and}
 use Rattle.minisign.proofs.Asking.{asked_opened, asked_refused}
 use Rattle.minisign.proofs.secret_key.SecretKey.open_asking.Goals as goal

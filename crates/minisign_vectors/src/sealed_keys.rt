@@ -1,0 +1,350 @@
+//! Sealed secret keys: opened with a password that is handed in or typed, and refused in their order.
+//!
+//! The sealed texts hold key A, xored with scrypt of Python's hashlib, under the salt whose bytes count up
+//! from 0x20.
+
+use crate::keys_for_tests::{CHECKSUM, is_record, outcome, secret_record};
+use minisign::{Result, SecretKey, SecretKeyBox};
+use minisign_base::devices::DeviceFault;
+use minisign_base::devices::sinks::{Sink, VecSink};
+use minisign_base::devices::sources::{SliceSource, Source};
+use minisign_base::prompt::Prompt;
+use std::alloc::Global;
+use std::test::Fail;
+
+// Sealed with `password`; both limits are 0.
+const SEALED: &str =
+    "c\nRWRTY0IyICEiIyQlJicoKSorLC0uLzAxMjM0NTY3ODk6Ozw9Pj8AAAAAAAAAAAAAAAAAAAAAQo236SCgrBSG4EwXgeg2lvgLt21MOomOsd3SmNm6QYGWXNILSCOh5uSeLsb+9viBPrXdcGAxfzeaClvL8ZmVRPRQbHIQovhVE1FzIFNILJyiyJ1BBb38hRMEEUq9fsZI7QfCz7v4zr8=\n";
+
+// Sealed with `password`; the memory limit is 33554432 and the operations limit 1048576.
+const SEALED_AS_USUAL: &str =
+    "c\nRWRTY0IyICEiIyQlJicoKSorLC0uLzAxMjM0NTY3ODk6Ozw9Pj8AABAAAAAAAAAAAAIAAAAAjUss1iTpx2jHan0ASsaZQwP1dCaRM+oU2FIKEwvLutgH2C0JcjxT/CuY4tv6CM1b3wkKEKHGEe71QgwDScCLEz6+FcNBj3NBoDjmf+b5TY9u8fOF0PBBHUDJaJTqFTelg2U253BVfy0=\n";
+
+// Sealed with the empty password; both limits are 0.
+const SEALED_WITH_NOTHING: &str =
+    "c\nRWRTY0IyICEiIyQlJicoKSorLC0uLzAxMjM0NTY3ODk6Ozw9Pj8AAAAAAAAAAAAAAAAAAAAAFqvAInjiZRUrtyBbKNyHDoD/S//vxccyw70meYF8lgwCVvLFwIi41RGagMbAOLgWne+5a08V9YQl5BTHRkC3uzW2MEe29saA2017gPhUJl9272jdZsYJr6TqBHU6uMeiDsgCM2cKdSg=\n";
+
+const ASKED: &str = "Password: ";
+
+const DERIVING: &str = "Deriving a key from the password and decrypting the secret key... ";
+
+const WRONG: &str = "Verify: Wrong password for that key";
+
+const TOO_HIGH: &str = "KDF: scrypt parameters too high";
+
+const INVALID: &str = "KDF: invalid scrypt parameters";
+
+const TOO_MUCH_WORK: &str = "KDF: scrypt work too high";
+
+// A buffer that takes so many bytes, and then fails. It can be flushed.
+#[derive(Drop)]
+struct Brief {
+    taken: VecSink,
+    room: usize,
+    faults: u64,
+}
+
+impl Sink for Brief {
+    ghost taken = { λ s. ⟦<VecSink as Sink>⟧.taken s.taken };
+
+    ghost sink_faults = { λ s. s.faults };
+
+    fn write(&mut self, bytes: &[u8]) -> std::result::Result<usize, DeviceFault> {
+        let n = bytes.len().min(self.room);
+        if n > 0 || bytes.is_empty() {
+            let (front, _) = bytes.split_at(n);
+            if let Ok(taken) = self.taken.write(front) {
+                self.room -= taken;
+                return Ok(taken);
+            }
+        }
+        self.faults = self.faults.saturating_add(1);
+        Err(DeviceFault)
+    }
+
+    fn flush(&mut self) -> std::result::Result<(), DeviceFault> {
+        Ok(())
+    }
+}
+
+// Key A's record, not sealed, under this key derivation and these limits.
+fn limited_record(kdf: &[u8; 2], memory: u64, operations: u64) -> [u8; 158] {
+    let mut record = secret_record(kdf, &CHECKSUM);
+    record[38..46].copy_from_slice(&operations.to_le_bytes());
+    record[46..54].copy_from_slice(&memory.to_le_bytes());
+    record
+}
+
+// Key A's record, opened, with the salt and the limits that it was sealed under.
+fn opened_record(memory: u64, operations: u64) -> [u8; 158] {
+    let mut record = limited_record(b"Sc", memory, operations);
+    for i in 0..32u8 {
+        record[6 + usize::from(i)] = 0x20 + i;
+    }
+    record
+}
+
+// The box of a record.
+fn box_of(alloc: Global, record: &[u8; 158]) -> Result<SecretKeyBox> {
+    SecretKey::from_bytes(record)?.to_box(alloc, None)
+}
+
+// A prompt into which these bytes are typed.
+fn typed<'a>(alloc: Global, bytes: &'a [u8]) -> Prompt<SliceSource<'a>, VecSink> {
+    Prompt::new(SliceSource::new(bytes), VecSink::new(alloc))
+}
+
+// A password that is handed in.
+fn handed(alloc: Global, password: &str) -> Result<Option<String>> {
+    Ok(Some(String::from_str(alloc, password)?))
+}
+
+// How many bytes a source still gives.
+fn bytes_left<R: Source>(source: &mut R) -> usize {
+    let mut buffer = [0u8; 64];
+    match source.read(&mut buffer) {
+        Ok(n) => n,
+        Err(_) => 0,
+    }
+}
+
+#[test]
+fn sealed_keys_open_with_their_password(rt: HostRuntime) -> std::result::Result<(), Fail> {
+    let alloc = rt.alloc();
+    for (text, password, memory, operations) in [
+        (SEALED, "password", 0, 0),
+        (SEALED_WITH_NOTHING, "", 0, 0),
+        (SEALED_AS_USUAL, "password", 33554432, 1048576),
+    ] {
+        let record = opened_record(memory, operations);
+        let mut prompt = typed(alloc, b"typed\n");
+        let sk_box = SecretKeyBox::from_string(alloc, text)?;
+        let key = sk_box.into_secret_key(alloc, handed(alloc, password)?, &mut prompt)?;
+        assert!(rt; !key.is_encrypted());
+        assert!(rt; is_record(&key.to_bytes(alloc), &record));
+        let (mut reader, writer) = prompt.into_parts();
+        assert_eq!(rt; bytes_left(&mut reader), 6);
+        assert_eq!(rt; writer.as_slice(), b"".as_slice());
+    }
+    Ok(())
+}
+
+#[test]
+fn sealed_keys_stay_closed_to_other_passwords(rt: HostRuntime) -> std::result::Result<(), Fail> {
+    let alloc = rt.alloc();
+    for (text, password) in [
+        (SEALED, "Password"),
+        (SEALED, ""),
+        (SEALED_WITH_NOTHING, "password"),
+    ] {
+        let sk_box = SecretKeyBox::from_string(alloc, text)?;
+        let answer = SecretKey::from_box(
+            alloc,
+            sk_box,
+            handed(alloc, password)?,
+            &mut typed(alloc, b""),
+        );
+        assert_eq!(rt; outcome(alloc, &answer).as_str(), WRONG);
+    }
+    Ok(())
+}
+
+// An opened key is written in the clear, and is then neither an unsealed key nor one that opens.
+#[test]
+fn an_opened_key_is_written_as_it_stands(rt: HostRuntime) -> std::result::Result<(), Fail> {
+    let alloc = rt.alloc();
+    let sk_box = SecretKeyBox::from_string(alloc, SEALED_WITH_NOTHING)?;
+    let key = SecretKey::from_box(alloc, sk_box, handed(alloc, "")?, &mut typed(alloc, b""))?;
+    let again = key.to_box(alloc, None)?;
+    let answer = SecretKey::from_unencrypted_box(alloc, again.try_clone(alloc)?);
+    assert_eq!(rt;
+        outcome(alloc, &answer).as_str(),
+        "Io: Key might be encrypted"
+    );
+    let answer = SecretKey::from_box(alloc, again, handed(alloc, "")?, &mut typed(alloc, b""));
+    assert_eq!(rt; outcome(alloc, &answer).as_str(), WRONG);
+    Ok(())
+}
+
+// Key A's record that is not sealed restores no checksum.
+#[test]
+fn limits_and_work_are_bounded(rt: HostRuntime) -> std::result::Result<(), Fail> {
+    let alloc = rt.alloc();
+    for (memory, operations, max_p, expected) in [
+        (0, u64::MAX, 16, TOO_MUCH_WORK),
+        (0, 0, 511, TOO_MUCH_WORK),
+        (0, 0, 512, WRONG),
+        (33554432, 1048576, 0, TOO_MUCH_WORK),
+        (1073741825, 0, 0, TOO_HIGH),
+        (0, 1099511627776, 0, INVALID),
+        (0, 1099511627776, u32::MAX, INVALID),
+        (1073741825, 0, u32::MAX, TOO_HIGH),
+        (u64::MAX, 0, u32::MAX, TOO_HIGH),
+        (1073741824, 0, u32::MAX, WRONG),
+        (1073741824, 0, 1, WRONG),
+        (1073741824, 0, 0, TOO_MUCH_WORK),
+    ] {
+        let sk_box = box_of(alloc, &limited_record(b"Sc", memory, operations))?;
+        let answer = SecretKey::from_box_within(
+            alloc,
+            sk_box,
+            handed(alloc, "p")?,
+            &mut typed(alloc, b""),
+            max_p,
+        );
+        assert_eq!(rt;
+            outcome(alloc, &answer).as_str(),
+            expected,
+            "at {memory} {operations} {max_p}"
+        );
+    }
+    let sk_box = SecretKeyBox::from_string(alloc, SEALED_AS_USUAL)?;
+    let password = handed(alloc, "password")?;
+    let key = SecretKey::from_box_within(alloc, sk_box, password, &mut typed(alloc, b""), 1)?;
+    assert!(rt; is_record(&key.to_bytes(alloc), &opened_record(33554432, 1048576)));
+    Ok(())
+}
+
+// What opening answers where nothing is handed in, how many of two bytes are left unread, and how many
+// were written.
+fn unasked(alloc: Global, sk_box: SecretKeyBox) -> (String, usize, usize) {
+    let mut prompt = typed(alloc, b"p\n");
+    let answer = SecretKey::from_box(alloc, sk_box, None, &mut prompt);
+    let (mut reader, writer) = prompt.into_parts();
+    (
+        outcome(alloc, &answer),
+        bytes_left(&mut reader),
+        writer.as_slice().len(),
+    )
+}
+
+// What no password opens is refused before one is asked for.
+#[test]
+fn keys_that_no_password_opens(rt: HostRuntime) -> std::result::Result<(), Fail> {
+    let alloc = rt.alloc();
+    for (text, expected) in [
+        ("", "Io: Missing comment in secret key"),
+        ("c\n", "Io: Missing encoded key in secret key"),
+        ("c\n!\n", "Encoding: invalid base64"),
+        ("c\nAAAA\n", "Io: failed to fill whole buffer"),
+    ] {
+        let (answer, left, written) = unasked(alloc, SecretKeyBox::from_string(alloc, text)?);
+        assert_eq!(rt; answer.as_str(), expected);
+        assert_eq!(rt; (left, written), (2, 0));
+    }
+    for (kdf, expected) in [
+        (b"\0\0", "Io: Key is not encrypted"),
+        (b"Xx", "Io: Unsupported encryption algorithm"),
+        (b"SC", "Io: Unsupported encryption algorithm"),
+    ] {
+        let sk_box = box_of(alloc, &limited_record(kdf, 1073741825, 0))?;
+        let (answer, left, written) = unasked(alloc, sk_box);
+        assert_eq!(rt; answer.as_str(), expected);
+        assert_eq!(rt; (left, written), (2, 0));
+    }
+    Ok(())
+}
+
+#[test]
+fn a_password_is_asked_for(rt: HostRuntime) -> std::result::Result<(), Fail> {
+    let alloc = rt.alloc();
+    for (text, bytes, marked, told, expected, unread) in [
+        (
+            SEALED,
+            b"password\nmore".as_slice(),
+            "",
+            true,
+            "accepted",
+            4,
+        ),
+        (SEALED, b"password", "", true, "accepted", 0),
+        (SEALED, b"password\r\n", "", true, "accepted", 0),
+        (SEALED, b"pass\n", "", true, WRONG, 0),
+        (SEALED, b"password\r", "", true, WRONG, 0),
+        (
+            SEALED_WITH_NOTHING,
+            b"\n\n",
+            "<empty>\n",
+            true,
+            "accepted",
+            1,
+        ),
+        (SEALED, b"", "", false, "Io: unexpected end of input", 0),
+        (
+            SEALED,
+            b"\xff\n",
+            "",
+            false,
+            "Io: stream did not contain valid UTF-8",
+            0,
+        ),
+    ] {
+        let sk_box = SecretKeyBox::from_string(alloc, text)?;
+        let mut prompt = typed(alloc, bytes);
+        let answer = SecretKey::from_box(alloc, sk_box, None, &mut prompt);
+        assert_eq!(rt; outcome(alloc, &answer).as_str(), expected, "at {bytes:?}");
+        let said = if told {
+            format!(in alloc; "{ASKED}{marked}{DERIVING}done\n")?
+        } else {
+            String::from_str(alloc, ASKED)?
+        };
+        let (mut reader, writer) = prompt.into_parts();
+        assert_eq!(rt; writer.as_slice(), said.as_bytes(), "at {bytes:?}");
+        assert_eq!(rt; bytes_left(&mut reader), unread, "at {bytes:?}");
+    }
+    Ok(())
+}
+
+// The limits and the bound are tested once the password is there, and before the derivation.
+#[test]
+fn limits_are_refused_behind_a_typed_password(rt: HostRuntime) -> std::result::Result<(), Fail> {
+    let alloc = rt.alloc();
+    for (memory, operations, max_p, expected) in [
+        (1073741825, 0, u32::MAX, TOO_HIGH),
+        (0, 1099511627776, u32::MAX, INVALID),
+        (0, u64::MAX, 16, TOO_MUCH_WORK),
+    ] {
+        let sk_box = box_of(alloc, &limited_record(b"Sc", memory, operations))?;
+        let mut prompt = typed(alloc, b"p\n");
+        let answer = SecretKey::from_box_within(alloc, sk_box, None, &mut prompt, max_p);
+        assert_eq!(rt; outcome(alloc, &answer).as_str(), expected);
+        let said = format!(in alloc; "{ASKED}{DERIVING}")?;
+        let (_, writer) = prompt.into_parts();
+        assert_eq!(rt; writer.as_slice(), said.as_bytes());
+    }
+    Ok(())
+}
+
+// A writer that fails at the line behind the derivation is told before a wrong password, and after the
+// limits.
+#[test]
+fn failing_writers_are_told_in_their_place(rt: HostRuntime) -> std::result::Result<(), Fail> {
+    let alloc = rt.alloc();
+    let whole = format!(in alloc; "{ASKED}{DERIVING}done\n")?;
+    let failed = "Io: writing failed";
+    for (room, memory, bytes, expected) in [
+        (4, 0, b"p\n".as_slice(), failed),
+        (10, 0, b"p\n", failed),
+        (75, 0, b"p\n", failed),
+        (76, 0, b"p\n", failed),
+        (80, 0, b"p\n", failed),
+        (81, 0, b"p\n", WRONG),
+        (76, 1073741825, b"p\n", TOO_HIGH),
+        (75, 1073741825, b"p\n", failed),
+        (10, 0, b"", "Io: unexpected end of input"),
+    ] {
+        let sk_box = box_of(alloc, &limited_record(b"Sc", memory, 0))?;
+        let sink = Brief {
+            taken: VecSink::new(alloc),
+            room,
+            faults: 0,
+        };
+        let mut prompt = Prompt::new(SliceSource::new(bytes), sink);
+        let answer = SecretKey::from_box(alloc, sk_box, None, &mut prompt);
+        assert_eq!(rt; outcome(alloc, &answer).as_str(), expected, "at {room}");
+        let (_, writer) = prompt.into_parts();
+        let (front, _) = whole.as_bytes().split_at(room.min(whole.len()));
+        assert_eq!(rt; writer.taken.as_slice(), front, "at {room}");
+    }
+    Ok(())
+}
