@@ -12,17 +12,23 @@ use minisign_base::prompt::Prompt;
 use std::alloc::Global;
 use std::test::Fail;
 
-// Sealed with `password`; both limits are 0.
+// Sealed with `password`; the memory limit is 1048576 and the operations limit 0, so that N is 1024 and
+// p is 1.
 const SEALED: &str =
+    "c\nRWRTY0IyICEiIyQlJicoKSorLC0uLzAxMjM0NTY3ODk6Ozw9Pj8AAAAAAAAAAAAAEAAAAAAANzLJ/MLV6VpKMIMxcHP/PKMk4Bi0eFdmecBNpsg4ynwt/HpMxIwJcRDauwXAlysg905AtUdJ1s3zc9686k8nFa2Pz7MgLfQOna+YbhXPDg/sopzDAu0uhPc67LTI7waUd6Z1TNToWRQ=\n";
+
+// The same with the empty password.
+const SEALED_WITH_NOTHING: &str =
+    "c\nRWRTY0IyICEiIyQlJicoKSorLC0uLzAxMjM0NTY3ODk6Ozw9Pj8AAAAAAAAAAAAAEAAAAAAA1DkFeSFrLVKcwd/U0CI9mSavW9NxS4F4EQL92MDkC8uWs0JuRQz6LvKq8SxCaEzQ9atdFcGf+AzNzb5P/9sKQMB2AMmAjhrMMVLg/zh9xJgdEhLMHykwaQZcV4+yRqrbnzM9EwHWjT8=\n";
+
+// Sealed with `password`; both limits are 0, so that N is 2 and p is 512.
+const SEALED_IN_PARTS: &str =
     "c\nRWRTY0IyICEiIyQlJicoKSorLC0uLzAxMjM0NTY3ODk6Ozw9Pj8AAAAAAAAAAAAAAAAAAAAAQo236SCgrBSG4EwXgeg2lvgLt21MOomOsd3SmNm6QYGWXNILSCOh5uSeLsb+9viBPrXdcGAxfzeaClvL8ZmVRPRQbHIQovhVE1FzIFNILJyiyJ1BBb38hRMEEUq9fsZI7QfCz7v4zr8=\n";
 
-// Sealed with `password`; the memory limit is 33554432 and the operations limit 1048576.
+// Sealed with `password`; the memory limit is 33554432 and the operations limit 1048576, so that N is
+// 32768 and p is 1.
 const SEALED_AS_USUAL: &str =
     "c\nRWRTY0IyICEiIyQlJicoKSorLC0uLzAxMjM0NTY3ODk6Ozw9Pj8AABAAAAAAAAAAAAIAAAAAjUss1iTpx2jHan0ASsaZQwP1dCaRM+oU2FIKEwvLutgH2C0JcjxT/CuY4tv6CM1b3wkKEKHGEe71QgwDScCLEz6+FcNBj3NBoDjmf+b5TY9u8fOF0PBBHUDJaJTqFTelg2U253BVfy0=\n";
-
-// Sealed with the empty password; both limits are 0.
-const SEALED_WITH_NOTHING: &str =
-    "c\nRWRTY0IyICEiIyQlJicoKSorLC0uLzAxMjM0NTY3ODk6Ozw9Pj8AAAAAAAAAAAAAAAAAAAAAFqvAInjiZRUrtyBbKNyHDoD/S//vxccyw70meYF8lgwCVvLFwIi41RGagMbAOLgWne+5a08V9YQl5BTHRkC3uzW2MEe29saA2017gPhUJl9272jdZsYJr6TqBHU6uMeiDsgCM2cKdSg=\n";
 
 const ASKED: &str = "Password: ";
 
@@ -112,9 +118,9 @@ fn bytes_left<R: Source>(source: &mut R) -> usize {
 fn sealed_keys_open_with_their_password(rt: HostRuntime) -> std::result::Result<(), Fail> {
     let alloc = rt.alloc();
     for (text, password, memory, operations) in [
-        (SEALED, "password", 0, 0),
-        (SEALED_WITH_NOTHING, "", 0, 0),
-        (SEALED_AS_USUAL, "password", 33554432, 1048576),
+        (SEALED, "password", 1048576, 0),
+        (SEALED_WITH_NOTHING, "", 1048576, 0),
+        (SEALED_IN_PARTS, "password", 0, 0),
     ] {
         let record = opened_record(memory, operations);
         let mut prompt = typed(alloc, b"typed\n");
@@ -198,6 +204,14 @@ fn limits_and_work_are_bounded(rt: HostRuntime) -> std::result::Result<(), Fail>
             "at {memory} {operations} {max_p}"
         );
     }
+    Ok(())
+}
+
+#[test]
+fn a_key_with_the_usual_limits_opens_within_one_part(
+    rt: HostRuntime,
+) -> std::result::Result<(), Fail> {
+    let alloc = rt.alloc();
     let sk_box = SecretKeyBox::from_string(alloc, SEALED_AS_USUAL)?;
     let password = handed(alloc, "password")?;
     let key = SecretKey::from_box_within(alloc, sk_box, password, &mut typed(alloc, b""), 1)?;
@@ -323,15 +337,15 @@ fn failing_writers_are_told_in_their_place(rt: HostRuntime) -> std::result::Resu
     let whole = format!(in alloc; "{ASKED}{DERIVING}done\n")?;
     let failed = "Io: writing failed";
     for (room, memory, bytes, expected) in [
-        (4, 0, b"p\n".as_slice(), failed),
-        (10, 0, b"p\n", failed),
-        (75, 0, b"p\n", failed),
-        (76, 0, b"p\n", failed),
-        (80, 0, b"p\n", failed),
-        (81, 0, b"p\n", WRONG),
+        (4, 1048576, b"p\n".as_slice(), failed),
+        (10, 1048576, b"p\n", failed),
+        (75, 1048576, b"p\n", failed),
+        (76, 1048576, b"p\n", failed),
+        (80, 1048576, b"p\n", failed),
+        (81, 1048576, b"p\n", WRONG),
         (76, 1073741825, b"p\n", TOO_HIGH),
         (75, 1073741825, b"p\n", failed),
-        (10, 0, b"", "Io: unexpected end of input"),
+        (10, 1048576, b"", "Io: unexpected end of input"),
     ] {
         let sk_box = box_of(alloc, &limited_record(b"Sc", memory, 0))?;
         let sink = Brief {
