@@ -3,3 +3,4 @@ pub mod Reading
 pub mod Acceptance
 pub mod Sealing
 pub mod Signing
+pub mod Verifying

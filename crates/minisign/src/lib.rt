@@ -4,6 +4,7 @@
 //! come from and go to.
 #![tactic(auto)]
 
+mod comment_signature;
 mod constants;
 mod fields;
 pub mod keynum;
