@@ -62,33 +62,12 @@ enum Text {
     RefusedByGivenKey(Identifier),
 }
 
-impl fmt::Display for Text {
-    ghost use Rattle.minisign_base.specs.Fault.{bytes_of};
-
-    ghost output = { λ t. Some (bytes_of t) };
-
-    fn fmt<W: fmt::Write>(&self, f: &mut fmt::Formatter<W>) -> fmt::Result {
-        match self {
-            Text::Fixed(text) => f.write_str(text),
-            Text::Made(text) => f.write_str(text.as_str()),
-            Text::DifferentKeyIds(signature, key) => write!(
-                f,
-                "Signature key id: {signature} is different from public key: {key}"
-            ),
-            Text::RefusedByGivenKey(key) => write!(
-                f,
-                "Could not verify signature with the provided public key ID: {key}"
-            ),
-        }
-    }
-}
-
 impl Model for PError {
-    ghost use Rattle.minisign_base.specs.Fault.{Fault, bytes_of};
+    ghost use Rattle.minisign_base.specs.Fault.{Fault, text_bytes};
 
     ghost Value = { Fault };
 
-    ghost view = { λ e. record { kind = e.kind; text = bytes_of e.text } };
+    ghost view = { λ e. record { kind = e.kind; text = text_bytes e.text } };
 }
 
 impl PError {
@@ -145,6 +124,27 @@ impl fmt::Display for PError {
 
     fn fmt<W: fmt::Write>(&self, f: &mut fmt::Formatter<W>) -> fmt::Result {
         self.text.fmt(f)
+    }
+}
+
+impl fmt::Display for Text {
+    ghost use Rattle.minisign_base.specs.Fault.{text_bytes};
+
+    ghost output = { λ t. Some (text_bytes t) };
+
+    fn fmt<W: fmt::Write>(&self, f: &mut fmt::Formatter<W>) -> fmt::Result {
+        match self {
+            Text::Fixed(text) => f.write_str(text),
+            Text::Made(text) => f.write_str(text.as_str()),
+            Text::DifferentKeyIds(signature, key) => write!(
+                f,
+                "Signature key id: {signature} is different from public key: {key}"
+            ),
+            Text::RefusedByGivenKey(key) => write!(
+                f,
+                "Could not verify signature with the provided public key ID: {key}"
+            ),
+        }
     }
 }
 
