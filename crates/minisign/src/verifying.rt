@@ -13,8 +13,7 @@ use crate::comment_signature::accepts_comments;
 use crate::public_key::PublicKey;
 use crate::reading::{prehash, read_to_end};
 use crate::signature_box::SignatureBox;
-use minisign_base::devices::DeviceFault;
-use minisign_base::devices::sinks::{Sink, put_all};
+use minisign_base::devices::sinks::{Sink, put_line};
 use minisign_base::devices::sources::{Rereader, Source};
 use minisign_base::scheme::Scheme;
 use minisign_base::{Result, faults};
@@ -73,10 +72,7 @@ pub fn verify<S: Scheme, R: Rereader, W: Sink, O: Sink>(
     if quiet {
         return Ok(());
     }
-    match say(status, signature_box) {
-        Ok(()) => Ok(()),
-        Err(_) => Err(faults::writing_failed()),
-    }
+    say(alloc, status, signature_box)
 }
 
 // Reads the data to its end, hashed where the box is prehashed, and then judges.
@@ -136,40 +132,27 @@ fn judge<S: Scheme>(
     Ok(())
 }
 
-// Writes what is said of a box that was accepted.
+// Writes what is said of a box that was accepted, in one write.
 #[tactic(auto, unfolding(crate::specs::Acceptance::verified_text, crate::specs::Acceptance::trusted_comment_text))]
-fn say<W: Sink>(
-    status: &mut W,
-    signature_box: &SignatureBox,
-) -> std::result::Result<(), DeviceFault>
+fn say<W: Sink>(alloc: Global, status: &mut W, signature_box: &SignatureBox) -> Result<()>
     ensures said { OnOk result (Appends (W.taken status.old) (W.taken status.new) (status_lines signature_box.now)) }
     ensures calm { OnOk result (W.sink_faults status.new ≡ W.sink_faults status.old) }
-    ensures fault { OnErr result (Rose (W.sink_faults status.old) (W.sink_faults status.new)) }
+    ensures refused { IfErr result (λ e. ((e ≡ out_of_memory) × (status.new ≡ status.old))
+        ⊎ ((e ≡ writing_failed) × Rose (W.sink_faults status.old) (W.sink_faults status.new))) }
     ensures front { OnErr result (AppendsFront (W.taken status.old) (W.taken status.new) (status_lines signature_box.now)) }
 {
-    put_line(status, b"Signature and comment signature verified", b"")?;
-    if let Some(comments) = &signature_box.comments {
-        put_line(
+    match &signature_box.comments {
+        Some(comments) => put_line(
+            alloc,
             status,
-            b"Trusted comment: ",
+            b"Signature and comment signature verified\nTrusted comment: ",
             comments.trusted_comment.as_bytes(),
-        )?;
+        ),
+        None => put_line(
+            alloc,
+            status,
+            b"Signature and comment signature verified",
+            b"",
+        ),
     }
-    Ok(())
-}
-
-// Writes a label, a text and a line feed.
-fn put_line<W: Sink>(
-    sink: &mut W,
-    label: &[u8],
-    text: &[u8],
-) -> std::result::Result<(), DeviceFault>
-    ensures bytes { OnOk result (Appends (W.taken sink.old) (W.taken sink.new) (line (label.now ++ text.now))) }
-    ensures calm { OnOk result (W.sink_faults sink.new ≡ W.sink_faults sink.old) }
-    ensures fault { OnErr result (Rose (W.sink_faults sink.old) (W.sink_faults sink.new)) }
-    ensures front { OnErr result (AppendsFront (W.taken sink.old) (W.taken sink.new) (line (label.now ++ text.now))) }
-{
-    put_all(sink, label)?;
-    put_all(sink, text)?;
-    put_all(sink, b"\n")
 }
