@@ -2,6 +2,7 @@
 //!
 //! Whoever signs and verifies hands in a signature scheme, random bytes and the devices that bytes
 //! come from and go to.
+
 #![tactic(auto)]
 
 mod comment_signature;
