@@ -1,13 +1,16 @@
-//! What can go wrong: a kind and a text, and what the faults of std and of key derivation become.
+//! What can go wrong: a kind and a text, and what the faults of std, of key derivation and of base64
+//! become.
 
 ghost use Rattle.std.specs.Prelude.{◌≡◌, Some, string_bytes};
 ghost use Rattle.minisign_base.specs.Fault.{different_key_ids_text, refused_by_given_key_text};
 ghost use Rattle.minisign_base.specs.Faults.{out_of_memory, input_or_output_failed, formatting_failed, invalid_utf8, invalid_parameters, invalid_output_length};
 ghost use Rattle.minisign_base.specs.Derivation.{derivation_fault};
+ghost use Rattle.minisign_base.specs.Decoding.{decoding_fault};
 ghost use Rattle.minisign_base.specs.declared.errors.ErrorKind.TheVariants.{Verify};
 
 use crate::faults;
 use crate::identifiers::Identifier;
+use base64::DecodeAllocError;
 use minisign_kdf::params::InvalidParams;
 use minisign_kdf::scrypt::{InvalidOutputLen, KdfError};
 use std::alloc::{AllocError, AllocFailed};
@@ -211,6 +214,17 @@ impl From<KdfError> for PError {
         match error {
             KdfError::OutOfMemory => faults::out_of_memory(),
             KdfError::InvalidOutputLen => faults::invalid_output_length(),
+        }
+    }
+}
+
+impl From<DecodeAllocError> for PError {
+    ghost from_gives = { λ d e. e ≡ decoding_fault d };
+
+    fn from(error: DecodeAllocError) -> PError {
+        match error {
+            DecodeAllocError::DecodeError(_) => faults::secret_key_not_base64(),
+            DecodeAllocError::OutOfMemory => faults::out_of_memory(),
         }
     }
 }
