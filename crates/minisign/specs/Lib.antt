@@ -1,4 +1,5 @@
 pub mod Records
+pub mod Texts
 pub mod Reading
 pub mod Acceptance
 pub mod Sealing

@@ -16,6 +16,7 @@ pub mod signature;
 pub mod signature_bones;
 pub mod signature_box;
 pub mod signing;
+mod texts;
 pub mod verifying;
 
 pub use constants::DEFAULT_COMMENT;
