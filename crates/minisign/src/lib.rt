@@ -11,6 +11,7 @@ mod fields;
 pub mod keynum;
 pub mod public_key;
 pub mod reading;
+mod sealing;
 pub mod secret_key;
 pub mod signature;
 pub mod signature_bones;
