@@ -32,7 +32,7 @@ returns-clause-signed g c = λ message same_digest.
             keynum signature global;
       },
       genuine_box (g.S.Scheme.accepts c.args.scheme.now) sign (g.S.Scheme.public_of c.args.scheme.now) (g.met.S.Scheme.accepts_own c.args.scheme.now) c.args.sk.now message chosen
-      c.in_ok-first.first c.in_ok-first.second c.sk.inside.keynum_sk.keynum c.signature-sig.result c.in_ok-from_slice.field-0.items
-      keynum signature global (rw same_digest at digest_bytes) signed_bytes
-      c.in_ok-first.ensures.first c.in_ok-first.ensures.second long,
+          c.in_ok-first.first c.in_ok-first.second c.sk.inside.keynum_sk.keynum c.signature-sig.result c.in_ok-from_slice.field-0.items
+          keynum signature global (rw same_digest at digest_bytes) signed_bytes
+          c.in_ok-first.ensures.first c.in_ok-first.ensures.second long,
     )
