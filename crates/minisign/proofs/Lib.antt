@@ -3,6 +3,7 @@ pub mod SealedParts
 pub mod SealingLimits
 pub mod RecordFields
 pub mod Beginnings
+pub mod Copies
 pub mod SignedBoxes
 pub mod Unvouched
 pub mod FirstLine

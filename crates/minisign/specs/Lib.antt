@@ -5,3 +5,4 @@ pub mod Acceptance
 pub mod Sealing
 pub mod Signing
 pub mod Verifying
+pub mod Copying

@@ -7,6 +7,7 @@
 
 mod comment_signature;
 mod constants;
+mod copying;
 mod fields;
 pub mod keynum;
 pub mod public_key;
