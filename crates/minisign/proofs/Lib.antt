@@ -4,6 +4,7 @@ pub mod SealingLimits
 pub mod RecordFields
 pub mod Beginnings
 pub mod Copies
+pub mod Passes
 pub mod SignedBoxes
 pub mod Unvouched
 pub mod FirstLine

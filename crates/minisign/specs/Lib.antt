@@ -5,4 +5,3 @@ pub mod Acceptance
 pub mod Sealing
 pub mod Signing
 pub mod Verifying
-pub mod Copying
