@@ -20,9 +20,15 @@ mod keys_for_tests;
 #[cfg(test)]
 mod limits;
 #[cfg(test)]
+mod lines;
+#[cfg(test)]
+mod prompts;
+#[cfg(test)]
 mod records;
 #[cfg(test)]
 mod sign;
+#[cfg(test)]
+mod table;
 #[cfg(test)]
 mod toy;
 #[cfg(test)]
