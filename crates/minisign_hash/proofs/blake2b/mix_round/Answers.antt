@@ -7,4 +7,4 @@ pub returns : goal.returns
 unfolding mix round
 returns c =
     let lv : length c.args.v ≡ 16 = omega arith in
-    rw (c.turned_back.ensures, c.mix_columns.ensures, c.turned.ensures, c.mix_columns-columns.ensures, sixteen_of c.args.v lv) refl
+    rw (c.mix_columns-w.ensures, c.mix_columns-v.ensures, sixteen_of c.args.v lv) refl

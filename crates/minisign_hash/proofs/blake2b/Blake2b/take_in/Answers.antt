@@ -14,5 +14,5 @@ returns-clause-holds c = λ m (i, held).
     let before = held.state ∙ sym (state_after-append s.outlen m blocks i (omega (arith, len))) in (
       i + length blocks / 128,
       held_taken s.outlen _ s.count _ s.buffer s.used (m ++ blocks) i (length blocks) c.requires.empty (omega (arith, len, length-append m blocks)) c.requires.whole held.counted refl
-          (c.after_blocks-self.ensures s.outlen (m ++ blocks) [] i ahead before held.counted),
+          (c.after_blocks-self.ensures.whole refl refl c.requires.whole s.outlen (m ++ blocks) [] i ahead before held.counted),
     )
