@@ -42,10 +42,10 @@ impl Block {
         let (front, back) = words.split_at_mut(8);
         let (a, b) = front.split_at_mut(4);
         let (c, d) = back.split_at_mut(4);
-        a.copy_from_slice(&self.a);
-        b.copy_from_slice(&self.b);
-        c.copy_from_slice(&self.c);
-        d.copy_from_slice(&self.d);
+        u32x4::from_array(self.a).copy_to_slice(a);
+        u32x4::from_array(self.b).copy_to_slice(b);
+        u32x4::from_array(self.c).copy_to_slice(c);
+        u32x4::from_array(self.d).copy_to_slice(d);
     }
 }
 
