@@ -2,7 +2,7 @@ use Rattle.std.proofs.Common.{rules, ◌*◌, ◌<◌, ◌^◌, slice_index, ℕ
 use Rattle.std.proofs.lemmas.List.{take_all}
 use Rattle.minisign_kdf.specs.Salsa20.{bytes_of}
 use Rattle.minisign_kdf.proofs.Bytes.{read_next}
-use Rattle.minisign_kdf.proofs.rom_mix.load_words.Goals as goal
+use Rattle.minisign_kdf.proofs.order.load_words.Goals as goal
 
 pub words-preserved : goal.words-preserved
 words-preserved c =

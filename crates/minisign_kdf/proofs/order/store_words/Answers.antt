@@ -2,7 +2,7 @@ use Rattle.std.proofs.Common.{◌*◌, sym, ap, ◌∙◌, arith}
 use Rattle.std.proofs.lemmas.List.{take_all}
 use Rattle.minisign_kdf.specs.Salsa20.{bytes_of}
 use Rattle.minisign_kdf.proofs.Bytes.{stored_next}
-use Rattle.minisign_kdf.proofs.rom_mix.store_words.Goals as goal
+use Rattle.minisign_kdf.proofs.order.store_words.Goals as goal
 
 pub words-preserved : goal.words-preserved
 words-preserved c =
