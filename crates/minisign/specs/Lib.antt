@@ -2,5 +2,6 @@ pub mod Records
 pub mod Texts
 pub mod Reading
 pub mod Acceptance
+pub mod PublicKeyText
 pub mod Sealing
 pub mod Signing
