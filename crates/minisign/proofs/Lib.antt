@@ -1,5 +1,9 @@
+pub mod Xor
+pub mod SealedParts
+pub mod SealingLimits
 pub mod RecordFields
 pub mod Beginnings
+pub mod Copies
 pub mod SignedBoxes
 pub mod Unvouched
 pub mod FirstLine
@@ -8,3 +12,4 @@ pub mod Letters
 pub mod PublicKeyTexts
 pub mod ReadTexts
 pub mod WrittenLines
+pub mod Facts

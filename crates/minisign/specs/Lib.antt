@@ -5,3 +5,5 @@ pub mod Acceptance
 pub mod PublicKeyText
 pub mod Sealing
 pub mod Signing
+pub mod Verifying
+pub mod Copying

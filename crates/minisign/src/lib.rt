@@ -2,14 +2,18 @@
 //!
 //! Whoever signs and verifies hands in a signature scheme, random bytes and the devices that bytes
 //! come from and go to.
+
 #![tactic(auto)]
 
+mod comment_signature;
 mod constants;
+mod copying;
 mod fields;
 pub mod keynum;
 pub mod public_key;
 pub mod public_key_box;
 pub mod reading;
+mod sealing;
 pub mod secret_key;
 pub mod signature;
 pub mod signature_bones;

@@ -1,6 +1,6 @@
 use Rattle.std.proofs.Common.{◌≡◌, ◌-◌, ◌≤◌, length, take}
 use Rattle.std.specs.Io.KnownBytes.{Consumes}
-use Rattle.minisign_base.proofs.devices.random_sources.fill_from.Given as goal
+use Rattle.minisign_base.proofs.devices.sources.fill_from.Given as goal
 
 abbrev pub invariant-rest : goal.invariant-rest
 invariant-rest g l = (l.at ≤ length l.buf)

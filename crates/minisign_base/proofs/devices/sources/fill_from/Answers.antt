@@ -1,7 +1,7 @@
 use Rattle.std.proofs.Common.{◌∙◌, arith, length-drop}
 use Rattle.std.proofs.KnownBytes.{Consumes-trans}
 use Rattle.minisign_base.proofs.Filled.{take-filled}
-use Rattle.minisign_base.proofs.devices.random_sources.fill_from.Goals as goal
+use Rattle.minisign_base.proofs.devices.sources.fill_from.Goals as goal
 
 pub rest-preserved : goal.rest-preserved
 rest-preserved g c =
