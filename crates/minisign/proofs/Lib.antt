@@ -9,4 +9,8 @@ pub mod SignedBoxes
 pub mod Unvouched
 pub mod FirstLine
 pub mod Base64Texts
+pub mod Letters
+pub mod PublicKeyTexts
+pub mod ReadTexts
+pub mod WrittenLines
 pub mod Facts
