@@ -14,3 +14,5 @@ pub mod PublicKeyTexts
 pub mod ReadTexts
 pub mod WrittenLines
 pub mod Facts
+pub mod SecretKeyTexts
+pub mod Openings

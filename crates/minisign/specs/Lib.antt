@@ -6,3 +6,5 @@ pub mod PublicKeyText
 pub mod Sealing
 pub mod Signing
 pub mod Verifying
+pub mod SecretKeyText
+pub mod Opening
