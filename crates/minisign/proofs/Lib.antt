@@ -1,4 +1,9 @@
+pub mod Xor
+pub mod SealedParts
+pub mod SealingLimits
 pub mod RecordFields
 pub mod Beginnings
 pub mod SignedBoxes
 pub mod Unvouched
+pub mod FirstLine
+pub mod Base64Texts

@@ -1,11 +1,23 @@
--- The checksum of a secret key, and whether the key is still sealed.
-use Rattle.std.specs.Prelude.{ℕ, Bool, not, ◌&&◌, List, [], ◌∷◌, ◌++◌, bytes_eq}
+-- The checksum of a secret key, whether the key is still sealed, and what sealing and opening do: the
+-- last 104 bytes of its record, as one list, are xored with a stream of scrypt (RFC 7914, section 6).
+use Rattle.std.specs.Prelude.{◌≡◌, ℕ, ◌^◌, ◌≤◌, Bool, not, ◌&&◌, if◌then◌else◌, nat_lt, List, [], ◌∷◌, ◌++◌, take, drop, Option, None, Some, Result, Ok, Err, bit_xor, bytes_eq, codes}
+use Rattle.std.specs.Option.{option_or}
+use Rattle.std.specs.Int.{w64, from_le_bytes}
+use Rattle.std.specs.Simd.Lanes.{zip2}
 use Rattle.minisign_hash.specs.Blake2b.{blake2b_digest}
+use Rattle.minisign_kdf.specs.Scrypt.{scrypt}
+use Rattle.minisign_base.specs.Limits.{Numbers, numbers, sealing_limits}
+use Rattle.minisign_base.specs.Fault.{Fault}
+use Rattle.minisign_base.specs.Faults.{work_too_high, key_not_encrypted, unsupported_encryption_algorithm, key_might_be_encrypted, wrong_password, corrupted_key}
 use Rattle.minisign.specs.Records.{SecretKeyRecord}
 
 -- no key derivation: the key was never sealed
 abbrev pub no_kdf : List ℕ
 no_kdf = 0 ∷ 0 ∷ []
+
+-- key derivation by scrypt: the key was sealed
+abbrev pub scrypt_kdf : List ℕ
+scrypt_kdf = codes "Sc"
 
 -- the checksum that the other fields call for: Blake2b with 32 bytes
 abbrev pub checksum_of : SecretKeyRecord → List ℕ
@@ -14,3 +26,79 @@ checksum_of k = blake2b_digest 32 (k.algorithm ++ k.keynum ++ k.secret)
 -- the key names a key derivation, and its checksum does not match: it is sealed and was not opened
 abbrev pub is_encrypted : SecretKeyRecord → Bool
 is_encrypted k = not (bytes_eq k.kdf no_kdf) && not (bytes_eq k.checksum (checksum_of k))
+
+-- the bytes that are sealed: identifier, secret and checksum
+abbrev pub sealed_part : SecretKeyRecord → List ℕ
+sealed_part k = k.keynum ++ k.secret ++ k.checksum
+
+-- the key with other bytes there: 8 of identifier, 64 of secret, 32 of checksum
+abbrev pub with_sealed_part : SecretKeyRecord → List ℕ → SecretKeyRecord
+with_sealed_part k part = record k { keynum = take 8 part; secret = take 64 (drop 8 part); checksum = take 32 (drop 72 part) }
+
+-- the key with those bytes xored with a stream of as many
+unfoldable pub xored : SecretKeyRecord → List ℕ → SecretKeyRecord
+xored k stream = with_sealed_part k (zip2 bit_xor (sealed_part k) stream)
+
+-- the parameters that the key's limits lead to
+unfoldable pub key_numbers : SecretKeyRecord → Numbers
+key_numbers k = numbers (from_le_bytes w64 k.memory_limit) (from_le_bytes w64 k.operations_limit)
+
+-- the same where sealing and opening allow them, or the fault
+unfoldable pub key_limits : SecretKeyRecord → Result Numbers Fault
+key_limits k = sealing_limits (from_le_bytes w64 k.memory_limit) (from_le_bytes w64 k.operations_limit)
+
+-- the stream: 104 bytes that scrypt derives from the password and the key's salt
+unfoldable pub stream_of : SecretKeyRecord → List ℕ → List ℕ
+stream_of k password =
+    let v = key_numbers k in scrypt password k.salt (2 ^ v.n_log2) v.r v.p 104
+
+-- the key with its last 104 bytes xored with the stream under the password: what opening makes of a
+-- sealed key, and sealing of an opened one
+abbrev pub unsealed : SecretKeyRecord → List ℕ → SecretKeyRecord
+unsealed k password = xored k (stream_of k password)
+
+-- the key is sealed, its limits are allowed, and the stream under the password restores its checksum
+pub record Opens (k : SecretKeyRecord) (password : List ℕ) : Type 0 where
+  pub kdf : k.kdf ≡ scrypt_kdf
+  pub allowed : key_limits k ≡ Ok (key_numbers k)
+  pub restored : (unsealed k password).checksum ≡ checksum_of (unsealed k password)
+
+-- the same, with a parallelization of at most max_p
+pub record OpensWithin (k : SecretKeyRecord) (password : List ℕ) (max_p : ℕ) : Type 0 where
+  pub opens : Opens k password
+  pub bounded : (key_numbers k).p ≤ max_p
+
+-- a key that is not sealed, or not by scrypt, is not opened
+abbrev pub kdf_refusal : SecretKeyRecord → Option Fault
+kdf_refusal k =
+    if bytes_eq k.kdf no_kdf then Some key_not_encrypted
+    else (if bytes_eq k.kdf scrypt_kdf then None else Some unsupported_encryption_algorithm)
+
+-- parameters that are allowed, but for a parallelization above the bound
+abbrev pub bound_refusal : Result Numbers Fault → ℕ → Option Fault
+bound_refusal (Err e) max_p = Some e
+bound_refusal (Ok v) max_p = if nat_lt max_p v.p then Some work_too_high else None
+
+-- limits that are not allowed, and then a parallelization above the bound
+abbrev pub work_refusal : SecretKeyRecord → ℕ → Option Fault
+work_refusal k max_p = bound_refusal (key_limits k) max_p
+
+-- a checksum that does not match
+abbrev pub checksum_refusal : SecretKeyRecord → Fault → Option Fault
+checksum_refusal k e = if bytes_eq k.checksum (checksum_of k) then None else Some e
+
+-- the first reason for which a key does not open under a password
+abbrev pub opening_refusal : SecretKeyRecord → List ℕ → ℕ → Option Fault
+opening_refusal k password max_p =
+    option_or (kdf_refusal k)
+    (option_or (work_refusal k max_p) (checksum_refusal (unsealed k password) wrong_password))
+
+-- the key was never sealed, and its checksum matches
+pub record IsUnencrypted (k : SecretKeyRecord) : Type 0 where
+  pub kdf : k.kdf ≡ no_kdf
+  pub checksum : k.checksum ≡ checksum_of k
+
+-- the first reason for which it is not such a key
+abbrev pub unencrypted_refusal : SecretKeyRecord → Option Fault
+unencrypted_refusal k =
+    option_or (if bytes_eq k.kdf no_kdf then None else Some key_might_be_encrypted) (checksum_refusal k corrupted_key)

@@ -2,18 +2,22 @@
 //!
 //! Whoever signs and verifies hands in a signature scheme, random bytes and the devices that bytes
 //! come from and go to.
+
 #![tactic(auto)]
 
+mod comment_signature;
 mod constants;
 mod fields;
 pub mod keynum;
 pub mod public_key;
 pub mod reading;
+mod sealing;
 pub mod secret_key;
 pub mod signature;
 pub mod signature_bones;
 pub mod signature_box;
 pub mod signing;
+mod texts;
 pub mod verifying;
 
 pub use constants::DEFAULT_COMMENT;

@@ -1,18 +1,19 @@
 //! Whether a signature box vouches for data under a public key.
-ghost use Rattle.std.specs.Prelude.{◌≡◌, ℕ, ◌++◌, List, [], true, false, if◌then◌else◌, ◌⊎◌, IfOk, IfErr, OnOk, OnErr};
-ghost use Rattle.std.specs.Io.KnownBytes.{Appends, IsAtEnd};
-ghost use Rattle.minisign_base.specs.Devices.{Rose, HasGiven, AppendsFront};
-ghost use Rattle.minisign_base.specs.Faults.{out_of_memory, reading_failed, writing_failed};
-ghost use Rattle.minisign.specs.Reading.{IsAhead};
-ghost use Rattle.minisign.specs.Records.{PublicKeyRecord, SignatureBoxRecord};
-ghost use Rattle.minisign.specs.Acceptance.{Accepts, Refuses, SameWhereVouched, judged, accepts_comment, accepts_comments, first_refusal, line, status_lines};
 
+ghost use Rattle.std.specs.Prelude.{◌≡◌, ℕ, ◌++◌, List, true, false, ◌⊎◌, IfOk, IfErr, OnOk, OnErr};
+ghost use Rattle.std.specs.Io.KnownBytes.{Appends};
+ghost use Rattle.minisign_base.specs.Devices.{Rose, HasGiven, AppendsFront};
+ghost use Rattle.minisign_base.specs.Faults.{out_of_memory, writing_failed};
+ghost use Rattle.minisign.specs.Reading.{ReadsWhole, IsReadFault};
+ghost use Rattle.minisign.specs.Records.{PublicKeyRecord, SignatureBoxRecord};
+ghost use Rattle.minisign.specs.Acceptance.{Accepts, Refuses, SameWhereVouched, judged, first_refusal, line, status_lines};
+ghost use Rattle.minisign.specs.Verifying.{VerifyingFails, said};
+
+use crate::comment_signature::accepts_comments;
 use crate::public_key::PublicKey;
 use crate::reading::{prehash, read_to_end};
-use crate::signature::Signature;
-use crate::signature_box::{Comments, SignatureBox};
-use minisign_base::devices::DeviceFault;
-use minisign_base::devices::sinks::{Sink, put_all};
+use crate::signature_box::SignatureBox;
+use minisign_base::devices::sinks::{Sink, put_line};
 use minisign_base::devices::sources::{Rereader, Source};
 use minisign_base::scheme::Scheme;
 use minisign_base::{Result, faults};
@@ -27,7 +28,9 @@ use std::alloc::Global;
 /// `status` is untouched; on success it gets a line, and another one with the trusted comment where
 /// there is one, unless `quiet`. `status` is not flushed.
 ///
-/// A failing `data_reader` is refused before anything is judged, and a failing `status` last. Copying the
+/// A failing `data_reader` is refused before anything is judged, and a failing `status` last. Memory may be
+/// wanting for the buffer of a reading, for the data of a legacy box, for the trusted comment behind the
+/// signature, and for the lines of the status: `out_of_memory` then, with `status` untouched. Copying the
 /// data to `out` is not there yet: `output` has to be false, and `out` stays as it is.
 #[tactic(auto, using(crate::proofs::Unvouched::unvouched_same))]
 pub fn verify<S: Scheme, R: Rereader, W: Sink, O: Sink>(
@@ -45,27 +48,16 @@ pub fn verify<S: Scheme, R: Rereader, W: Sink, O: Sink>(
     requires { output ≡ false }
 
     // What is accepted is vouched for, and this was said of it.
-    ensures accepted { OnOk result ((message : List ℕ) × IsAhead (R.ahead data_reader.old) message
+    ensures accepted { OnOk result ((message : List ℕ) × ReadsWhole R.ahead R.behind R.faults data_reader.old data_reader.new message
         × Accepts (S.accepts scheme.now) pk.now signature_box.now message allow_legacy) }
-    ensures said { OnOk result (Appends (W.taken status.old) (W.taken status.new)
-        (if quiet then [] else status_lines signature_box.now)) }
+    ensures said { OnOk result (Appends (W.taken status.old) (W.taken status.new) (said quiet signature_box.now)) }
     ensures quiet { quiet ≡ true → status.new ≡ status.old }
-    ensures all_read { OnOk result (IsAtEnd (R.ahead data_reader.new)) }
-    ensures calm { OnOk result (R.faults data_reader.new ≡ R.faults data_reader.old) }
     ensures status_calm { OnOk result (W.sink_faults status.new ≡ W.sink_faults status.old) }
 
     // Why it was refused.
-    ensures refused { IfErr result (λ e.
-        ((e ≡ out_of_memory) × (status.new ≡ status.old))
-        ⊎ ((e ≡ reading_failed) × Rose (R.faults data_reader.old) (R.faults data_reader.new) × (status.new ≡ status.old))
-        ⊎ ((message : List ℕ) × IsAhead (R.ahead data_reader.old) message
-        × IsAtEnd (R.ahead data_reader.new) × (R.faults data_reader.new ≡ R.faults data_reader.old)
-        × (R.behind data_reader.new ≡ R.behind data_reader.old)
-        × (((e ≡ writing_failed) × (quiet ≡ false) × Rose (W.sink_faults status.old) (W.sink_faults status.new)
-        × Accepts (S.accepts scheme.now) pk.now signature_box.now message allow_legacy)
-        ⊎ (Refuses (S.accepts scheme.now) pk.now signature_box.now message allow_legacy e × (status.new ≡ status.old))))) }
-    ensures said_front { OnErr result (AppendsFront (W.taken status.old) (W.taken status.new)
-        (if quiet then [] else status_lines signature_box.now)) }
+    ensures refused { IfErr result (VerifyingFails (S.accepts scheme.now) pk.now signature_box.now allow_legacy quiet
+        R.ahead R.behind R.faults data_reader.old data_reader.new W.sink_faults status.old status.new) }
+    ensures said_front { OnErr result (AppendsFront (W.taken status.old) (W.taken status.new) (said quiet signature_box.now)) }
 
     // What the verdict does not depend on.
     ensures unvouched { (key : PublicKeyRecord) (other : SignatureBoxRecord) (message : List ℕ) →
@@ -74,17 +66,13 @@ pub fn verify<S: Scheme, R: Rereader, W: Sink, O: Sink>(
         ≡ first_refusal (S.accepts scheme.now) pk.now signature_box.now message allow_legacy }
 
     ensures given { HasGiven (R.ahead data_reader.old) (R.ahead data_reader.new) }
-    ensures mark { OnOk result (R.behind data_reader.new ≡ R.behind data_reader.old) }
     ensures out { out.new ≡ out.old }
 {
     reach_verdict(alloc, scheme, pk, signature_box, data_reader, allow_legacy)?;
     if quiet {
         return Ok(());
     }
-    match say(status, signature_box) {
-        Ok(()) => Ok(()),
-        Err(_) => Err(faults::writing_failed()),
-    }
+    say(alloc, status, signature_box)
 }
 
 // Reads the data to its end, hashed where the box is prehashed, and then judges.
@@ -96,16 +84,10 @@ fn reach_verdict<S: Scheme, R: Source>(
     data_reader: &mut R,
     allow_legacy: bool,
 ) -> Result<()>
-    ensures accepted { OnOk result ((message : List ℕ) × IsAhead (R.ahead data_reader.old) message
+    ensures accepted { OnOk result ((message : List ℕ) × ReadsWhole R.ahead R.behind R.faults data_reader.old data_reader.new message
         × Accepts (S.accepts scheme.now) pk.now signature_box.now message allow_legacy) }
-    ensures all_read { OnOk result (IsAtEnd (R.ahead data_reader.new)) }
-    ensures mark { OnOk result (R.behind data_reader.new ≡ R.behind data_reader.old) }
-    ensures calm { OnOk result (R.faults data_reader.new ≡ R.faults data_reader.old) }
-    ensures refused { IfErr result (λ e. (e ≡ out_of_memory)
-        ⊎ ((e ≡ reading_failed) × Rose (R.faults data_reader.old) (R.faults data_reader.new))
-        ⊎ ((message : List ℕ) × IsAhead (R.ahead data_reader.old) message
-        × IsAtEnd (R.ahead data_reader.new) × (R.faults data_reader.new ≡ R.faults data_reader.old)
-        × (R.behind data_reader.new ≡ R.behind data_reader.old)
+    ensures refused { IfErr result (λ e. IsReadFault R.faults data_reader.old data_reader.new e
+        ⊎ ((message : List ℕ) × ReadsWhole R.ahead R.behind R.faults data_reader.old data_reader.new message
         × Refuses (S.accepts scheme.now) pk.now signature_box.now message allow_legacy e)) }
     ensures given { HasGiven (R.ahead data_reader.old) (R.ahead data_reader.new) }
 {
@@ -150,79 +132,27 @@ fn judge<S: Scheme>(
     Ok(())
 }
 
-// Whether the comment signature is accepted; a bare signature has none to test. Only the 32 bytes of
-// the key count.
-pub(crate) fn accepts_comments<S: Scheme>(
-    alloc: Global,
-    scheme: &S,
-    pk: &PublicKey,
-    signature_box: &SignatureBox,
-) -> Result<bool>
-    ensures answer { IfOk result (λ b. b ≡ accepts_comments (S.accepts scheme.now) pk.now signature_box.now) }
-    ensures refused { IfErr result (λ e. e ≡ out_of_memory) }
-{
-    match &signature_box.comments {
-        Some(comments) => accepts_comment(alloc, scheme, pk, &signature_box.signature, comments),
-        None => Ok(true),
-    }
-}
-
-// Whether the comment signature has at least 64 bytes, and the first 64 are accepted for the signature
-// followed by the trusted comment.
-fn accepts_comment<S: Scheme>(
-    alloc: Global,
-    scheme: &S,
-    pk: &PublicKey,
-    signature: &Signature,
-    comments: &Comments,
-) -> Result<bool>
-    ensures answer { IfOk result (λ b. b ≡ accepts_comment (S.accepts scheme.now) pk.now signature.now comments.now) }
-    ensures refused { IfErr result (λ e. e ≡ out_of_memory) }
-{
-    if comments.global_sig.len() < 64 {
-        return Ok(false);
-    }
-    let (front, _) = comments.global_sig.split_at(64);
-    let mut global_sig = [0u8; 64];
-    global_sig.copy_from_slice(front);
-    let signed = signature.with_comment(alloc, comments.trusted_comment.as_str())?;
-    Ok(scheme.verify(&signed, &pk.keynum_pk.pk, &global_sig))
-}
-
-// Writes what is said of a box that was accepted.
+// Writes what is said of a box that was accepted, in one write.
 #[tactic(auto, unfolding(crate::specs::Acceptance::verified_text, crate::specs::Acceptance::trusted_comment_text))]
-fn say<W: Sink>(
-    status: &mut W,
-    signature_box: &SignatureBox,
-) -> std::result::Result<(), DeviceFault>
+fn say<W: Sink>(alloc: Global, status: &mut W, signature_box: &SignatureBox) -> Result<()>
     ensures said { OnOk result (Appends (W.taken status.old) (W.taken status.new) (status_lines signature_box.now)) }
     ensures calm { OnOk result (W.sink_faults status.new ≡ W.sink_faults status.old) }
-    ensures fault { OnErr result (Rose (W.sink_faults status.old) (W.sink_faults status.new)) }
+    ensures refused { IfErr result (λ e. ((e ≡ out_of_memory) × (status.new ≡ status.old))
+        ⊎ ((e ≡ writing_failed) × Rose (W.sink_faults status.old) (W.sink_faults status.new))) }
     ensures front { OnErr result (AppendsFront (W.taken status.old) (W.taken status.new) (status_lines signature_box.now)) }
 {
-    put_line(status, b"Signature and comment signature verified", b"")?;
-    if let Some(comments) = &signature_box.comments {
-        put_line(
+    match &signature_box.comments {
+        Some(comments) => put_line(
+            alloc,
             status,
-            b"Trusted comment: ",
+            b"Signature and comment signature verified\nTrusted comment: ",
             comments.trusted_comment.as_bytes(),
-        )?;
+        ),
+        None => put_line(
+            alloc,
+            status,
+            b"Signature and comment signature verified",
+            b"",
+        ),
     }
-    Ok(())
-}
-
-// Writes a label, a text and a line feed.
-fn put_line<W: Sink>(
-    sink: &mut W,
-    label: &[u8],
-    text: &[u8],
-) -> std::result::Result<(), DeviceFault>
-    ensures bytes { OnOk result (Appends (W.taken sink.old) (W.taken sink.new) (line (label.now ++ text.now))) }
-    ensures calm { OnOk result (W.sink_faults sink.new ≡ W.sink_faults sink.old) }
-    ensures fault { OnErr result (Rose (W.sink_faults sink.old) (W.sink_faults sink.new)) }
-    ensures front { OnErr result (AppendsFront (W.taken sink.old) (W.taken sink.new) (line (label.now ++ text.now))) }
-{
-    put_all(sink, label)?;
-    put_all(sink, text)?;
-    put_all(sink, b"\n")
 }

@@ -1,5 +1,5 @@
 pub mod DeviceFacts
 mod Filled
-mod HexDigits
 mod Folding
 pub mod LeastCost
+pub mod Facts

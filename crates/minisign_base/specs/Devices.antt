@@ -1,5 +1,8 @@
--- What calls on a device do to the bytes that it tells and to its count of faults.
-use Rattle.std.specs.Prelude.{◌≡◌, ℕ, ◌+◌, ◌-◌, ◌^◌, ◌≤◌, min, List, ◌++◌, take, Option, Some, IfSome}
+-- What calls on a device do to the bytes that it tells and to its count of faults. Each kind of call has a
+-- record over the members of the device's trait, the device at the call (old) and at the return (new), and
+-- the answer.
+use Rattle.std.specs.Prelude.{◌≡◌, ℕ, ◌+◌, ◌-◌, ◌^◌, ◌<◌, ◌≤◌, min, List, ◌++◌, length, take, Option, Some, IfSome, Result, IfOk, OnOk, OnErr}
+use Rattle.std.specs.Io.KnownBytes.{Appends, Consumes, IsAtEnd, Keeps}
 
 -- the greatest value of a count
 abbrev pub most_faults : ℕ
@@ -20,3 +23,58 @@ HasGiven old new = IfSome new (λ ys. IfSome old (λ xs. (front : List ℕ) × (
 -- known bytes grew by a beginning of bs
 abbrev pub AppendsFront : Option (List ℕ) → Option (List ℕ) → List ℕ → Type 0
 AppendsFront old new bs = (n : ℕ) × IfSome old (λ xs. new ≡ Some (xs ++ take n bs))
+
+-- a read moved the next n bytes to the front of the buffer, 0 only where there is no room or no byte is
+-- left, or failed
+pub record HasRead {S E : Type 0} (ahead_of behind_of : S → Option (List ℕ)) (left_of faults_of : S → ℕ)
+    (old new : S) (buffer : List ℕ) (answer : Result ℕ E) : Type 0 where
+  pub bound : IfOk answer (λ n. n ≤ length buffer)
+  pub bytes : IfOk answer (λ n. Consumes (ahead_of old) (ahead_of new) (take n buffer))
+  pub end : IfOk answer (λ n. n ≡ 0 → 0 < length buffer → IsAtEnd (ahead_of new))
+  pub left : IfOk answer (λ n. left_of new + n ≡ left_of old)
+  pub calm : OnOk answer (faults_of new ≡ faults_of old)
+  pub mark : OnOk answer (behind_of new ≡ behind_of old)
+  pub fault : OnErr answer (Rose (faults_of old) (faults_of new))
+  pub kept : OnErr answer (StaysOrHides (ahead_of old) (ahead_of new))
+  pub err_left : OnErr answer (left_of new ≤ left_of old)
+
+-- a steady source remembers the bytes ahead, which stay
+pub record HasMarked {S A E : Type 0} (steady_of : S → Type 0) (ahead_of behind_of : S → Option (List ℕ)) (faults_of : S → ℕ)
+    (old new : S) (answer : Result A E) : Type 0 where
+  pub bytes : OnOk answer (ahead_of new ≡ ahead_of old)
+  pub mark : steady_of old → OnOk answer (behind_of new ≡ ahead_of old)
+  pub calm : OnOk answer (faults_of new ≡ faults_of old)
+  pub fault : OnErr answer (Rose (faults_of old) (faults_of new))
+  pub kept : OnErr answer (StaysOrHides (ahead_of old) (ahead_of new))
+
+-- the bytes that were remembered are ahead again
+pub record HasGoneBack {S A E : Type 0} (ahead_of behind_of : S → Option (List ℕ)) (faults_of : S → ℕ)
+    (old new : S) (answer : Result A E) : Type 0 where
+  pub bytes : OnOk answer (IfSome (behind_of old) (λ xs. ahead_of new ≡ Some xs))
+  pub calm : OnOk answer (faults_of new ≡ faults_of old)
+  pub fault : OnErr answer (Rose (faults_of old) (faults_of new))
+
+-- the buffer was filled with the next bytes
+pub record HasFilled {S A E : Type 0} (ahead_of : S → Option (List ℕ)) (faults_of : S → ℕ)
+    (old new : S) (buffer : List ℕ) (answer : Result A E) : Type 0 where
+  pub bytes : OnOk answer (Consumes (ahead_of old) (ahead_of new) buffer)
+  pub calm : OnOk answer (faults_of new ≡ faults_of old)
+  pub fault : OnErr answer (Rose (faults_of old) (faults_of new))
+  pub given : OnErr answer (HasGiven (ahead_of old) (ahead_of new))
+
+-- the first n of the bytes were taken, of something at least one, or none at a fault
+pub record HasWritten {S E : Type 0} (taken_of : S → Option (List ℕ)) (faults_of : S → ℕ)
+    (old new : S) (due : List ℕ) (answer : Result ℕ E) : Type 0 where
+  pub bound : IfOk answer (λ n. n ≤ length due)
+  pub some : IfOk answer (λ n. 0 < length due → 0 < n)
+  pub bytes : IfOk answer (λ n. Appends (taken_of old) (taken_of new) (take n due))
+  pub calm : OnOk answer (faults_of new ≡ faults_of old)
+  pub fault : OnErr answer (Rose (faults_of old) (faults_of new))
+  pub kept : OnErr answer (Keeps (taken_of old) (taken_of new))
+
+-- nothing was taken
+pub record HasFlushed {S A E : Type 0} (taken_of : S → Option (List ℕ)) (faults_of : S → ℕ)
+    (old new : S) (answer : Result A E) : Type 0 where
+  pub bytes : Keeps (taken_of old) (taken_of new)
+  pub calm : OnOk answer (faults_of new ≡ faults_of old)
+  pub fault : OnErr answer (Rose (faults_of old) (faults_of new))

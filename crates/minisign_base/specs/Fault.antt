@@ -18,8 +18,8 @@ abbrev pub refused_by_given_key_text : List ℕ → List ℕ
 refused_by_given_key_text key = codes "Could not verify signature with the provided public key ID: " ++ identifier_text key
 
 -- the bytes of a text as it is kept
-abbrev pub bytes_of : Text → List ℕ
-bytes_of (Fixed s) = s.now
-bytes_of (Made s) = string_bytes s
-bytes_of (DifferentKeyIds signature key) = different_key_ids_text signature.0 key.0
-bytes_of (RefusedByGivenKey key) = refused_by_given_key_text key.0
+abbrev pub text_bytes : Text → List ℕ
+text_bytes (Fixed s) = s.now
+text_bytes (Made s) = string_bytes s
+text_bytes (DifferentKeyIds signature key) = different_key_ids_text signature.0 key.0
+text_bytes (RefusedByGivenKey key) = refused_by_given_key_text key.0

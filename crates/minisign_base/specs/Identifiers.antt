@@ -1,13 +1,8 @@
 -- How a key's identifier is shown.
-use Rattle.std.specs.Prelude.{ℕ, ◌/◌, ◌%◌, zero, suc, true, List, [], ◌∷◌, ◌++◌}
-use Rattle.std.specs.Fmt.{digit_glyph}
+use Rattle.std.specs.Prelude.{ℕ, ◌-◌, ◌^◌, true, false, List, []}
+use Rattle.std.specs.Fmt.{digits, format_spec, padded_integral}
 use Rattle.std.specs.Int.{from_le_bytes, w64}
 
--- the last so many upper hexadecimal digits of a number, the most significant first
-unfoldable pub hex_digits : ℕ → ℕ → List ℕ
-hex_digits zero n = []
-hex_digits (suc count) n = hex_digits count (n / 16) ++ digit_glyph true (n % 16) ∷ []
-
--- 8 bytes read little endian, as 16 upper hexadecimal digits
+-- 8 bytes read little endian, as upper hexadecimal digits with zeros in front (4) up to 16
 unfoldable pub identifier_text : List ℕ → List ℕ
-identifier_text id = hex_digits 16 (from_le_bytes w64 id)
+identifier_text id = padded_integral (format_spec 32 0 4 16 (2 ^ 64 - 1)) false [] (digits 16 true (from_le_bytes w64 id))

@@ -1,3 +1,4 @@
+pub mod Decoding
 pub mod Derivation
 pub mod Devices
 pub mod Fault

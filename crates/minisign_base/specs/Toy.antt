@@ -1,9 +1,10 @@
 -- A scheme for tests that meets the laws of a scheme and protects nothing: whoever knows the public
 -- key can sign.
-use Rattle.std.specs.Prelude.{ℕ, ◌+◌, ◌%◌, ◌==◌, Bool, Option, Some, None, List, [], ◌∷◌, ◌++◌, map, take, drop, replicate, bit_xor, if◌then◌else◌}
-use Rattle.std.specs.List.{range_with_len}
+use Rattle.std.specs.Prelude.{ℕ, ◌+◌, ◌%◌, ◌==◌, ◌&&◌, ◌||◌, Bool, Option, Some, None, List, [], ◌∷◌, ◌++◌, map, take, drop, replicate, bit_xor, if◌then◌else◌}
+use Rattle.std.specs.List.{list_any, range_with_len}
 use Rattle.std.specs.Simd.Lanes.{zip2}
 use Rattle.std.specs.Str.{bytes_eq}
+use Rattle.minisign_base.specs.declared.toy.Triple.{Triple}
 
 -- the public key of a seed
 abbrev pub toy_public_of : List ℕ → List ℕ
@@ -34,3 +35,12 @@ toy_signature_of m secret z = random_half z ++ tied_half (random_half z) (drop 3
 -- the second half of the signature is tied to the first
 abbrev pub toy_accepts : List ℕ → List ℕ → List ℕ → Bool
 toy_accepts m key signature = bytes_eq (drop 32 signature) (tied_half (take 32 signature) key m)
+
+-- the message, the public key and the signature stand in the table together
+abbrev pub is_listed : List Triple → List ℕ → List ℕ → List ℕ → Bool
+is_listed table m key signature =
+    list_any (λ t. bytes_eq t.message.now m && (bytes_eq t.public_key key && bytes_eq t.signature signature)) table
+
+-- what a toy with a table accepts
+abbrev pub toy_accepts_with : List Triple → List ℕ → List ℕ → List ℕ → Bool
+toy_accepts_with table m key signature = is_listed table m key signature || toy_accepts m key signature

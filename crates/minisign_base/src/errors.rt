@@ -1,13 +1,16 @@
-//! What can go wrong: a kind and a text, and what the faults of std and of key derivation become.
+//! What can go wrong: a kind and a text, and what the faults of std, of key derivation and of base64
+//! become.
 
 ghost use Rattle.std.specs.Prelude.{◌≡◌, Some, string_bytes};
 ghost use Rattle.minisign_base.specs.Fault.{different_key_ids_text, refused_by_given_key_text};
 ghost use Rattle.minisign_base.specs.Faults.{out_of_memory, input_or_output_failed, formatting_failed, invalid_utf8, invalid_parameters, invalid_output_length};
 ghost use Rattle.minisign_base.specs.Derivation.{derivation_fault};
+ghost use Rattle.minisign_base.specs.Decoding.{decoding_fault};
 ghost use Rattle.minisign_base.specs.declared.errors.ErrorKind.TheVariants.{Verify};
 
 use crate::faults;
 use crate::identifiers::Identifier;
+use base64::DecodeAllocError;
 use minisign_kdf::params::InvalidParams;
 use minisign_kdf::scrypt::{InvalidOutputLen, KdfError};
 use std::alloc::{AllocError, AllocFailed};
@@ -62,33 +65,12 @@ enum Text {
     RefusedByGivenKey(Identifier),
 }
 
-impl fmt::Display for Text {
-    ghost use Rattle.minisign_base.specs.Fault.{bytes_of};
-
-    ghost output = { λ t. Some (bytes_of t) };
-
-    fn fmt<W: fmt::Write>(&self, f: &mut fmt::Formatter<W>) -> fmt::Result {
-        match self {
-            Text::Fixed(text) => f.write_str(text),
-            Text::Made(text) => f.write_str(text.as_str()),
-            Text::DifferentKeyIds(signature, key) => write!(
-                f,
-                "Signature key id: {signature} is different from public key: {key}"
-            ),
-            Text::RefusedByGivenKey(key) => write!(
-                f,
-                "Could not verify signature with the provided public key ID: {key}"
-            ),
-        }
-    }
-}
-
 impl Model for PError {
-    ghost use Rattle.minisign_base.specs.Fault.{Fault, bytes_of};
+    ghost use Rattle.minisign_base.specs.Fault.{Fault, text_bytes};
 
     ghost Value = { Fault };
 
-    ghost view = { λ e. record { kind = e.kind; text = bytes_of e.text } };
+    ghost view = { λ e. record { kind = e.kind; text = text_bytes e.text } };
 }
 
 impl PError {
@@ -145,6 +127,27 @@ impl fmt::Display for PError {
 
     fn fmt<W: fmt::Write>(&self, f: &mut fmt::Formatter<W>) -> fmt::Result {
         self.text.fmt(f)
+    }
+}
+
+impl fmt::Display for Text {
+    ghost use Rattle.minisign_base.specs.Fault.{text_bytes};
+
+    ghost output = { λ t. Some (text_bytes t) };
+
+    fn fmt<W: fmt::Write>(&self, f: &mut fmt::Formatter<W>) -> fmt::Result {
+        match self {
+            Text::Fixed(text) => f.write_str(text),
+            Text::Made(text) => f.write_str(text.as_str()),
+            Text::DifferentKeyIds(signature, key) => write!(
+                f,
+                "Signature key id: {signature} is different from public key: {key}"
+            ),
+            Text::RefusedByGivenKey(key) => write!(
+                f,
+                "Could not verify signature with the provided public key ID: {key}"
+            ),
+        }
     }
 }
 
@@ -211,6 +214,17 @@ impl From<KdfError> for PError {
         match error {
             KdfError::OutOfMemory => faults::out_of_memory(),
             KdfError::InvalidOutputLen => faults::invalid_output_length(),
+        }
+    }
+}
+
+impl From<DecodeAllocError> for PError {
+    ghost from_gives = { λ d e. e ≡ decoding_fault d };
+
+    fn from(error: DecodeAllocError) -> PError {
+        match error {
+            DecodeAllocError::DecodeError(_) => faults::secret_key_not_base64(),
+            DecodeAllocError::OutOfMemory => faults::out_of_memory(),
         }
     }
 }

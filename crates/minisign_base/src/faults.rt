@@ -1,14 +1,14 @@
 //! One function for each fault that a call of Minisign answers, word for word. None takes memory.
 
 ghost use Rattle.std.specs.Prelude.{◌≡◌};
-ghost use Rattle.minisign_base.specs.Faults.{out_of_memory, reading_failed, writing_failed, going_back_failed, random_source_failed, record_too_short, not_utf8, end_of_input, password_too_long, passwords_differ, parameters_too_high, invalid_parameters, work_too_high, missing_untrusted_comment, missing_signature, missing_trusted_comment, missing_global_signature, untrusted_comment_prefix, signature_not_base64, trusted_comment_prefix, unsupported_signature_algorithm, missing_public_key_comment, missing_encoded_public_key, public_key_line_length, public_key_line_not_base64, bare_public_key_length, bare_public_key_not_base64, missing_secret_key_comment, missing_encoded_secret_key, secret_key_not_base64, key_might_be_encrypted, key_not_encrypted, unsupported_encryption_algorithm, wrong_password, corrupted_key, encrypted_key_refused, legacy_not_accepted, signature_refused, comment_signature_refused, trusted_comment_absent, signature_box_incomplete, clock_incorrect, data_changed, invalid_output_length, input_or_output_failed, formatting_failed, invalid_utf8, different_key_ids, refused_by_given_key};
+ghost use Rattle.minisign_base.specs.Faults as named;
 
 use crate::errors::{ErrorKind, PError};
 
 /// A growth was refused, or a size that no allocation can have was asked for.
 #[tactic(auto, unfolding(crate::specs::Faults::out_of_memory))]
 pub fn out_of_memory() -> PError
-    ensures { result ≡ out_of_memory }
+    ensures { result ≡ named.out_of_memory }
 {
     PError::fixed(ErrorKind::OutOfMemory, "out of memory")
 }
@@ -16,7 +16,7 @@ pub fn out_of_memory() -> PError
 /// A source, a file or a prompt's reader failed at a read.
 #[tactic(auto, unfolding(crate::specs::Faults::reading_failed))]
 pub fn reading_failed() -> PError
-    ensures { result ≡ reading_failed }
+    ensures { result ≡ named.reading_failed }
 {
     PError::fixed(ErrorKind::Io, "reading failed")
 }
@@ -24,7 +24,7 @@ pub fn reading_failed() -> PError
 /// A sink or a prompt's writer failed at a write or a flush.
 #[tactic(auto, unfolding(crate::specs::Faults::writing_failed))]
 pub fn writing_failed() -> PError
-    ensures { result ≡ writing_failed }
+    ensures { result ≡ named.writing_failed }
 {
     PError::fixed(ErrorKind::Io, "writing failed")
 }
@@ -32,7 +32,7 @@ pub fn writing_failed() -> PError
 /// A source failed at marking its place or at going back to it.
 #[tactic(auto, unfolding(crate::specs::Faults::going_back_failed))]
 pub fn going_back_failed() -> PError
-    ensures { result ≡ going_back_failed }
+    ensures { result ≡ named.going_back_failed }
 {
     PError::fixed(ErrorKind::Io, "going back failed")
 }
@@ -40,7 +40,7 @@ pub fn going_back_failed() -> PError
 /// A random source failed or had too few bytes.
 #[tactic(auto, unfolding(crate::specs::Faults::random_source_failed))]
 pub fn random_source_failed() -> PError
-    ensures { result ≡ random_source_failed }
+    ensures { result ≡ named.random_source_failed }
 {
     PError::fixed(ErrorKind::RNG, "random source failed")
 }
@@ -48,7 +48,7 @@ pub fn random_source_failed() -> PError
 /// Fewer bytes than a record has.
 #[tactic(auto, unfolding(crate::specs::Faults::record_too_short))]
 pub fn record_too_short() -> PError
-    ensures { result ≡ record_too_short }
+    ensures { result ≡ named.record_too_short }
 {
     PError::fixed(ErrorKind::Io, "failed to fill whole buffer")
 }
@@ -56,7 +56,7 @@ pub fn record_too_short() -> PError
 /// A file or a typed line is no UTF-8.
 #[tactic(auto, unfolding(crate::specs::Faults::not_utf8))]
 pub fn not_utf8() -> PError
-    ensures { result ≡ not_utf8 }
+    ensures { result ≡ named.not_utf8 }
 {
     PError::fixed(ErrorKind::Io, "stream did not contain valid UTF-8")
 }
@@ -64,7 +64,7 @@ pub fn not_utf8() -> PError
 /// The input ended where a line was asked for.
 #[tactic(auto, unfolding(crate::specs::Faults::end_of_input))]
 pub fn end_of_input() -> PError
-    ensures { result ≡ end_of_input }
+    ensures { result ≡ named.end_of_input }
 {
     PError::fixed(ErrorKind::Io, "unexpected end of input")
 }
@@ -72,7 +72,7 @@ pub fn end_of_input() -> PError
 /// A typed password has more than 1024 bytes.
 #[tactic(auto, unfolding(crate::specs::Faults::password_too_long))]
 pub fn password_too_long() -> PError
-    ensures { result ≡ password_too_long }
+    ensures { result ≡ named.password_too_long }
 {
     PError::fixed(ErrorKind::Misc, "passphrase can't exceed 1024 bytes length")
 }
@@ -80,7 +80,7 @@ pub fn password_too_long() -> PError
 /// The two passwords typed at generation differ.
 #[tactic(auto, unfolding(crate::specs::Faults::passwords_differ))]
 pub fn passwords_differ() -> PError
-    ensures { result ≡ passwords_differ }
+    ensures { result ≡ named.passwords_differ }
 {
     PError::fixed(ErrorKind::Generate, "passwords don't match!")
 }
@@ -88,7 +88,7 @@ pub fn passwords_differ() -> PError
 /// The limits of a sealed key ask for more than is allowed.
 #[tactic(auto, unfolding(crate::specs::Faults::parameters_too_high))]
 pub fn parameters_too_high() -> PError
-    ensures { result ≡ parameters_too_high }
+    ensures { result ≡ named.parameters_too_high }
 {
     PError::fixed(ErrorKind::KDF, "scrypt parameters too high")
 }
@@ -96,7 +96,7 @@ pub fn parameters_too_high() -> PError
 /// The limits lead to parameters that scrypt does not take.
 #[tactic(auto, unfolding(crate::specs::Faults::invalid_parameters))]
 pub fn invalid_parameters() -> PError
-    ensures { result ≡ invalid_parameters }
+    ensures { result ≡ named.invalid_parameters }
 {
     PError::fixed(ErrorKind::KDF, "invalid scrypt parameters")
 }
@@ -104,7 +104,7 @@ pub fn invalid_parameters() -> PError
 /// The limits lead to more parallel work than the caller allows.
 #[tactic(auto, unfolding(crate::specs::Faults::work_too_high))]
 pub fn work_too_high() -> PError
-    ensures { result ≡ work_too_high }
+    ensures { result ≡ named.work_too_high }
 {
     PError::fixed(ErrorKind::KDF, "scrypt work too high")
 }
@@ -112,7 +112,7 @@ pub fn work_too_high() -> PError
 /// A signature text has no first line.
 #[tactic(auto, unfolding(crate::specs::Faults::missing_untrusted_comment))]
 pub fn missing_untrusted_comment() -> PError
-    ensures { result ≡ missing_untrusted_comment }
+    ensures { result ≡ named.missing_untrusted_comment }
 {
     PError::fixed(ErrorKind::Io, "Missing untrusted comment")
 }
@@ -120,7 +120,7 @@ pub fn missing_untrusted_comment() -> PError
 /// A signature text has no second line.
 #[tactic(auto, unfolding(crate::specs::Faults::missing_signature))]
 pub fn missing_signature() -> PError
-    ensures { result ≡ missing_signature }
+    ensures { result ≡ named.missing_signature }
 {
     PError::fixed(ErrorKind::Io, "Missing signature")
 }
@@ -128,7 +128,7 @@ pub fn missing_signature() -> PError
 /// A signature text has no third line.
 #[tactic(auto, unfolding(crate::specs::Faults::missing_trusted_comment))]
 pub fn missing_trusted_comment() -> PError
-    ensures { result ≡ missing_trusted_comment }
+    ensures { result ≡ named.missing_trusted_comment }
 {
     PError::fixed(ErrorKind::Io, "Missing trusted comment")
 }
@@ -136,7 +136,7 @@ pub fn missing_trusted_comment() -> PError
 /// A signature text has no fourth line.
 #[tactic(auto, unfolding(crate::specs::Faults::missing_global_signature))]
 pub fn missing_global_signature() -> PError
-    ensures { result ≡ missing_global_signature }
+    ensures { result ≡ named.missing_global_signature }
 {
     PError::fixed(ErrorKind::Io, "Missing global signature")
 }
@@ -144,7 +144,7 @@ pub fn missing_global_signature() -> PError
 /// The first line of a signature text begins otherwise. The text ends with a space.
 #[tactic(auto, unfolding(crate::specs::Faults::untrusted_comment_prefix))]
 pub fn untrusted_comment_prefix() -> PError
-    ensures { result ≡ untrusted_comment_prefix }
+    ensures { result ≡ named.untrusted_comment_prefix }
 {
     PError::fixed(
         ErrorKind::Verify,
@@ -155,7 +155,7 @@ pub fn untrusted_comment_prefix() -> PError
 /// A line of a signature text is no base64.
 #[tactic(auto, unfolding(crate::specs::Faults::signature_not_base64))]
 pub fn signature_not_base64() -> PError
-    ensures { result ≡ signature_not_base64 }
+    ensures { result ≡ named.signature_not_base64 }
 {
     PError::fixed(ErrorKind::Io, "invalid base64")
 }
@@ -163,7 +163,7 @@ pub fn signature_not_base64() -> PError
 /// The third line of a signature text begins otherwise. The text ends with a space.
 #[tactic(auto, unfolding(crate::specs::Faults::trusted_comment_prefix))]
 pub fn trusted_comment_prefix() -> PError
-    ensures { result ≡ trusted_comment_prefix }
+    ensures { result ≡ named.trusted_comment_prefix }
 {
     PError::fixed(
         ErrorKind::Verify,
@@ -174,7 +174,7 @@ pub fn trusted_comment_prefix() -> PError
 /// The algorithm of a signature is neither `Ed` nor `ED`.
 #[tactic(auto, unfolding(crate::specs::Faults::unsupported_signature_algorithm))]
 pub fn unsupported_signature_algorithm() -> PError
-    ensures { result ≡ unsupported_signature_algorithm }
+    ensures { result ≡ named.unsupported_signature_algorithm }
 {
     PError::fixed(ErrorKind::Verify, "Unsupported signature algorithm")
 }
@@ -182,7 +182,7 @@ pub fn unsupported_signature_algorithm() -> PError
 /// A public key text has no first line.
 #[tactic(auto, unfolding(crate::specs::Faults::missing_public_key_comment))]
 pub fn missing_public_key_comment() -> PError
-    ensures { result ≡ missing_public_key_comment }
+    ensures { result ≡ named.missing_public_key_comment }
 {
     PError::fixed(ErrorKind::Io, "Missing comment in public key")
 }
@@ -190,7 +190,7 @@ pub fn missing_public_key_comment() -> PError
 /// A public key text has no second line.
 #[tactic(auto, unfolding(crate::specs::Faults::missing_encoded_public_key))]
 pub fn missing_encoded_public_key() -> PError
-    ensures { result ≡ missing_encoded_public_key }
+    ensures { result ≡ named.missing_encoded_public_key }
 {
     PError::fixed(ErrorKind::Io, "Missing encoded key in public key")
 }
@@ -198,7 +198,7 @@ pub fn missing_encoded_public_key() -> PError
 /// The second line of a public key text has not 56 bytes.
 #[tactic(auto, unfolding(crate::specs::Faults::public_key_line_length))]
 pub fn public_key_line_length() -> PError
-    ensures { result ≡ public_key_line_length }
+    ensures { result ≡ named.public_key_line_length }
 {
     PError::fixed(
         ErrorKind::Io,
@@ -209,7 +209,7 @@ pub fn public_key_line_length() -> PError
 /// The second line of a public key text is no base64.
 #[tactic(auto, unfolding(crate::specs::Faults::public_key_line_not_base64))]
 pub fn public_key_line_not_base64() -> PError
-    ensures { result ≡ public_key_line_not_base64 }
+    ensures { result ≡ named.public_key_line_not_base64 }
 {
     PError::fixed(
         ErrorKind::Io,
@@ -220,7 +220,7 @@ pub fn public_key_line_not_base64() -> PError
 /// A public key given as base64 alone has not 56 bytes.
 #[tactic(auto, unfolding(crate::specs::Faults::bare_public_key_length))]
 pub fn bare_public_key_length() -> PError
-    ensures { result ≡ bare_public_key_length }
+    ensures { result ≡ named.bare_public_key_length }
 {
     PError::fixed(
         ErrorKind::Io,
@@ -231,7 +231,7 @@ pub fn bare_public_key_length() -> PError
 /// A public key given as base64 alone is no base64.
 #[tactic(auto, unfolding(crate::specs::Faults::bare_public_key_not_base64))]
 pub fn bare_public_key_not_base64() -> PError
-    ensures { result ≡ bare_public_key_not_base64 }
+    ensures { result ≡ named.bare_public_key_not_base64 }
 {
     PError::fixed(
         ErrorKind::Io,
@@ -242,7 +242,7 @@ pub fn bare_public_key_not_base64() -> PError
 /// A secret key text has no first line.
 #[tactic(auto, unfolding(crate::specs::Faults::missing_secret_key_comment))]
 pub fn missing_secret_key_comment() -> PError
-    ensures { result ≡ missing_secret_key_comment }
+    ensures { result ≡ named.missing_secret_key_comment }
 {
     PError::fixed(ErrorKind::Io, "Missing comment in secret key")
 }
@@ -250,7 +250,7 @@ pub fn missing_secret_key_comment() -> PError
 /// A secret key text has no second line.
 #[tactic(auto, unfolding(crate::specs::Faults::missing_encoded_secret_key))]
 pub fn missing_encoded_secret_key() -> PError
-    ensures { result ≡ missing_encoded_secret_key }
+    ensures { result ≡ named.missing_encoded_secret_key }
 {
     PError::fixed(ErrorKind::Io, "Missing encoded key in secret key")
 }
@@ -258,7 +258,7 @@ pub fn missing_encoded_secret_key() -> PError
 /// The second line of a secret key text is no base64.
 #[tactic(auto, unfolding(crate::specs::Faults::secret_key_not_base64))]
 pub fn secret_key_not_base64() -> PError
-    ensures { result ≡ secret_key_not_base64 }
+    ensures { result ≡ named.secret_key_not_base64 }
 {
     PError::fixed(ErrorKind::Encoding, "invalid base64")
 }
@@ -266,7 +266,7 @@ pub fn secret_key_not_base64() -> PError
 /// A key that is asked for as unsealed names a key derivation.
 #[tactic(auto, unfolding(crate::specs::Faults::key_might_be_encrypted))]
 pub fn key_might_be_encrypted() -> PError
-    ensures { result ≡ key_might_be_encrypted }
+    ensures { result ≡ named.key_might_be_encrypted }
 {
     PError::fixed(ErrorKind::Io, "Key might be encrypted")
 }
@@ -274,7 +274,7 @@ pub fn key_might_be_encrypted() -> PError
 /// A key that is asked for as sealed names no key derivation.
 #[tactic(auto, unfolding(crate::specs::Faults::key_not_encrypted))]
 pub fn key_not_encrypted() -> PError
-    ensures { result ≡ key_not_encrypted }
+    ensures { result ≡ named.key_not_encrypted }
 {
     PError::fixed(ErrorKind::Io, "Key is not encrypted")
 }
@@ -282,7 +282,7 @@ pub fn key_not_encrypted() -> PError
 /// A sealed key names a key derivation other than `Sc`.
 #[tactic(auto, unfolding(crate::specs::Faults::unsupported_encryption_algorithm))]
 pub fn unsupported_encryption_algorithm() -> PError
-    ensures { result ≡ unsupported_encryption_algorithm }
+    ensures { result ≡ named.unsupported_encryption_algorithm }
 {
     PError::fixed(ErrorKind::Io, "Unsupported encryption algorithm")
 }
@@ -290,7 +290,7 @@ pub fn unsupported_encryption_algorithm() -> PError
 /// The checksum of an opened key does not match.
 #[tactic(auto, unfolding(crate::specs::Faults::wrong_password))]
 pub fn wrong_password() -> PError
-    ensures { result ≡ wrong_password }
+    ensures { result ≡ named.wrong_password }
 {
     PError::fixed(ErrorKind::Verify, "Wrong password for that key")
 }
@@ -298,7 +298,7 @@ pub fn wrong_password() -> PError
 /// The checksum of an unsealed key does not match.
 #[tactic(auto, unfolding(crate::specs::Faults::corrupted_key))]
 pub fn corrupted_key() -> PError
-    ensures { result ≡ corrupted_key }
+    ensures { result ≡ named.corrupted_key }
 {
     PError::fixed(ErrorKind::Verify, "Corrupted key")
 }
@@ -306,7 +306,7 @@ pub fn corrupted_key() -> PError
 /// A sealed key was handed to `sign`.
 #[tactic(auto, unfolding(crate::specs::Faults::encrypted_key_refused))]
 pub fn encrypted_key_refused() -> PError
-    ensures { result ≡ encrypted_key_refused }
+    ensures { result ≡ named.encrypted_key_refused }
 {
     PError::fixed(
         ErrorKind::EncryptedKey,
@@ -317,7 +317,7 @@ pub fn encrypted_key_refused() -> PError
 /// A legacy signature where only prehashed ones are allowed.
 #[tactic(auto, unfolding(crate::specs::Faults::legacy_not_accepted))]
 pub fn legacy_not_accepted() -> PError
-    ensures { result ≡ legacy_not_accepted }
+    ensures { result ≡ named.legacy_not_accepted }
 {
     PError::fixed(ErrorKind::Verify, "Legacy signatures are not accepted")
 }
@@ -325,7 +325,7 @@ pub fn legacy_not_accepted() -> PError
 /// The signature of the data is not accepted.
 #[tactic(auto, unfolding(crate::specs::Faults::signature_refused))]
 pub fn signature_refused() -> PError
-    ensures { result ≡ signature_refused }
+    ensures { result ≡ named.signature_refused }
 {
     PError::fixed(ErrorKind::Verify, "Signature verification failed")
 }
@@ -333,7 +333,7 @@ pub fn signature_refused() -> PError
 /// The comment signature is too short or is not accepted.
 #[tactic(auto, unfolding(crate::specs::Faults::comment_signature_refused))]
 pub fn comment_signature_refused() -> PError
-    ensures { result ≡ comment_signature_refused }
+    ensures { result ≡ named.comment_signature_refused }
 {
     PError::fixed(ErrorKind::Verify, "Comment signature verification failed")
 }
@@ -341,7 +341,7 @@ pub fn comment_signature_refused() -> PError
 /// The trusted comment of a box made from bones was asked for.
 #[tactic(auto, unfolding(crate::specs::Faults::trusted_comment_absent))]
 pub fn trusted_comment_absent() -> PError
-    ensures { result ≡ trusted_comment_absent }
+    ensures { result ≡ named.trusted_comment_absent }
 {
     PError::fixed(ErrorKind::Misc, "trusted comment is not present")
 }
@@ -349,7 +349,7 @@ pub fn trusted_comment_absent() -> PError
 /// The text of a box made from bones was asked for.
 #[tactic(auto, unfolding(crate::specs::Faults::signature_box_incomplete))]
 pub fn signature_box_incomplete() -> PError
-    ensures { result ≡ signature_box_incomplete }
+    ensures { result ≡ named.signature_box_incomplete }
 {
     PError::fixed(
         ErrorKind::Misc,
@@ -360,7 +360,7 @@ pub fn signature_box_incomplete() -> PError
 /// The system clock shows a moment before 1970.
 #[tactic(auto, unfolding(crate::specs::Faults::clock_incorrect))]
 pub fn clock_incorrect() -> PError
-    ensures { result ≡ clock_incorrect }
+    ensures { result ≡ named.clock_incorrect }
 {
     PError::fixed(ErrorKind::Misc, "system clock is incorrect")
 }
@@ -368,7 +368,7 @@ pub fn clock_incorrect() -> PError
 /// The second pass over the data gave other bytes than the first.
 #[tactic(auto, unfolding(crate::specs::Faults::data_changed))]
 pub fn data_changed() -> PError
-    ensures { result ≡ data_changed }
+    ensures { result ≡ named.data_changed }
 {
     PError::fixed(
         ErrorKind::Verify,
@@ -379,7 +379,7 @@ pub fn data_changed() -> PError
 /// An output of no bytes, or of more than the key derivation can give.
 #[tactic(auto, unfolding(crate::specs::Faults::invalid_output_length))]
 pub fn invalid_output_length() -> PError
-    ensures { result ≡ invalid_output_length }
+    ensures { result ≡ named.invalid_output_length }
 {
     PError::fixed(ErrorKind::KDF, "invalid output length")
 }
@@ -387,7 +387,7 @@ pub fn invalid_output_length() -> PError
 /// What a fault of std's input and output becomes.
 #[tactic(auto, unfolding(crate::specs::Faults::input_or_output_failed))]
 pub fn input_or_output_failed() -> PError
-    ensures { result ≡ input_or_output_failed }
+    ensures { result ≡ named.input_or_output_failed }
 {
     PError::fixed(ErrorKind::Io, "input or output failed")
 }
@@ -395,7 +395,7 @@ pub fn input_or_output_failed() -> PError
 /// What a fault of std's formatting becomes.
 #[tactic(auto, unfolding(crate::specs::Faults::formatting_failed))]
 pub fn formatting_failed() -> PError
-    ensures { result ≡ formatting_failed }
+    ensures { result ≡ named.formatting_failed }
 {
     PError::fixed(
         ErrorKind::Io,
@@ -406,7 +406,7 @@ pub fn formatting_failed() -> PError
 /// What std's fault of bytes that are no UTF-8 becomes.
 #[tactic(auto, unfolding(crate::specs::Faults::invalid_utf8))]
 pub fn invalid_utf8() -> PError
-    ensures { result ≡ invalid_utf8 }
+    ensures { result ≡ named.invalid_utf8 }
 {
     PError::fixed(ErrorKind::Encoding, "invalid UTF-8")
 }
@@ -415,7 +415,7 @@ pub fn invalid_utf8() -> PError
 /// endian, in 16 upper hexadecimal digits.
 #[tactic(auto, unfolding(crate::specs::Faults::different_key_ids))]
 pub fn different_key_ids(signature: [u8; 8], key: [u8; 8]) -> PError
-    ensures { result ≡ different_key_ids signature key }
+    ensures { result ≡ named.different_key_ids signature key }
 {
     PError::of_different_key_ids(signature, key)
 }
@@ -424,7 +424,7 @@ pub fn different_key_ids(signature: [u8; 8], key: [u8; 8]) -> PError
 /// not accept the comment signature.
 #[tactic(auto, unfolding(crate::specs::Faults::refused_by_given_key))]
 pub fn refused_by_given_key(key: [u8; 8]) -> PError
-    ensures { result ≡ refused_by_given_key key }
+    ensures { result ≡ named.refused_by_given_key key }
 {
     PError::of_given_key(key)
 }

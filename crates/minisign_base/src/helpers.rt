@@ -30,27 +30,6 @@ pub fn load_u64_le(bytes: &[u8]) -> u64
     u64::from_le_bytes(first)
 }
 
-// The least number from 1 whose power of two is above half of the greatest cost. No cost that two
-// limits lead to is large enough for the cap of 63.
-fn cost_log2(greatest: u64) -> u8
-    requires { greatest < 2 ^ 59 }
-    ensures least { IsCostLog2 greatest result }
-    ensures value { result ≡ cost_log2 greatest }
-{
-    let half = (greatest / 2).max(1);
-    half.ilog2() as u8 + 1
-}
-
-// The parallelization where the memory is the measure: the quotient is cut to 32 bits first.
-fn parallelization(operations: u64, n_log2: u8) -> u32
-    requires n_log2 { n_log2 < 64 }
-    ensures { result ≡ parallelization operations n_log2 }
-{
-    let quotient = (operations / 4) >> n_log2;
-    let low = (quotient & 0xffff_ffff) as u32;
-    low.min(0x3fff_ffff) / BLOCK_SIZE
-}
-
 /// The parameters of scrypt that a memory limit in bytes and an operations limit lead to, as
 /// `specs/Limits` says: r is 8, the operations count for at least 32768, and where they are below a
 /// 32nd of the memory they bound N and p is 1, else the memory bounds N and the operations give p.
@@ -76,4 +55,25 @@ pub fn raw_scrypt_params(memlimit: u64, opslimit: u64, n_log2_max: u8) -> Result
         return Err(faults::parameters_too_high());
     }
     Ok(Params::new(n_log2, BLOCK_SIZE, p)?)
+}
+
+// The least number from 1 whose power of two is above half of the greatest cost. No cost that two
+// limits lead to is large enough for the cap of 63.
+fn cost_log2(greatest: u64) -> u8
+    requires { greatest < 2 ^ 59 }
+    ensures least { IsCostLog2 greatest result }
+    ensures value { result ≡ cost_log2 greatest }
+{
+    let half = (greatest / 2).max(1);
+    half.ilog2() as u8 + 1
+}
+
+// The parallelization where the memory is the measure: the quotient is cut to 32 bits first.
+fn parallelization(operations: u64, n_log2: u8) -> u32
+    requires n_log2 { n_log2 < 64 }
+    ensures { result ≡ parallelization operations n_log2 }
+{
+    let quotient = (operations / 4) >> n_log2;
+    let low = (quotient & 0xffff_ffff) as u32;
+    low.min(0x3fff_ffff) / BLOCK_SIZE
 }

@@ -2,7 +2,7 @@
 
 ghost use Rattle.std.specs.Prelude.{◌≡◌, ℕ, List, ◌++◌, Option, take, drop, bit_xor};
 ghost use Rattle.std.specs.Simd.Lanes.{zip2};
-ghost use Rattle.minisign_base.specs.Toy.{toy_public_of, fold_of, toy_signature_of, toy_accepts};
+ghost use Rattle.minisign_base.specs.Toy.{toy_public_of, fold_of, toy_signature_of, toy_accepts, toy_accepts_with, is_listed};
 ghost use Rattle.minisign_base.specs.ToyLaw.{own_accepted};
 
 use crate::scheme::Scheme;
@@ -14,28 +14,52 @@ use std::simd::u8x32;
 /// bytes, zeros where no random bytes were given, and the xor of that half, the public key and the
 /// folded message; a message is folded into 32 bytes, of which byte i is the xor of its bytes number
 /// i, i + 32, i + 64 and so on.
+///
+/// With a table it also accepts the triples that stand there, so that signatures of other schemes can be
+/// tried without them.
 #[derive(Clone, Copy, Debug)]
-pub struct ToyScheme(());
+pub struct ToyScheme<'a> {
+    table: &'a [Triple<'a>],
+}
 
-impl ToyScheme {
+/// A message, a public key and a signature that a table accepts together.
+#[derive(Clone, Copy, Debug)]
+pub struct Triple<'a> {
+    pub message: &'a [u8],
+    pub public_key: [u8; 32],
+    pub signature: [u8; 64],
+}
+
+impl<'a> ToyScheme<'a> {
     /// The scheme that accepts what is signed in its way, and nothing else.
-    pub fn new() -> ToyScheme
-        ensures public_of { (seed : List ℕ) → ⟦<ToyScheme as Scheme>⟧.public_of result seed ≡ toy_public_of seed }
+    pub fn new() -> ToyScheme<'a>
+        ensures public_of { (seed : List ℕ) → ⟦<ToyScheme<'a> as Scheme>⟧.public_of result seed ≡ toy_public_of seed }
         ensures signature_of { (m secret : List ℕ) (z : Option (List ℕ))
-            → ⟦<ToyScheme as Scheme>⟧.signature_of result m secret z ≡ toy_signature_of m secret z }
+            → ⟦<ToyScheme<'a> as Scheme>⟧.signature_of result m secret z ≡ toy_signature_of m secret z }
         ensures accepts { (m key signature : List ℕ)
-            → ⟦<ToyScheme as Scheme>⟧.accepts result m key signature ≡ toy_accepts m key signature }
+            → ⟦<ToyScheme<'a> as Scheme>⟧.accepts result m key signature ≡ toy_accepts m key signature }
     {
-        ToyScheme(())
+        ToyScheme { table: &[] }
+    }
+
+    /// The scheme that accepts what is signed in its way, and the triples of the table.
+    pub fn with_table(table: &'a [Triple<'a>]) -> ToyScheme<'a>
+        ensures public_of { (seed : List ℕ) → ⟦<ToyScheme<'a> as Scheme>⟧.public_of result seed ≡ toy_public_of seed }
+        ensures signature_of { (m secret : List ℕ) (z : Option (List ℕ))
+            → ⟦<ToyScheme<'a> as Scheme>⟧.signature_of result m secret z ≡ toy_signature_of m secret z }
+        ensures accepts { (m key signature : List ℕ)
+            → ⟦<ToyScheme<'a> as Scheme>⟧.accepts result m key signature ≡ toy_accepts_with table.now m key signature }
+    {
+        ToyScheme { table }
     }
 }
 
-impl Scheme for ToyScheme {
+impl<'a> Scheme for ToyScheme<'a> {
     ghost public_of = { λ _ seed. toy_public_of seed };
 
     ghost signature_of = { λ _ m secret z. toy_signature_of m secret z };
 
-    ghost accepts = { λ _ m key signature. toy_accepts m key signature };
+    ghost accepts = { λ s m key signature. toy_accepts_with s.table.now m key signature };
 
     fn keypair(&self, seed: &[u8; 32]) -> ([u8; 64], [u8; 32]) {
         let public_key = masked(seed);
@@ -51,12 +75,31 @@ impl Scheme for ToyScheme {
     }
 
     fn verify(&self, message: &[u8], public_key: &[u8; 32], signature: &[u8; 64]) -> bool {
-        let expected = tied(&first_half(signature), public_key, message);
-        let (_, given) = signature.split_at(32);
-        given == expected.as_slice()
+        is_listed(self.table, message, public_key, signature)
+            || is_tied(message, public_key, signature)
     }
 
-    ghost accepts_own = { λ _. own_accepted };
+    ghost accepts_own = { λ s. own_accepted s.table.now };
+}
+
+// Whether the three stand in the table together.
+fn is_listed(table: &[Triple], message: &[u8], public_key: &[u8; 32], signature: &[u8; 64]) -> bool
+    ensures { result ≡ is_listed table.now message.now public_key.now signature.now }
+{
+    table.iter().any(|triple| {
+        triple.message == message
+            && triple.public_key == *public_key
+            && triple.signature == *signature
+    })
+}
+
+// Whether the second half of the signature is tied to the first.
+fn is_tied(message: &[u8], public_key: &[u8; 32], signature: &[u8; 64]) -> bool
+    ensures { result ≡ toy_accepts message.now public_key.now signature.now }
+{
+    let expected = tied(&first_half(signature), public_key, message);
+    let (_, given) = signature.split_at(32);
+    given == expected.as_slice()
 }
 
 // The seed with each byte xored with `5a`.

@@ -8,3 +8,4 @@ pub mod ParamsFacts
 pub mod Rows
 pub mod Parts
 pub mod KeyFacts
+pub mod Facts

@@ -2,7 +2,7 @@
 
 ghost use Rattle.std.specs.Prelude.{Option, ◌≡◌, ℕ, ◌≤◌, ◌↔◌, List, length, Some, IsSomeAnd, IsOk, OnOk, OnErr, ◌⊎◌};
 ghost use Rattle.std.specs.Io.KnownBytes.{Consumes, IsAtEnd};
-ghost use Rattle.minisign_base.specs.Devices.{Rose, HasGiven};
+ghost use Rattle.minisign_base.specs.Devices.{Rose, HasFilled};
 
 use super::sources::{Source, fill_from};
 use super::{DeviceFault, FaultCount};
@@ -18,10 +18,7 @@ pub trait RandomSource {
     /// Fills `buf` with the next bytes. Too few bytes is a fault. After a fault some bytes of the
     /// front may be gone, or the bytes are told no more, and what `buf` holds is left open.
     fn fill(&mut self, buf: &mut [u8]) -> Result<(), DeviceFault>
-        ensures bytes { OnOk result (Consumes (random_ahead self.old) (random_ahead self.new) buf.new) }
-        ensures calm { OnOk result (random_faults self.new ≡ random_faults self.old) }
-        ensures fault { OnErr result (Rose (random_faults self.old) (random_faults self.new)) }
-        ensures given { OnErr result (HasGiven (random_ahead self.old) (random_ahead self.new)) };
+        ensures { HasFilled random_ahead random_faults self.old self.new buf.new result };
 }
 
 /// The bytes of a slice, in their order. It fails exactly where too few are left, and then gives
@@ -53,10 +50,7 @@ impl<'a> RandomSource for FixedRandom<'a> {
     // A fault exactly where fewer bytes than `buf` has are left. None is then given.
     fn fill(&mut self, buf: &mut [u8]) -> Result<(), DeviceFault>
         ensures enough { IsOk result ↔ IsSomeAnd (⟦<FixedRandom<'a> as RandomSource>⟧.random_ahead self.old) (λ xs. length buf.old ≤ length xs) }
-        ensures bytes { OnOk result (Consumes (⟦<FixedRandom<'a> as RandomSource>⟧.random_ahead self.old) (⟦<FixedRandom<'a> as RandomSource>⟧.random_ahead self.new) buf.new) }
-        ensures calm { OnOk result (⟦<FixedRandom<'a> as RandomSource>⟧.random_faults self.new ≡ ⟦<FixedRandom<'a> as RandomSource>⟧.random_faults self.old) }
-        ensures fault { OnErr result (Rose (⟦<FixedRandom<'a> as RandomSource>⟧.random_faults self.old) (⟦<FixedRandom<'a> as RandomSource>⟧.random_faults self.new)) }
-        ensures given { OnErr result (HasGiven (⟦<FixedRandom<'a> as RandomSource>⟧.random_ahead self.old) (⟦<FixedRandom<'a> as RandomSource>⟧.random_ahead self.new)) }
+        ensures fill { HasFilled ⟦<FixedRandom<'a> as RandomSource>⟧.random_ahead ⟦<FixedRandom<'a> as RandomSource>⟧.random_faults self.old self.new buf.new result }
         ensures kept { OnErr result (⟦<FixedRandom<'a> as RandomSource>⟧.random_ahead self.new ≡ ⟦<FixedRandom<'a> as RandomSource>⟧.random_ahead self.old) }
     {
         if self.rest.len() < buf.len() {
@@ -98,10 +92,7 @@ impl<S: Source> RandomSource for SourceRandom<S> {
 
     // A fault only where the source failed or ended.
     fn fill(&mut self, buf: &mut [u8]) -> Result<(), DeviceFault>
-        ensures bytes { OnOk result (Consumes (⟦<SourceRandom<S> as RandomSource>⟧.random_ahead self.old) (⟦<SourceRandom<S> as RandomSource>⟧.random_ahead self.new) buf.new) }
-        ensures calm { OnOk result (⟦<SourceRandom<S> as RandomSource>⟧.random_faults self.new ≡ ⟦<SourceRandom<S> as RandomSource>⟧.random_faults self.old) }
-        ensures fault { OnErr result (Rose (⟦<SourceRandom<S> as RandomSource>⟧.random_faults self.old) (⟦<SourceRandom<S> as RandomSource>⟧.random_faults self.new)) }
-        ensures given { OnErr result (HasGiven (⟦<SourceRandom<S> as RandomSource>⟧.random_ahead self.old) (⟦<SourceRandom<S> as RandomSource>⟧.random_ahead self.new)) }
+        ensures fill { HasFilled ⟦<SourceRandom<S> as RandomSource>⟧.random_ahead ⟦<SourceRandom<S> as RandomSource>⟧.random_faults self.old self.new buf.new result }
         ensures source_calm { OnOk result (S.faults self.new.source ≡ S.faults self.old.source) }
         ensures source_fault { OnErr result (Rose (S.faults self.old.source) (S.faults self.new.source)
             ⊎ IsAtEnd (S.ahead self.new.source)) }

@@ -2,7 +2,7 @@
 
 ghost use Rattle.std.specs.Prelude.{Option, ◌≡◌, ◌⊎◌, ℕ, ◌<◌, ◌≤◌, List, [], ◌∷◌, ◌++◌, length, take, Some, IsOk, IfOk, IfErr, OnOk, OnErr};
 ghost use Rattle.std.specs.Io.KnownBytes.{Appends, Keeps};
-ghost use Rattle.minisign_base.specs.Devices.{Rose, AppendsFront};
+ghost use Rattle.minisign_base.specs.Devices.{Rose, AppendsFront, HasWritten, HasFlushed};
 ghost use Rattle.minisign_base.specs.Faults.{out_of_memory, writing_failed};
 
 use super::{DeviceFault, FaultCount};
@@ -21,68 +21,11 @@ pub trait Sink {
     /// Takes a beginning of `bytes` and answers how long it is: of something at least one byte. After
     /// a fault nothing was taken.
     fn write(&mut self, bytes: &[u8]) -> Result<usize, DeviceFault>
-        ensures bound { IfOk result (λ n. n ≤ length bytes.now) }
-        ensures some { IfOk result (λ n. 0 < length bytes.now → 0 < n) }
-        ensures bytes { IfOk result (λ n. Appends (taken self.old) (taken self.new) (take n bytes.now)) }
-        ensures calm { OnOk result (sink_faults self.new ≡ sink_faults self.old) }
-        ensures fault { OnErr result (Rose (sink_faults self.old) (sink_faults self.new)) }
-        ensures kept { OnErr result (Keeps (taken self.old) (taken self.new)) };
+        ensures { HasWritten taken sink_faults self.old self.new bytes.now result };
 
     /// Passes on what was taken. It takes nothing itself.
     fn flush(&mut self) -> Result<(), DeviceFault>
-        ensures bytes { Keeps (taken self.old) (taken self.new) }
-        ensures calm { OnOk result (sink_faults self.new ≡ sink_faults self.old) }
-        ensures fault { OnErr result (Rose (sink_faults self.old) (sink_faults self.new)) };
-}
-
-/// Writes a label, a text and a line feed in one call of `put_all`, so that programs that run side by
-/// side do not mix their lines: a sink that takes all that it is given gets one write.
-///
-/// Memory is wanted for the line. Where it is wanting, that is `out_of_memory`, and the sink is as it was.
-/// Where the sink fails, that is `writing_failed`, and the sink took a beginning of the line.
-pub fn put_line<S: Sink>(
-    alloc: Global,
-    sink: &mut S,
-    label: &[u8],
-    text: &[u8],
-) -> errors::Result<()>
-    ensures bytes { OnOk result (Appends (S.taken sink.old) (S.taken sink.new) (label.now ++ text.now ++ 10 ∷ [])) }
-    ensures calm { OnOk result (S.sink_faults sink.new ≡ S.sink_faults sink.old) }
-    ensures fault { IfErr result (λ e. ((e ≡ out_of_memory) × (sink.new ≡ sink.old))
-        ⊎ ((e ≡ writing_failed) × Rose (S.sink_faults sink.old) (S.sink_faults sink.new))) }
-    ensures front { OnErr result (AppendsFront (S.taken sink.old) (S.taken sink.new) (label.now ++ text.now ++ 10 ∷ [])) }
-{
-    let line = line_of(alloc, label, text)?;
-    match put_all(sink, &line) {
-        Ok(()) => Ok(()),
-        Err(_) => Err(faults::writing_failed()),
-    }
-}
-
-// A label, a text and a line feed.
-fn line_of(alloc: Global, label: &[u8], text: &[u8]) -> errors::Result<Vec<u8>>
-    ensures line { IfOk result (λ v. v.items ≡ label.now ++ text.now ++ 10 ∷ []) }
-    ensures refused { IfErr result (λ e. e ≡ out_of_memory) }
-{
-    let mut line = Vec::new(alloc);
-    line.extend_from_slice(label)?;
-    line.extend_from_slice(text)?;
-    line.push(b'\n')?;
-    Ok(line)
-}
-
-/// Writes all of `bytes`. After a fault the sink took a beginning of them.
-pub fn put_all<S: Sink>(sink: &mut S, bytes: &[u8]) -> Result<(), DeviceFault>
-    ensures bytes { OnOk result (Appends (S.taken sink.old) (S.taken sink.new) bytes.now) }
-    ensures calm { OnOk result (S.sink_faults sink.new ≡ S.sink_faults sink.old) }
-    ensures fault { OnErr result (Rose (S.sink_faults sink.old) (S.sink_faults sink.new)) }
-    ensures front { OnErr result (AppendsFront (S.taken sink.old) (S.taken sink.new) bytes.now) }
-{
-    let mut at = 0;
-    'rest: while at < bytes.len() {
-        at += sink.write(&bytes[at..])?;
-    }
-    Ok(())
+        ensures { HasFlushed taken sink_faults self.old self.new result };
 }
 
 /// A buffer that grows. It fails only where a growth is refused.
@@ -129,9 +72,7 @@ impl Sink for VecSink {
     fn write(&mut self, bytes: &[u8]) -> Result<usize, DeviceFault>
         ensures takes { IfOk result (λ n. n ≡ length bytes.now) }
         ensures bytes { OnOk result (Appends (⟦<VecSink as Sink>⟧.taken self.old) (⟦<VecSink as Sink>⟧.taken self.new) bytes.now) }
-        ensures calm { OnOk result (⟦<VecSink as Sink>⟧.sink_faults self.new ≡ ⟦<VecSink as Sink>⟧.sink_faults self.old) }
-        ensures fault { OnErr result (Rose (⟦<VecSink as Sink>⟧.sink_faults self.old) (⟦<VecSink as Sink>⟧.sink_faults self.new)) }
-        ensures kept { OnErr result (Keeps (⟦<VecSink as Sink>⟧.taken self.old) (⟦<VecSink as Sink>⟧.taken self.new)) }
+        ensures write { HasWritten ⟦<VecSink as Sink>⟧.taken ⟦<VecSink as Sink>⟧.sink_faults self.old self.new bytes.now result }
     {
         match self.bytes.extend_from_slice(bytes) {
             Ok(()) => Ok(bytes.len()),
@@ -187,4 +128,54 @@ impl<W: Write> Sink for WriterSink<W> {
             Err(_) => Err(self.faults.raise()),
         }
     }
+}
+
+/// Writes a label, a text and a line feed in one call of `put_all`, so that programs that run side by
+/// side do not mix their lines: a sink that takes all that it is given gets one write.
+///
+/// Memory is wanted for the line. Where it is wanting, that is `out_of_memory`, and the sink is as it was.
+/// Where the sink fails, that is `writing_failed`, and the sink took a beginning of the line.
+pub fn put_line<S: Sink>(
+    alloc: Global,
+    sink: &mut S,
+    label: &[u8],
+    text: &[u8],
+) -> errors::Result<()>
+    ensures bytes { OnOk result (Appends (S.taken sink.old) (S.taken sink.new) (label.now ++ text.now ++ 10 ∷ [])) }
+    ensures calm { OnOk result (S.sink_faults sink.new ≡ S.sink_faults sink.old) }
+    ensures fault { IfErr result (λ e. ((e ≡ out_of_memory) × (sink.new ≡ sink.old))
+        ⊎ ((e ≡ writing_failed) × Rose (S.sink_faults sink.old) (S.sink_faults sink.new))) }
+    ensures front { OnErr result (AppendsFront (S.taken sink.old) (S.taken sink.new) (label.now ++ text.now ++ 10 ∷ [])) }
+{
+    let line = line_of(alloc, label, text)?;
+    match put_all(sink, &line) {
+        Ok(()) => Ok(()),
+        Err(_) => Err(faults::writing_failed()),
+    }
+}
+
+/// Writes all of `bytes`. After a fault the sink took a beginning of them.
+pub fn put_all<S: Sink>(sink: &mut S, bytes: &[u8]) -> Result<(), DeviceFault>
+    ensures bytes { OnOk result (Appends (S.taken sink.old) (S.taken sink.new) bytes.now) }
+    ensures calm { OnOk result (S.sink_faults sink.new ≡ S.sink_faults sink.old) }
+    ensures fault { OnErr result (Rose (S.sink_faults sink.old) (S.sink_faults sink.new)) }
+    ensures front { OnErr result (AppendsFront (S.taken sink.old) (S.taken sink.new) bytes.now) }
+{
+    let mut at = 0;
+    'rest: while at < bytes.len() {
+        at += sink.write(&bytes[at..])?;
+    }
+    Ok(())
+}
+
+// A label, a text and a line feed.
+fn line_of(alloc: Global, label: &[u8], text: &[u8]) -> errors::Result<Vec<u8>>
+    ensures line { IfOk result (λ v. v.items ≡ label.now ++ text.now ++ 10 ∷ []) }
+    ensures refused { IfErr result (λ e. e ≡ out_of_memory) }
+{
+    let mut line = Vec::new(alloc);
+    line.extend_from_slice(label)?;
+    line.extend_from_slice(text)?;
+    line.push(b'\n')?;
+    Ok(line)
 }

@@ -3,7 +3,7 @@
 ghost use Rattle.std.specs.Prelude.{Option, ◌≡◌, ◌==◌, ℕ, ◌+◌, ◌-◌, ◌<◌, ◌≤◌, ◌^◌, ◌↔◌, min, List, length, take, Some, None, IsSome, IsOk, IsErr, IsOkAnd, IsNone, IfOk, IfSome, OnOk, OnErr, if◌then◌else◌, ⊤, ◌⊎◌};
 ghost use Rattle.std.specs.Option.{option_map};
 ghost use Rattle.std.specs.Io.KnownBytes.{Consumes, IsAtEnd};
-ghost use Rattle.minisign_base.specs.Devices.{Rose, StaysOrHides, HasGiven};
+ghost use Rattle.minisign_base.specs.Devices.{Rose, HasGiven, HasRead, HasMarked, HasGoneBack};
 
 use super::{DeviceFault, FaultCount};
 use std::io::Read;
@@ -26,15 +26,7 @@ pub trait Source {
     /// how many. The answer is 0 only where `buf` is empty or no byte is left. After a fault the
     /// bytes ahead are those before the call, or are told no more.
     fn read(&mut self, buf: &mut [u8]) -> Result<usize, DeviceFault>
-        ensures bound { IfOk result (λ n. n ≤ length buf.new) }
-        ensures bytes { IfOk result (λ n. Consumes (ahead self.old) (ahead self.new) (take n buf.new)) }
-        ensures end { IfOk result (λ n. n ≡ 0 → 0 < length buf.new → IsAtEnd (ahead self.new)) }
-        ensures left { IfOk result (λ n. left self.new + n ≡ left self.old) }
-        ensures calm { OnOk result (faults self.new ≡ faults self.old) }
-        ensures mark { OnOk result (behind self.new ≡ behind self.old) }
-        ensures fault { OnErr result (Rose (faults self.old) (faults self.new)) }
-        ensures kept { OnErr result (StaysOrHides (ahead self.old) (ahead self.new)) }
-        ensures err_left { OnErr result (left self.new ≤ left self.old) };
+        ensures { HasRead ahead behind left faults self.old self.new buf.new result };
 }
 
 /// A source that can be read again from a place that was marked.
@@ -44,35 +36,11 @@ pub trait Rereader: Source {
 
     /// Remembers the place. The bytes ahead stay; after a fault they stay or are told no more.
     fn mark(&mut self) -> Result<(), DeviceFault>
-        ensures bytes { OnOk result (Self.ahead self.new ≡ Self.ahead self.old) }
-        ensures mark { steady self.old → OnOk result (Self.behind self.new ≡ Self.ahead self.old) }
-        ensures calm { OnOk result (Self.faults self.new ≡ Self.faults self.old) }
-        ensures fault { OnErr result (Rose (Self.faults self.old) (Self.faults self.new)) }
-        ensures kept { OnErr result (StaysOrHides (Self.ahead self.old) (Self.ahead self.new)) };
+        ensures { HasMarked steady Self.ahead Self.behind Self.faults self.old self.new result };
 
     /// Returns to the place that was marked last. Without a mark it is a fault.
     fn back(&mut self) -> Result<(), DeviceFault>
-        ensures bytes { OnOk result (IfSome (Self.behind self.old) (λ xs. Self.ahead self.new ≡ Some xs)) }
-        ensures calm { OnOk result (Self.faults self.new ≡ Self.faults self.old) }
-        ensures fault { OnErr result (Rose (Self.faults self.old) (Self.faults self.new)) };
-}
-
-/// Fills `buf` with the next bytes of a source. It fails where the source fails or ends before.
-pub fn fill_from<S: Source>(source: &mut S, buf: &mut [u8]) -> Result<(), DeviceFault>
-    ensures bytes { OnOk result (Consumes (S.ahead source.old) (S.ahead source.new) buf.new) }
-    ensures calm { OnOk result (S.faults source.new ≡ S.faults source.old) }
-    ensures fault { OnErr result (Rose (S.faults source.old) (S.faults source.new)
-        ⊎ IsAtEnd (S.ahead source.new)) }
-    ensures given { OnErr result (HasGiven (S.ahead source.old) (S.ahead source.new)) }
-{
-    let mut at = 0;
-    'rest: while at < buf.len() {
-        match source.read(&mut buf[at..])? {
-            0 => return Err(DeviceFault),
-            n => at += n,
-        }
-    }
-    Ok(())
+        ensures { HasGoneBack Self.ahead Self.behind Self.faults self.old self.new result };
 }
 
 /// The bytes of a slice. It fails only in `back` without a mark.
@@ -110,16 +78,8 @@ impl<'a> Source for SliceSource<'a> {
     // As many bytes as there is room for, or are left, and never a fault.
     fn read(&mut self, buf: &mut [u8]) -> Result<usize, DeviceFault>
         ensures gives { IsOkAnd result (λ n. n ≡ min (length buf.new) (⟦<SliceSource<'a> as Source>⟧.left self.old)) }
-        ensures bound { IfOk result (λ n. n ≤ length buf.new) }
-        ensures bytes { IfOk result (λ n. Consumes (⟦<SliceSource<'a> as Source>⟧.ahead self.old) (⟦<SliceSource<'a> as Source>⟧.ahead self.new)
-            (take n buf.new)) }
-        ensures end { IfOk result (λ n. n ≡ 0 → 0 < length buf.new → IsAtEnd (⟦<SliceSource<'a> as Source>⟧.ahead self.new)) }
-        ensures left { IfOk result (λ n. ⟦<SliceSource<'a> as Source>⟧.left self.new + n ≡ ⟦<SliceSource<'a> as Source>⟧.left self.old) }
-        ensures calm { OnOk result (⟦<SliceSource<'a> as Source>⟧.faults self.new ≡ ⟦<SliceSource<'a> as Source>⟧.faults self.old) }
-        ensures mark { OnOk result (⟦<SliceSource<'a> as Source>⟧.behind self.new ≡ ⟦<SliceSource<'a> as Source>⟧.behind self.old) }
-        ensures fault { OnErr result (Rose (⟦<SliceSource<'a> as Source>⟧.faults self.old) (⟦<SliceSource<'a> as Source>⟧.faults self.new)) }
-        ensures kept { OnErr result (StaysOrHides (⟦<SliceSource<'a> as Source>⟧.ahead self.old) (⟦<SliceSource<'a> as Source>⟧.ahead self.new)) }
-        ensures err_left { OnErr result (⟦<SliceSource<'a> as Source>⟧.left self.new ≤ ⟦<SliceSource<'a> as Source>⟧.left self.old) }
+        ensures read { HasRead ⟦<SliceSource<'a> as Source>⟧.ahead ⟦<SliceSource<'a> as Source>⟧.behind ⟦<SliceSource<'a> as Source>⟧.left ⟦<SliceSource<'a> as Source>⟧.faults
+            self.old self.new buf.new result }
     {
         let n = buf.len().min(self.rest.len());
         let (front, rest) = self.rest.split_at(n);
@@ -135,12 +95,8 @@ impl<'a> Rereader for SliceSource<'a> {
     // Never a fault.
     fn mark(&mut self) -> Result<(), DeviceFault>
         ensures succeeds { IsOk result }
-        ensures bytes { OnOk result (⟦<SliceSource<'a> as Source>⟧.ahead self.new ≡ ⟦<SliceSource<'a> as Source>⟧.ahead self.old) }
-        ensures mark { ⟦<SliceSource<'a> as Rereader>⟧.steady self.old
-            → OnOk result (⟦<SliceSource<'a> as Source>⟧.behind self.new ≡ ⟦<SliceSource<'a> as Source>⟧.ahead self.old) }
-        ensures calm { OnOk result (⟦<SliceSource<'a> as Source>⟧.faults self.new ≡ ⟦<SliceSource<'a> as Source>⟧.faults self.old) }
-        ensures fault { OnErr result (Rose (⟦<SliceSource<'a> as Source>⟧.faults self.old) (⟦<SliceSource<'a> as Source>⟧.faults self.new)) }
-        ensures kept { OnErr result (StaysOrHides (⟦<SliceSource<'a> as Source>⟧.ahead self.old) (⟦<SliceSource<'a> as Source>⟧.ahead self.new)) }
+        ensures mark { HasMarked ⟦<SliceSource<'a> as Rereader>⟧.steady ⟦<SliceSource<'a> as Source>⟧.ahead ⟦<SliceSource<'a> as Source>⟧.behind ⟦<SliceSource<'a> as Source>⟧.faults
+            self.old self.new result }
     {
         self.marked = Some(self.rest);
         Ok(())
@@ -149,10 +105,8 @@ impl<'a> Rereader for SliceSource<'a> {
     // A fault exactly where nothing was marked. The bytes ahead then stay.
     fn back(&mut self) -> Result<(), DeviceFault>
         ensures succeeds { IsOk result ↔ IsSome (⟦<SliceSource<'a> as Source>⟧.behind self.old) }
-        ensures bytes { OnOk result (IfSome (⟦<SliceSource<'a> as Source>⟧.behind self.old) (λ xs. ⟦<SliceSource<'a> as Source>⟧.ahead self.new ≡ Some xs)) }
+        ensures back { HasGoneBack ⟦<SliceSource<'a> as Source>⟧.ahead ⟦<SliceSource<'a> as Source>⟧.behind ⟦<SliceSource<'a> as Source>⟧.faults self.old self.new result }
         ensures stays_marked { ⟦<SliceSource<'a> as Source>⟧.behind self.new ≡ ⟦<SliceSource<'a> as Source>⟧.behind self.old }
-        ensures calm { OnOk result (⟦<SliceSource<'a> as Source>⟧.faults self.new ≡ ⟦<SliceSource<'a> as Source>⟧.faults self.old) }
-        ensures fault { OnErr result (Rose (⟦<SliceSource<'a> as Source>⟧.faults self.old) (⟦<SliceSource<'a> as Source>⟧.faults self.new)) }
         ensures kept { OnErr result (⟦<SliceSource<'a> as Source>⟧.ahead self.new ≡ ⟦<SliceSource<'a> as Source>⟧.ahead self.old) }
     {
         match self.marked {
@@ -232,4 +186,22 @@ impl<R: Read> Rereader for ReaderSource<R> {
     {
         self.mark()
     }
+}
+
+/// Fills `buf` with the next bytes of a source. It fails where the source fails or ends before.
+pub fn fill_from<S: Source>(source: &mut S, buf: &mut [u8]) -> Result<(), DeviceFault>
+    ensures bytes { OnOk result (Consumes (S.ahead source.old) (S.ahead source.new) buf.new) }
+    ensures calm { OnOk result (S.faults source.new ≡ S.faults source.old) }
+    ensures fault { OnErr result (Rose (S.faults source.old) (S.faults source.new)
+        ⊎ IsAtEnd (S.ahead source.new)) }
+    ensures given { OnErr result (HasGiven (S.ahead source.old) (S.ahead source.new)) }
+{
+    let mut at = 0;
+    'rest: while at < buf.len() {
+        match source.read(&mut buf[at..])? {
+            0 => return Err(DeviceFault),
+            n => at += n,
+        }
+    }
+    Ok(())
 }

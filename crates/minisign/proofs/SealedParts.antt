@@ -1,0 +1,77 @@
+-- The last three fields of a secret key, as one list that is xored with a stream.
+use Rattle.std.proofs.Common.{◌≡◌, ℕ, List, ◌++◌, length, take, drop, bit_xor, refl, sym, ap, ◌∙◌, arith, append_assoc}
+use Rattle.std.proofs.Math.Seq.{take-append_seam, drop-append_seam}
+use Rattle.std.proofs.lemmas.List.{length-append, take-append-drop, take_all}
+use Rattle.std.proofs.lemmas.Simd.{length-zip2}
+use Rattle.std.specs.Simd.Lanes.{zip2}
+use Rattle.minisign.proofs.Xor.{xor_halves, xor_twice}
+use Rattle.minisign.specs.Records.{SecretKeyRecord}
+use Rattle.minisign.specs.Sealing.{sealed_part, with_sealed_part, xored}
+
+-- the fields that are sealed have their lengths
+pub record HasSealedLengths (k : SecretKeyRecord) : Type 0 where
+  pub keynum : length k.keynum ≡ 8
+  pub secret : length k.secret ≡ 64
+  pub checksum : length k.checksum ≡ 32
+
+-- the key with these three fields
+abbrev pub with_fields : SecretKeyRecord → List ℕ → List ℕ → List ℕ → SecretKeyRecord
+with_fields k a b c = record k { keynum = a; secret = b; checksum = c }
+
+-- a part of three fields, cut again
+cut_fields : (k : SecretKeyRecord) (a b c : List ℕ) → length a ≡ 8 → length b ≡ 64 → length c ≡ 32
+    → with_sealed_part k (a ++ b ++ c) ≡ with_fields k a b c
+cut_fields k a b c la lb lc =
+    let whole : a ++ b ++ c ≡ a ++ (b ++ c) = append_assoc a b c in
+    let len : length (a ++ b) ≡ 72 = length-append a b ∙ omega (arith, la, lb) in
+    let first : take 8 (a ++ b ++ c) ≡ a = ap (λ (n : ℕ). take n (a ++ b ++ c)) (sym la) ∙ ap (take (length a)) whole ∙ take-append_seam a (b ++ c) in
+    let behind : drop 8 (a ++ b ++ c) ≡ b ++ c = ap (λ (n : ℕ). drop n (a ++ b ++ c)) (sym la) ∙ ap (drop (length a)) whole ∙ drop-append_seam a (b ++ c) in
+    let second : take 64 (drop 8 (a ++ b ++ c)) ≡ b = ap (take 64) behind ∙ ap (λ (n : ℕ). take n (b ++ c)) (sym lb) ∙ take-append_seam b c in
+    let last : drop 72 (a ++ b ++ c) ≡ c = ap (λ (n : ℕ). drop n (a ++ b ++ c)) (sym len) ∙ drop-append_seam (a ++ b) c in
+    let third : take 32 (drop 72 (a ++ b ++ c)) ≡ c = ap (take 32) last ∙ take_all 32 c (omega (arith, lc)) in
+    λ i. with_fields k (first i) (second i) (third i)
+
+-- the key xored field by field
+pub xored_fields : (k : SecretKeyRecord) (a b c : List ℕ) → HasSealedLengths k → length a ≡ 8 → length b ≡ 64 → length c ≡ 32
+    → xored k (a ++ b ++ c) ≡ with_fields k (zip2 bit_xor k.keynum a) (zip2 bit_xor k.secret b) (zip2 bit_xor k.checksum c)
+unfolding xored
+xored_fields k a b c len la lb lc =
+    let halves : zip2 bit_xor (sealed_part k) (a ++ b ++ c) ≡ zip2 bit_xor k.keynum a ++ zip2 bit_xor k.secret b ++ zip2 bit_xor k.checksum c =
+    xor_halves (k.keynum ++ k.secret) k.checksum (a ++ b) c
+    (length-append k.keynum k.secret ∙ omega (arith, len.keynum, len.secret, la, lb) ∙ sym (length-append a b))
+    ∙ ap (λ (l : List ℕ). l ++ zip2 bit_xor k.checksum c) (xor_halves k.keynum k.secret a b (len.keynum ∙ sym la)) in
+    ap (with_sealed_part k) halves
+    ∙ cut_fields k (zip2 bit_xor k.keynum a) (zip2 bit_xor k.secret b) (zip2 bit_xor k.checksum c)
+    (length-zip2 bit_xor k.keynum a (len.keynum ∙ sym la) ∙ len.keynum)
+    (length-zip2 bit_xor k.secret b (len.secret ∙ sym lb) ∙ len.secret)
+    (length-zip2 bit_xor k.checksum c (len.checksum ∙ sym lc) ∙ len.checksum)
+
+-- a stream cut where the fields are
+pub cut_stream : (stream : List ℕ) → take 8 stream ++ take 64 (drop 8 stream) ++ drop 64 (drop 8 stream) ≡ stream
+cut_stream stream =
+    append_assoc (take 8 stream) (take 64 (drop 8 stream)) (drop 64 (drop 8 stream))
+    ∙ ap (λ (l : List ℕ). take 8 stream ++ l) (take-append-drop 64 (drop 8 stream)) ∙ take-append-drop 8 stream
+
+-- xoring once more with the same fields
+pub restored_fields : (k : SecretKeyRecord) (a b c : List ℕ) → HasSealedLengths k → length a ≡ 8 → length b ≡ 64 → length c ≡ 32
+    → xored (with_fields k (zip2 bit_xor k.keynum a) (zip2 bit_xor k.secret b) (zip2 bit_xor k.checksum c)) (a ++ b ++ c) ≡ k
+restored_fields k a b c len la lb lc =
+    let once : HasSealedLengths (with_fields k (zip2 bit_xor k.keynum a) (zip2 bit_xor k.secret b) (zip2 bit_xor k.checksum c)) = record {
+      keynum = length-zip2 bit_xor k.keynum a (len.keynum ∙ sym la) ∙ len.keynum;
+      secret = length-zip2 bit_xor k.secret b (len.secret ∙ sym lb) ∙ len.secret;
+      checksum = length-zip2 bit_xor k.checksum c (len.checksum ∙ sym lc) ∙ len.checksum;
+    } in
+    xored_fields (with_fields k (zip2 bit_xor k.keynum a) (zip2 bit_xor k.secret b) (zip2 bit_xor k.checksum c)) a b c once la lb lc
+    ∙ (λ i. with_fields k (xor_twice k.keynum a (len.keynum ∙ sym la) i) (xor_twice k.secret b (len.secret ∙ sym lb) i) (xor_twice k.checksum c (len.checksum ∙ sym lc) i))
+
+-- a key whose fields were xored one by one, each with its part of the stream
+pub xored_parts : (k self : SecretKeyRecord) (stream a b c x y z : List ℕ) → k ≡ self → HasSealedLengths k → length stream ≡ 104
+    → a ≡ take 8 stream → b ≡ take 64 (drop 8 stream) → c ≡ drop 64 (drop 8 stream) → length a ≡ 8 → length b ≡ 64 → length c ≡ 32
+    → x ≡ zip2 bit_xor k.keynum a → y ≡ zip2 bit_xor k.secret b → z ≡ zip2 bit_xor k.checksum c
+    → (with_fields k x y z ≡ xored self stream) × (xored (with_fields k x y z) stream ≡ self)
+xored_parts k self stream a b c x y z same len whole ea eb ec la lb lc ex ey ez =
+    let joined : a ++ b ++ c ≡ stream = (λ i. ea i ++ eb i ++ ec i) ∙ cut_stream stream in
+    let fields : with_fields k x y z ≡ with_fields k (zip2 bit_xor k.keynum a) (zip2 bit_xor k.secret b) (zip2 bit_xor k.checksum c) = λ i. with_fields k (ex i) (ey i) (ez i) in (
+      fields ∙ sym (xored_fields k a b c len la lb lc) ∙ (λ i. xored (same i) (joined i)),
+      (λ i. xored (fields i) (sym joined i)) ∙ restored_fields k a b c len la lb lc ∙ same,
+    )

@@ -1,0 +1,59 @@
+//! Reading and writing texts: their lines one after the other, and base64.
+
+ghost use Rattle.std.specs.Prelude.{◌≡◌, [], ◌∷◌, ◌++◌, false, string_bytes, IfOk, IfErr, OnOk, IfSome, IfNone};
+ghost use Rattle.std.specs.Str.Lines.{lines};
+ghost use Rattle.std.specs.Str.Iter.{lines_rest};
+ghost use Rattle.minisign_base.specs.Faults.{out_of_memory};
+ghost use Rattle.minisign.specs.Acceptance.{line};
+ghost use Rattle.minisign.specs.Texts.{IsBase64Of, base64_of, is_base64};
+
+use base64::DecodeAllocError;
+use base64::engine::general_purpose::STANDARD;
+use minisign_base::{Result, faults};
+use std::alloc::Global;
+use std::str::Lines;
+
+// The next line of a text: what comes before a line feed, less one carriage return at its end, or
+// what is left.
+pub(crate) fn next_line<'a>(rest: &mut Lines<'a>) -> Option<&'a str>
+    ensures some { IfSome result (λ x. lines (lines_rest rest.old) ≡ x.now ∷ lines (lines_rest rest.new)) }
+    ensures none { IfNone result (lines (lines_rest rest.old) ≡ []) }
+{
+    match rest.next() {
+        Some(line) => Some(line),
+        None => None,
+    }
+}
+
+// The bytes that a text is the base64 of; nothing where it is no base64.
+pub(crate) fn decode(alloc: Global, text: &str) -> Result<Option<Vec<u8>>>
+    ensures bytes { IfOk result (λ o. IfSome o (λ v. IsBase64Of text.now v.items)) }
+    ensures none { IfOk result (λ o. IfNone o (is_base64 text.now ≡ false)) }
+    ensures refused { IfErr result (λ e. e ≡ out_of_memory) }
+{
+    match STANDARD.decode(alloc, text.as_bytes()) {
+        Ok(bytes) => Ok(Some(bytes)),
+        Err(DecodeAllocError::OutOfMemory) => Err(faults::out_of_memory()),
+        Err(DecodeAllocError::DecodeError(_)) => Ok(None),
+    }
+}
+
+// The base64 of bytes.
+#[tactic(auto, unfolding(crate::specs::Texts::base64_of))]
+pub(crate) fn encode(alloc: Global, bytes: &[u8]) -> Result<String>
+    ensures text { IfOk result (λ t. string_bytes t ≡ base64_of bytes.now) }
+    ensures refused { IfErr result (λ e. e ≡ out_of_memory) }
+{
+    Ok(STANDARD.encode(alloc, bytes)?)
+}
+
+// Adds a line: a label, a text and a line feed.
+pub(crate) fn push_line(lines: &mut String, label: &str, text: &str) -> Result<()>
+    ensures line { OnOk result (string_bytes lines.new ≡ string_bytes lines.old ++ line (label.now ++ text.now)) }
+    ensures refused { IfErr result (λ e. e ≡ out_of_memory) }
+{
+    lines.push_str(label)?;
+    lines.push_str(text)?;
+    lines.push_str("\n")?;
+    Ok(())
+}
