@@ -1,13 +1,14 @@
 //! The command `verify-raw`: a raw public key and a raw signature from files, the data from a reader.
 
-ghost use Rattle.std.specs.Prelude.{◌≡◌, ℕ, ◌≤◌, List, ◌⊎◌, OnOk, IfErr};
+ghost use Rattle.std.specs.Prelude.{◌≡◌, ℕ, ◌≤◌, List, false, ◌⊎◌, OnOk, IfErr};
 ghost use Rattle.std.specs.Io.KnownBytes.{Appends};
 ghost use Rattle.minisign_base.specs.Devices.{Rose};
 ghost use Rattle.minisign_base.specs.Fault.{Fault};
-ghost use Rattle.minisign_base.specs.Faults.{out_of_memory, reading_failed, writing_failed};
 ghost use Rattle.minisign.specs.Acceptance.{line, verified_text};
-ghost use Rattle.minisign.specs.Reading.{IsAhead};
-ghost use Rattle.minisign_tool.specs.VerifyRaw.{FailsRaw, IsFileFault, RefusesRaw, VouchesRaw};
+ghost use Rattle.minisign.specs.Reading.{IsAhead, ReadsWhole};
+ghost use Rattle.minisign.specs.Records.{PublicKeyRecord, SignatureRecord};
+ghost use Rattle.minisign.specs.Verifying.{VerifyingFails};
+ghost use Rattle.minisign_tool.specs.VerifyRaw.{FailsRaw, HoldsRaw, IsFileFault, VouchesRaw, bare_box};
 
 use crate::report::{report, warn};
 use minisign::base::devices::sinks::{Sink, VecSink};
@@ -85,17 +86,14 @@ pub fn verify_raw<S: Scheme, R: Rereader, W: Sink>(
     data_reader: &mut R,
     errors: &mut W,
 ) -> Result<()>
-    ensures accepted { OnOk result ((message : List ℕ) × IsAhead (R.ahead data_reader.old) message
+    ensures accepted { OnOk result ((message : List ℕ) × ReadsWhole R.ahead R.behind R.faults data_reader.old data_reader.new message
         × VouchesRaw (S.accepts scheme.now) key.now signature.now message) }
     ensures said { OnOk result (Appends (W.taken errors.old) (W.taken errors.new) (line verified_text)) }
     ensures refused { IfErr result (λ e.
-        ((e ≡ out_of_memory) × (errors.new ≡ errors.old))
-        ⊎ ((e ≡ reading_failed) × Rose (R.faults data_reader.old) (R.faults data_reader.new) × (errors.new ≡ errors.old))
-        ⊎ (IsFileFault key.now signature.now e × (data_reader.new ≡ data_reader.old) × (errors.new ≡ errors.old))
-        ⊎ ((message : List ℕ) × IsAhead (R.ahead data_reader.old) message
-        × (((e ≡ writing_failed) × Rose (W.sink_faults errors.old) (W.sink_faults errors.new)
-        × VouchesRaw (S.accepts scheme.now) key.now signature.now message)
-        ⊎ (RefusesRaw (S.accepts scheme.now) key.now signature.now message e × (errors.new ≡ errors.old))))) }
+        (IsFileFault key.now signature.now e × (data_reader.new ≡ data_reader.old) × (errors.new ≡ errors.old))
+        ⊎ ((pk : PublicKeyRecord) × (bones : SignatureRecord) × HoldsRaw key.now signature.now pk bones
+        × VerifyingFails (S.accepts scheme.now) pk (bare_box bones) false false
+        R.ahead R.behind R.faults data_reader.old data_reader.new W.sink_faults errors.old errors.new e)) }
 {
     let pk = PublicKey::from_bytes(key)?;
     let bones = SignatureBones::from_bytes(signature)?;
