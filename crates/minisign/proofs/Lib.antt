@@ -16,3 +16,4 @@ pub mod WrittenLines
 pub mod Facts
 pub mod SecretKeyTexts
 pub mod Openings
+pub mod Asking

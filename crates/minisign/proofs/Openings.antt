@@ -1,14 +1,15 @@
 -- When a secret key's text gives a key, and what a refusal says.
-use Rattle.std.proofs.Common.{◌≡◌, ◌⊎◌, ℕ, ◌<◌, ◌≤◌, Bool, true, false, if◌then◌else◌, nat_lt, bytes_eq, List, Option, None, Some, Result, Ok, Err, MatchResult, IfOk, IfErr, refl, sym, ap, ◌∙◌, inl, inr, arith}
+use Rattle.std.proofs.Common.{◌≡◌, ◌⊎◌, ℕ, ◌<◌, ◌≤◌, Bool, true, false, if◌then◌else◌, nat_lt, bytes_eq, List, Option, None, Some, Result, Ok, Err, MatchResult, IfOk, IfErr, IfSome, refl, sym, ap, ◌∙◌, inl, inr, arith, lit≤}
 use Rattle.std.specs.Option.{option_or}
+use Rattle.std.specs.Result.{result_err}
 use Rattle.std.proofs.lemmas.Bool.{le-ltb, ltb-false}
 use Rattle.std.proofs.lemmas.Slice.Eq.{bytes_eq-Decides}
 use Rattle.minisign_base.specs.Fault.{Fault}
 use Rattle.minisign_base.specs.Faults.{out_of_memory, key_might_be_encrypted, corrupted_key, wrong_password, key_not_encrypted, unsupported_encryption_algorithm, work_too_high}
-use Rattle.minisign_base.specs.Limits.{Numbers}
+use Rattle.minisign_base.specs.Limits.{Numbers, parallelization}
 use Rattle.minisign.specs.Records.{SecretKeyRecord}
 use Rattle.minisign.specs.SecretKeyText.{SecretKeyText, RefusesSecretKeyText}
-use Rattle.minisign.specs.Sealing.{IsUnencrypted, OpensWithin, bound_refusal, checksum_of, checksum_refusal, kdf_refusal, key_limits, key_numbers, no_kdf, scrypt_kdf, opening_refusal, password_refusal, unencrypted_refusal, unsealed, work_refusal}
+use Rattle.minisign.specs.Sealing.{IsUnencrypted, Opens, OpensWithin, bound_refusal, checksum_of, checksum_refusal, kdf_refusal, key_limits, key_numbers, no_kdf, scrypt_kdf, opening_refusal, password_refusal, unbounded_refusal, unencrypted_refusal, unsealed, work_refusal}
 use Rattle.minisign.specs.Opening.{IsRefused, IsOpened, RefusesOpening, IsUnencryptedText, RefusesUnencrypted}
 use Rattle.minisign.proofs.SecretKeyTexts.{one_key_text}
 use Rattle.minisign.proofs.SealingLimits.{allowed_numbers, within_bound}
@@ -64,7 +65,7 @@ kdf_tests true scrypt h = absurd (cc)
 kdf_tests false true h = refl
 kdf_tests false false h = absurd (cc)
 
-kdf_held : (k : SecretKeyRecord) → kdf_refusal k ≡ None → k.kdf ≡ scrypt_kdf
+pub kdf_held : (k : SecretKeyRecord) → kdf_refusal k ≡ None → k.kdf ≡ scrypt_kdf
 kdf_held k h = (bytes_eq-Decides k.kdf scrypt_kdf).0 (kdf_tests (bytes_eq k.kdf no_kdf) _ h)
 
 kdf_none : (k : SecretKeyRecord) → k.kdf ≡ scrypt_kdf → kdf_refusal k ≡ None
@@ -119,14 +120,23 @@ any_password text password max_p e (inr refused) = inr (record {
   closed = λ k read h. not_refused text kdf_refusal e k refused read (kdf_none k h.opens.kdf);
 })
 
+-- a key that was opened
+pub opened_text : (text password : List ℕ) (max_p : ℕ) (sealed k : SecretKeyRecord) → SecretKeyText text sealed → kdf_refusal sealed ≡ None
+    → k ≡ unsealed sealed password → password_refusal sealed password max_p ≡ None → IsOpened text password max_p k
+opened_text text password max_p sealed k read kdf is none = record {
+  sealed = sealed;
+  read = read;
+  opens = opening_held sealed password max_p (ap (λ (o : Option Fault). option_or o (password_refusal sealed password max_p)) kdf ∙ none);
+  key = is;
+}
+
 -- what opening says of the text
 pub opening_outcome : (text password : List ℕ) (max_p : ℕ) (sealed : SecretKeyRecord) (r : Result SecretKeyRecord Fault)
     → SecretKeyText text sealed → kdf_refusal sealed ≡ None
     → IfOk r (λ k. (k ≡ unsealed sealed password) × (password_refusal sealed password max_p ≡ None))
     → IfErr r (λ e. ((e ≡ out_of_memory) × (work_refusal sealed max_p ≡ None)) ⊎ (password_refusal sealed password max_p ≡ Some e))
     → MatchResult r (IsOpened text password max_p) (λ e. (e ≡ out_of_memory) ⊎ RefusesOpening text password max_p e)
-opening_outcome text password max_p sealed (Ok k) read kdf (is, none) refused =
-    record { sealed = sealed; read = read; opens = opening_held sealed password max_p (ap (λ (o : Option Fault). option_or o (password_refusal sealed password max_p)) kdf ∙ none); key = is }
+opening_outcome text password max_p sealed (Ok k) read kdf (is, none) refused = opened_text text password max_p sealed k read kdf is none
 opening_outcome text password max_p sealed (Err e) read kdf ok (inl (memory, work)) = inl memory
 opening_outcome text password max_p sealed (Err e) read kdf ok (inr refused) =
     let first : opening_refusal sealed password max_p ≡ Some e = ap (λ (o : Option Fault). option_or o (password_refusal sealed password max_p)) kdf ∙ refused in
@@ -146,10 +156,50 @@ pub opening_headline : (text password : List ℕ) (max_p : ℕ) (r : Result Secr
     → MatchResult r (IsOpened text password max_p) (λ e. (e ≡ out_of_memory) ⊎ RefusesOpening text password max_p e)
     → (k : SecretKeyRecord) → SecretKeyText text k → k.kdf ≡ scrypt_kdf
     → MatchResult r (λ v. OpensWithin k password max_p × (v ≡ unsealed k password))
-      (λ e. (e ≡ out_of_memory) ⊎ (¬ (OpensWithin k password max_p) × (password_refusal k password max_p ≡ Some e)))
+    (λ e. (e ≡ out_of_memory) ⊎ (¬ (OpensWithin k password max_p) × (password_refusal k password max_p ≡ Some e)))
 opening_headline text password max_p (Ok v) opened k read kdf =
     let same : opened.sealed ≡ k = one_key_text text k opened.sealed read opened.read in
     (rw same at opened.opens, opened.key ∙ ap (λ (l : SecretKeyRecord). unsealed l password) same)
 opening_headline text password max_p (Err e) (inl memory) k read kdf = inl memory
 opening_headline text password max_p (Err e) (inr refused) k read kdf =
     inr (refused.closed k read, refused_key text password max_p e k refused.first read kdf)
+
+-- no parallelization is above the greatest bound
+small_p : (b : Bool) (count n_log2 : ℕ) → (if b then 1 else parallelization count n_log2) ≤ 4294967295
+small_p true count n_log2 = lit≤ tt
+small_p false count n_log2 = omega arith
+
+small_numbers : (k : SecretKeyRecord) → (key_numbers k).p ≤ 4294967295
+unfolding key_numbers
+small_numbers k = small_p _ _ _
+
+unbounded_work : (k : SecretKeyRecord) (r : Result Numbers Fault) → r ≡ key_limits k → bound_refusal r 4294967295 ≡ result_err r
+unbounded_work k (Err e) same = refl
+unbounded_work k (Ok v) same =
+    let numbers : key_numbers k ≡ v = allowed_numbers k v (sym same) in
+    let within : v.p ≤ 4294967295 = rw (← numbers) (small_numbers k) in
+    rw (le-ltb 4294967295 v.p within) refl
+
+-- what the greatest bound says is said without a bound
+pub unbounded_headline : (k : SecretKeyRecord) (password : List ℕ) (r : Result SecretKeyRecord Fault)
+    → MatchResult r (λ v. OpensWithin k password 4294967295 × (v ≡ unsealed k password))
+    (λ e. (e ≡ out_of_memory) ⊎ (¬ (OpensWithin k password 4294967295) × (password_refusal k password 4294967295 ≡ Some e)))
+    → MatchResult r (λ v. Opens k password × (v ≡ unsealed k password))
+    (λ e. (e ≡ out_of_memory) ⊎ (¬ (Opens k password) × (unbounded_refusal k password ≡ Some e)))
+unbounded_headline k password (Ok v) (opens, is) = (opens.opens, is)
+unbounded_headline k password (Err e) (inl memory) = inl memory
+unbounded_headline k password (Err e) (inr (closed, refused)) = inr (
+  λ opens. closed (record { opens = opens; bounded = small_numbers k }),
+  ap (λ (o : Option Fault). option_or o (checksum_refusal (unsealed k password) wrong_password)) (sym (unbounded_work k (key_limits k) refl)) ∙ refused,
+)
+
+-- the same where a password is handed in
+pub unbounded_headlines : {P : Type 0} (text : List ℕ) (bytes_of : P → List ℕ) (password : Option P) (r : Result SecretKeyRecord Fault)
+    → IfSome password (λ p. (k : SecretKeyRecord) → SecretKeyText text k → k.kdf ≡ scrypt_kdf
+    → MatchResult r (λ v. OpensWithin k (bytes_of p) 4294967295 × (v ≡ unsealed k (bytes_of p)))
+    (λ e. (e ≡ out_of_memory) ⊎ (¬ (OpensWithin k (bytes_of p) 4294967295) × (password_refusal k (bytes_of p) 4294967295 ≡ Some e))))
+    → IfSome password (λ p. (k : SecretKeyRecord) → SecretKeyText text k → k.kdf ≡ scrypt_kdf
+    → MatchResult r (λ v. Opens k (bytes_of p) × (v ≡ unsealed k (bytes_of p)))
+    (λ e. (e ≡ out_of_memory) ⊎ (¬ (Opens k (bytes_of p)) × (unbounded_refusal k (bytes_of p) ≡ Some e))))
+unbounded_headlines text bytes_of None r h = tt
+unbounded_headlines text bytes_of (Some p) r h = λ k read kdf. unbounded_headline k (bytes_of p) r (h k read kdf)

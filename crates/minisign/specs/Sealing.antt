@@ -2,6 +2,7 @@
 -- last 104 bytes of its record, as one list, are xored with a stream of scrypt (RFC 7914, section 6).
 use Rattle.std.specs.Prelude.{◌≡◌, ℕ, ◌^◌, ◌≤◌, Bool, not, ◌&&◌, if◌then◌else◌, nat_lt, List, [], ◌∷◌, ◌++◌, take, drop, Option, None, Some, Result, Ok, Err, bit_xor, bytes_eq, codes}
 use Rattle.std.specs.Option.{option_or}
+use Rattle.std.specs.Result.{result_err}
 use Rattle.std.specs.Int.{w64, from_le_bytes}
 use Rattle.std.specs.Simd.Lanes.{zip2}
 use Rattle.minisign_hash.specs.Blake2b.{blake2b_digest}
@@ -92,6 +93,11 @@ checksum_refusal k e = if bytes_eq k.checksum (checksum_of k) then None else Som
 abbrev pub password_refusal : SecretKeyRecord → List ℕ → ℕ → Option Fault
 password_refusal k password max_p =
     option_or (work_refusal k max_p) (checksum_refusal (unsealed k password) wrong_password)
+
+-- the same where nothing bounds the parallelization
+abbrev pub unbounded_refusal : SecretKeyRecord → List ℕ → Option Fault
+unbounded_refusal k password =
+    option_or (result_err (key_limits k)) (checksum_refusal (unsealed k password) wrong_password)
 
 -- the first reason for which a key does not open under a password within the bound
 abbrev pub opening_refusal : SecretKeyRecord → List ℕ → ℕ → Option Fault

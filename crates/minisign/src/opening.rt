@@ -1,19 +1,50 @@
 //! The key of a text: opened with a password where it is sealed.
 
-ghost use Rattle.std.specs.Prelude.{◌≡◌, ◌⊎◌, ℕ, None, Some, string_bytes, MatchResult, IfOk, IfErr, OnOk, IfSome};
-ghost use Rattle.minisign_base.specs.Faults.{out_of_memory, corrupted_key, wrong_password};
+ghost use Rattle.std.specs.Prelude.{◌≡◌, ◌⊎◌, ℕ, List, ◌++◌, None, Some, Ok, string_bytes, MatchResult, IfOk, IfErr, OnOk, IfSome, IfNone};
+ghost use Rattle.minisign_base.specs.Faults.{out_of_memory, writing_failed, wrong_password};
 ghost use Rattle.minisign.specs.Records.{SecretKeyRecord};
 ghost use Rattle.minisign.specs.SecretKeyText.{SecretKeyText};
-ghost use Rattle.minisign.specs.Sealing.{checksum_refusal, kdf_refusal, password_refusal, unencrypted_refusal, unsealed, work_refusal};
-ghost use Rattle.minisign.specs.Opening.{IsRefused, IsOpened, RefusesOpening, IsUnencryptedText, RefusesUnencrypted};
+ghost use Rattle.minisign.specs.Sealing.{Opens, OpensWithin, checksum_refusal, kdf_refusal, password_refusal, scrypt_kdf, unbounded_refusal, unencrypted_refusal, unsealed, work_refusal};
+ghost use Rattle.minisign.specs.Opening.{IsRefused, IsOpened, RefusesOpening, IsUnencryptedText, RefusesUnencrypted, HasSaid, HasAskedAndSaid, HasAskedAndNotSaid, IsOpenedAsking, IsToldRefusal, RefusesAsking, asking_text, deriving_text, done_text};
+ghost use Rattle.minisign_base.specs.Prompts.{HasAsked, IsAskingFault, HasNotSaid};
 
 use crate::constants::{KDF_ALG, KDF_NONE};
 use crate::secret_key::SecretKey;
 use crate::secret_key_box::SecretKeyBox;
+use minisign_base::devices::sinks::Sink;
+use minisign_base::devices::sources::Source;
+use minisign_base::helpers::get_password;
+use minisign_base::prompt::Prompt;
 use minisign_base::{Result, faults};
 use std::alloc::Global;
 
 impl SecretKeyBox {
+    /// The key, opened where it is sealed: `SecretKey::from_box`.
+    pub fn into_secret_key<R: Source, W: Sink>(
+        self,
+        alloc: Global,
+        password: Option<String>,
+        prompt: &mut Prompt<R, W>,
+    ) -> Result<SecretKey>
+        // A password that is handed in.
+        ensures handed_in { IfSome password (λ p. MatchResult result (IsOpened self (string_bytes p) 4294967295)
+            (λ e. (e ≡ out_of_memory) ⊎ RefusesOpening self (string_bytes p) 4294967295 e)) }
+        ensures untouched { IfSome password (λ _. prompt.new ≡ prompt.old) }
+
+        // A password that is asked for.
+        ensures asked { IfNone password (MatchResult result
+            (IsOpenedAsking R.ahead R.left R.faults W.taken W.sink_faults prompt.old prompt.new self 4294967295)
+            (RefusesAsking R.ahead R.left R.faults W.taken W.sink_faults prompt.old prompt.new self 4294967295)) }
+
+        // In one piece: a sealed key that is read opens with the password that is handed in exactly where
+        // its limits are allowed and the stream restores its checksum.
+        ensures headline { IfSome password (λ p. (k : SecretKeyRecord) → SecretKeyText self k → k.kdf ≡ scrypt_kdf →
+            MatchResult result (λ v. Opens k (string_bytes p) × (v ≡ unsealed k (string_bytes p)))
+            (λ e. (e ≡ out_of_memory) ⊎ (¬ (Opens k (string_bytes p)) × (unbounded_refusal k (string_bytes p) ≡ Some e)))) }
+    {
+        SecretKey::from_box(alloc, self, password, prompt)
+    }
+
     /// The key, where it was never sealed: `SecretKey::from_unencrypted_box`.
     pub fn into_unencrypted_secret_key(self, alloc: Global) -> Result<SecretKey>
         ensures outcome { MatchResult result (IsUnencryptedText self) (λ e. (e ≡ out_of_memory) ⊎ RefusesUnencrypted self e) }
@@ -24,6 +55,79 @@ impl SecretKeyBox {
 }
 
 impl SecretKey {
+    /// Reads a sealed key and opens it with the password: `from_box_within` with 4294967295, which no
+    /// parallelization exceeds, so that `work_too_high` never comes.
+    pub fn from_box<R: Source, W: Sink>(
+        alloc: Global,
+        sk_box: SecretKeyBox,
+        password: Option<String>,
+        prompt: &mut Prompt<R, W>,
+    ) -> Result<SecretKey>
+        // A password that is handed in.
+        ensures handed_in { IfSome password (λ p. MatchResult result (IsOpened sk_box (string_bytes p) 4294967295)
+            (λ e. (e ≡ out_of_memory) ⊎ RefusesOpening sk_box (string_bytes p) 4294967295 e)) }
+        ensures untouched { IfSome password (λ _. prompt.new ≡ prompt.old) }
+
+        // A password that is asked for.
+        ensures asked { IfNone password (MatchResult result
+            (IsOpenedAsking R.ahead R.left R.faults W.taken W.sink_faults prompt.old prompt.new sk_box 4294967295)
+            (RefusesAsking R.ahead R.left R.faults W.taken W.sink_faults prompt.old prompt.new sk_box 4294967295)) }
+
+        // In one piece: a sealed key that is read opens with the password that is handed in exactly where
+        // its limits are allowed and the stream restores its checksum.
+        ensures headline { IfSome password (λ p. (k : SecretKeyRecord) → SecretKeyText sk_box k → k.kdf ≡ scrypt_kdf →
+            MatchResult result (λ v. Opens k (string_bytes p) × (v ≡ unsealed k (string_bytes p)))
+            (λ e. (e ≡ out_of_memory) ⊎ (¬ (Opens k (string_bytes p)) × (unbounded_refusal k (string_bytes p) ≡ Some e)))) }
+    {
+        SecretKey::from_box_within(alloc, sk_box, password, prompt, u32::MAX)
+    }
+
+    /// Reads a sealed key and opens it with the password, within a bound on the work of a stranger's key:
+    /// `max_p` is the greatest parallelization p of scrypt (RFC 7914, section 2) that is allowed. Memory
+    /// for the rows of scrypt is asked for once, 128 * 8 * N bytes.
+    ///
+    /// Where no password is handed in, the prompt writes `Password: ` and reads a line, writes
+    /// `Deriving a key from the password and decrypting the secret key... `, and after the derivation
+    /// `done` and a line feed; a password that is handed in leaves the prompt untouched.
+    ///
+    /// Refused are, in this order: a text without a first line, without a second one, with a second line
+    /// that is no base64, or of fewer than 158 bytes; a key that was never sealed, `key_not_encrypted`; one
+    /// that is not sealed by scrypt, `unsupported_encryption_algorithm`; what `get_password` refuses; a
+    /// memory limit above 1073741824 bytes or a cost above 2^20, `parameters_too_high`; limits that lead to
+    /// parameters that scrypt does not take, `invalid_parameters`; p above `max_p`, `work_too_high`; a
+    /// writer that fails at `done`; a checksum that opening does not restore, `wrong_password`. What the
+    /// limits and the bound refuse takes no memory for rows.
+    pub fn from_box_within<R: Source, W: Sink>(
+        alloc: Global,
+        sk_box: SecretKeyBox,
+        password: Option<String>,
+        prompt: &mut Prompt<R, W>,
+        max_p: u32,
+    ) -> Result<SecretKey>
+        // A password that is handed in.
+        ensures handed_in { IfSome password (λ p. MatchResult result (IsOpened sk_box (string_bytes p) max_p)
+            (λ e. (e ≡ out_of_memory) ⊎ RefusesOpening sk_box (string_bytes p) max_p e)) }
+        ensures untouched { IfSome password (λ _. prompt.new ≡ prompt.old) }
+
+        // A password that is asked for.
+        ensures asked { IfNone password (MatchResult result
+            (IsOpenedAsking R.ahead R.left R.faults W.taken W.sink_faults prompt.old prompt.new sk_box max_p)
+            (RefusesAsking R.ahead R.left R.faults W.taken W.sink_faults prompt.old prompt.new sk_box max_p)) }
+
+        // In one piece: a sealed key that is read opens with the password that is handed in exactly where
+        // its limits are allowed, p is within the bound and the stream restores its checksum.
+        ensures headline { IfSome password (λ p. (k : SecretKeyRecord) → SecretKeyText sk_box k → k.kdf ≡ scrypt_kdf →
+            MatchResult result (λ v. OpensWithin k (string_bytes p) max_p × (v ≡ unsealed k (string_bytes p)))
+            (λ e. (e ≡ out_of_memory) ⊎ (¬ (OpensWithin k (string_bytes p) max_p) × (password_refusal k (string_bytes p) max_p ≡ Some e)))) }
+    {
+        match password {
+            Some(password) => {
+                SecretKey::opened_from_text(alloc, sk_box.as_str(), password.as_bytes(), max_p)
+            }
+            None => SecretKey::asked_from_text(alloc, sk_box.as_str(), prompt, max_p),
+        }
+    }
+
     /// Reads a key that was never sealed. Its text is read as two lines: one of comment, and one that is the
     /// base64 of the key's 158 bytes, with nothing trimmed off; later bytes and later lines are ignored.
     ///
@@ -94,6 +198,61 @@ impl SecretKey {
         Ok(())
     }
 
+    // Reads the text of a sealed key, and opens it with a password that is asked for.
+    fn asked_from_text<R: Source, W: Sink>(
+        alloc: Global,
+        text: &str,
+        prompt: &mut Prompt<R, W>,
+        max_p: u32,
+    ) -> Result<SecretKey>
+        ensures opened { IfOk result (IsOpenedAsking R.ahead R.left R.faults W.taken W.sink_faults prompt.old prompt.new text.now max_p) }
+        ensures refused { IfErr result (RefusesAsking R.ahead R.left R.faults W.taken W.sink_faults prompt.old prompt.new text.now max_p) }
+    {
+        let sk = SecretKey::sealed_from_text(alloc, text)?;
+        sk.open_asking(alloc, prompt, max_p)
+    }
+
+    // Asks for a password, and opens a sealed key with it.
+    fn open_asking<R: Source, W: Sink>(
+        self,
+        alloc: Global,
+        prompt: &mut Prompt<R, W>,
+        max_p: u32,
+    ) -> Result<SecretKey>
+        ensures opened { IfOk result (λ v. (bytes : List ℕ) × (password : List ℕ) × (v ≡ unsealed self password)
+            × (password_refusal self password max_p ≡ None)
+            × HasAskedAndSaid R.ahead R.left R.faults W.taken W.sink_faults prompt.old prompt.new bytes password (deriving_text ++ done_text)) }
+        ensures refused { IfErr result (λ e.
+            IsAskingFault R.ahead R.left R.faults W.taken W.sink_faults prompt.old prompt.new asking_text e
+            ⊎ ((bytes : List ℕ) × (password : List ℕ)
+            × IsToldRefusal (HasAskedAndSaid R.ahead R.left R.faults W.taken W.sink_faults prompt.old prompt.new bytes password)
+            (HasAskedAndNotSaid R.ahead R.left R.faults W.taken W.sink_faults prompt.old prompt.new bytes password) self password max_p e)) }
+    {
+        let password = ask_password(alloc, prompt)?;
+        self.open_telling(alloc, password.as_bytes(), prompt, max_p)
+    }
+
+    // Opens a sealed key, and says so before the derivation and behind it.
+    fn open_telling<R: Source, W: Sink>(
+        self,
+        alloc: Global,
+        password: &[u8],
+        prompt: &mut Prompt<R, W>,
+        max_p: u32,
+    ) -> Result<SecretKey>
+        ensures opened { IfOk result (λ v. (v ≡ unsealed self password.now) × (password_refusal self password.now max_p ≡ None)
+            × HasSaid W.taken W.sink_faults prompt.old prompt.new (deriving_text ++ done_text)) }
+        ensures refused { IfErr result (λ e. IsToldRefusal (HasSaid W.taken W.sink_faults prompt.old prompt.new)
+            (HasNotSaid W.taken W.sink_faults prompt.old prompt.new) self password.now max_p e) }
+    {
+        say_deriving(prompt)?;
+        let mut sk = self;
+        sk.unseal(alloc, password, max_p)?;
+        say_done(prompt)?;
+        sk.check_restored()?;
+        Ok(sk)
+    }
+
     // Opens a sealed key with a password that was handed in.
     fn open_with(self, alloc: Global, password: &[u8], max_p: u32) -> Result<SecretKey>
         ensures opened { IfOk result (λ v. (v ≡ unsealed self password.now) × (password_refusal self password.now max_p ≡ None)) }
@@ -115,4 +274,32 @@ impl SecretKey {
         }
         Ok(())
     }
+}
+
+// Asks for the password.
+#[tactic(auto, unfolding(crate::specs::Opening::asking_text))]
+fn ask_password<R: Source, W: Sink>(alloc: Global, prompt: &mut Prompt<R, W>) -> Result<String>
+    ensures asked { IfOk result (λ password. (bytes : List ℕ)
+        × HasAsked R.ahead R.left R.faults W.taken W.sink_faults prompt.old prompt.new asking_text bytes (Ok (string_bytes password))) }
+    ensures refused { IfErr result (λ e. IsAskingFault R.ahead R.left R.faults W.taken W.sink_faults prompt.old prompt.new asking_text e) }
+{
+    get_password(alloc, prompt, "Password: ")
+}
+
+// Says that the key is being derived.
+#[tactic(auto, unfolding(crate::specs::Opening::deriving_text))]
+fn say_deriving<R: Source, W: Sink>(prompt: &mut Prompt<R, W>) -> Result<()>
+    ensures said { OnOk result (HasSaid W.taken W.sink_faults prompt.old prompt.new deriving_text) }
+    ensures refused { IfErr result (λ e. (e ≡ writing_failed) × HasNotSaid W.taken W.sink_faults prompt.old prompt.new deriving_text) }
+{
+    prompt.say("Deriving a key from the password and decrypting the secret key... ")
+}
+
+// Says that the key was derived.
+#[tactic(auto, unfolding(crate::specs::Opening::done_text))]
+fn say_done<R: Source, W: Sink>(prompt: &mut Prompt<R, W>) -> Result<()>
+    ensures said { OnOk result (HasSaid W.taken W.sink_faults prompt.old prompt.new done_text) }
+    ensures refused { IfErr result (λ e. (e ≡ writing_failed) × HasNotSaid W.taken W.sink_faults prompt.old prompt.new done_text) }
+{
+    prompt.say("done\n")
 }
