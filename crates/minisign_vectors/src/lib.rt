@@ -20,9 +20,13 @@ mod keys_for_tests;
 #[cfg(test)]
 mod limits;
 #[cfg(test)]
+mod lines;
+#[cfg(test)]
 mod records;
 #[cfg(test)]
 mod sign;
+#[cfg(test)]
+mod table;
 #[cfg(test)]
 mod toy;
 #[cfg(test)]
