@@ -7,3 +7,4 @@ pub mod SignedBoxes
 pub mod Unvouched
 pub mod FirstLine
 pub mod Base64Texts
+pub mod Facts
