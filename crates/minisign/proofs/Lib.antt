@@ -8,3 +8,4 @@ pub mod Unvouched
 pub mod FirstLine
 pub mod Base64Texts
 pub mod Facts
+pub mod SecretKeyTexts

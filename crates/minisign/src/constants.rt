@@ -11,3 +11,12 @@ pub(crate) const SIGALG_PREHASHED: [u8; 2] = [b'E', b'D'];
 
 /// No key derivation: the secret key was never sealed.
 pub(crate) const KDF_NONE: [u8; 2] = [0, 0];
+
+/// Key derivation by scrypt: the secret key was sealed.
+pub(crate) const KDF_ALG: [u8; 2] = [b'S', b'c'];
+
+/// How the first line of a written text begins.
+pub(crate) const COMMENT_PREFIX: &str = "untrusted comment: ";
+
+/// The comment of a secret key's text where none is given.
+pub(crate) const SECRETKEY_DEFAULT_COMMENT: &str = "rsign encrypted secret key";
