@@ -9,3 +9,4 @@ pub mod FirstLine
 pub mod Base64Texts
 pub mod Facts
 pub mod SecretKeyTexts
+pub mod GeneratedKeys

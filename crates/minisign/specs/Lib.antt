@@ -5,4 +5,5 @@ pub mod Acceptance
 pub mod SecretKeyText
 pub mod Sealing
 pub mod Signing
+pub mod Generation
 pub mod Verifying

@@ -7,8 +7,10 @@
 
 mod comment_signature;
 mod constants;
+mod drawing;
 mod fields;
 pub mod keynum;
+pub mod keypair;
 pub mod public_key;
 pub mod reading;
 mod sealing;
@@ -23,6 +25,7 @@ mod texts;
 pub mod verifying;
 
 pub use constants::DEFAULT_COMMENT;
+pub use keypair::KeyPair;
 pub use minisign_base as base;
 pub use minisign_base::{ErrorKind, PError, Result};
 pub use minisign_hash as hash;
