@@ -10,3 +10,4 @@ pub mod Base64Texts
 pub mod Facts
 pub mod SecretKeyTexts
 pub mod GeneratedKeys
+pub mod Openings

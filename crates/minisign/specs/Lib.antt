@@ -7,3 +7,4 @@ pub mod Sealing
 pub mod Signing
 pub mod Generation
 pub mod Verifying
+pub mod Opening

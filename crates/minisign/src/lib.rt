@@ -11,6 +11,7 @@ mod drawing;
 mod fields;
 pub mod keynum;
 pub mod keypair;
+mod opening;
 pub mod public_key;
 pub mod reading;
 mod sealing;
