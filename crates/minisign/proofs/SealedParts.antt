@@ -6,7 +6,7 @@ use Rattle.std.proofs.lemmas.Simd.{length-zip2}
 use Rattle.std.specs.Simd.Lanes.{zip2}
 use Rattle.minisign.proofs.Xor.{xor_halves, xor_twice}
 use Rattle.minisign.specs.Records.{SecretKeyRecord}
-use Rattle.minisign.specs.Sealing.{sealed_part, with_sealed_part, xored}
+use Rattle.minisign.specs.Sealing.{key_numbers, sealed_part, stream_of, with_sealed_part, xored}
 
 -- the fields that are sealed have their lengths
 pub record HasSealedLengths (k : SecretKeyRecord) : Type 0 where
@@ -75,3 +75,8 @@ xored_parts k self stream a b c x y z same len whole ea eb ec la lb lc ex ey ez 
       fields ∙ sym (xored_fields k a b c len la lb lc) ∙ (λ i. xored (same i) (joined i)),
       (λ i. xored (fields i) (sym joined i)) ∙ restored_fields k a b c len la lb lc ∙ same,
     )
+
+-- the stream does not depend on what is sealed
+pub stream_of_xored : (k : SecretKeyRecord) (stream password : List ℕ) → stream_of (xored k stream) password ≡ stream_of k password
+unfolding xored stream_of key_numbers
+stream_of_xored k stream password = refl

@@ -6,7 +6,7 @@ use Rattle.minisign_base.specs.Devices.{AppendsFront, Rose}
 use Rattle.minisign_base.specs.Fault.{Fault}
 use Rattle.minisign_base.specs.Faults.{out_of_memory, writing_failed}
 use Rattle.minisign_base.specs.Scheme.{IsBytes}
-use Rattle.minisign.specs.Records.{PublicKeyRecord, SecretKeyRecord, legacy_algorithm}
+use Rattle.minisign.specs.Records.{PublicKeyRecord, SecretKeyRecord, legacy_algorithm, public_key_bytes, secret_key_bytes}
 use Rattle.minisign.specs.Sealing.{IsUnencrypted, Opens, checksum_of, no_kdf, scrypt_kdf, unsealed}
 use Rattle.minisign.specs.Signing.{DrawFails, IsGenuine}
 
@@ -88,3 +88,66 @@ pub record IsUnsealedPair (public_of : List ℕ → List ℕ) (ahead left : Opti
   pub drawn : Consumes ahead left (seed ++ keynum)
   pub public : pk ≡ public_key_of public_of seed keynum
   pub secret : sk ≡ unsealed_key keynum (secret_of public_of seed)
+
+-- the sealed pair, of random bytes that were drawn: those of the other pair, and then 32 of a salt
+pub record IsSealedPair (public_of : List ℕ → List ℕ) (password : List ℕ) (ahead left : Option (List ℕ)) (pk : PublicKeyRecord) (sk : SecretKeyRecord) : Type 0 where
+  pub seed : List ℕ
+  pub keynum : List ℕ
+  pub salt : List ℕ
+  pub lengths : AreSeedAndKeynum seed keynum
+  pub salt_length : length salt ≡ 32
+  pub drawn : Consumes ahead left (seed ++ keynum ++ salt)
+  pub public : pk ≡ public_key_of public_of seed keynum
+  pub secret : sk ≡ sealed_key keynum (secret_of public_of seed) salt password
+  -- opening gives the key as it was
+  pub opened : unsealed sk password ≡ opened_key keynum (secret_of public_of seed) salt
+
+-- the secret key opens under the password, and then belongs to the public key
+pub record OpensToPair (public_of : List ℕ → List ℕ) (password : List ℕ) (pk : PublicKeyRecord) (sk : SecretKeyRecord) : Type 0 where
+  pub opens : Opens sk password
+  pub pair : IsGenuinePair public_of pk (unsealed sk password)
+
+-- a sink took all of a part and passed it on
+pub record TakesPart {W : Type 0} (taken_of : W → Option (List ℕ)) (faults_of : W → ℕ) (old new : W) (part : List ℕ) : Type 0 where
+  pub bytes : Appends (taken_of old) (taken_of new) part
+  pub calm : faults_of new ≡ faults_of old
+
+-- a sink took a beginning of a part, and failed there or at passing it on
+pub record FailsAtPart {W : Type 0} (taken_of : W → Option (List ℕ)) (faults_of : W → ℕ) (old new : W) (part : List ℕ) : Type 0 where
+  pub front : AppendsFront (taken_of old) (taken_of new) part
+  pub rose : Rose (faults_of old) (faults_of new)
+
+-- the public sink failed at the public part; the secret sink is as it was
+pub record PublicPartFails {P K : Type 0} (pk_taken : P → Option (List ℕ)) (pk_faults : P → ℕ) (pk_old pk_new : P) (sk_old sk_new : K) (public : List ℕ) : Type 0 where
+  pub failed : FailsAtPart pk_taken pk_faults pk_old pk_new public
+  pub unbegun : sk_new ≡ sk_old
+
+-- the public sink took the public part, and the secret sink failed at the secret one
+pub record SecretPartFails {P K : Type 0} (pk_taken : P → Option (List ℕ)) (pk_faults : P → ℕ) (pk_old pk_new : P)
+    (sk_taken : K → Option (List ℕ)) (sk_faults : K → ℕ) (sk_old sk_new : K) (public secret : List ℕ) : Type 0 where
+  pub written : TakesPart pk_taken pk_faults pk_old pk_new public
+  pub failed : FailsAtPart sk_taken sk_faults sk_old sk_new secret
+
+-- the two parts could not be written
+pub record WritingFails {P K : Type 0} (pk_taken : P → Option (List ℕ)) (pk_faults : P → ℕ) (pk_old pk_new : P)
+    (sk_taken : K → Option (List ℕ)) (sk_faults : K → ℕ) (sk_old sk_new : K) (public secret : List ℕ) (e : Fault) : Type 0 where
+  pub fault : e ≡ writing_failed
+  pub part : PublicPartFails pk_taken pk_faults pk_old pk_new sk_old sk_new public
+      ⊎ SecretPartFails pk_taken pk_faults pk_old pk_new sk_taken sk_faults sk_old sk_new public secret
+
+-- a pair's parts are not written: memory was wanting for them, and both sinks are as they were, or a sink
+-- failed
+abbrev pub PartsFail : {P K : Type 0} → (P → Option (List ℕ)) → (P → ℕ) → P → P → (K → Option (List ℕ)) → (K → ℕ) → K → K
+    → List ℕ → List ℕ → Fault → Type 0
+PartsFail pk_taken pk_faults pk_old pk_new sk_taken sk_faults sk_old sk_new public secret e =
+    ((e ≡ out_of_memory) × (pk_new ≡ pk_old) × (sk_new ≡ sk_old))
+    ⊎ WritingFails pk_taken pk_faults pk_old pk_new sk_taken sk_faults sk_old sk_new public secret e
+
+-- a pair that is not sealed is not written as raw bytes: the random source failed, and both sinks are as they
+-- were, or a pair was made whose parts were not written
+abbrev pub RawPairFails : {Z P K : Type 0} → (List ℕ → List ℕ) → (Z → Option (List ℕ)) → (Z → ℕ) → Z → Z
+    → (P → Option (List ℕ)) → (P → ℕ) → P → P → (K → Option (List ℕ)) → (K → ℕ) → K → K → Fault → Type 0
+RawPairFails public_of ahead faults random_old random_new pk_taken pk_faults pk_old pk_new sk_taken sk_faults sk_old sk_new e =
+    (DrawFails faults random_old random_new e × (pk_new ≡ pk_old) × (sk_new ≡ sk_old))
+    ⊎ ((pk : PublicKeyRecord) × (sk : SecretKeyRecord) × IsUnsealedPair public_of (ahead random_old) (ahead random_new) pk sk
+    × PartsFail pk_taken pk_faults pk_old pk_new sk_taken sk_faults sk_old sk_new (public_key_bytes pk) (secret_key_bytes sk) e)

@@ -23,3 +23,9 @@ pub(crate) const SECRETKEY_DEFAULT_COMMENT: &str = "rsign encrypted secret key";
 
 /// The checksum of a secret key is made by Blake2b.
 pub(crate) const CHK_ALG: [u8; 2] = [b'B', b'2'];
+
+/// The operations limit of a key that is sealed.
+pub(crate) const OPSLIMIT: u64 = 1048576;
+
+/// The memory limit of a key that is sealed, in bytes.
+pub(crate) const MEMLIMIT: u64 = 33554432;

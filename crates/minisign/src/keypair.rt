@@ -1,20 +1,26 @@
 //! Pairs of keys, and how they are made.
 
-ghost use Rattle.std.specs.Prelude.{◌≡◌, ◌++◌, IfOk, IfErr, OnOk};
+ghost use Rattle.std.specs.Prelude.{◌≡◌, ℕ, List, ◌++◌, IfOk, IfErr, OnOk, OnErr};
+ghost use Rattle.std.specs.Int.{to_le_bytes, w64};
 ghost use Rattle.std.specs.Io.KnownBytes.{Consumes};
 ghost use Rattle.minisign_base.specs.Devices.{HasGiven};
-ghost use Rattle.minisign.specs.Sealing.{IsUnencrypted};
+ghost use Rattle.minisign_base.specs.Faults.{out_of_memory, writing_failed};
+ghost use Rattle.minisign.specs.Records.{public_key_bytes, secret_key_bytes};
+ghost use Rattle.minisign.specs.Sealing.{IsUnencrypted, unsealed};
 ghost use Rattle.minisign.specs.Signing.{DrawFails};
-ghost use Rattle.minisign.specs.Generation.{AreSeedAndKeynum, IsGenuinePair, IsUnsealedPair, public_key_of, secret_of, unsealed_key};
+ghost use Rattle.minisign.specs.Generation.{AreSeedAndKeynum, FailsAtPart, IsGenuinePair, IsUnsealedPair, RawPairFails, TakesPart, WritingFails, opened_key, public_key_of, sealed_key, sealing_memory, sealing_operations, secret_of, unsealed_key};
 
-use crate::constants::{CHK_ALG, KDF_NONE, SIGALG};
+use crate::constants::{CHK_ALG, KDF_ALG, KDF_NONE, MEMLIMIT, OPSLIMIT, SIGALG};
 use crate::drawing::draw;
 use crate::keynum::{KeynumPK, KeynumSK};
 use crate::public_key::PublicKey;
 use crate::secret_key::SecretKey;
-use minisign_base::Result;
 use minisign_base::devices::random_sources::RandomSource;
+use minisign_base::devices::sinks::{Sink, put_and_flush};
+use minisign_base::helpers::store_u64_le;
 use minisign_base::scheme::Scheme;
+use minisign_base::{Result, faults};
+use std::alloc::Global;
 
 /// A public key and the secret key that belongs to it.
 #[derive(Clone, Debug, Drop)]
@@ -42,6 +48,68 @@ impl KeyPair {
     {
         let (seed, keynum) = draw_seed_and_keynum(random)?;
         Ok(make_pair(scheme, &seed, keynum))
+    }
+
+    /// Makes a pair that is not sealed, and writes the 42 bytes of its public key to `pk_sink` and the 158
+    /// of its secret key to `sk_sink`.
+    ///
+    /// Refused are, in this order: a failing `random`; memory for the bytes of both keys, with neither sink
+    /// touched; a failing `pk_sink`; and a failing `sk_sink`. The public key is written and flushed before
+    /// the secret one is begun, and the secret one is flushed at the end. A sink that failed took a
+    /// beginning of its key.
+    pub fn generate_and_write_unencrypted_keypair<S: Scheme, Z: RandomSource, P: Sink, K: Sink>(
+        alloc: Global,
+        scheme: &S,
+        random: &mut Z,
+        pk_sink: &mut P,
+        sk_sink: &mut K,
+    ) -> Result<KeyPair>
+        // The pair, and what the sinks took of it.
+        ensures made { IfOk result (λ pair. IsUnsealedPair (S.public_of scheme.now) (Z.random_ahead random.old) (Z.random_ahead random.new) pair.pk pair.sk) }
+        ensures genuine { IfOk result (λ pair. IsGenuinePair (S.public_of scheme.now) pair.pk pair.sk) }
+        ensures unencrypted { IfOk result (λ pair. IsUnencrypted pair.sk) }
+        ensures public { IfOk result (λ pair. TakesPart P.taken P.sink_faults pk_sink.old pk_sink.new (public_key_bytes pair.pk)) }
+        ensures secret { IfOk result (λ pair. TakesPart K.taken K.sink_faults sk_sink.old sk_sink.new (secret_key_bytes pair.sk)) }
+        ensures calm { OnOk result (Z.random_faults random.new ≡ Z.random_faults random.old) }
+
+        // Why it was refused.
+        ensures refused { IfErr result (RawPairFails (S.public_of scheme.now) Z.random_ahead Z.random_faults random.old random.new
+            P.taken P.sink_faults pk_sink.old pk_sink.new K.taken K.sink_faults sk_sink.old sk_sink.new) }
+        ensures given { HasGiven (Z.random_ahead random.old) (Z.random_ahead random.new) }
+    {
+        let pair = KeyPair::generate_unencrypted_keypair(scheme, random)?;
+        let public = pair.pk.to_bytes(alloc)?;
+        let secret = pair.sk.to_bytes(alloc)?;
+        write_parts(pk_sink, sk_sink, &public, &secret)?;
+        Ok(pair)
+    }
+}
+
+// Writes both parts: the public one is passed on before the secret one is begun.
+fn write_parts<P: Sink, K: Sink>(
+    pk_sink: &mut P,
+    sk_sink: &mut K,
+    public: &[u8],
+    secret: &[u8],
+) -> Result<()>
+    ensures public { OnOk result (TakesPart P.taken P.sink_faults pk_sink.old pk_sink.new public.now) }
+    ensures secret { OnOk result (TakesPart K.taken K.sink_faults sk_sink.old sk_sink.new secret.now) }
+    ensures refused { IfErr result (WritingFails P.taken P.sink_faults pk_sink.old pk_sink.new
+        K.taken K.sink_faults sk_sink.old sk_sink.new public.now secret.now) }
+{
+    write_part(pk_sink, public)?;
+    write_part(sk_sink, secret)
+}
+
+// Writes a part and passes it on.
+fn write_part<W: Sink>(sink: &mut W, part: &[u8]) -> Result<()>
+    ensures taken { OnOk result (TakesPart W.taken W.sink_faults sink.old sink.new part.now) }
+    ensures failed { OnErr result (FailsAtPart W.taken W.sink_faults sink.old sink.new part.now) }
+    ensures refused { IfErr result (λ e. e ≡ writing_failed) }
+{
+    match put_and_flush(sink, part) {
+        Ok(()) => Ok(()),
+        Err(_) => Err(faults::writing_failed()),
     }
 }
 
@@ -91,6 +159,34 @@ fn make_secret_key(keynum: [u8; 8], secret: [u8; 64]) -> SecretKey
             chk: [0; 32],
         },
     };
-    sk.keynum_sk.chk = sk.read_checksum();
+    sk.write_checksum();
     sk
+}
+
+impl SecretKey {
+    // Seals a key that is not sealed, with a salt and the limits by default.
+    fn seal(self, alloc: Global, salt: [u8; 32], password: &[u8]) -> Result<SecretKey>
+        ensures sealed { (keynum secret : List ℕ) → self ≡ unsealed_key keynum secret → IfOk result (λ k. k ≡ sealed_key keynum secret salt password.now) }
+        ensures opened { (keynum secret : List ℕ) → self ≡ unsealed_key keynum secret → IfOk result (λ k. unsealed k password.now ≡ opened_key keynum secret salt) }
+        ensures refused { IfErr result (λ e. e ≡ out_of_memory) }
+    {
+        let mut sk = self.with_limits(salt);
+        sk.unseal(alloc, password, u32::MAX)?;
+        Ok(sk)
+    }
+
+    // Names the key derivation, its salt and the limits by default.
+    #[tactic(auto, unfolding(crate::specs::Generation::opened_key))]
+    fn with_limits(self, salt: [u8; 32]) -> SecretKey
+        ensures named { (keynum secret : List ℕ) → self ≡ unsealed_key keynum secret → result ≡ opened_key keynum secret salt }
+        ensures memory { result.memory_limit ≡ to_le_bytes w64 sealing_memory }
+        ensures operations { result.operations_limit ≡ to_le_bytes w64 sealing_operations }
+    {
+        let mut sk = self;
+        sk.kdf_alg = KDF_ALG;
+        sk.kdf_salt = salt;
+        sk.kdf_opslimit_le = store_u64_le(OPSLIMIT);
+        sk.kdf_memlimit_le = store_u64_le(MEMLIMIT);
+        sk
+    }
 }

@@ -24,6 +24,7 @@ impl SecretKey {
     // a parallelization above `max_p`; neither takes memory.
     pub(crate) fn unseal(&mut self, alloc: Global, password: &[u8], max_p: u32) -> Result<()>
         ensures unsealed { OnOk result (self.new ≡ unsealed self.old password.now) }
+        ensures restores { OnOk result (unsealed self.new password.now ≡ self.old) }
         ensures allowed { OnOk result (work_refusal self.old max_p ≡ None) }
         ensures refused { IfErr result (λ e. ((e ≡ out_of_memory) × (work_refusal self.old max_p ≡ None))
             ⊎ (work_refusal self.old max_p ≡ Some e)) }

@@ -1,6 +1,6 @@
 -- What follows for a sink from one write after another, for callers that write a text in parts.
 use Rattle.std.proofs.Common.{ℕ, ◌+◌, min, Option, None, Some, List, ◌++◌, length, take, ap, sym, ◌∙◌, append_assoc, append-nil, arith}
-use Rattle.std.proofs.lemmas.List.{take-append-le, take_min}
+use Rattle.std.proofs.lemmas.List.{take-append-le, take_all, take_min}
 use Rattle.std.proofs.Math.Seq.{take-append-add}
 use Rattle.std.specs.Io.KnownBytes.{Appends, Keeps}
 use Rattle.minisign_base.specs.Devices.{AppendsFront}
@@ -27,3 +27,10 @@ AppendsFront-more (Some x) b bs cs (n, p) = (
   min n (length bs),
   p ∙ ap (λ l. Some (x ++ l)) (sym (take-append-le (min n (length bs)) bs cs (omega arith) ∙ take_min n bs)),
 )
+
+-- a whole text is a beginning of itself
+pub AppendsFront-whole : (a b c : Option (List ℕ)) (bs : List ℕ) → Appends a b bs → Keeps b c → AppendsFront a c bs
+AppendsFront-whole None b c bs p k = (0, tt)
+AppendsFront-whole (Some x) None c bs p k = absurd p
+AppendsFront-whole (Some x) (Some y) None bs p k = absurd k
+AppendsFront-whole (Some x) (Some y) (Some z) bs p k = (length bs, ap Some (k ∙ p ∙ ap (λ l. x ++ l) (sym (take_all (length bs) bs (omega arith)))))

@@ -154,6 +154,20 @@ pub fn put_line<S: Sink>(
     }
 }
 
+/// Writes all of `bytes` and passes them on. After a fault the sink took a beginning of them.
+pub fn put_and_flush<S: Sink>(sink: &mut S, bytes: &[u8]) -> Result<(), DeviceFault>
+    ensures bytes { OnOk result (Appends (S.taken sink.old) (S.taken sink.new) bytes.now) }
+    ensures calm { OnOk result (S.sink_faults sink.new ≡ S.sink_faults sink.old) }
+    ensures fault { OnErr result (Rose (S.sink_faults sink.old) (S.sink_faults sink.new)) }
+    ensures front { OnErr result (AppendsFront (S.taken sink.old) (S.taken sink.new) bytes.now) }
+{
+    put_all(sink, bytes)?;
+    match sink.flush() {
+        Ok(()) => Ok(()),
+        Err(fault) => Err(fault),
+    }
+}
+
 /// Writes all of `bytes`. After a fault the sink took a beginning of them.
 pub fn put_all<S: Sink>(sink: &mut S, bytes: &[u8]) -> Result<(), DeviceFault>
     ensures bytes { OnOk result (Appends (S.taken sink.old) (S.taken sink.new) bytes.now) }
