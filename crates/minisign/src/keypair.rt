@@ -8,7 +8,7 @@ ghost use Rattle.minisign_base.specs.Faults.{out_of_memory, writing_failed};
 ghost use Rattle.minisign.specs.Records.{public_key_bytes, secret_key_bytes};
 ghost use Rattle.minisign.specs.Sealing.{IsUnencrypted, unsealed};
 ghost use Rattle.minisign.specs.Signing.{DrawFails};
-ghost use Rattle.minisign.specs.Generation.{AreSeedAndKeynum, FailsAtPart, IsGenuinePair, IsUnsealedPair, RawPairFails, TakesPart, WritingFails, opened_key, public_key_of, sealed_key, sealing_memory, sealing_operations, secret_of, unsealed_key};
+ghost use Rattle.minisign.specs.Generation.{AreSeedAndKeynum, FailsAtPart, IsGenuinePair, IsUnsealedPair, OpensToPair, RawPairFails, TakesPart, WritingFails, opened_key, public_key_of, sealed_key, sealing_memory, sealing_operations, secret_of, unsealed_key};
 
 use crate::constants::{CHK_ALG, KDF_ALG, KDF_NONE, MEMLIMIT, OPSLIMIT, SIGALG};
 use crate::drawing::draw;
@@ -29,6 +29,14 @@ pub struct KeyPair {
     pub pk: PublicKey,
     /// The secret key, sealed or not.
     pub sk: SecretKey,
+}
+
+// The random bytes of a sealed pair, in the order in which they are drawn.
+#[derive(Drop)]
+struct Drawn {
+    seed: [u8; 32],
+    keynum: [u8; 8],
+    salt: [u8; 32],
 }
 
 impl KeyPair {
@@ -111,6 +119,37 @@ fn write_part<W: Sink>(sink: &mut W, part: &[u8]) -> Result<()>
         Ok(()) => Ok(()),
         Err(_) => Err(faults::writing_failed()),
     }
+}
+
+// The pair of a seed under an identifier, sealed with a salt under a password.
+fn make_sealed_pair<S: Scheme>(
+    alloc: Global,
+    scheme: &S,
+    drawn: &Drawn,
+    password: &[u8],
+) -> Result<KeyPair>
+    ensures public { IfOk result (λ pair. pair.pk ≡ public_key_of (S.public_of scheme.now) drawn.now.seed drawn.now.keynum) }
+    ensures secret { IfOk result (λ pair. pair.sk ≡ sealed_key drawn.now.keynum (secret_of (S.public_of scheme.now) drawn.now.seed) drawn.now.salt password.now) }
+    ensures opened { IfOk result (λ pair. unsealed pair.sk password.now ≡ opened_key drawn.now.keynum (secret_of (S.public_of scheme.now) drawn.now.seed) drawn.now.salt) }
+    ensures opens { AreSeedAndKeynum drawn.now.seed drawn.now.keynum → IfOk result (λ pair. OpensToPair (S.public_of scheme.now) password.now pair.pk pair.sk) }
+    ensures refused { IfErr result (λ e. e ≡ out_of_memory) }
+{
+    let KeyPair { pk, sk } = make_pair(scheme, &drawn.seed, drawn.keynum);
+    let sk = sk.seal(alloc, drawn.salt, password)?;
+    Ok(KeyPair { pk, sk })
+}
+
+// The random bytes of a sealed pair: a seed, an identifier, and a salt.
+fn draw_with_salt<Z: RandomSource>(random: &mut Z) -> Result<Drawn>
+    ensures drawn { IfOk result (λ z. Consumes (Z.random_ahead random.old) (Z.random_ahead random.new) (z.seed ++ z.keynum ++ z.salt)) }
+    ensures lengths { IfOk result (λ z. AreSeedAndKeynum z.seed z.keynum) }
+    ensures calm { OnOk result (Z.random_faults random.new ≡ Z.random_faults random.old) }
+    ensures refused { IfErr result (DrawFails Z.random_faults random.old random.new) }
+    ensures given { HasGiven (Z.random_ahead random.old) (Z.random_ahead random.new) }
+{
+    let (seed, keynum) = draw_seed_and_keynum(random)?;
+    let salt = draw(random)?;
+    Ok(Drawn { seed, keynum, salt })
 }
 
 // Draws 32 bytes of a seed, and then 8 of an identifier.
