@@ -15,4 +15,5 @@ pub mod ReadTexts
 pub mod WrittenLines
 pub mod Facts
 pub mod SecretKeyTexts
+pub mod GeneratedKeys
 pub mod Openings

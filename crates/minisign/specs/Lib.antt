@@ -7,4 +7,5 @@ pub mod Sealing
 pub mod Signing
 pub mod Verifying
 pub mod SecretKeyText
+pub mod Generation
 pub mod Opening
