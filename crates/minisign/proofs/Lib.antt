@@ -4,6 +4,7 @@ pub mod SealingLimits
 pub mod RecordFields
 pub mod Beginnings
 pub mod Copies
+pub mod Passes
 pub mod SignedBoxes
 pub mod Unvouched
 pub mod FirstLine
@@ -13,3 +14,6 @@ pub mod PublicKeyTexts
 pub mod ReadTexts
 pub mod WrittenLines
 pub mod Facts
+pub mod SecretKeyTexts
+pub mod GeneratedKeys
+pub mod Openings

@@ -6,4 +6,6 @@ pub mod PublicKeyText
 pub mod Sealing
 pub mod Signing
 pub mod Verifying
-pub mod Copying
+pub mod SecretKeyText
+pub mod Generation
+pub mod Opening

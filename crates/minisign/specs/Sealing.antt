@@ -87,11 +87,15 @@ work_refusal k max_p = bound_refusal (key_limits k) max_p
 abbrev pub checksum_refusal : SecretKeyRecord → Fault → Option Fault
 checksum_refusal k e = if bytes_eq k.checksum (checksum_of k) then None else Some e
 
--- the first reason for which a key does not open under a password
+-- what is refused of a key sealed by scrypt where a password is known: its limits, the bound, and then a
+-- checksum that the stream does not restore
+abbrev pub password_refusal : SecretKeyRecord → List ℕ → ℕ → Option Fault
+password_refusal k password max_p =
+    option_or (work_refusal k max_p) (checksum_refusal (unsealed k password) wrong_password)
+
+-- the first reason for which a key does not open under a password within the bound
 abbrev pub opening_refusal : SecretKeyRecord → List ℕ → ℕ → Option Fault
-opening_refusal k password max_p =
-    option_or (kdf_refusal k)
-    (option_or (work_refusal k max_p) (checksum_refusal (unsealed k password) wrong_password))
+opening_refusal k password max_p = option_or (kdf_refusal k) (password_refusal k password max_p)
 
 -- the key was never sealed, and its checksum matches
 pub record IsUnencrypted (k : SecretKeyRecord) : Type 0 where

@@ -11,3 +11,21 @@ pub(crate) const SIGALG_PREHASHED: [u8; 2] = [b'E', b'D'];
 
 /// No key derivation: the secret key was never sealed.
 pub(crate) const KDF_NONE: [u8; 2] = [0, 0];
+
+/// Key derivation by scrypt: the secret key was sealed.
+pub(crate) const KDF_ALG: [u8; 2] = [b'S', b'c'];
+
+/// How the first line of a written text begins.
+pub(crate) const COMMENT_PREFIX: &str = "untrusted comment: ";
+
+/// The comment of a secret key's text where none is given.
+pub(crate) const SECRETKEY_DEFAULT_COMMENT: &str = "rsign encrypted secret key";
+
+/// The checksum of a secret key is made by Blake2b.
+pub(crate) const CHK_ALG: [u8; 2] = [b'B', b'2'];
+
+/// The operations limit of a key that is sealed.
+pub(crate) const OPSLIMIT: u64 = 1048576;
+
+/// The memory limit of a key that is sealed, in bytes.
+pub(crate) const MEMLIMIT: u64 = 33554432;

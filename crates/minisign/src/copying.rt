@@ -2,14 +2,13 @@
 //! that has to give the digest of the first.
 
 ghost use Rattle.std.specs.Prelude.{◌≡◌, ◌≢◌, ℕ, ◌<◌, ◌++◌, ◌⊎◌, List, false, length, vec_len, IfSome, IfOk, IfErr, OnOk, OnErr};
-ghost use Rattle.std.specs.Io.KnownBytes.{Appends, Keeps};
+ghost use Rattle.std.specs.Io.KnownBytes.{Appends, IsAtEnd, Keeps};
 ghost use Rattle.minisign_hash.specs.Blake2b.{blake2b_digest};
 ghost use Rattle.minisign_hash.specs.Fed.{IsFed, has_finalized, output_length};
 ghost use Rattle.minisign_base.specs.Devices.{Rose, HasGiven, AppendsFront};
 ghost use Rattle.minisign_base.specs.Faults.{out_of_memory, going_back_failed, data_changed};
-ghost use Rattle.minisign.specs.Reading.{IsAhead, IsReadFault, ReadsWhole};
-ghost use Rattle.minisign.specs.Verifying.{OutputFails, ReturnFails};
-ghost use Rattle.minisign.specs.Copying.{IsReturned, CopyingFails};
+ghost use Rattle.minisign.specs.Reading.{IsAhead, IsReadFault, IsReturned, ReadsWhole};
+ghost use Rattle.minisign.specs.Verifying.{OutputFails, KeptFails, CopyingFails};
 
 use crate::reading::piece_buffer;
 use minisign_base::devices::sinks::{Sink, put_all};
@@ -21,8 +20,8 @@ use std::alloc::Global;
 // Writes all of the bytes and flushes.
 pub(crate) fn put_out<O: Sink>(out: &mut O, bytes: &[u8]) -> Result<()>
     ensures all { OnOk result (Appends (O.taken out.old) (O.taken out.new) bytes.now) }
-    ensures refused { IfErr result (OutputFails O.sink_faults out.old out.new) }
-    ensures front { OnErr result (AppendsFront (O.taken out.old) (O.taken out.new) bytes.now) }
+    ensures calm { OnOk result (O.sink_faults out.new ≡ O.sink_faults out.old) }
+    ensures refused { IfErr result (KeptFails O.taken O.sink_faults out.old out.new bytes.now) }
 {
     put_bytes(out, bytes)?;
     flush(out)
@@ -37,7 +36,10 @@ pub(crate) fn copy_again<R: Rereader, O: Sink>(
 ) -> Result<()>
     ensures copied { OnOk result ((second : List ℕ) × IsReturned R.ahead R.behind data_reader.old second
         × Appends (O.taken out.old) (O.taken out.new) second × (blake2b_digest 64 second ≡ digest.now)) }
-    ensures refused { IfErr result (CopyingFails R.ahead R.behind R.faults data_reader.old data_reader.new
+    ensures end { OnOk result (IsAtEnd (R.ahead data_reader.new)) }
+    ensures calm { OnOk result (R.faults data_reader.new ≡ R.faults data_reader.old) }
+    ensures out_calm { OnOk result (O.sink_faults out.new ≡ O.sink_faults out.old) }
+    ensures refused { IfErr result (CopyingFails (IsReturned R.ahead R.behind data_reader.old) R.faults data_reader.old data_reader.new
         O.taken O.sink_faults out.old out.new digest.now) }
 {
     go_back(data_reader)?;

@@ -22,8 +22,10 @@ impl SecretKey {
     // Xors the last 104 bytes of the record with the stream under the password: opens a sealed key, and
     // seals an opened one. Limits that are not allowed are refused before anything is derived, and then
     // a parallelization above `max_p`; neither takes memory.
+    #[tactic(auto, using(crate::proofs::SealedParts::restored_key))]
     pub(crate) fn unseal(&mut self, alloc: Global, password: &[u8], max_p: u32) -> Result<()>
         ensures unsealed { OnOk result (self.new ≡ unsealed self.old password.now) }
+        ensures restores { OnOk result (unsealed self.new password.now ≡ self.old) }
         ensures allowed { OnOk result (work_refusal self.old max_p ≡ None) }
         ensures refused { IfErr result (λ e. ((e ≡ out_of_memory) × (work_refusal self.old max_p ≡ None))
             ⊎ (work_refusal self.old max_p ≡ Some e)) }
@@ -58,6 +60,7 @@ fn xor_bytes(bytes: &mut [u8], stream: &[u8])
 }
 
 // The stream under the password.
+#[tactic(auto, using(crate::proofs::SealingLimits::derived_stream))]
 fn derive_stream(alloc: Global, sk: &SecretKey, password: &[u8], max_p: u32) -> Result<[u8; 104]>
     ensures stream { IfOk result (λ s. s ≡ stream_of sk.now password.now) }
     ensures allowed { OnOk result (work_refusal sk.now max_p ≡ None) }
@@ -105,4 +108,64 @@ fn sealing_params(memlimit: u64, opslimit: u64) -> Result<Params>
         return Err(faults::parameters_too_high());
     }
     raw_scrypt_params(memlimit, opslimit, N_LOG2_MAX)
+}
+
+#[cfg(test)]
+mod tests {
+    use crate::keynum::KeynumSK;
+    use crate::secret_key::SecretKey;
+
+    // The secret of the toy's pair whose seed counts up from 0: the seed, then each byte of it xored with
+    // 0x5a.
+    const SECRET: [u8; 64] = [
+        0x00, 0x01, 0x02, 0x03, 0x04, 0x05, 0x06, 0x07, 0x08, 0x09, 0x0a, 0x0b, 0x0c, 0x0d, 0x0e,
+        0x0f, 0x10, 0x11, 0x12, 0x13, 0x14, 0x15, 0x16, 0x17, 0x18, 0x19, 0x1a, 0x1b, 0x1c, 0x1d,
+        0x1e, 0x1f, 0x5a, 0x5b, 0x58, 0x59, 0x5e, 0x5f, 0x5c, 0x5d, 0x52, 0x53, 0x50, 0x51, 0x56,
+        0x57, 0x54, 0x55, 0x4a, 0x4b, 0x48, 0x49, 0x4e, 0x4f, 0x4c, 0x4d, 0x42, 0x43, 0x40, 0x41,
+        0x46, 0x47, 0x44, 0x45,
+    ];
+
+    // Blake2b with 32 bytes of `Ed`, the identifier and the secret, by Python's hashlib.
+    const CHECKSUM: [u8; 32] = [
+        0xb1, 0x40, 0xaf, 0x16, 0xb3, 0x2e, 0xf9, 0x9a, 0xc3, 0x36, 0xea, 0xc4, 0xcd, 0x5b, 0xb9,
+        0xbe, 0xf0, 0x8d, 0x3a, 0xda, 0x6e, 0x1c, 0xd9, 0x2b, 0x7c, 0xde, 0x3e, 0x20, 0xf0, 0x8f,
+        0x24, 0x50,
+    ];
+
+    // That pair's secret key, never sealed, under the identifier that goes on counting.
+    fn counted_key() -> SecretKey {
+        SecretKey {
+            sig_alg: *b"Ed",
+            kdf_alg: [0; 2],
+            chk_alg: *b"B2",
+            kdf_salt: [0; 32],
+            kdf_opslimit_le: [0; 8],
+            kdf_memlimit_le: [0; 8],
+            keynum_sk: KeynumSK {
+                keynum: [32, 33, 34, 35, 36, 37, 38, 39],
+                sk: SECRET,
+                chk: [0; 32],
+            },
+        }
+    }
+
+    #[test]
+    fn xoring_twice_restores(rt: HostRuntime) {
+        let mut key = counted_key();
+        key.xor_keynum(&[1; 104]);
+        assert!(rt; key.keynum_sk != counted_key().keynum_sk);
+        assert_eq!(rt; key.keynum_sk.keynum, [33, 32, 35, 34, 37, 36, 39, 38]);
+        assert_eq!(rt; key.keynum_sk.chk, [1; 32]);
+        key.xor_keynum(&[1; 104]);
+        assert!(rt; key.keynum_sk == counted_key().keynum_sk);
+        assert_eq!(rt; key.keynum_sk.chk, [0; 32]);
+    }
+
+    #[test]
+    fn written_checksum_is_computed(rt: HostRuntime) {
+        let mut key = counted_key();
+        key.write_checksum();
+        assert_eq!(rt; key.keynum_sk.chk, CHECKSUM);
+        assert_eq!(rt; key.read_checksum(), CHECKSUM);
+    }
 }

@@ -65,6 +65,13 @@ impl SecretKey {
         checksum
     }
 
+    // Writes that checksum.
+    pub(crate) fn write_checksum(&mut self)
+        ensures { self.new ≡ record self.old { checksum = checksum_of self.old } }
+    {
+        self.keynum_sk.chk = self.read_checksum();
+    }
+
     /// The identifier, 8 bytes, as it stands: of a sealed key the sealed one.
     pub fn keynum(&self) -> &[u8]
         ensures { result.now ≡ self.now.keynum }

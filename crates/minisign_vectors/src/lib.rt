@@ -22,7 +22,11 @@ mod limits;
 #[cfg(test)]
 mod lines;
 #[cfg(test)]
+mod prompts;
+#[cfg(test)]
 mod records;
+#[cfg(test)]
+mod secret_keys;
 #[cfg(test)]
 mod sign;
 #[cfg(test)]

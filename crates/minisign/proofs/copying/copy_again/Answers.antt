@@ -14,5 +14,9 @@ returns-clause-refused g c =
     IfErr-weaker c.flush.result _ _ (λ e failed. inr (
       second,
       record { returned = c.go_back.new.data_reader; given = read.given; same = c.in_ok-go_back.ensures.returned },
-      inr (taken, inr (same, record { fault = failed.fault; rose = subst (λ n. Rose n (g.O.Sink.sink_faults c.flush.new.out)) c.in_ok-second.ensures.calm failed.rose })),
+      inr (inr (record {
+        all = taken;
+        unchanged = same;
+        failed = record { fault = failed.fault; rose = subst (λ n. Rose n (g.O.Sink.sink_faults c.flush.new.out)) c.in_ok-second.ensures.calm failed.rose };
+      })),
     )) c.flush.ensures.refused

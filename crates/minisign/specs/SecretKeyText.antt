@@ -1,0 +1,38 @@
+-- The text of a secret key: a line of comment, and a line that is the base64 of the key's record, with
+-- nothing before or behind it. What follows these two lines does not matter.
+use Rattle.std.specs.Prelude.{◌≡◌, ℕ, IsTrue, nat_le, List, [], ◌∷◌, ◌++◌, length, Option, Some, codes}
+use Rattle.std.specs.Option.{unwrap_or}
+use Rattle.minisign_base.specs.Fault.{Fault}
+use Rattle.minisign_base.specs.Faults.{missing_secret_key_comment, missing_encoded_secret_key, secret_key_not_base64, record_too_short}
+use Rattle.minisign.specs.Acceptance.{line}
+use Rattle.minisign.specs.Records.{SecretKeyRecord, ReadsSecretKey, secret_key_bytes}
+use Rattle.minisign.specs.Texts.{IsBase64Of, Test, base64_bytes, base64_of, first_failing, has_line, is_base64, line_at, untrusted_comment_label}
+
+-- the text reads as the key
+pub record SecretKeyText (text : List ℕ) (k : SecretKeyRecord) : Type 0 where
+  pub bytes : List ℕ
+  pub second_line : IsTrue (has_line 1 text)
+  pub encoded : IsBase64Of (line_at 1 text) bytes
+  pub stored : ReadsSecretKey bytes k
+
+-- the tests of a text, in their order
+abbrev pub secret_key_text_tests : List ℕ → List Test
+secret_key_text_tests text =
+    record { holds = has_line 0 text; fault = missing_secret_key_comment }
+    ∷ record { holds = has_line 1 text; fault = missing_encoded_secret_key }
+    ∷ record { holds = is_base64 (line_at 1 text); fault = secret_key_not_base64 }
+    ∷ record { holds = nat_le 158 (length (base64_bytes (line_at 1 text))); fault = record_too_short }
+    ∷ []
+
+-- the text reads as no key, and this is the first test that fails
+pub record RefusesSecretKeyText (text : List ℕ) (e : Fault) : Type 0 where
+  pub first : first_failing (secret_key_text_tests text) ≡ Some e
+  pub unreadable : (k : SecretKeyRecord) → ¬ (SecretKeyText text k)
+
+unfoldable pub default_secret_key_comment : List ℕ
+default_secret_key_comment = codes "rsign encrypted secret key"
+
+-- the text that is written, with the comment that is given or else the default
+unfoldable pub secret_key_text : Option (List ℕ) → SecretKeyRecord → List ℕ
+secret_key_text comment k =
+    line (untrusted_comment_label ++ unwrap_or comment default_secret_key_comment) ++ line (base64_of (secret_key_bytes k))

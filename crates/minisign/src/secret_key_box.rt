@@ -1,0 +1,91 @@
+//! The text of a secret key, held as it is.
+
+ghost use Rattle.std.specs.Prelude.{◌≡◌, Some, string_bytes, IfOk, IfErr};
+ghost use Rattle.minisign_base.specs.Faults.{out_of_memory};
+
+use minisign_base::Result;
+use std::alloc::Global;
+use std::fmt;
+use std::marker::Model;
+
+/// A text that stands for a secret key. Nothing of it is tested before the key is read.
+#[derive(Debug, Drop)]
+pub struct SecretKeyBox {
+    text: String,
+}
+
+impl Model for SecretKeyBox {
+    ghost use Rattle.std.specs.Prelude.{ℕ, List, string_bytes};
+
+    ghost Value = { List ℕ };
+
+    ghost view = { λ b. string_bytes b.text };
+}
+
+impl SecretKeyBox {
+    /// A box of this text. Only want of memory is refused.
+    pub fn from_string(alloc: Global, s: &str) -> Result<SecretKeyBox>
+        ensures text { IfOk result (λ b. b ≡ s.now) }
+        ensures refused { IfErr result (λ e. e ≡ out_of_memory) }
+    {
+        Ok(SecretKeyBox {
+            text: String::from_str(alloc, s)?,
+        })
+    }
+
+    /// The text. Takes no memory.
+    pub fn into_string(self) -> String
+        ensures { string_bytes result ≡ self }
+    {
+        let SecretKeyBox { text } = self;
+        text
+    }
+
+    /// The bytes of the text. Only want of memory is refused.
+    pub fn to_bytes(&self, alloc: Global) -> Result<Vec<u8>>
+        ensures bytes { IfOk result (λ v. v.items ≡ self.now) }
+        ensures refused { IfErr result (λ e. e ≡ out_of_memory) }
+    {
+        Ok(Vec::from_slice(alloc, self.text.as_bytes())?)
+    }
+
+    /// Another box of the same text. Only want of memory is refused.
+    pub fn try_clone(&self, alloc: Global) -> Result<SecretKeyBox>
+        ensures same { IfOk result (λ b. b ≡ self.now) }
+        ensures refused { IfErr result (λ e. e ≡ out_of_memory) }
+    {
+        SecretKeyBox::from_string(alloc, self.text.as_str())
+    }
+
+    // The text, lent.
+    pub(crate) fn as_str(&self) -> &str
+        ensures { result.now ≡ self.now }
+    {
+        self.text.as_str()
+    }
+}
+
+impl From<String> for SecretKeyBox {
+    ghost from_gives = { λ s b. b ≡ string_bytes s };
+
+    fn from(s: String) -> SecretKeyBox {
+        SecretKeyBox { text: s }
+    }
+}
+
+impl From<SecretKeyBox> for String {
+    ghost from_gives = { λ b s. string_bytes s ≡ b };
+
+    fn from(sk_box: SecretKeyBox) -> String {
+        sk_box.into_string()
+    }
+}
+
+/// The text.
+impl fmt::Display for SecretKeyBox {
+    ghost output = { λ b. Some b };
+
+    fn fmt<W: fmt::Write>(&self, f: &mut fmt::Formatter<W>) -> fmt::Result {
+        f.write_str(self.text.as_str())
+    }
+}

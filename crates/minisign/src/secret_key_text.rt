@@ -1,0 +1,63 @@
+//! A secret key read from its text, and written to it.
+
+ghost use Rattle.std.specs.Prelude.{◌≡◌, ◌⊎◌, Some, MatchResult, IfOk, IfErr};
+ghost use Rattle.std.specs.Option.{option_map};
+ghost use Rattle.minisign_base.specs.Faults.{out_of_memory};
+ghost use Rattle.minisign.specs.Records.{SecretKeyRecord};
+ghost use Rattle.minisign.specs.SecretKeyText.{SecretKeyText, RefusesSecretKeyText, secret_key_text};
+
+use crate::constants::{COMMENT_PREFIX, SECRETKEY_DEFAULT_COMMENT};
+use crate::secret_key::SecretKey;
+use crate::secret_key_box::SecretKeyBox;
+use crate::texts::{decode, encode, next_line, push_line};
+use minisign_base::{Result, faults};
+use std::alloc::Global;
+
+impl SecretKey {
+    // Reads the second line of the text, which nothing is trimmed off; the first one is not looked at.
+    pub(crate) fn from_text(alloc: Global, text: &str) -> Result<SecretKey>
+        ensures outcome { MatchResult result (SecretKeyText text.now) (λ e. (e ≡ out_of_memory) ⊎ RefusesSecretKeyText text.now e) }
+        ensures one_reading { IfOk result (λ v. (other : SecretKeyRecord) → SecretKeyText text.now other → other ≡ v) }
+    {
+        let mut lines = text.lines();
+        let Some(_comment) = next_line(&mut lines) else {
+            return Err(faults::missing_secret_key_comment());
+        };
+        let Some(encoded) = next_line(&mut lines) else {
+            return Err(faults::missing_encoded_secret_key());
+        };
+        let Some(bytes) = decode(alloc, encoded)? else {
+            return Err(faults::secret_key_not_base64());
+        };
+        SecretKey::from_bytes(&bytes)
+    }
+
+    /// Writes the key as a text: `untrusted comment: ` and the comment, or `rsign encrypted secret key`
+    /// where none is given, on one line, and the base64 of the 158 bytes on another, each ended by a line
+    /// feed. The bytes are written as they stand: of an opened sealed key the opened ones, still under
+    /// the name of its key derivation. Only want of memory is refused.
+    #[tactic(auto, unfolding(crate::specs::SecretKeyText::secret_key_text, crate::specs::SecretKeyText::default_secret_key_comment))]
+    pub fn to_box(&self, alloc: Global, comment: Option<&str>) -> Result<SecretKeyBox>
+        ensures text { IfOk result (λ b. b ≡ secret_key_text (option_map (λ s. s.now) comment.entry) self.now) }
+        ensures refused { IfErr result (λ e. e ≡ out_of_memory) }
+    {
+        match comment {
+            Some(comment) => self.write_box(alloc, comment),
+            None => self.write_box(alloc, SECRETKEY_DEFAULT_COMMENT),
+        }
+    }
+
+    // Writes the key as a text with this comment.
+    #[tactic(auto, unfolding(crate::specs::SecretKeyText::secret_key_text, crate::specs::Texts::untrusted_comment_label))]
+    fn write_box(&self, alloc: Global, comment: &str) -> Result<SecretKeyBox>
+        ensures text { IfOk result (λ b. b ≡ secret_key_text (Some comment.now) self.now) }
+        ensures refused { IfErr result (λ e. e ≡ out_of_memory) }
+    {
+        let bytes = self.to_bytes(alloc)?;
+        let encoded = encode(alloc, &bytes)?;
+        let mut text = String::new(alloc);
+        push_line(&mut text, COMMENT_PREFIX, comment)?;
+        push_line(&mut text, "", encoded.as_str())?;
+        Ok(SecretKeyBox::from(text))
+    }
+}
