@@ -17,3 +17,4 @@ pub mod Facts
 pub mod SecretKeyTexts
 pub mod GeneratedKeys
 pub mod Openings
+pub mod SignatureTexts

@@ -3,6 +3,7 @@ pub mod Texts
 pub mod Reading
 pub mod Acceptance
 pub mod PublicKeyText
+pub mod SignatureText
 pub mod Sealing
 pub mod Signing
 pub mod Verifying
