@@ -1,8 +1,10 @@
 -- Texts of letters that are neither line feeds nor white space: base64 and hexadecimal digits.
-use Rattle.std.proofs.Common.{◌≡◌, ℕ, zero, suc, ◌+◌, ◌*◌, ◌/◌, ◌%◌, ◌<◌, Bool, true, false, ◌&&◌, List, [], ◌∷◌, ◌++◌, replicate, slice_index, refl, ap, arith}
+use Rattle.std.proofs.Common.{◌≡◌, ◌==◌, ℕ, zero, suc, ◌+◌, ◌-◌, ◌^◌, length, ◌*◌, ◌/◌, ◌%◌, ◌<◌, Bool, true, false, ◌&&◌, List, [], ◌∷◌, ◌++◌, replicate, slice_index, refl, ap, arith}
 use Rattle.std.specs.Int.{IsInRange}
 use Rattle.std.specs.List.{AllByRecursion}
-use Rattle.std.specs.Fmt.{digit_glyph}
+use Rattle.std.specs.Fmt.{before_digits, digit_glyph, digits, digits_onto, format_spec, number_padding, padded_integral}
+use Rattle.std.specs.Int.{from_le_bytes, w64}
+use Rattle.std.proofs.Math.Bool.{cond}
 use Rattle.std.specs.Str.{trim, trim_start, trim_end, chars, chars_after, skip_leading_whitespace, drop_trailing_whitespace, encode_utf8_all, IsAscii}
 use Rattle.std.specs.Char.{is_whitespace}
 use Rattle.std.proofs.Math.Dec.{leb}
@@ -15,7 +17,7 @@ use Rattle.base64.specs.GeneralPurpose.{IsBytes}
 use Rattle.base64.specs.Rfc4648.{encode_symbols}
 use Rattle.base64.specs.Tables.{all_below}
 use Rattle.base64.proofs.Tables.{all_below_at}
-use Rattle.minisign_base.specs.Identifiers.{hex_digits, identifier_text}
+use Rattle.minisign_base.specs.Identifiers.{identifier_text}
 use Rattle.minisign.specs.Texts.{base64_of}
 
 -- a graphic letter of ASCII: neither a line feed nor white space
@@ -85,14 +87,30 @@ graphic_base64 m h = all_append _ _ (graphic_symbols m h) (graphic_padding _)
 graphic_digit : (d : ℕ) → d < 16 → IsGraphic (digit_glyph true d)
 graphic_digit d l = grind (arith, common_steps)
 
-graphic_digits : (count n : ℕ) → AllGraphic (hex_digits count n)
-unfolding hex_digits
-graphic_digits zero n = tt
-graphic_digits (suc count) n = all_append _ _ (graphic_digits count (n / 16)) (graphic_digit (n % 16) (omega arith), tt)
+graphic_digits : (k n : ℕ) (acc : List ℕ) → AllGraphic acc → AllGraphic (digits_onto k 16 true n acc)
+graphic_digits zero n acc h = h
+graphic_digits (suc k) n acc h =
+    let digit : IsGraphic (digit_glyph true (n % 16)) = graphic_digit (n % 16) (omega arith) in
+    elim (n / 16 == 0) as (λ b. AllGraphic (cond b (digit_glyph true (n % 16) ∷ acc) (digits_onto k 16 true (n / 16) (digit_glyph true (n % 16) ∷ acc)))) [
+      | true ↦ (digit, h)
+      | false ↦ graphic_digits k (n / 16) _ (digit, h)
+    ]
+
+graphic_zeros : (n : ℕ) → AllGraphic (replicate n 48)
+graphic_zeros zero = tt
+graphic_zeros (suc n) = ((omega arith, omega arith), graphic_zeros n)
+
+-- as 16 digits are written, with zeros in front
+graphic_padded : (numeral : List ℕ) → AllGraphic numeral → AllGraphic (padded_integral (format_spec 32 0 4 16 (2 ^ 64 - 1)) false [] numeral)
+unfolding padded_integral
+graphic_padded numeral h =
+    let sixteen = format_spec 32 0 4 16 (2 ^ 64 - 1) in
+    all_append (before_digits sixteen false [] (length numeral)) (numeral ++ []) (graphic_zeros (number_padding sixteen false [] (length numeral)))
+    (all_append numeral [] h tt)
 
 pub graphic_identifier : (id : List ℕ) → AllGraphic (identifier_text id)
-unfolding identifier_text
-graphic_identifier id = graphic_digits 16 _
+unfolding identifier_text digits
+graphic_identifier id = graphic_padded (digits 16 true (from_le_bytes w64 id)) (graphic_digits 64 (from_le_bytes w64 id) [] tt)
 
 -- trimming leaves graphic letters as they are
 dark : (c : ℕ) → IsGraphic c → is_whitespace c ≡ false

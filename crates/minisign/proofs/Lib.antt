@@ -15,5 +15,7 @@ pub mod ReadTexts
 pub mod WrittenLines
 pub mod Facts
 pub mod SecretKeyTexts
+pub mod GeneratedKeys
 pub mod Openings
 pub mod Asking
+pub mod SignatureTexts

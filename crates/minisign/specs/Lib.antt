@@ -3,8 +3,10 @@ pub mod Texts
 pub mod Reading
 pub mod Acceptance
 pub mod PublicKeyText
+pub mod SignatureText
 pub mod Sealing
 pub mod Signing
 pub mod Verifying
 pub mod SecretKeyText
+pub mod Generation
 pub mod Opening

@@ -8,8 +8,10 @@
 mod comment_signature;
 mod constants;
 mod copying;
+mod drawing;
 mod fields;
 pub mod keynum;
+pub mod keypair;
 mod opening;
 pub mod public_key;
 pub mod public_key_box;
@@ -26,6 +28,7 @@ mod texts;
 pub mod verifying;
 
 pub use constants::DEFAULT_COMMENT;
+pub use keypair::KeyPair;
 pub use minisign_base as base;
 pub use minisign_base::{ErrorKind, PError, Result};
 pub use minisign_hash as hash;

@@ -15,6 +15,7 @@ ghost use Rattle.minisign.specs.Signing.{IsSigned, AcceptedIfGenuine, SigningFai
 
 use crate::comment_signature::accepts_comments;
 use crate::constants::{DEFAULT_COMMENT, SIGALG_PREHASHED};
+use crate::drawing::draw;
 use crate::public_key::PublicKey;
 use crate::reading::prehash;
 use crate::secret_key::SecretKey;
@@ -133,20 +134,6 @@ fn draw_twice<Z: RandomSource>(random: &mut Z) -> Result<([u8; 64], [u8; 64])>
     let first = draw(random)?;
     let second = draw(random)?;
     Ok((first, second))
-}
-
-// 64 random bytes.
-fn draw<Z: RandomSource>(random: &mut Z) -> Result<[u8; 64]>
-    ensures drawn { IfOk result (λ z. Consumes (Z.random_ahead random.old) (Z.random_ahead random.new) z) }
-    ensures calm { OnOk result (Z.random_faults random.new ≡ Z.random_faults random.old) }
-    ensures refused { IfErr result (DrawFails Z.random_faults random.old random.new) }
-    ensures given { HasGiven (Z.random_ahead random.old) (Z.random_ahead random.new) }
-{
-    let mut bytes = [0u8; 64];
-    match random.fill(&mut bytes) {
-        Ok(()) => Ok(bytes),
-        Err(_) => Err(faults::random_source_failed()),
-    }
 }
 
 // The comment, or else the moment in decimal.

@@ -78,9 +78,9 @@ drop-zip2 f (suc n) [] ys e = refl
 drop-zip2 f (suc n) (x ∷ xs) [] e = absurd (omega arith)
 drop-zip2 f (suc n) (x ∷ xs) (y ∷ ys) e = drop-zip2 f n xs ys (omega arith)
 
--- a block of two lists taken member by member
-pub block-zip2 : (f : ℕ → ℕ → ℕ) (len i : ℕ) (xs ys : List ℕ) → length xs ≡ length ys → block len (zip2 f xs ys) i ≡ zip2 f (block len xs i) (block len ys i)
-block-zip2 f len i xs ys e = ap (take len) (drop-zip2 f (len * i) xs ys e) ∙ take-zip2 f len (drop (len * i) xs) (drop (len * i) ys)
+-- a part of two lists taken member by member
+pub cut-zip2 : (f : ℕ → ℕ → ℕ) (n k : ℕ) (xs ys : List ℕ) → length xs ≡ length ys → take n (drop k (zip2 f xs ys)) ≡ zip2 f (take n (drop k xs)) (take n (drop k ys))
+cut-zip2 f n k xs ys e = ap (take n) (drop-zip2 f k xs ys e) ∙ take-zip2 f n (drop k xs) (drop k ys)
 
 pub zip2-append : (f : ℕ → ℕ → ℕ) (a b c d : List ℕ) → length a ≡ length b → zip2 f (a ++ c) (b ++ d) ≡ zip2 f a b ++ zip2 f c d
 zip2-append f [] [] c d e = refl

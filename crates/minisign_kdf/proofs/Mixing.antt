@@ -8,6 +8,7 @@ use Rattle.minisign_kdf.specs.Blocks.{block, joined}
 use Rattle.minisign_kdf.specs.Diagonal.{diagonal_bytes, standard_order}
 use Rattle.minisign_kdf.specs.Salsa20.{bytes_of, salsa20_8}
 use Rattle.minisign_kdf.specs.Scrypt.{block_mix, mixed_block}
+use Rattle.minisign_kdf.proofs.Blocks.{cut-zip2}
 use Rattle.minisign_kdf.proofs.Joined.{joined_next}
 use Rattle.minisign_kdf.proofs.Ordered.{block-diagonal_bytes, diagonal_bytes-append, diagonal_bytes-block}
 
@@ -62,3 +63,7 @@ unfolding before
 before_first r xs x n k len some en ek ex =
     let e : 32 * r - 16 ≡ 16 * (2 * r - 1) = omega arith in
     rw (ex, en, ek, e) (sym (block-diagonal_bytes xs (2 * r) (2 * r - 1) (omega arith) (omega arith)))
+
+-- a block of two lists taken member by member, whose blocks were cut one by one
+pub xored_block : (x y z : List ℕ) (k n m : ℕ) → length x ≡ length y → n ≡ 16 → m ≡ 16 → z ≡ zip2 bit_xor (take n (drop k x)) (take m (drop k y)) → z ≡ take 16 (drop k (zip2 bit_xor x y))
+xored_block x y z k n m e en em ez = ez ∙ (λ t. zip2 bit_xor (take (en t) (drop k x)) (take (em t) (drop k y))) ∙ sym (cut-zip2 bit_xor 16 k x y e)

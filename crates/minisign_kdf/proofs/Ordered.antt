@@ -9,7 +9,7 @@ use Rattle.std.specs.Simd.Lanes.{zip2}
 use Rattle.minisign_kdf.specs.Blocks.{block, joined}
 use Rattle.minisign_kdf.specs.Diagonal.{diagonal_bytes, standard_order}
 use Rattle.minisign_kdf.specs.Salsa20.{bytes_of}
-use Rattle.minisign_kdf.proofs.Blocks.{block_behind, block_front, block_whole, block-joined, block-zip2, joined-zip2, row_before}
+use Rattle.minisign_kdf.proofs.Blocks.{block_behind, block_front, block_whole, block-joined, cut-zip2, joined-zip2, row_before}
 use Rattle.minisign_kdf.proofs.Bytes.{bytes_of-xor, length-bytes_of}
 use Rattle.minisign_kdf.proofs.Diagonal.{length-standard_order, standard_order-xor}
 use Rattle.minisign_kdf.proofs.Joined.{joined_next, joined_none, joined_same, joined_split}
@@ -55,12 +55,12 @@ diagonal_bytes-xor xs ys n lx ly =
     let both : length (zip2 bit_xor xs ys) ≡ 16 * n = length-zip2 bit_xor xs ys (lx ∙ sym ly) ∙ lx in
     let each : (j : ℕ) → j < n → bytes_at (zip2 bit_xor xs ys) j ≡ zip2 bit_xor (bytes_at xs j) (bytes_at ys j) =
     (λ j lt.
-      let fits : 16 * j + 16 ≤ 16 * n = row_before 16 n j lt in
-      let bx : length (block 16 xs j) ≡ 16 = length-take-le 16 _ (omega (arith, length-drop (16 * j) xs)) in
-      let by : length (block 16 ys j) ≡ 16 = length-take-le 16 _ (omega (arith, length-drop (16 * j) ys)) in
-      ap (λ (l : List ℕ). bytes_of (standard_order l)) (block-zip2 bit_xor 16 j xs ys (lx ∙ sym ly))
-      ∙ ap bytes_of (standard_order-xor (block 16 xs j) (block 16 ys j) bx by)
-      ∙ bytes_of-xor (standard_order (block 16 xs j)) (standard_order (block 16 ys j))) in
+    let fits : 16 * j + 16 ≤ 16 * n = row_before 16 n j lt in
+    let bx : length (block 16 xs j) ≡ 16 = length-take-le 16 _ (omega (arith, length-drop (16 * j) xs)) in
+    let by : length (block 16 ys j) ≡ 16 = length-take-le 16 _ (omega (arith, length-drop (16 * j) ys)) in
+    ap (λ (l : List ℕ). bytes_of (standard_order l)) (cut-zip2 bit_xor 16 (16 * j) xs ys (lx ∙ sym ly))
+    ∙ ap bytes_of (standard_order-xor (block 16 xs j) (block 16 ys j) bx by)
+    ∙ bytes_of-xor (standard_order (block 16 xs j)) (standard_order (block 16 ys j))) in
     diagonal_bytes_is (zip2 bit_xor xs ys) n both
     ∙ joined_same (bytes_at (zip2 bit_xor xs ys)) (λ j. zip2 bit_xor (bytes_at xs j) (bytes_at ys j)) n each
     ∙ joined-zip2 bit_xor (bytes_at xs) (bytes_at ys) 64 n (length-bytes_at xs) (length-bytes_at ys)

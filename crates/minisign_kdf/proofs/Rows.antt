@@ -1,6 +1,6 @@
 -- Rows in one list, and the second loop of scryptROMix.
 use Rattle.std.proofs.Common.{◌≡◌, ℕ, zero, suc, ◌+◌, ◌-◌, ◌*◌, ◌/◌, ◌%◌, ◌^◌, ◌<◌, ◌≤◌, List, ◌++◌, length, take, drop, slice_index, bit_xor, lit<, refl, sym, ap, ◌∙◌, arith, inl, inr, add-one, add-zero, length-drop, mod-lt, pow_pos}
-use Rattle.std.proofs.Math.Nat.{mod-mod, mul-add-mod_self_right}
+use Rattle.std.proofs.Math.Nat.{mod-mod, mul-add-mod_self_right, pow-succ'}
 use Rattle.std.proofs.lemmas.Bool.{cases_lt}
 use Rattle.std.proofs.lemmas.List.{get_or-drop, get_or-take, length-take-le}
 use Rattle.std.proofs.lemmas.Nat.{mod-pow-add}
@@ -68,24 +68,31 @@ pub mixed_with_none : (r n : ℕ) (v : ℕ → List ℕ) (x : List ℕ) → mixe
 unfolding mixed_with
 mixed_with_none r n v x = refl
 
--- one more step, over rows in a list
-pub step_next : (r k t at w j : ℕ) (rows x0 x y z : List ℕ) → k < 64 → length rows ≡ 32 * r * 2 ^ k → length x ≡ 32 * r
-    → diagonal_bytes x ≡ mixed_with r (2 ^ k) (λ i. diagonal_bytes (block (32 * r) rows i)) x0 t → j ≡ integerify r (diagonal_bytes x) % 2 ^ 64
-    → at ≡ 32 * r * (j % 2 ^ k) → w ≡ 32 * r → y ≡ zip2 bit_xor x (take w (drop at rows)) → diagonal_bytes z ≡ block_mix r (diagonal_bytes y)
-    → diagonal_bytes z ≡ mixed_with r (2 ^ k) (λ i. diagonal_bytes (block (32 * r) rows i)) x0 (t + 1)
-unfolding mixed_with
-step_next r k t at w j rows x0 x y z lt lr lx ex ej ea ew ey ez =
-    let v : ℕ → List ℕ = λ i. diagonal_bytes (block (32 * r) rows i) in
+-- one step, with a row of a list of rows
+pub mixed_with_row : (r k at w j : ℕ) (rows x z : List ℕ) → k < 64 → length rows ≡ 32 * r * 2 ^ k → length x ≡ 32 * r → j ≡ integerify r (diagonal_bytes x) % 2 ^ 64
+    → at ≡ 32 * r * (j % 2 ^ k) → w ≡ 32 * r → z ≡ block_mix r (diagonal_bytes (zip2 bit_xor x (take w (drop at rows))))
+    → z ≡ block_mix r (zip2 bit_xor (diagonal_bytes x) (diagonal_bytes (block (32 * r) rows (integerify r (diagonal_bytes x) % 2 ^ k))))
+mixed_with_row r k at w j rows x z lt lr lx ej ea ew ez =
     let below : j % 2 ^ k < 2 ^ k = mod-lt j (pow_pos k) in
     let row : List ℕ = block (32 * r) rows (j % 2 ^ k) in
     let room : 32 * r * (j % 2 ^ k) + 32 * r ≤ 32 * r * 2 ^ k = row_before (32 * r) (2 ^ k) (j % 2 ^ k) below in
     let len : length row ≡ 32 * r = length-take-le (32 * r) (drop (32 * r * (j % 2 ^ k)) rows) (omega (arith, length-drop (32 * r * (j % 2 ^ k)) rows)) in
     let named : j % 2 ^ k ≡ integerify r (diagonal_bytes x) % 2 ^ k = ap (λ (m : ℕ). m % 2 ^ k) ej ∙ mod_64 (integerify r (diagonal_bytes x)) k lt in
     let cut : take w (drop at rows) ≡ row = rw (ew, ea) refl in
-    let mixed : diagonal_bytes y ≡ zip2 bit_xor (diagonal_bytes x) (v (integerify r (diagonal_bytes x) % 2 ^ k)) =
-    ap diagonal_bytes ey ∙ ap (λ (l : List ℕ). diagonal_bytes (zip2 bit_xor x l)) cut
-    ∙ diagonal_bytes-xor x row (2 * r) (omega arith) (omega arith) ∙ ap (λ (i : ℕ). zip2 bit_xor (diagonal_bytes x) (v i)) named in
-    rw add-one (ez ∙ ap (block_mix r) (mixed ∙ ap (λ (l : List ℕ). zip2 bit_xor l (v (integerify r l % 2 ^ k))) ex))
+    ez ∙ ap (λ (l : List ℕ). block_mix r (diagonal_bytes (zip2 bit_xor x l))) cut
+    ∙ ap (block_mix r) (diagonal_bytes-xor x row (2 * r) (omega arith) (omega arith) ∙ ap (λ (i : ℕ). zip2 bit_xor (diagonal_bytes x) (diagonal_bytes (block (32 * r) rows i))) named)
+
+-- one more step
+pub step_next : (r n t : ℕ) (v : ℕ → List ℕ) (x0 x z : List ℕ) → x ≡ mixed_with r n v x0 t → z ≡ block_mix r (zip2 bit_xor x (v (integerify r x % n))) → z ≡ mixed_with r n v x0 (t + 1)
+unfolding mixed_with
+step_next r n t v x0 x z ex ez = rw add-one (ez ∙ ap (λ (l : List ℕ). block_mix r (zip2 bit_xor l (v (integerify r l % n)))) ex)
+
+-- steps in pairs
+pub even_power : (k : ℕ) → 1 ≤ k → 2 * (2 ^ k / 2) ≡ 2 ^ k
+even_power k some =
+    let e : k ≡ suc (k - 1) = omega arith in
+    let twice : 2 ^ k ≡ 2 * 2 ^ (k - 1) = ap (λ (j : ℕ). 2 ^ j) e ∙ pow-succ' 2 (k - 1) in
+    omega arith
 
 -- only the rows below n count
 mixed_with_same : (r n : ℕ) (v w : ℕ → List ℕ) (x : List ℕ) (t : ℕ) → 0 < n → ((j : ℕ) → j < n → v j ≡ w j) → mixed_with r n v x t ≡ mixed_with r n w x t

@@ -2,7 +2,7 @@
 
 ghost use Rattle.std.specs.Prelude.{◌≡◌, ◌+◌, ◌-◌, ◌*◌, ◌<◌, ◌≤◌, ◌^◌, length, bit_xor};
 ghost use Rattle.std.specs.Simd.Lanes.{zip2};
-ghost use Rattle.minisign_kdf.specs.Diagonal.{block_words, diagonal_bytes, standard_order};
+ghost use Rattle.minisign_kdf.specs.Diagonal.{block_words, diagonal_bytes, placed_words};
 ghost use Rattle.minisign_kdf.specs.Salsa20.{bytes_of, salsa20_8};
 ghost use Rattle.minisign_kdf.specs.Scrypt.{block_mix};
 
@@ -19,18 +19,48 @@ pub(crate) fn block_mix(r: usize, from: &[u32], into: &mut [u32])
     let mut x = Block::load(&from[32 * r - 16..]);
     let (even, odd) = into.split_at_mut(16 * r);
     'pairs: for i in 0..r {
-        x = mix_block(x, &from[32 * i..32 * i + 16]);
+        x = mix_block(x, Block::load(&from[32 * i..32 * i + 16]));
         x.store(&mut even[16 * i..16 * i + 16]);
-        x = mix_block(x, &from[32 * i + 16..32 * i + 32]);
+        x = mix_block(x, Block::load(&from[32 * i + 16..32 * i + 32]));
+        x.store(&mut odd[16 * i..16 * i + 16]);
+    }
+}
+
+// The same of the words of `from`, each xored with that of `row`.
+pub(crate) fn xor_block_mix(r: usize, from: &[u32], row: &[u32], into: &mut [u32])
+    requires some { 1 ≤ r }
+    requires small { r < 2 ^ 32 }
+    requires from_len { length from.now ≡ 32 * r }
+    requires row_len { length row.now ≡ 32 * r }
+    requires into_len { length into.old ≡ 32 * r }
+    ensures { diagonal_bytes into.new ≡ block_mix r (diagonal_bytes (zip2 bit_xor from.now row.now)) }
+{
+    let mut x = load_xored(&from[32 * r - 16..], &row[32 * r - 16..]);
+    let (even, odd) = into.split_at_mut(16 * r);
+    'pairs: for i in 0..r {
+        let at = 32 * i;
+        x = mix_block(x, load_xored(&from[at..at + 16], &row[at..at + 16]));
+        x.store(&mut even[16 * i..16 * i + 16]);
+        let at = at + 16;
+        x = mix_block(x, load_xored(&from[at..at + 16], &row[at..at + 16]));
         x.store(&mut odd[16 * i..16 * i + 16]);
     }
 }
 
 // Salsa20/8 of a block xored with another.
 #[inline(always)]
-fn mix_block(x: Block, block: &[u32]) -> Block
-    requires { length block.now ≡ 16 }
-    ensures { bytes_of (block_words result) ≡ salsa20_8 (zip2 bit_xor (bytes_of (block_words x)) (bytes_of (standard_order block.now))) }
+fn mix_block(x: Block, block: Block) -> Block
+    ensures { bytes_of (block_words result) ≡ salsa20_8 (zip2 bit_xor (bytes_of (block_words x)) (bytes_of (block_words block))) }
 {
-    salsa20_8(xor_of(x, Block::load(block)))
+    salsa20_8(xor_of(x, block))
+}
+
+// The words of a slice, each xored with that of another.
+#[inline(always)]
+fn load_xored(words: &[u32], others: &[u32]) -> Block
+    requires words_len { length words.now ≡ 16 }
+    requires others_len { length others.now ≡ 16 }
+    ensures { placed_words result ≡ zip2 bit_xor words.now others.now }
+{
+    xor_of(Block::load(words), Block::load(others))
 }

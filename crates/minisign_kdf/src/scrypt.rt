@@ -162,6 +162,7 @@ fn mix_parts(
 )
     requires some { 1 ≤ r }
     requires small { r < 2 ^ 32 }
+    requires even { 1 ≤ n_log2 }
     requires cost { n_log2 < 64 }
     requires parts_len { length parts.old ≡ 128 * r * p }
     requires room { 32 * r * 2 ^ n_log2 ≤ vec_capacity rows.old }

@@ -22,9 +22,9 @@ pairs-preserved c =
     let i = c.pairs.i in
     let (at, even, odd) = c.pairs.invariant in
     let first : bytes_of (block_words c.mix_block-x.result) ≡ mixed_block r b (2 * i) =
-    mixed_next r xs (bytes_of (block_words c.pairs.x)) (bytes_of (block_words c.mix_block-x.result)) _ (2 * i) _ _ (omega arith) (omega arith) at (omega arith) (omega arith) refl c.mix_block-x.ensures in
+    mixed_next r xs (bytes_of (block_words c.pairs.x)) (bytes_of (block_words c.mix_block-x.result)) _ (2 * i) _ _ (omega arith) (omega arith) at (omega arith) (omega arith) c.load.ensures c.mix_block-x.ensures in
     let second : bytes_of (block_words c.mix_block-x-in-pairs.result) ≡ mixed_block r b (2 * i + 1) =
-    mixed_next r xs (bytes_of (block_words c.mix_block-x.result)) (bytes_of (block_words c.mix_block-x-in-pairs.result)) _ (2 * i + 1) _ _ (omega arith) (omega arith) (first ∙ sym (before_next r b (2 * i))) (omega arith) (omega arith) refl c.mix_block-x-in-pairs.ensures in
+    mixed_next r xs (bytes_of (block_words c.mix_block-x.result)) (bytes_of (block_words c.mix_block-x-in-pairs.result)) _ (2 * i + 1) _ _ (omega arith) (omega arith) (first ∙ sym (before_next r b (2 * i))) (omega arith) (omega arith) c.load-in-pairs.ensures c.mix_block-x-in-pairs.ensures in
     let e : 2 * (i + 1) ≡ 2 * i + 1 + 1 = omega arith in (
       second ∙ sym (before_next r b (2 * i + 1)) ∙ ap (before r b) (sym e),
       written_next (λ (j : ℕ). mixed_block r b (2 * j)) i _ c.pairs.even _ _ even c.store.ensures first (omega arith) (omega arith),

@@ -37,6 +37,6 @@ rows-preserved c =
     record {
       len = omega arith;
       rows = λ k lt. ap (λ (l : List ℕ). diagonal_bytes (block (32 * r) l k)) c.push_row-in-rows.ensures.items
-        ∙ filled_next r i k (diagonal_bytes c.args.x.now) xs c.block_mix.new.into made.rows len (omega arith) wide mixed lt;
+          ∙ filled_next r i k (diagonal_bytes c.args.x.now) xs c.block_mix.new.into made.rows len (omega arith) wide mixed lt;
       room = omega arith;
     }

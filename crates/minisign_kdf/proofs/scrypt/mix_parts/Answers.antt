@@ -14,8 +14,8 @@ parts-preserved c =
     let room : len * c.parts.i + len ≤ len * c.args.p = row_before len c.args.p c.parts.i (omega arith) in
     let (changed, kept) = c.parts.invariant in (
       changed_next (rom_mix c.args.r (2 ^ c.args.n_log2)) len c.parts.i _ c.args.parts.now c.parts.parts c.store_part.new.bytes changed (omega arith) (omega arith)
-      (c.store_part.auto.bytes ∙ length-take-le _ (drop (len * c.parts.i) c.parts.parts) (omega (arith, length-drop (len * c.parts.i) c.parts.parts)) ∙ omega arith)
-      (c.store_part.ensures ∙ c.rom_mix.ensures.mixed ∙ ap (rom_mix c.args.r (2 ^ c.args.n_log2)) c.load_part.ensures),
+          (c.store_part.auto.bytes ∙ length-take-le _ (drop (len * c.parts.i) c.parts.parts) (omega (arith, length-drop (len * c.parts.i) c.parts.parts)) ∙ omega arith)
+          (c.store_part.ensures ∙ c.rom_mix.ensures.mixed ∙ ap (rom_mix c.args.r (2 ^ c.args.n_log2)) c.load_part.ensures),
       omega arith,
     )
 
