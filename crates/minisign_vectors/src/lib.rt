@@ -5,6 +5,8 @@
 #![tactic(auto)]
 
 #[cfg(test)]
+mod clock;
+#[cfg(test)]
 mod devices;
 #[cfg(test)]
 mod devices_for_tests;
@@ -25,6 +27,8 @@ mod lines;
 mod prompts;
 #[cfg(test)]
 mod records;
+#[cfg(test)]
+mod seeking;
 #[cfg(test)]
 mod sign;
 #[cfg(test)]
