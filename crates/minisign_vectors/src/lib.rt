@@ -5,6 +5,8 @@
 #![tactic(auto)]
 
 #[cfg(test)]
+mod clock;
+#[cfg(test)]
 mod devices;
 #[cfg(test)]
 mod devices_for_tests;
@@ -27,6 +29,7 @@ mod prompts;
 mod records;
 #[cfg(test)]
 mod secret_keys;
+mod seeking;
 #[cfg(test)]
 mod sign;
 #[cfg(test)]
