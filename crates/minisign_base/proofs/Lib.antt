@@ -3,3 +3,4 @@ mod Filled
 mod Folding
 pub mod LeastCost
 pub mod Facts
+mod PromptLines

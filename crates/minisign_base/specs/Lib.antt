@@ -5,6 +5,7 @@ pub mod Fault
 pub mod Faults
 pub mod Identifiers
 pub mod Limits
+pub mod Prompts
 pub mod Scheme
 pub mod Toy
 pub mod ToyLaw

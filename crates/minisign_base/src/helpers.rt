@@ -1,12 +1,18 @@
-//! Numbers as bytes, and the parameters of scrypt that a key's limits lead to.
+//! Numbers as bytes, the parameters of scrypt that a key's limits lead to, and asking for a password.
 
-ghost use Rattle.std.specs.Prelude.{◌≡◌, ◌^◌, ◌<◌, ◌≤◌, Ok, Err, MatchResult, length, take};
+ghost use Rattle.std.specs.Prelude.{◌≡◌, ℕ, ◌^◌, ◌<◌, ◌≤◌, List, Ok, Err, IfOk, IfErr, MatchResult, length, string_bytes, take};
 ghost use Rattle.std.specs.Int.{from_le_bytes, to_le_bytes, w64};
+ghost use Rattle.minisign_base.specs.Faults.{out_of_memory};
 ghost use Rattle.minisign_base.specs.Limits.{IsCostLog2, cost_log2, greatest_cost, limits, numbers, parallelization};
+ghost use Rattle.minisign_base.specs.Prompts.{HasAsked, IsAskingFault};
 
+use crate::devices::sinks::Sink;
+use crate::devices::sources::Source;
 use crate::errors::Result;
 use crate::faults;
+use crate::prompt::Prompt;
 use minisign_kdf::params::Params;
+use std::alloc::Global;
 
 // The block size r of every derivation.
 const BLOCK_SIZE: u32 = 8;
@@ -28,6 +34,43 @@ pub fn load_u64_le(bytes: &[u8]) -> u64
     let mut first = [0u8; 8];
     first.copy_from_slice(front);
     u64::from_le_bytes(first)
+}
+
+/// Asks for a password: writes the text and flushes it, and reads a line, byte by byte, up to a line feed
+/// or the end. The line feed and one carriage return before it are no part of the password. Where the
+/// password is empty, `<empty>` and a line feed are written and flushed.
+///
+/// Memory for one line is wanted first; where it is wanting, that is `out_of_memory` and nothing was
+/// written or read. Then, in this order: `writing_failed` and `reading_failed` where a device fails,
+/// `end_of_input` where the input ends at once, `password_too_long` where 1026 bytes hold no line feed, of
+/// which no more are read, `not_utf8`, and `password_too_long` for more than 1024 bytes.
+pub fn get_password<R: Source, W: Sink>(
+    alloc: Global,
+    prompt: &mut Prompt<R, W>,
+    text: &str,
+) -> Result<String>
+    ensures asked { IfOk result (λ password. (bytes : List ℕ)
+        × HasAsked R.ahead R.left R.faults W.taken W.sink_faults prompt.old prompt.new text.now bytes (Ok (string_bytes password))) }
+    ensures fault { IfErr result (λ e.
+        IsAskingFault R.ahead R.left R.faults W.taken W.sink_faults prompt.old prompt.new text.now e) }
+{
+    let line = line_buffer(alloc)?;
+    prompt.say(text)?;
+    let password = prompt.read_password(line)?;
+    if password.is_empty() {
+        if let Err(fault) = prompt.say("<empty>\n") {
+            return Err(fault);
+        }
+    }
+    Ok(password)
+}
+
+// Room for the longest line that is read: a password of 1024 bytes, a carriage return and a line feed.
+fn line_buffer(alloc: Global) -> Result<Vec<u8>>
+    ensures length { IfOk result (λ v. length v.items ≡ 1026) }
+    ensures refused { IfErr result (λ e. e ≡ out_of_memory) }
+{
+    Ok(vec![in alloc; 0u8; 1026]?)
 }
 
 /// The parameters of scrypt that a memory limit in bytes and an operations limit lead to, as

@@ -8,6 +8,7 @@ pub mod errors;
 pub mod faults;
 pub mod helpers;
 pub mod identifiers;
+pub mod prompt;
 pub mod scheme;
 pub mod toy;
 

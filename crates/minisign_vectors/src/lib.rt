@@ -22,6 +22,8 @@ mod limits;
 #[cfg(test)]
 mod lines;
 #[cfg(test)]
+mod prompts;
+#[cfg(test)]
 mod records;
 #[cfg(test)]
 mod sign;

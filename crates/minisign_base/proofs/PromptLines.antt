@@ -1,0 +1,110 @@
+-- What a line is, byte after byte.
+use Rattle.std.proofs.Common.{true≢false, ◌≡◌, ℕ, ◌+◌, ◌<◌, ◌≤◌, ◌≢◌, List, [], ◌∷◌, ◌++◌, length, take, None, Some, Option, IfSome, Ok, Err, not, ◌==◌, cond, nat_lt, if◌then◌else◌, true, false, IsUtf8, refl, sym, ap, ◌∙◌, subst, arith, append_assoc, append-nil, length-append, eq-eqb}
+use Rattle.std.proofs.lemmas.Bool.{le-ltb, lt-ltb, ne_eqb}
+use Rattle.std.proofs.lemmas.List.{drop_all, drop_at, take_all, take_at}
+use Rattle.std.proofs.lemmas.List.Folds.{prefix_len-append}
+use Rattle.std.proofs.lemmas.Str.{IsUtf8-from_is_utf8, is_utf8-from_IsUtf8}
+use Rattle.std.specs.Io.KnownBytes.{Consumes, IsAtEnd}
+use Rattle.std.specs.Str.{is_utf8}
+use Rattle.std.specs.Str.Lines.{strip_carriage_return}
+use Rattle.minisign_base.specs.Faults.{end_of_input, not_utf8, password_too_long}
+use Rattle.minisign_base.specs.Prompts.{HasReadLine, accepted, first_line, line_length, password_of, read_count}
+
+-- what a reader that tells its bytes had is what was read and what is left
+pub told : (a b : Option (List ℕ)) (done : List ℕ) → Consumes a b done
+    → (rest : List ℕ) × IfSome a (λ xs. xs ≡ done ++ rest) × IfSome a (λ _. b ≡ Some rest)
+told None b done c = ([], tt, tt)
+told (Some xs) None done c = absurd c
+told (Some xs) (Some ys) done c = (ys, c, refl)
+
+-- and nothing is left at the end
+pub told_all : (a b : Option (List ℕ)) (done : List ℕ) → Consumes a b done → IsAtEnd b
+    → IfSome a (λ xs. xs ≡ done) × IfSome a (λ _. b ≡ Some [])
+told_all None b done c e = (tt, tt)
+told_all (Some xs) None done c e = absurd c
+told_all (Some xs) (Some ys) done c e = (c ∙ ap (λ l. done ++ l) e ∙ append-nil done, ap Some e)
+
+-- bytes without a line feed, and more of them
+pub line_length-append : (done more : List ℕ) → line_length done ≡ length done → line_length (done ++ more) ≡ length done + line_length more
+line_length-append done more e =
+    prefix_len-append (λ b. not (b == 10)) done more
+    ∙ ap (λ t. cond t (length done + line_length more) (line_length done)) (eq-eqb (line_length done) (length done) e)
+
+pub line_length-push : (done : List ℕ) (b : ℕ) → line_length done ≡ length done → b ≢ 10 → line_length (done ++ b ∷ []) ≡ length done + 1
+line_length-push done b e other =
+    line_length-append done (b ∷ []) e ∙ ap (λ t. length done + cond (not t) (1 + 0) 0) (ne_eqb b 10 other)
+
+-- a line feed ends the line
+pub line_length-feed : (done rest : List ℕ) → line_length done ≡ length done → line_length ((done ++ 10 ∷ []) ++ rest) ≡ length done
+line_length-feed done rest e =
+    ap line_length (append_assoc done (10 ∷ []) rest) ∙ line_length-append done (10 ∷ rest) e ∙ omega arith
+
+pub password_of-feed : (done rest : List ℕ) → line_length done ≡ length done → length done < 1026
+    → password_of ((done ++ 10 ∷ []) ++ rest) ≡ accepted (strip_carriage_return done)
+unfolding password_of first_line
+password_of-feed done rest e short =
+    let bytes : List ℕ = (done ++ 10 ∷ []) ++ rest in
+    let line : line_length bytes ≡ length done = line_length-feed done rest e in
+    let whole : length bytes ≡ length done + 1 + length rest = length-append (done ++ 10 ∷ []) rest ∙ ap (λ n. n + length rest) (length-append done (10 ∷ [])) in
+    let front : take (length done) bytes ≡ done = ap (take (length done)) (append_assoc done (10 ∷ []) rest) ∙ take_at done (10 ∷ rest) (length done) refl in
+    rw (line, ne_eqb (length bytes) 0 (λ z. omega (arith, whole)), le-ltb 1025 (length done) (omega (arith, short)), lt-ltb (length done) (length bytes) (omega (arith, whole)), front) refl
+
+pub password_of-end : (done : List ℕ) → line_length done ≡ length done → 0 < length done → length done < 1026
+    → password_of done ≡ accepted done
+unfolding password_of first_line
+password_of-end done e some short =
+    rw (e, ne_eqb (length done) 0 (λ z. omega arith), le-ltb 1025 (length done) (omega (arith, short)), le-ltb (length done) (length done) (omega arith), take_all (length done) done (omega arith)) refl
+
+pub password_of-long : (done rest : List ℕ) → line_length done ≡ length done → length done ≡ 1026
+    → password_of (done ++ rest) ≡ Err password_too_long
+unfolding password_of
+password_of-long done rest e long =
+    let bytes : List ℕ = done ++ rest in
+    let line : line_length bytes ≡ length done + line_length rest = line_length-append done rest e in
+    let whole : length bytes ≡ length done + length rest = length-append done rest in
+    rw (ne_eqb (length bytes) 0 (λ z. omega (arith, whole)), lt-ltb 1025 (line_length bytes) (omega (arith, line))) refl
+
+-- what was read is all that is read for a line
+pub read_front : {R : Type 0} (ahead_of : R → Option (List ℕ)) (left_of faults_of : R → ℕ) (old new : R) (done rest : List ℕ)
+    → IfSome (ahead_of old) (λ xs. xs ≡ done ++ rest) → IfSome (ahead_of old) (λ _. ahead_of new ≡ Some rest)
+    → length done ≡ read_count (done ++ rest) → left_of new + length done ≡ left_of old → faults_of new ≡ faults_of old
+    → HasReadLine ahead_of left_of faults_of old new (done ++ rest)
+read_front ahead_of left_of faults_of old new done rest ahead unread count left calm = record {
+  ahead = ahead;
+  unread = subst (λ (r : List ℕ). IfSome (ahead_of old) (λ _. ahead_of new ≡ Some r)) (sym (drop_at done rest (read_count (done ++ rest)) count)) unread;
+  left = ap (λ (l : List ℕ). left_of new + length l) (take_at done rest (read_count (done ++ rest)) count) ∙ left;
+  calm = calm;
+}
+
+-- the end came before
+pub read_whole : {R : Type 0} (ahead_of : R → Option (List ℕ)) (left_of faults_of : R → ℕ) (old new : R) (done : List ℕ)
+    → IfSome (ahead_of old) (λ xs. xs ≡ done) → IfSome (ahead_of old) (λ _. ahead_of new ≡ Some [])
+    → length done ≤ read_count done → left_of new + length done ≡ left_of old → faults_of new ≡ faults_of old
+    → HasReadLine ahead_of left_of faults_of old new done
+read_whole ahead_of left_of faults_of old new done ahead unread count left calm = record {
+  ahead = ahead;
+  unread = subst (λ (r : List ℕ). IfSome (ahead_of old) (λ _. ahead_of new ≡ Some r)) (sym (drop_all (read_count done) done count)) unread;
+  left = ap (λ (l : List ℕ). left_of new + length l) (take_all (read_count done) done count) ∙ left;
+  calm = calm;
+}
+
+pub password_of-nothing : password_of [] ≡ Err end_of_input
+unfolding password_of
+password_of-nothing = refl
+
+-- a line that is no UTF-8
+pub accepted-other : (line : List ℕ) → (IsUtf8 line → false ≡ true) → accepted line ≡ Err not_utf8
+unfolding accepted
+accepted-other line other =
+    elim (is_utf8 line) as (λ b. is_utf8 line ≡ b → (if not b then Err not_utf8 else (if nat_lt 1024 (length line) then Err password_too_long else Ok line)) ≡ Err not_utf8) [
+      | true ↦ λ e. absurd (true≢false (sym (other (IsUtf8-from_is_utf8 line e))))
+      | false ↦ λ e. refl
+    ] refl
+
+pub accepted-long : (line : List ℕ) → IsUtf8 line → 1024 < length line → accepted line ≡ Err password_too_long
+unfolding accepted
+accepted-long line text long = rw (is_utf8-from_IsUtf8 line text, lt-ltb 1024 (length line) long) refl
+
+pub accepted-text : (line : List ℕ) → IsUtf8 line → length line ≤ 1024 → accepted line ≡ Ok line
+unfolding accepted
+accepted-text line text short = rw (is_utf8-from_IsUtf8 line text, le-ltb 1024 (length line) short) refl

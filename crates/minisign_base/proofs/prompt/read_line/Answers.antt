@@ -1,0 +1,93 @@
+use Rattle.std.proofs.Common.{◌≡◌, ℕ, ◌+◌, ◌<◌, ◌≤◌, List, [], ◌∷◌, ◌++◌, append-nil, length, take, Err, inr, sym, ap, ◌∙◌, subst, arith, length-append}
+use Rattle.std.specs.Io.KnownBytes.{Consumes}
+use Rattle.std.proofs.lemmas.List.{length-take-le, take-take}
+use Rattle.std.proofs.KnownBytes.{Consumes-trans}
+use Rattle.minisign_base.specs.Prompts.{accepted, line_length, read_count}
+use Rattle.minisign_base.proofs.PromptLines.{line_length-append, line_length-feed, password_of-end, password_of-feed, password_of-long, password_of-nothing, read_front, read_whole, told, told_all}
+use Rattle.minisign_base.proofs.prompt.read_line.Goals as goal
+
+pub returns-in-Some-eq10 : goal.returns-in-Some-eq10
+returns-in-Some-eq10 g c =
+    let used = c.bytes.used in
+    let line = c.bytes.line in
+    let n = c.without_carriage_return.result in
+    let done : List ℕ = take used line in
+    let size : length done ≡ used = length-take-le used line (omega arith) in
+    let short : used < 1026 = omega arith in
+    let unfinished : line_length done ≡ length done = c.bytes.invariant.unfinished ∙ sym size in
+    let byte = rw c.in-Some-eq10.is at c.in_ok-next_byte.ensures.byte in
+    let feed = subst (λ (b : ℕ). Consumes (g.R.Source.ahead c.bytes.source) (g.R.Source.ahead c.next_byte.new.source) (b ∷ [])) c.in-Some-eq10.field-0-test byte.0 in
+    let (rest, ahead, unread) = told _ _ _ (Consumes-trans _ _ _ _ _ c.bytes.invariant.given feed) in
+    let given : length (done ++ 10 ∷ []) ≡ used + 1 = length-append done (10 ∷ []) ∙ ap (λ (k : ℕ). k + 1) size in
+    let stands : line_length ((done ++ 10 ∷ []) ++ rest) ≡ length done = line_length-feed done rest unfinished in
+    let bound : n ≤ used = omega (arith, c.without_carriage_return.ensures.bound, size) in
+    let front : take n done ≡ take n line = take-take n used line bound in
+    record {
+      outcome = (
+        (done ++ 10 ∷ []) ++ rest,
+        read_front g.R.Source.ahead g.R.Source.left g.R.Source.faults _ _ (done ++ 10 ∷ []) rest ahead unread
+            (omega (arith, given, stands, size, short))
+            (omega (arith, given, byte.1, c.bytes.invariant.left))
+            (c.in_ok-next_byte.ensures.calm ∙ c.bytes.invariant.calm),
+        omega (arith, bound),
+        password_of-feed done rest unfinished (omega (arith, size, short)) ∙ ap accepted (sym c.without_carriage_return.ensures.line ∙ front),
+      );
+    }
+
+pub returns-in-None : goal.returns-in-None
+returns-in-None g c =
+    let byte = rw c.in-None.is at c.in_ok-next_byte.ensures.byte in
+    let none : take c.bytes.used c.bytes.line ≡ [] = ap (λ (k : ℕ). take k c.bytes.line) c.if-used-eq0.true in
+    let given = subst (λ (done : List ℕ). Consumes (g.R.Source.ahead c.args.source.now) (g.R.Source.ahead c.bytes.source) done) none c.bytes.invariant.given in
+    let (ahead, unread) = told_all _ _ _ (Consumes-trans _ _ _ _ _ given byte.0) byte.1 in
+    record {
+      outcome = inr (
+        [],
+        read_whole g.R.Source.ahead g.R.Source.left g.R.Source.faults _ _ [] ahead unread
+            (omega arith)
+            (omega (arith, byte.2, c.bytes.invariant.left, c.if-used-eq0.true))
+            (c.in_ok-next_byte.ensures.calm ∙ c.bytes.invariant.calm),
+        password_of-nothing ∙ sym (ap Err c.end_of_input.ensures),
+      );
+    }
+
+pub returns-in-None-2 : goal.returns-in-None-2
+returns-in-None-2 g c =
+    let used = c.bytes.used in
+    let line = c.bytes.line in
+    let done : List ℕ = take used line in
+    let size : length done ≡ used = length-take-le used line (omega arith) in
+    let unfinished : line_length done ≡ length done = c.bytes.invariant.unfinished ∙ sym size in
+    let some : 0 < used = omega (arith, c.if-used-eq0.false) in
+    let byte = rw c.in-None.is at c.in_ok-next_byte.ensures.byte in
+    let (ahead, unread) = told_all _ _ _ (Consumes-trans _ _ _ _ _ c.bytes.invariant.given byte.0) byte.1 in
+    let all : done ++ [] ≡ done = append-nil done in
+    record {
+      outcome = (
+        done,
+        read_whole g.R.Source.ahead g.R.Source.left g.R.Source.faults _ _ done (rw all at ahead) unread
+            (omega (arith, size, unfinished))
+            (omega (arith, size, byte.2, c.bytes.invariant.left))
+            (c.in_ok-next_byte.ensures.calm ∙ c.bytes.invariant.calm),
+        omega arith,
+        password_of-end done unfinished (omega (arith, size, some)) (omega arith),
+      );
+    }
+
+pub returns : goal.returns
+returns g c =
+    let used = c.bytes.used in
+    let line = c.bytes.line in
+    let all : used ≡ 1026 = omega arith in
+    let done : List ℕ = take used line in
+    let size : length done ≡ used = length-take-le used line (omega arith) in
+    let unfinished : line_length done ≡ length done = c.bytes.invariant.unfinished ∙ sym size in
+    let (rest, ahead, unread) = told _ _ _ c.bytes.invariant.given in
+    let count : length done ≡ read_count (done ++ rest) = omega (arith, size, all, line_length-append done rest unfinished) in
+    record {
+      outcome = inr (
+        done ++ rest,
+        read_front g.R.Source.ahead g.R.Source.left g.R.Source.faults _ _ done rest ahead unread count (omega (arith, size, c.bytes.invariant.left)) c.bytes.invariant.calm,
+        password_of-long done rest unfinished (size ∙ all) ∙ sym (ap Err c.password_too_long.ensures),
+      );
+    }

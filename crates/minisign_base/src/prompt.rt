@@ -1,0 +1,147 @@
+//! Where a person is asked: texts are written, and lines are read.
+
+ghost use Rattle.std.specs.Prelude.{◌≡◌, ◌⊎◌, ℕ, ◌+◌, ◌≤◌, List, [], ◌∷◌, length, take, Ok, Err, IfOk, IfErr, OnOk, OnErr, MatchOption, MatchResult, string_bytes};
+ghost use Rattle.std.specs.Io.KnownBytes.{Appends, Consumes, IsAtEnd};
+ghost use Rattle.std.specs.Str.Lines.{strip_carriage_return};
+ghost use Rattle.minisign_base.specs.Devices.{Rose, AppendsFront, StaysOrHides};
+ghost use Rattle.minisign_base.specs.Faults.{reading_failed, writing_failed};
+ghost use Rattle.minisign_base.specs.Prompts.{HasReadLine, HasFailedInLine, password_of, accepted};
+
+use crate::devices::sinks::{Sink, put_and_flush};
+use crate::devices::sources::Source;
+use crate::errors::Result;
+use crate::faults;
+
+/// What a person types into, and what is shown: a reader and a writer, such as a terminal's two sides.
+#[derive(Debug, Drop)]
+pub struct Prompt<R, W> {
+    /// What lines are read from.
+    pub reader: R,
+    /// What texts are written to.
+    pub writer: W,
+}
+
+impl<R: Source, W: Sink> Prompt<R, W> {
+    /// A prompt of a reader and a writer, neither of which is touched.
+    pub fn new(reader: R, writer: W) -> Prompt<R, W>
+        ensures { result ≡ record { reader = reader; writer = writer } }
+    {
+        Prompt { reader, writer }
+    }
+
+    /// The reader and the writer, as they stand.
+    pub fn into_parts(self) -> (R, W)
+        ensures { result ≡ (self.reader, self.writer) }
+    {
+        let Prompt { reader, writer } = self;
+        (reader, writer)
+    }
+
+    /// Writes a text and flushes it. After a fault the writer took a beginning of the text. Takes no
+    /// memory, and leaves the reader alone.
+    pub fn say(&mut self, text: &str) -> Result<()>
+        ensures reader { self.new.reader ≡ self.old.reader }
+        ensures bytes { OnOk result (Appends (W.taken self.old.writer) (W.taken self.new.writer) text.now) }
+        ensures calm { OnOk result (W.sink_faults self.new.writer ≡ W.sink_faults self.old.writer) }
+        ensures fault { IfErr result (λ e. (e ≡ writing_failed)
+            × Rose (W.sink_faults self.old.writer) (W.sink_faults self.new.writer)) }
+        ensures front { OnErr result (AppendsFront (W.taken self.old.writer) (W.taken self.new.writer) text.now) }
+    {
+        match put_and_flush(&mut self.writer, text.as_bytes()) {
+            Ok(()) => Ok(()),
+            Err(_) => Err(faults::writing_failed()),
+        }
+    }
+
+    // Reads a line into a buffer of 1026 bytes, and takes it as a password.
+    pub(crate) fn read_password(&mut self, line: Vec<u8>) -> Result<String>
+        requires { length line.items ≡ 1026 }
+        ensures writer { self.new.writer ≡ self.old.writer }
+        ensures password { IfOk result (λ password. (bytes : List ℕ)
+            × HasReadLine R.ahead R.left R.faults self.old.reader self.new.reader bytes
+            × (password_of bytes ≡ Ok (string_bytes password))) }
+        ensures fault { IfErr result (λ e.
+            ((e ≡ reading_failed) × HasFailedInLine R.ahead R.faults self.old.reader self.new.reader)
+            ⊎ ((bytes : List ℕ) × HasReadLine R.ahead R.left R.faults self.old.reader self.new.reader bytes
+            × (password_of bytes ≡ Err e))) }
+    {
+        let mut line = line;
+        let length = read_line(&mut self.reader, &mut line)?;
+        line.truncate(length);
+        match accepted(line) {
+            Ok(password) => Ok(password),
+            Err(fault) => Err(fault),
+        }
+    }
+}
+
+// Moves a line into the buffer and answers how long it is: the line feed and one carriage return before it
+// are no part of it. No more than 1026 bytes are read, one at a time.
+fn read_line<R: Source>(source: &mut R, line: &mut [u8]) -> Result<usize>
+    requires { length line.old ≡ 1026 }
+    ensures outcome { MatchResult result
+        (λ n. (bytes : List ℕ) × HasReadLine R.ahead R.left R.faults source.old source.new bytes
+        × (n ≤ length line.new) × (password_of bytes ≡ accepted (take n line.new)))
+        (λ e. ((e ≡ reading_failed) × HasFailedInLine R.ahead R.faults source.old source.new)
+        ⊎ ((bytes : List ℕ) × HasReadLine R.ahead R.left R.faults source.old source.new bytes
+        × (password_of bytes ≡ Err e))) }
+{
+    let mut used = 0;
+    'bytes: while used < line.len() {
+        match next_byte(source)? {
+            Some(b'\n') => return Ok(without_carriage_return(&line[..used])),
+            Some(byte) => line[used] = byte,
+            None if used == 0 => return Err(faults::end_of_input()),
+            None => return Ok(used),
+        }
+        used += 1;
+    }
+    Err(faults::password_too_long())
+}
+
+// The next byte, or none at the end.
+fn next_byte<R: Source>(source: &mut R) -> Result<Option<u8>>
+    ensures byte { IfOk result (λ next. MatchOption next
+        (Consumes (R.ahead source.old) (R.ahead source.new) [] × IsAtEnd (R.ahead source.new)
+        × (R.left source.new ≡ R.left source.old))
+        (λ b. Consumes (R.ahead source.old) (R.ahead source.new) (b ∷ [])
+        × (R.left source.new + 1 ≡ R.left source.old))) }
+    ensures calm { OnOk result (R.faults source.new ≡ R.faults source.old) }
+    ensures fault { IfErr result (λ e. (e ≡ reading_failed) × Rose (R.faults source.old) (R.faults source.new)) }
+    ensures kept { OnErr result (StaysOrHides (R.ahead source.old) (R.ahead source.new)) }
+{
+    let mut byte = [0u8; 1];
+    match source.read(&mut byte) {
+        Ok(0) => Ok(None),
+        Ok(_) => Ok(Some(byte[0])),
+        Err(_) => Err(faults::reading_failed()),
+    }
+}
+
+// How long a line is without one carriage return at its end.
+fn without_carriage_return(line: &[u8]) -> usize
+    ensures bound { result ≤ length line.now }
+    ensures line { take result line.now ≡ strip_carriage_return line.now }
+{
+    if !line.is_empty() && line[line.len() - 1] == b'\r' {
+        line.len() - 1
+    } else {
+        line.len()
+    }
+}
+
+// A line as a password, if it is UTF-8 of at most 1024 bytes.
+#[tactic(auto, unfolding(crate::specs::Prompts::accepted))]
+fn accepted(line: Vec<u8>) -> Result<String>
+    ensures outcome { MatchResult result
+        (λ password. accepted line.items ≡ Ok (string_bytes password))
+        (λ e. accepted line.items ≡ Err e) }
+{
+    let Ok(password) = String::from_utf8(line) else {
+        return Err(faults::not_utf8());
+    };
+    if password.len() > 1024 {
+        return Err(faults::password_too_long());
+    }
+    Ok(password)
+}
