@@ -5,6 +5,7 @@ pub mod Acceptance
 pub mod SecretKeyText
 pub mod Sealing
 pub mod Signing
+pub mod NewPassword
 pub mod Generation
 pub mod Verifying
 pub mod Opening
