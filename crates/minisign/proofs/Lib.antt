@@ -3,10 +3,16 @@ pub mod SealedParts
 pub mod SealingLimits
 pub mod RecordFields
 pub mod Beginnings
+pub mod Copies
+pub mod Passes
 pub mod SignedBoxes
 pub mod Unvouched
 pub mod FirstLine
 pub mod Base64Texts
+pub mod Letters
+pub mod PublicKeyTexts
+pub mod ReadTexts
+pub mod WrittenLines
 pub mod Facts
 pub mod SecretKeyTexts
 pub mod GeneratedKeys

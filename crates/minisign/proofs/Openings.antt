@@ -132,3 +132,24 @@ opening_outcome text password max_p sealed (Err e) read kdf ok (inr refused) =
     let first : opening_refusal sealed password max_p ≡ Some e = ap (λ (o : Option Fault). option_or o (password_refusal sealed password max_p)) kdf ∙ refused in
     let whole : IsRefused text (λ k. opening_refusal k password max_p) e = inr (sealed, read, first) in
     inr (record { first = whole; closed = λ k other h. not_refused text (λ k. opening_refusal k password max_p) e k whole other (opening_none k password max_p h) })
+
+-- why a key that is read does not open
+refused_key : (text password : List ℕ) (max_p : ℕ) (e : Fault) (k : SecretKeyRecord) → IsRefused text (λ k. opening_refusal k password max_p) e
+    → SecretKeyText text k → k.kdf ≡ scrypt_kdf → password_refusal k password max_p ≡ Some e
+refused_key text password max_p e k (inl unread) read kdf = absurd (unread.unreadable k read)
+refused_key text password max_p e k (inr (l, other, refused)) read kdf =
+    let same : k ≡ l = one_key_text text l k other read in
+    ap (λ (o : Option Fault). option_or o (password_refusal k password max_p)) (sym (kdf_none k kdf)) ∙ ap (λ (m : SecretKeyRecord). opening_refusal m password max_p) same ∙ refused
+
+-- a key that is read opens exactly where its own conditions hold
+pub opening_headline : (text password : List ℕ) (max_p : ℕ) (r : Result SecretKeyRecord Fault)
+    → MatchResult r (IsOpened text password max_p) (λ e. (e ≡ out_of_memory) ⊎ RefusesOpening text password max_p e)
+    → (k : SecretKeyRecord) → SecretKeyText text k → k.kdf ≡ scrypt_kdf
+    → MatchResult r (λ v. OpensWithin k password max_p × (v ≡ unsealed k password))
+      (λ e. (e ≡ out_of_memory) ⊎ (¬ (OpensWithin k password max_p) × (password_refusal k password max_p ≡ Some e)))
+opening_headline text password max_p (Ok v) opened k read kdf =
+    let same : opened.sealed ≡ k = one_key_text text k opened.sealed read opened.read in
+    (rw same at opened.opens, opened.key ∙ ap (λ (l : SecretKeyRecord). unsealed l password) same)
+opening_headline text password max_p (Err e) (inl memory) k read kdf = inl memory
+opening_headline text password max_p (Err e) (inr refused) k read kdf =
+    inr (refused.closed k read, refused_key text password max_p e k refused.first read kdf)

@@ -1,12 +1,12 @@
 -- The last three fields of a secret key, as one list that is xored with a stream.
 use Rattle.std.proofs.Common.{◌≡◌, ℕ, List, ◌++◌, length, take, drop, bit_xor, refl, sym, ap, ◌∙◌, arith, append_assoc}
 use Rattle.std.proofs.Math.Seq.{take-append_seam, drop-append_seam}
-use Rattle.std.proofs.lemmas.List.{length-append, take-append-drop, take_all}
+use Rattle.std.proofs.lemmas.List.{length-append, length-drop, length-take-le, take-append-drop, take_all}
 use Rattle.std.proofs.lemmas.Simd.{length-zip2}
 use Rattle.std.specs.Simd.Lanes.{zip2}
 use Rattle.minisign.proofs.Xor.{xor_halves, xor_twice}
 use Rattle.minisign.specs.Records.{SecretKeyRecord}
-use Rattle.minisign.specs.Sealing.{key_numbers, sealed_part, stream_of, with_sealed_part, xored}
+use Rattle.minisign.specs.Sealing.{key_numbers, sealed_part, stream_of, unsealed, with_sealed_part, xored}
 
 -- the fields that are sealed have their lengths
 pub record HasSealedLengths (k : SecretKeyRecord) : Type 0 where
@@ -76,7 +76,35 @@ xored_parts k self stream a b c x y z same len whole ea eb ec la lb lc ex ey ez 
       (λ i. xored (fields i) (sym joined i)) ∙ restored_fields k a b c len la lb lc ∙ same,
     )
 
+-- xoring twice with one stream
+pub xored_twice : (k : SecretKeyRecord) (stream : List ℕ) → HasSealedLengths k → length stream ≡ 104 → xored (xored k stream) stream ≡ k
+xored_twice k stream len whole =
+    let a : List ℕ = take 8 stream in
+    let b : List ℕ = take 64 (drop 8 stream) in
+    let c : List ℕ = drop 64 (drop 8 stream) in
+    let behind : length (drop 8 stream) ≡ 96 = length-drop 8 stream ∙ omega (arith, whole) in
+    let la : length a ≡ 8 = length-take-le 8 stream (omega (arith, whole)) in
+    let lb : length b ≡ 64 = length-take-le 64 (drop 8 stream) (omega (arith, behind)) in
+    let lc : length c ≡ 32 = length-drop 64 (drop 8 stream) ∙ omega (arith, behind) in
+    let joined : a ++ b ++ c ≡ stream = cut_stream stream in
+    (λ i. xored (xored k (sym joined i)) (sym joined i))
+    ∙ ap (λ (l : SecretKeyRecord). xored l (a ++ b ++ c)) (xored_fields k a b c len la lb lc)
+    ∙ restored_fields k a b c len la lb lc
+
 -- the stream does not depend on what is sealed
-pub stream_of_xored : (k : SecretKeyRecord) (stream password : List ℕ) → stream_of (xored k stream) password ≡ stream_of k password
+pub same_stream : (k : SecretKeyRecord) (stream password : List ℕ) → stream_of (xored k stream) password ≡ stream_of k password
 unfolding xored stream_of key_numbers
-stream_of_xored k stream password = refl
+same_stream k stream password = refl
+
+-- opening what was sealed under the same password, and sealing what was opened
+pub unsealed_twice : (k : SecretKeyRecord) (password : List ℕ) → HasSealedLengths k → length (stream_of k password) ≡ 104
+    → unsealed (unsealed k password) password ≡ k
+unsealed_twice k password len whole =
+    ap (xored (unsealed k password)) (same_stream k (stream_of k password) password) ∙ xored_twice k (stream_of k password) len whole
+
+-- the same, of a key that was xored with the stream
+pub restored_key : (k new : SecretKeyRecord) (stream password : List ℕ) → stream ≡ stream_of k password → new ≡ xored k stream → xored new stream ≡ k
+    → unsealed new password ≡ k
+restored_key k new stream password is once twice =
+    let same : stream_of new password ≡ stream = ap (λ (l : SecretKeyRecord). stream_of l password) once ∙ same_stream k stream password ∙ sym is in
+    ap (xored new) same ∙ twice

@@ -2,10 +2,11 @@ pub mod Records
 pub mod Texts
 pub mod Reading
 pub mod Acceptance
-pub mod SecretKeyText
+pub mod PublicKeyText
 pub mod Sealing
 pub mod Signing
 pub mod NewPassword
 pub mod Generation
 pub mod Verifying
+pub mod SecretKeyText
 pub mod Opening

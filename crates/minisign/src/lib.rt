@@ -7,12 +7,14 @@
 
 mod comment_signature;
 mod constants;
+mod copying;
 mod drawing;
 mod fields;
 pub mod keynum;
 pub mod keypair;
 mod opening;
 pub mod public_key;
+pub mod public_key_box;
 pub mod reading;
 mod sealing;
 pub mod secret_key;
@@ -31,6 +33,7 @@ pub use minisign_base as base;
 pub use minisign_base::{ErrorKind, PError, Result};
 pub use minisign_hash as hash;
 pub use public_key::PublicKey;
+pub use public_key_box::PublicKeyBox;
 pub use secret_key::SecretKey;
 pub use secret_key_box::SecretKeyBox;
 pub use signature::Signature;

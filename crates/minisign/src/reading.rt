@@ -24,7 +24,7 @@ pub fn read_to_end<S: Source>(alloc: Global, source: &mut S) -> Result<Vec<u8>>
     ensures fault { IfErr result (IsReadFault S.faults source.old source.new) }
     ensures given { HasGiven (S.ahead source.old) (S.ahead source.new) }
 {
-    let mut buf = zeros(alloc, PIECE_BYTES)?;
+    let mut buf = piece_buffer(alloc)?;
     let mut kept = Vec::new(alloc);
     keep(source, &mut buf, &mut kept)?;
     Ok(kept)
@@ -38,7 +38,7 @@ pub(crate) fn prehash<S: Source>(alloc: Global, source: &mut S) -> Result<[u8; 6
     ensures fault { IfErr result (IsReadFault S.faults source.old source.new) }
     ensures given { HasGiven (S.ahead source.old) (S.ahead source.new) }
 {
-    let mut buf = zeros(alloc, PIECE_BYTES)?;
+    let mut buf = piece_buffer(alloc)?;
     let mut hasher = Blake2b::new(64);
     match feed(source, &mut buf, &mut hasher) {
         Ok(()) => {
@@ -92,6 +92,14 @@ fn keep<S: Source>(source: &mut S, buf: &mut [u8], kept: &mut Vec<u8>) -> Result
             Err(_) => return Err(faults::reading_failed()),
         }
     }
+}
+
+// A buffer for pieces, of zeros.
+pub(crate) fn piece_buffer(alloc: Global) -> Result<Vec<u8>>
+    ensures len { IfOk result (λ v. vec_len v ≡ PIECE_BYTES) }
+    ensures refused { IfErr result (λ e. e ≡ out_of_memory) }
+{
+    zeros(alloc, PIECE_BYTES)
 }
 
 // A buffer of zeros.

@@ -22,6 +22,7 @@ impl SecretKey {
     // Xors the last 104 bytes of the record with the stream under the password: opens a sealed key, and
     // seals an opened one. Limits that are not allowed are refused before anything is derived, and then
     // a parallelization above `max_p`; neither takes memory.
+    #[tactic(auto, using(crate::proofs::SealedParts::restored_key))]
     pub(crate) fn unseal(&mut self, alloc: Global, password: &[u8], max_p: u32) -> Result<()>
         ensures unsealed { OnOk result (self.new ≡ unsealed self.old password.now) }
         ensures restores { OnOk result (unsealed self.new password.now ≡ self.old) }
@@ -59,6 +60,7 @@ fn xor_bytes(bytes: &mut [u8], stream: &[u8])
 }
 
 // The stream under the password.
+#[tactic(auto, using(crate::proofs::SealingLimits::derived_stream))]
 fn derive_stream(alloc: Global, sk: &SecretKey, password: &[u8], max_p: u32) -> Result<[u8; 104]>
     ensures stream { IfOk result (λ s. s ≡ stream_of sk.now password.now) }
     ensures allowed { OnOk result (work_refusal sk.now max_p ≡ None) }

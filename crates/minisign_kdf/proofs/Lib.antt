@@ -1,6 +1,9 @@
 pub mod Sixteen
+pub mod Diagonal
 pub mod Bytes
 pub mod Joined
+pub mod Blocks
+pub mod Ordered
 pub mod Keys
 pub mod Mixing
 pub mod Derivation

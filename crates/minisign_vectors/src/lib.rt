@@ -26,6 +26,8 @@ mod prompts;
 #[cfg(test)]
 mod records;
 #[cfg(test)]
+mod secret_keys;
+#[cfg(test)]
 mod sign;
 #[cfg(test)]
 mod table;
