@@ -1,5 +1,5 @@
 -- What the keys that are generated are good for.
-use Rattle.std.proofs.Common.{◌≡◌, ◌⊎◌, ℕ, ◌≤◌, true, false, not, List, ◌++◌, None, Some, Ok, inl, inr, refl, sym, ap, ◌∙◌}
+use Rattle.std.proofs.Common.{◌≡◌, ◌⊎◌, ℕ, ◌≤◌, true, false, not, List, Option, None, Some, Ok, inl, inr, refl, sym, ap, ◌∙◌}
 use Rattle.std.specs.Int.{w64, to_le_bytes}
 use Rattle.std.specs.Str.{bytes_eq}
 use Rattle.std.proofs.lemmas.Slice.Eq.{bytes_eq-Decides}
@@ -8,7 +8,7 @@ use Rattle.minisign_base.specs.Faults.{out_of_memory}
 use Rattle.minisign_base.specs.Limits.{Numbers, cost_log2, limits}
 use Rattle.minisign.specs.Records.{PublicKeyRecord, SecretKeyRecord}
 use Rattle.minisign.specs.Sealing.{IsUnencrypted, checksum_of, is_encrypted, key_limits, scrypt_kdf, unsealed, work_refusal, xored}
-use Rattle.minisign.specs.Generation.{AreSeedAndKeynum, IsGenuinePair, OpensToPair, opened_key, public_key_of, sealed_key, sealing_memory, sealing_operations, secret_of, unsealed_key}
+use Rattle.minisign.specs.Generation.{AreSeedAndKeynum, IsGenuinePair, IsSealedOf, IsSealedPair, OpensToPair, opened_key, public_key_of, sealed_key, sealing_memory, sealing_operations, secret_of, unsealed_key}
 use Rattle.minisign.proofs.SealingLimits.{allowed_numbers, within_bound}
 
 -- the key that is not to be sealed is none that has to be opened
@@ -90,18 +90,18 @@ unfolding opened_key unsealed_key
 opened_checksum keynum secret salt = refl
 
 -- a sealed pair opens under its password
-pub sealed_pair : (public_of : List ℕ → List ℕ) (seed keynum salt password : List ℕ) (pk : PublicKeyRecord) (sk : SecretKeyRecord) → AreSeedAndKeynum seed keynum
-    → pk ≡ public_key_of public_of seed keynum → sk ≡ sealed_key keynum (secret_of public_of seed) salt password
-    → unsealed sk password ≡ opened_key keynum (secret_of public_of seed) salt → OpensToPair public_of password pk sk
-sealed_pair public_of seed keynum salt password pk sk lengths public sealed opened =
-    let secret : List ℕ = secret_of public_of seed in
-    let limits = sealed_limits keynum secret salt password in
-    let allowed : key_limits sk ≡ Ok (record { n_log2 = 15; r = 8; p = 1 }) = default_limits sk (ap (λ k. k.operations_limit) sealed ∙ limits.0) (ap (λ k. k.memory_limit) sealed ∙ limits.1) in
+pub sealed_pair : (public_of : List ℕ → List ℕ) (password : List ℕ) (ahead left : Option (List ℕ)) (pk : PublicKeyRecord) (sk : SecretKeyRecord)
+    → IsSealedPair public_of password ahead left pk sk → OpensToPair public_of password pk sk
+sealed_pair public_of password ahead left pk sk pair =
+    let sealed : IsSealedOf public_of pair.seed pair.keynum pair.salt password pk sk = pair.sealed in
+    let secret : List ℕ = secret_of public_of pair.seed in
+    let limits = sealed_limits pair.keynum secret pair.salt password in
+    let allowed : key_limits sk ≡ Ok (record { n_log2 = 15; r = 8; p = 1 }) = default_limits sk (ap (λ k. k.operations_limit) sealed.secret ∙ limits.0) (ap (λ k. k.memory_limit) sealed.secret ∙ limits.1) in
     record {
       opens = record {
-        kdf = ap (λ k. k.kdf) sealed ∙ sealed_kdf keynum secret salt password;
+        kdf = ap (λ k. k.kdf) sealed.secret ∙ sealed_kdf pair.keynum secret pair.salt password;
         allowed = allowed ∙ ap (λ (v : Numbers). Ok v) (sym (allowed_numbers sk _ allowed));
-        restored = ap (λ k. k.checksum) opened ∙ opened_checksum keynum secret salt ∙ sym (ap checksum_of opened);
+        restored = ap (λ k. k.checksum) sealed.opened ∙ opened_checksum pair.keynum secret pair.salt ∙ sym (ap checksum_of sealed.opened);
       };
-      pair = opened_pair public_of seed keynum salt pk (unsealed sk password) lengths public opened;
+      pair = opened_pair public_of pair.seed pair.keynum pair.salt pk (unsealed sk password) pair.lengths sealed.public sealed.opened;
     }

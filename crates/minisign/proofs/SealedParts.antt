@@ -7,7 +7,6 @@ use Rattle.std.specs.Simd.Lanes.{zip2}
 use Rattle.minisign.proofs.Xor.{xor_halves, xor_twice}
 use Rattle.minisign.specs.Records.{SecretKeyRecord}
 use Rattle.minisign.specs.Sealing.{key_numbers, sealed_part, stream_of, unsealed, with_sealed_part, xored}
-use Rattle.minisign.specs.Sealing.{key_numbers, sealed_part, stream_of, with_sealed_part, xored}
 
 -- the fields that are sealed have their lengths
 pub record HasSealedLengths (k : SecretKeyRecord) : Type 0 where
@@ -109,7 +108,3 @@ pub restored_key : (k new : SecretKeyRecord) (stream password : List ℕ) → st
 restored_key k new stream password is once twice =
     let same : stream_of new password ≡ stream = ap (λ (l : SecretKeyRecord). stream_of l password) once ∙ same_stream k stream password ∙ sym is in
     ap (xored new) same ∙ twice
--- the stream does not depend on what is sealed
-pub stream_of_xored : (k : SecretKeyRecord) (stream password : List ℕ) → stream_of (xored k stream) password ≡ stream_of k password
-unfolding xored stream_of key_numbers
-stream_of_xored k stream password = refl

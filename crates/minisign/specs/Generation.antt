@@ -2,12 +2,14 @@
 use Rattle.std.specs.Prelude.{◌≡◌, ℕ, ◌⊎◌, List, [], ◌++◌, length, replicate, Option, codes}
 use Rattle.std.specs.Int.{w64, to_le_bytes}
 use Rattle.std.specs.Io.KnownBytes.{Appends, Consumes}
+use Rattle.minisign_base.specs.declared.prompt.Prompt.{Prompt}
 use Rattle.minisign_base.specs.Devices.{AppendsFront, Rose}
 use Rattle.minisign_base.specs.Fault.{Fault}
 use Rattle.minisign_base.specs.Faults.{out_of_memory, writing_failed}
 use Rattle.minisign_base.specs.Scheme.{IsBytes}
+use Rattle.minisign.specs.NewPassword.{IsSealingFault}
 use Rattle.minisign.specs.Records.{PublicKeyRecord, SecretKeyRecord, legacy_algorithm, public_key_bytes, secret_key_bytes}
-use Rattle.minisign.specs.Sealing.{IsUnencrypted, Opens, checksum_of, no_kdf, scrypt_kdf, unsealed}
+use Rattle.minisign.specs.Sealing.{Opens, checksum_of, no_kdf, scrypt_kdf, unsealed}
 use Rattle.minisign.specs.Signing.{DrawFails, IsGenuine}
 
 -- the checksum's algorithm: Blake2b
@@ -89,7 +91,14 @@ pub record IsUnsealedPair (public_of : List ℕ → List ℕ) (ahead left : Opti
   pub public : pk ≡ public_key_of public_of seed keynum
   pub secret : sk ≡ unsealed_key keynum (secret_of public_of seed)
 
--- the sealed pair, of random bytes that were drawn: those of the other pair, and then 32 of a salt
+-- the sealed pair of a seed under an identifier, with a salt, under a password
+pub record IsSealedOf (public_of : List ℕ → List ℕ) (seed keynum salt password : List ℕ) (pk : PublicKeyRecord) (sk : SecretKeyRecord) : Type 0 where
+  pub public : pk ≡ public_key_of public_of seed keynum
+  pub secret : sk ≡ sealed_key keynum (secret_of public_of seed) salt password
+  -- opening gives the key as it was
+  pub opened : unsealed sk password ≡ opened_key keynum (secret_of public_of seed) salt
+
+-- the sealed pair of random bytes that were drawn: those of the other pair, and then 32 of a salt
 pub record IsSealedPair (public_of : List ℕ → List ℕ) (password : List ℕ) (ahead left : Option (List ℕ)) (pk : PublicKeyRecord) (sk : SecretKeyRecord) : Type 0 where
   pub seed : List ℕ
   pub keynum : List ℕ
@@ -97,10 +106,7 @@ pub record IsSealedPair (public_of : List ℕ → List ℕ) (password : List ℕ
   pub lengths : AreSeedAndKeynum seed keynum
   pub salt_length : length salt ≡ 32
   pub drawn : Consumes ahead left (seed ++ keynum ++ salt)
-  pub public : pk ≡ public_key_of public_of seed keynum
-  pub secret : sk ≡ sealed_key keynum (secret_of public_of seed) salt password
-  -- opening gives the key as it was
-  pub opened : unsealed sk password ≡ opened_key keynum (secret_of public_of seed) salt
+  pub sealed : IsSealedOf public_of seed keynum salt password pk sk
 
 -- the secret key opens under the password, and then belongs to the public key
 pub record OpensToPair (public_of : List ℕ → List ℕ) (password : List ℕ) (pk : PublicKeyRecord) (sk : SecretKeyRecord) : Type 0 where
@@ -151,3 +157,18 @@ RawPairFails public_of ahead faults random_old random_new pk_taken pk_faults pk_
     (DrawFails faults random_old random_new e × (pk_new ≡ pk_old) × (sk_new ≡ sk_old))
     ⊎ ((pk : PublicKeyRecord) × (sk : SecretKeyRecord) × IsUnsealedPair public_of (ahead random_old) (ahead random_new) pk sk
     × PartsFail pk_taken pk_faults pk_old pk_new sk_taken sk_faults sk_old sk_new (public_key_bytes pk) (secret_key_bytes sk) e)
+
+-- the 72 random bytes of a sealed pair were drawn
+pub record AllDrawn {Z : Type 0} (ahead_of : Z → Option (List ℕ)) (faults_of : Z → ℕ) (old new : Z) : Type 0 where
+  pub bytes : List ℕ
+  pub count : length bytes ≡ 72
+  pub drawn : Consumes (ahead_of old) (ahead_of new) bytes
+  pub calm : faults_of new ≡ faults_of old
+
+-- a sealed pair is not made: the random source failed, before anything was asked, or else no key was sealed
+abbrev pub SealedPairFails : {Z R W : Type 0} → (Z → Option (List ℕ)) → (Z → ℕ) → Z → Z
+    → (R → Option (List ℕ)) → (R → ℕ) → (R → ℕ) → (W → Option (List ℕ)) → (W → ℕ) → Option (List ℕ) → Prompt R W → Prompt R W → Fault → Type 0
+SealedPairFails random_ahead random_faults random_old random_new ahead left faults taken sink_faults password old new e =
+    (DrawFails random_faults random_old random_new e × (new ≡ old))
+    ⊎ (AllDrawn random_ahead random_faults random_old random_new
+    × IsSealingFault ahead left faults taken sink_faults password old new e)

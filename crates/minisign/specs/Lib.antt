@@ -9,4 +9,5 @@ pub mod Signing
 pub mod Verifying
 pub mod SecretKeyText
 pub mod Generation
+pub mod NewPassword
 pub mod Opening

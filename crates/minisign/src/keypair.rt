@@ -1,6 +1,7 @@
 //! Pairs of keys, and how they are made.
 
-ghost use Rattle.std.specs.Prelude.{◌≡◌, ℕ, List, ◌++◌, IfOk, IfErr, OnOk, OnErr};
+ghost use Rattle.std.specs.Prelude.{◌≡◌, ◌⊎◌, ℕ, List, ◌++◌, length, string_bytes, IfOk, IfErr, OnOk, OnErr};
+ghost use Rattle.std.specs.Option.{option_map};
 ghost use Rattle.std.specs.Int.{to_le_bytes, w64};
 ghost use Rattle.std.specs.Io.KnownBytes.{Consumes};
 ghost use Rattle.minisign_base.specs.Devices.{HasGiven};
@@ -8,7 +9,8 @@ ghost use Rattle.minisign_base.specs.Faults.{out_of_memory, writing_failed};
 ghost use Rattle.minisign.specs.Records.{public_key_bytes, secret_key_bytes};
 ghost use Rattle.minisign.specs.Sealing.{IsUnencrypted, unsealed};
 ghost use Rattle.minisign.specs.Signing.{DrawFails};
-ghost use Rattle.minisign.specs.Generation.{AreSeedAndKeynum, FailsAtPart, IsGenuinePair, IsUnsealedPair, OpensToPair, RawPairFails, TakesPart, WritingFails, opened_key, public_key_of, sealed_key, sealing_memory, sealing_operations, secret_of, unsealed_key};
+ghost use Rattle.minisign.specs.NewPassword.{HasAskedTwice, HasNotSealed, HasTold, HasTyped, IsChoosingFault, IsPassword, IsSealingFault, IsTellingFault};
+ghost use Rattle.minisign.specs.Generation.{AreSeedAndKeynum, FailsAtPart, IsGenuinePair, IsSealedOf, IsSealedPair, IsUnsealedPair, OpensToPair, SealedPairFails, RawPairFails, TakesPart, WritingFails, opened_key, public_key_of, sealed_key, sealing_memory, sealing_operations, secret_of, unsealed_key};
 
 use crate::constants::{CHK_ALG, KDF_ALG, KDF_NONE, MEMLIMIT, OPSLIMIT, SIGALG};
 use crate::drawing::draw;
@@ -17,7 +19,9 @@ use crate::public_key::PublicKey;
 use crate::secret_key::SecretKey;
 use minisign_base::devices::random_sources::RandomSource;
 use minisign_base::devices::sinks::{Sink, put_and_flush};
-use minisign_base::helpers::store_u64_le;
+use minisign_base::devices::sources::Source;
+use minisign_base::helpers::{get_password, store_u64_le};
+use minisign_base::prompt::Prompt;
 use minisign_base::scheme::Scheme;
 use minisign_base::{Result, faults};
 use std::alloc::Global;
@@ -91,6 +95,105 @@ impl KeyPair {
         write_parts(pk_sink, sk_sink, &public, &secret)?;
         Ok(pair)
     }
+
+    /// Makes a pair whose secret key is sealed under a password, of 32 random bytes of a seed, then 8 of an
+    /// identifier, and then 32 of a salt. All of them are drawn before anything is asked.
+    ///
+    /// Where no `password` is handed in, the prompt says what it is for, asks for it twice, and tells of the
+    /// derivation, which takes some 32 MiB of memory; else the prompt is left alone. The secret key is opened
+    /// again by `SecretKey::from_box` with the same password.
+    ///
+    /// Refused are, in this order: a failing `random`, with nothing asked; what `get_password` refuses, at the
+    /// first question and then at the second; two passwords that differ (`passwords_differ`); memory for the
+    /// derivation. A prompt that cannot be written to is refused at each text.
+    pub fn generate_encrypted_keypair<S: Scheme, Z: RandomSource, R: Source, W: Sink>(
+        alloc: Global,
+        scheme: &S,
+        random: &mut Z,
+        password: Option<String>,
+        prompt: &mut Prompt<R, W>,
+    ) -> Result<KeyPair>
+        ensures made { IfOk result (λ pair. (typed : List ℕ)
+            × IsPassword R.ahead R.left R.faults W.taken W.sink_faults (option_map (λ s. string_bytes s) password) prompt.old prompt.new typed
+            × IsSealedPair (S.public_of scheme.now) typed (Z.random_ahead random.old) (Z.random_ahead random.new) pair.pk pair.sk
+            × OpensToPair (S.public_of scheme.now) typed pair.pk pair.sk) }
+        ensures calm { OnOk result (Z.random_faults random.new ≡ Z.random_faults random.old) }
+        ensures refused { IfErr result (SealedPairFails Z.random_ahead Z.random_faults random.old random.new
+            R.ahead R.left R.faults W.taken W.sink_faults (option_map (λ s. string_bytes s) password) prompt.old prompt.new) }
+        ensures given { HasGiven (Z.random_ahead random.old) (Z.random_ahead random.new) }
+    {
+        let drawn = draw_with_salt(random)?;
+        seal_pair(alloc, scheme, &drawn, password, prompt)
+    }
+}
+
+// Seals a pair under the password, or asks for one.
+fn seal_pair<S: Scheme, R: Source, W: Sink>(
+    alloc: Global,
+    scheme: &S,
+    drawn: &Drawn,
+    password: Option<String>,
+    prompt: &mut Prompt<R, W>,
+) -> Result<KeyPair>
+    ensures sealed { IfOk result (λ pair. (typed : List ℕ)
+        × IsPassword R.ahead R.left R.faults W.taken W.sink_faults (option_map (λ s. string_bytes s) password) prompt.old prompt.new typed
+        × IsSealedOf (S.public_of scheme.now) drawn.now.seed drawn.now.keynum drawn.now.salt typed pair.pk pair.sk) }
+    ensures refused { IfErr result (IsSealingFault R.ahead R.left R.faults W.taken W.sink_faults (option_map (λ s. string_bytes s) password) prompt.old prompt.new) }
+{
+    match password {
+        Some(password) => make_sealed_pair(alloc, scheme, drawn, password.as_bytes()),
+        None => ask_and_seal(alloc, scheme, drawn, prompt),
+    }
+}
+
+// Asks for a password, and seals a pair under it.
+fn ask_and_seal<S: Scheme, R: Source, W: Sink>(
+    alloc: Global,
+    scheme: &S,
+    drawn: &Drawn,
+    prompt: &mut Prompt<R, W>,
+) -> Result<KeyPair>
+    ensures typed { IfOk result (λ pair. (password : List ℕ) × HasTyped R.ahead R.left R.faults W.taken W.sink_faults prompt.old prompt.new password
+        × IsSealedOf (S.public_of scheme.now) drawn.now.seed drawn.now.keynum drawn.now.salt password pair.pk pair.sk) }
+    ensures refused { IfErr result (λ e. IsChoosingFault R.ahead R.left R.faults W.taken W.sink_faults prompt.old prompt.new e
+        ⊎ HasNotSealed R.ahead R.left R.faults W.taken W.sink_faults prompt.old prompt.new e) }
+{
+    let password = choose_password(alloc, prompt)?;
+    seal_aloud(alloc, scheme, drawn, password.as_bytes(), prompt)
+}
+
+// Says what a password is for, and asks for it twice.
+#[tactic(auto, unfolding(crate::specs::NewPassword::purpose_line, crate::specs::NewPassword::first_question, crate::specs::NewPassword::second_question))]
+fn choose_password<R: Source, W: Sink>(alloc: Global, prompt: &mut Prompt<R, W>) -> Result<String>
+    ensures chosen { IfOk result (λ password. HasAskedTwice R.ahead R.left R.faults W.taken W.sink_faults prompt.old prompt.new (string_bytes password) (string_bytes password)) }
+    ensures refused { IfErr result (IsChoosingFault R.ahead R.left R.faults W.taken W.sink_faults prompt.old prompt.new) }
+{
+    prompt.say("Please enter a password to protect the secret key.\n")?;
+    let password = get_password(alloc, prompt, "Password: ")?;
+    let again = get_password(alloc, prompt, "Password (one more time): ")?;
+    if password != again {
+        return Err(faults::passwords_differ());
+    }
+    Ok(password)
+}
+
+// Seals a pair under a password, and tells of it.
+#[tactic(auto, unfolding(crate::specs::NewPassword::sealing_text, crate::specs::NewPassword::done_line))]
+fn seal_aloud<S: Scheme, R: Source, W: Sink>(
+    alloc: Global,
+    scheme: &S,
+    drawn: &Drawn,
+    password: &[u8],
+    prompt: &mut Prompt<R, W>,
+) -> Result<KeyPair>
+    ensures told { OnOk result (HasTold W.taken W.sink_faults prompt.old prompt.new) }
+    ensures sealed { IfOk result (λ pair. IsSealedOf (S.public_of scheme.now) drawn.now.seed drawn.now.keynum drawn.now.salt password.now pair.pk pair.sk) }
+    ensures refused { IfErr result (IsTellingFault W.taken W.sink_faults prompt.old prompt.new) }
+{
+    prompt.say("Deriving a key from the password in order to encrypt the secret key... ")?;
+    let pair = make_sealed_pair(alloc, scheme, drawn, password)?;
+    prompt.say("done\n")?;
+    Ok(pair)
 }
 
 // Writes both parts: the public one is passed on before the secret one is begun.
@@ -128,10 +231,7 @@ fn make_sealed_pair<S: Scheme>(
     drawn: &Drawn,
     password: &[u8],
 ) -> Result<KeyPair>
-    ensures public { IfOk result (λ pair. pair.pk ≡ public_key_of (S.public_of scheme.now) drawn.now.seed drawn.now.keynum) }
-    ensures secret { IfOk result (λ pair. pair.sk ≡ sealed_key drawn.now.keynum (secret_of (S.public_of scheme.now) drawn.now.seed) drawn.now.salt password.now) }
-    ensures opened { IfOk result (λ pair. unsealed pair.sk password.now ≡ opened_key drawn.now.keynum (secret_of (S.public_of scheme.now) drawn.now.seed) drawn.now.salt) }
-    ensures opens { AreSeedAndKeynum drawn.now.seed drawn.now.keynum → IfOk result (λ pair. OpensToPair (S.public_of scheme.now) password.now pair.pk pair.sk) }
+    ensures sealed { IfOk result (λ pair. IsSealedOf (S.public_of scheme.now) drawn.now.seed drawn.now.keynum drawn.now.salt password.now pair.pk pair.sk) }
     ensures refused { IfErr result (λ e. e ≡ out_of_memory) }
 {
     let KeyPair { pk, sk } = make_pair(scheme, &drawn.seed, drawn.keynum);
@@ -143,6 +243,7 @@ fn make_sealed_pair<S: Scheme>(
 fn draw_with_salt<Z: RandomSource>(random: &mut Z) -> Result<Drawn>
     ensures drawn { IfOk result (λ z. Consumes (Z.random_ahead random.old) (Z.random_ahead random.new) (z.seed ++ z.keynum ++ z.salt)) }
     ensures lengths { IfOk result (λ z. AreSeedAndKeynum z.seed z.keynum) }
+    ensures salt { IfOk result (λ z. length z.salt ≡ 32) }
     ensures calm { OnOk result (Z.random_faults random.new ≡ Z.random_faults random.old) }
     ensures refused { IfErr result (DrawFails Z.random_faults random.old random.new) }
     ensures given { HasGiven (Z.random_ahead random.old) (Z.random_ahead random.new) }
