@@ -1,10 +1,8 @@
 -- Base64 read and written: a text is the base64 of one list of bytes at most, and its letters are
 -- neither line feeds nor white space.
-use Rattle.std.proofs.Common.{◌≡◌, ℕ, zero, suc, ◌+◌, ◌-◌, ◌*◌, ◌/◌, ◌%◌, ◌<◌, ◌≤◌, Bool, true, false, List, [], ◌∷◌, ◌++◌, length, map, slice_index, refl, sym, ap, subst, ◌∙◌, arith}
-use Rattle.std.specs.Str.{bytes_eq}
+use Rattle.std.proofs.Common.{◌≡◌, ℕ, zero, suc, ◌%◌, ◌<◌, Bool, true, false, List, [], ◌∷◌, length, map, refl, sym, ap, subst, ◌∙◌, arith}
 use Rattle.std.specs.declared.option.Option.{Option}
 use Rattle.std.specs.declared.option.Option.TheVariants.{None, Some}
-use Rattle.std.specs.declared.result.Result.{Result}
 use Rattle.std.specs.declared.result.Result.TheVariants.{Ok, Err}
 use Rattle.std.proofs.lemmas.Slice.Eq.{bytes_eq-Decides}
 use Rattle.base64.specs.declared.decode.DecodeError.{DecodeError}
@@ -12,7 +10,7 @@ use Rattle.base64.specs.declared.decode.DecodeAllocError.{DecodeAllocError}
 use Rattle.base64.specs.declared.decode.DecodeAllocError.TheVariants.{DecodeError as Failed}
 use Rattle.base64.specs.Decode.{decode_outcome}
 use Rattle.base64.specs.Engines.{standard}
-use Rattle.base64.specs.GeneralPurpose.{IsBytes, IsDecodeFailure, decode_of, decoded_bytes_of, encode_of}
+use Rattle.base64.specs.GeneralPurpose.{IsBytes, IsDecodeFailure, decode_of, decoded_bytes_of}
 use Rattle.base64.proofs.EngineFacts.{decode_of-encode_of}
 use Rattle.minisign.specs.Texts.{IsBase64Of, base64_of, base64_bytes, is_base64}
 
@@ -64,3 +62,10 @@ pub not_read : (s t : List ℕ) (e : DecodeAllocError) (d : DecodeError) → s �
 not_read s t e d same failure is =
     let failed : decode_of standard t ≡ Err d = subst (λ v. decode_of standard v ≡ Err d) same (subst (IsDecodeFailure standard s) is failure) in
     not_true (is_base64 t) (λ read. let ok = sym (decoded t (base64_bytes t) (reads t read)) ∙ failed in cc ok)
+
+-- base64 of bytes that are too few
+pub short_of : (text b d : List ℕ) (n : ℕ) → IsBase64Of text b → d ≡ b → length d < n → (is_base64 text ≡ true) × (length (base64_bytes text) < n)
+short_of text b d n h same short = (
+  is_read text b h,
+  subst (λ (l : List ℕ). length l < n) (same ∙ sym (bytes_read text b h)) short,
+)

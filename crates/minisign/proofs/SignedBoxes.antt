@@ -4,22 +4,22 @@ use Rattle.std.proofs.lemmas.List.{take_all}
 use Rattle.minisign_hash.specs.Blake2b.{blake2b_digest}
 use Rattle.minisign_base.specs.Scheme.{IsBytes, IsNonce}
 use Rattle.minisign.specs.Records.{SecretKeyRecord, SignatureBoxRecord, prehashed_algorithm}
-use Rattle.minisign.specs.Acceptance.{Acceptance, AcceptedUnder}
-use Rattle.minisign.specs.Signing.{Signer, signed_box, IsGenuine}
+use Rattle.minisign.specs.Acceptance.{Acceptance}
+use Rattle.minisign.specs.Signing.{Signer, ChosenComments, signed_box, AcceptedIfGenuine}
 
 -- a box of these parts
-abbrev pub box_of : List ℕ → List ℕ → List ℕ → List ℕ → List ℕ → SignatureBoxRecord
-box_of keynum signature trusted untrusted global = record {
+abbrev pub box_of : List ℕ → List ℕ → ChosenComments → List ℕ → SignatureBoxRecord
+box_of keynum signature chosen global = record {
   signature = record { algorithm = prehashed_algorithm; keynum = keynum; signature = signature };
-  comments = Some (record { untrusted = untrusted; trusted = trusted; signature = global });
+  comments = Some (record { untrusted = chosen.untrusted; trusted = chosen.trusted; signature = global });
 }
 
 -- parts that were made one by one, as the box that signing makes
-pub made_box : (sign : Signer) (sk : SecretKeyRecord) (message trusted untrusted first second keynum signature global : List ℕ)
+pub made_box : (sign : Signer) (sk : SecretKeyRecord) (message : List ℕ) (chosen : ChosenComments) (first second keynum signature global : List ℕ)
     → keynum ≡ sk.keynum → signature ≡ sign (blake2b_digest 64 message) sk.secret (Some first)
-    → global ≡ sign (signature ++ trusted) sk.secret (Some second)
-    → box_of keynum signature trusted untrusted global ≡ signed_box sign sk message trusted untrusted first second
-made_box sign sk message trusted untrusted first second keynum signature global same_keynum same_signature same_global =
+    → global ≡ sign (signature ++ chosen.trusted) sk.secret (Some second)
+    → box_of keynum signature chosen global ≡ signed_box sign sk message chosen first second
+made_box sign sk message chosen first second keynum signature global same_keynum same_signature same_global =
     rw (same_keynum, same_global, same_signature) refl
 
 -- the law of a scheme: what was signed with a seed's secret key is accepted under its public key
@@ -29,16 +29,15 @@ AcceptsOwn accepts sign public_of = (seed m : List ℕ) (z : Option (List ℕ)) 
 
 -- parts that were made with a genuine key are accepted under its public key
 pub genuine_box : (accepts : Acceptance) (sign : Signer) (public_of : List ℕ → List ℕ) → AcceptsOwn accepts sign public_of
-    → (sk : SecretKeyRecord) (message seed trusted untrusted first second keynum signature global : List ℕ)
+    → (sk : SecretKeyRecord) (message : List ℕ) (chosen : ChosenComments) (first second keynum signature global : List ℕ)
     → keynum ≡ sk.keynum → signature ≡ sign (blake2b_digest 64 message) sk.secret (Some first)
-    → global ≡ sign (signature ++ trusted) sk.secret (Some second)
-    → IsBytes (blake2b_digest 64 message) → IsBytes (signature ++ trusted) → IsNonce (Some first) → IsNonce (Some second)
-    → length global ≡ 64 → IsGenuine public_of sk seed
-    → AcceptedUnder accepts (public_of seed) sk.keynum message (box_of keynum signature trusted untrusted global)
-genuine_box accepts sign public_of own sk message seed trusted untrusted first second keynum signature global
-    same_keynum same_signature same_global digest_bytes signed_bytes first_nonce second_nonce long genuine pk legacy key identifier =
+    → global ≡ sign (signature ++ chosen.trusted) sk.secret (Some second)
+    → IsBytes (blake2b_digest 64 message) → IsBytes (signature ++ chosen.trusted) → IsNonce (Some first) → IsNonce (Some second)
+    → length global ≡ 64 → AcceptedIfGenuine accepts public_of sk message (box_of keynum signature chosen global)
+genuine_box accepts sign public_of own sk message chosen first second keynum signature global
+    same_keynum same_signature same_global digest_bytes signed_bytes first_nonce second_nonce long seed genuine pk legacy key identifier =
     let digest_accepted = own seed (blake2b_digest 64 message) (Some first) genuine.seed_bytes genuine.seed_length digest_bytes first_nonce in
-    let comment_accepted = own seed (signature ++ trusted) (Some second) genuine.seed_bytes genuine.seed_length signed_bytes second_nonce in
+    let comment_accepted = own seed (signature ++ chosen.trusted) (Some second) genuine.seed_bytes genuine.seed_length signed_bytes second_nonce in
     record {
       same_key = same_keynum ∙ sym identifier;
       allowed = inl refl;

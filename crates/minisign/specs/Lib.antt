@@ -2,7 +2,12 @@ pub mod Records
 pub mod Texts
 pub mod Reading
 pub mod Acceptance
-pub mod SecretKeyText
+pub mod PublicKeyText
+pub mod SignatureText
 pub mod Sealing
 pub mod Signing
+pub mod Verifying
+pub mod SecretKeyText
+pub mod Generation
+pub mod NewPassword
 pub mod Opening

@@ -1,11 +1,11 @@
 -- The text of a secret key: a line of comment, and a line that is the base64 of the key's record, with
 -- nothing before or behind it. What follows these two lines does not matter.
 use Rattle.std.specs.Prelude.{◌≡◌, ℕ, IsTrue, nat_le, List, [], ◌∷◌, ◌++◌, length, Option, Some, codes}
+use Rattle.std.specs.Option.{unwrap_or}
 use Rattle.minisign_base.specs.Fault.{Fault}
 use Rattle.minisign_base.specs.Faults.{missing_secret_key_comment, missing_encoded_secret_key, secret_key_not_base64, record_too_short}
 use Rattle.minisign.specs.Acceptance.{line}
 use Rattle.minisign.specs.Records.{SecretKeyRecord, ReadsSecretKey, secret_key_bytes}
-use Rattle.minisign.specs.Signing.{comment_or}
 use Rattle.minisign.specs.Texts.{IsBase64Of, Test, base64_bytes, base64_of, first_failing, has_line, is_base64, line_at, untrusted_comment_label}
 
 -- the text reads as the key
@@ -35,4 +35,4 @@ default_secret_key_comment = codes "rsign encrypted secret key"
 -- the text that is written, with the comment that is given or else the default
 unfoldable pub secret_key_text : Option (List ℕ) → SecretKeyRecord → List ℕ
 secret_key_text comment k =
-    line (untrusted_comment_label ++ comment_or comment default_secret_key_comment) ++ line (base64_of (secret_key_bytes k))
+    line (untrusted_comment_label ++ unwrap_or comment default_secret_key_comment) ++ line (base64_of (secret_key_bytes k))

@@ -1,11 +1,16 @@
 -- The box that signing makes.
-use Rattle.std.specs.Prelude.{◌≡◌, ℕ, false, List, [], ◌++◌, length, Option, None, Some, codes}
-use Rattle.std.specs.Option.{option_map_or}
+use Rattle.std.specs.Prelude.{◌≡◌, ℕ, true, false, List, [], ◌++◌, length, Option, Some, ◌⊎◌, IsSomeAnd, codes}
+use Rattle.std.specs.Option.{option_map_or, unwrap_or}
 use Rattle.std.specs.Fmt.{decimal}
 use Rattle.std.specs.Io.KnownBytes.{Consumes}
 use Rattle.minisign_hash.specs.Blake2b.{blake2b_digest}
+use Rattle.minisign_base.specs.Devices.{Rose}
+use Rattle.minisign_base.specs.Fault.{Fault}
+use Rattle.minisign_base.specs.Faults.{out_of_memory, random_source_failed, encrypted_key_refused, refused_by_given_key}
 use Rattle.minisign_base.specs.Scheme.{IsBytes, IsNonce}
-use Rattle.minisign.specs.Records.{SecretKeyRecord, SignatureBoxRecord, prehashed_algorithm}
+use Rattle.minisign.specs.Records.{PublicKeyRecord, SecretKeyRecord, SignatureBoxRecord, prehashed_algorithm}
+use Rattle.minisign.specs.Acceptance.{Acceptance, AcceptedUnder, accepts_comments}
+use Rattle.minisign.specs.Reading.{ReadsWhole, ReadingFails}
 use Rattle.minisign.specs.Sealing.{is_encrypted}
 
 -- what a scheme signs: a message, with a secret key of 64 bytes and 64 random bytes or none
@@ -19,30 +24,35 @@ default_untrusted_comment = codes "signature from rsign secret key"
 unfoldable pub default_trusted_comment : ℕ → List ℕ
 default_trusted_comment moment = codes "timestamp:" ++ decimal moment
 
--- the comment that is given, or else the default
-abbrev pub comment_or : Option (List ℕ) → List ℕ → List ℕ
-comment_or None default = default
-comment_or (Some comment) default = comment
+-- the two comments of a box
+pub record ChosenComments : Type 0 where
+  pub trusted : List ℕ
+  pub untrusted : List ℕ
+
+-- the comments that are given, or else the defaults: the moment as the trusted one
+abbrev pub comments_or_defaults : Option (List ℕ) → Option (List ℕ) → ℕ → ChosenComments
+comments_or_defaults trusted untrusted moment =
+    record { trusted = unwrap_or trusted (default_trusted_comment moment); untrusted = unwrap_or untrusted default_untrusted_comment }
 
 -- the box that vouches for the message: a signature of its digest of 64 bytes with the first random
 -- bytes, and a signature of that signature and the trusted comment with the second
-abbrev pub signed_box : Signer → SecretKeyRecord → List ℕ → List ℕ → List ℕ → List ℕ → List ℕ → SignatureBoxRecord
-signed_box sign sk message trusted untrusted z1 z2 =
+abbrev pub signed_box : Signer → SecretKeyRecord → List ℕ → ChosenComments → List ℕ → List ℕ → SignatureBoxRecord
+signed_box sign sk message chosen z1 z2 =
     let signature = sign (blake2b_digest 64 message) sk.secret (Some z1) in
     record {
       signature = record { algorithm = prehashed_algorithm; keynum = sk.keynum; signature = signature };
-      comments = Some (record { untrusted = untrusted; trusted = trusted; signature = sign (signature ++ trusted) sk.secret (Some z2) });
+      comments = Some (record { untrusted = chosen.untrusted; trusted = chosen.trusted; signature = sign (signature ++ chosen.trusted) sk.secret (Some z2) });
     }
 
 -- the box is the one that vouches for the message with random bytes that were drawn: 64 for the
 -- signature and then 64 for the comment signature
-pub record IsSigned (sign : Signer) (sk : SecretKeyRecord) (message trusted untrusted : List ℕ) (ahead left : Option (List ℕ)) (x : SignatureBoxRecord) : Type 0 where
+pub record IsSigned (sign : Signer) (sk : SecretKeyRecord) (message : List ℕ) (chosen : ChosenComments) (ahead left : Option (List ℕ)) (x : SignatureBoxRecord) : Type 0 where
   pub first : List ℕ
   pub second : List ℕ
   pub first_nonce : IsNonce (Some first)
   pub second_nonce : IsNonce (Some second)
   pub drawn : Consumes ahead left (first ++ second)
-  pub box : x ≡ signed_box sign sk message trusted untrusted first second
+  pub box : x ≡ signed_box sign sk message chosen first second
 
 -- the comment that nothing vouches for; a bare signature has none
 abbrev pub untrusted_comment_of : SignatureBoxRecord → List ℕ
@@ -54,3 +64,45 @@ pub record IsGenuine (public_of : List ℕ → List ℕ) (sk : SecretKeyRecord) 
   pub seed_bytes : IsBytes seed
   pub secret : sk.secret ≡ seed ++ public_of seed
   pub opened : is_encrypted sk ≡ false
+
+-- where the key is genuine, the box is accepted under its own public key
+abbrev pub AcceptedIfGenuine : Acceptance → (List ℕ → List ℕ) → SecretKeyRecord → List ℕ → SignatureBoxRecord → Type 0
+AcceptedIfGenuine accepts public_of sk message x =
+    (seed : List ℕ) → IsGenuine public_of sk seed → AcceptedUnder accepts (public_of seed) sk.keynum message x
+
+-- the key is sealed; nothing was read or drawn
+pub record KeyIsSealed {R Z : Type 0} (sk : SecretKeyRecord) (old new : R) (random_old random_new : Z) (e : Fault) : Type 0 where
+  pub fault : e ≡ encrypted_key_refused
+  pub sealed : is_encrypted sk ≡ true
+  pub unread : new ≡ old
+  pub undrawn : random_new ≡ random_old
+
+-- the data could not be read; nothing was drawn
+pub record DataFails {R Z : Type 0} (faults : R → ℕ) (old new : R) (random_old random_new : Z) (e : Fault) : Type 0 where
+  pub failed : ReadingFails faults old new e
+  pub undrawn : random_new ≡ random_old
+
+-- the random source failed
+pub record DrawFails {Z : Type 0} (faults : Z → ℕ) (random_old random_new : Z) (e : Fault) : Type 0 where
+  pub fault : e ≡ random_source_failed
+  pub rose : Rose (faults random_old) (faults random_new)
+
+-- the public key that was given does not accept the comment signature of the box that was made
+pub record GivenKeyRefuses (accepts : Acceptance) (sign : Signer) (pk : PublicKeyRecord) (sk : SecretKeyRecord) (message : List ℕ) (chosen : ChosenComments) (ahead left : Option (List ℕ)) (e : Fault) : Type 0 where
+  pub fault : e ≡ refused_by_given_key pk.keynum
+  pub made : SignatureBoxRecord
+  pub signed : IsSigned sign sk message chosen ahead left made
+  pub refused : accepts_comments accepts pk made ≡ false
+
+-- signing fails: the key is sealed; or it is opened, and memory is wanting, the data fails, or all of it was
+-- read and the random source fails or the given public key refuses
+abbrev pub SigningFails : {R Z : Type 0} → Acceptance → Signer → Option PublicKeyRecord → SecretKeyRecord → ChosenComments
+    → (R → Option (List ℕ)) → (R → Option (List ℕ)) → (R → ℕ) → R → R → (Z → Option (List ℕ)) → (Z → ℕ) → Z → Z → Fault → Type 0
+SigningFails accepts sign pk sk chosen ahead behind faults old new random_ahead random_faults random_old random_new e =
+    KeyIsSealed sk old new random_old random_new e
+    ⊎ ((is_encrypted sk ≡ false)
+    × ((e ≡ out_of_memory)
+    ⊎ DataFails faults old new random_old random_new e
+    ⊎ ((message : List ℕ) × ReadsWhole ahead behind faults old new message
+    × (DrawFails random_faults random_old random_new e
+    ⊎ IsSomeAnd pk (λ p. GivenKeyRefuses accepts sign p sk message chosen (random_ahead random_old) (random_ahead random_new) e)))))

@@ -1,6 +1,6 @@
 -- What texts of keys and signatures are made of: lines, base64 as RFC 4648 section 4 has it, and tests
 -- in an order.
-use Rattle.std.specs.Prelude.{◌≡◌, ℕ, ◌%◌, Bool, if◌then◌else◌, nat_lt, bytes_eq, map, List, [], ◌∷◌, length, slice_index_or, Option, None, Some, codes}
+use Rattle.std.specs.Prelude.{◌≡◌, ◌↔◌, ℕ, ◌%◌, Bool, if◌then◌else◌, bytes_eq, map, List, [], ◌∷◌, slice_get, slice_index_or, Option, None, Some, is_some, codes}
 use Rattle.std.specs.Str.Lines.{lines}
 use Rattle.base64.specs.Engines.{standard}
 use Rattle.base64.specs.GeneralPurpose.{IsBytes, encode_of, decoded_bytes_of}
@@ -23,13 +23,19 @@ base64_bytes text = map (λ b. b % 256) (decoded_bytes_of standard text)
 unfoldable pub is_base64 : List ℕ → Bool
 is_base64 text = bytes_eq text (base64_of (base64_bytes text))
 
--- a text has more than so many lines
+-- a text has a line at this place, counted from 0
 abbrev pub has_line : ℕ → List ℕ → Bool
-has_line n text = nat_lt n (length (lines text))
+has_line n text = is_some (slice_get (lines text) n)
 
--- a line of a text by its place, counted from 0
+-- that line
 abbrev pub line_at : ℕ → List ℕ → List ℕ
 line_at n text = slice_index_or (lines text) n []
+
+-- a text has this second line
+pub record IsSecondLine (text second : List ℕ) : Type 0 where
+  pub first : List ℕ
+  pub later : List (List ℕ)
+  pub cut : lines text ≡ first ∷ second ∷ later
 
 -- what is asked of a text, and the fault where it does not hold
 pub record Test : Type 0 where
@@ -40,6 +46,16 @@ pub record Test : Type 0 where
 abbrev pub first_failing : List Test → Option Fault
 first_failing [] = None
 first_failing (t ∷ tests) = if t.holds then first_failing tests else Some t.fault
+
+-- a text is refused: this is the first case that fails, and the text reads as no value
+pub record IsRefused {V : Type 0} (reads : V → Type 0) (first : Option Fault) (e : Fault) : Type 0 where
+  pub first_case : first ≡ Some e
+  pub unread : (v : V) → ¬ (reads v)
+
+-- no case fails exactly where a text reads as some value, and it reads as one at most
+pub record IsDecided {V : Type 0} (reads : V → Type 0) (first : Option Fault) : Type 0 where
+  pub none_fails : (first ≡ None) ↔ ((v : V) × reads v)
+  pub one_value : (v w : V) → reads v → reads w → v ≡ w
 
 -- how the first line of a written text begins
 unfoldable pub untrusted_comment_label : List ℕ

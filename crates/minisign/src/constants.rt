@@ -20,3 +20,12 @@ pub(crate) const COMMENT_PREFIX: &str = "untrusted comment: ";
 
 /// The comment of a secret key's text where none is given.
 pub(crate) const SECRETKEY_DEFAULT_COMMENT: &str = "rsign encrypted secret key";
+
+/// The checksum of a secret key is made by Blake2b.
+pub(crate) const CHK_ALG: [u8; 2] = [b'B', b'2'];
+
+/// The operations limit of a key that is sealed.
+pub(crate) const OPSLIMIT: u64 = 1048576;
+
+/// The memory limit of a key that is sealed, in bytes.
+pub(crate) const MEMLIMIT: u64 = 33554432;

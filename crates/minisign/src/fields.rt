@@ -1,4 +1,5 @@
 //! The fields of a record, taken off the front of bytes one by one.
+
 ghost use Rattle.std.specs.Prelude.{◌≡◌, ◌<◌, ◌++◌, length, IfOk, IfErr};
 ghost use Rattle.minisign_base.specs.Faults.{record_too_short};
 

@@ -1,4 +1,5 @@
 //! A key's bytes beside its identifier.
+
 ghost use Rattle.std.specs.Prelude.{◌≡◌, ◌&&◌, Some, bytes_eq};
 ghost use Rattle.std.specs.Cmp.{on_per, on_equiv, and_per, and_equiv, partial_equiv_from_equiv};
 ghost use Rattle.std.specs.Cmp.Lexicographic.{nat_list_eq_equiv};

@@ -2,13 +2,19 @@
 //!
 //! Whoever signs and verifies hands in a signature scheme, random bytes and the devices that bytes
 //! come from and go to.
+
 #![tactic(auto)]
 
+mod comment_signature;
 mod constants;
+mod copying;
+mod drawing;
 mod fields;
 pub mod keynum;
+pub mod keypair;
 mod opening;
 pub mod public_key;
+pub mod public_key_box;
 pub mod reading;
 mod sealing;
 pub mod secret_key;
@@ -22,10 +28,12 @@ mod texts;
 pub mod verifying;
 
 pub use constants::DEFAULT_COMMENT;
+pub use keypair::KeyPair;
 pub use minisign_base as base;
 pub use minisign_base::{ErrorKind, PError, Result};
 pub use minisign_hash as hash;
 pub use public_key::PublicKey;
+pub use public_key_box::PublicKeyBox;
 pub use secret_key::SecretKey;
 pub use secret_key_box::SecretKeyBox;
 pub use signature::Signature;

@@ -1,15 +1,26 @@
 //! A public key, which vouches for what was signed with its secret key.
-ghost use Rattle.std.specs.Prelude.{◌≡◌, ◌<◌, length, MatchResult, IfOk, IfErr, bytes_eq};
+
+ghost use Rattle.std.specs.Prelude.{◌≡◌, ◌<◌, ◌⊎◌, List, ℕ, true, false, Some, drop, length, string_bytes, MatchResult, IfOk, IfErr, IfSome, IfNone, bytes_eq};
 ghost use Rattle.std.specs.Cmp.{on_per, on_equiv, partial_equiv_from_equiv};
 ghost use Rattle.std.specs.Cmp.Lexicographic.{nat_list_eq_equiv};
 ghost use Rattle.minisign_base.specs.Faults.{out_of_memory, record_too_short};
+ghost use Rattle.minisign.specs.Texts.{IsRefused, IsDecided, base64_of, is_base64, base64_bytes};
+ghost use Rattle.std.specs.Str.{trim};
+ghost use Rattle.minisign.specs.PublicKeyText.{EncodesPublicKey, PublicKeyText, BarePublicKey, public_key_fault, bare_public_key_fault, public_key_text};
+ghost use Rattle.minisign.specs.Texts.{IsSecondLine};
 
 use crate::fields::split_field;
 use crate::keynum::KeynumPK;
-use minisign_base::Result;
+use crate::public_key_box::PublicKeyBox;
+use crate::secret_key::SecretKey;
+use crate::texts::{decode, encode, next_line};
+use minisign_base::{Identifier, Result, faults};
 use minisign_hash::util::fixed_time_eq;
 use std::alloc::Global;
 use std::marker::Model;
+
+// The length of a public key in base64.
+const ENCODED_BYTES: usize = 56;
 
 /// A public key: an algorithm of 2 bytes, an identifier of 8 and a key of 32. The algorithm is kept as
 /// it was read and never tested.
@@ -51,6 +62,82 @@ impl PublicKey {
         })
     }
 
+    /// Reads a public key text: a first line that may be anything, and a second of 56 bytes that,
+    /// trimmed of white space, is the base64 of the 42 bytes of a key. Later lines are ignored.
+    ///
+    /// These are refused, in this order: a text with no first line, one with no second line, another
+    /// length of that line, what is no base64, fewer than 42 bytes. Want of memory may come at any time.
+    pub fn from_box(alloc: Global, public_key_box: PublicKeyBox) -> Result<PublicKey>
+        ensures read { IfOk result (PublicKeyText public_key_box) }
+        ensures exact { (k : PublicKeyRecord) → PublicKeyText public_key_box k →
+            MatchResult result (λ v. v ≡ k) (λ e. e ≡ out_of_memory) }
+        ensures refused { IfErr result (λ e. (e ≡ out_of_memory)
+            ⊎ IsRefused (PublicKeyText public_key_box) (public_key_fault public_key_box) e) }
+        ensures decided { IsDecided (PublicKeyText public_key_box) (public_key_fault public_key_box) }
+    {
+        read_text(alloc, public_key_box.as_str())
+    }
+
+    /// Reads the bare base64 of a key, 56 bytes with nothing around them.
+    ///
+    /// These are refused, in this order: a text that, trimmed of white space, has another length, what
+    /// is no base64 as it stands, fewer than 42 bytes. Want of memory may come at any time.
+    pub fn from_base64(alloc: Global, text: &str) -> Result<PublicKey>
+        ensures read { IfOk result (BarePublicKey text.now) }
+        ensures exact { (k : PublicKeyRecord) → BarePublicKey text.now k →
+            MatchResult result (λ v. v ≡ k) (λ e. e ≡ out_of_memory) }
+        ensures refused { IfErr result (λ e. (e ≡ out_of_memory)
+            ⊎ IsRefused (BarePublicKey text.now) (bare_public_key_fault text.now) e) }
+        ensures decided { IsDecided (BarePublicKey text.now) (bare_public_key_fault text.now) }
+    {
+        read_bare(alloc, text)
+    }
+
+    /// The public key of a secret key: its algorithm, its identifier and the last 32 bytes of its
+    /// secret, as they stand in a sealed key too. Takes no memory.
+    pub fn from_secret_key(sk: &SecretKey) -> PublicKey
+        ensures { result ≡ record { algorithm = sk.now.algorithm; keynum = sk.now.keynum; key = drop 32 sk.now.secret } }
+    {
+        let (_, public_half) = sk.keynum_sk.sk.split_at(32);
+        let mut pk = [0u8; 32];
+        pk.copy_from_slice(public_half);
+        PublicKey {
+            sig_alg: sk.sig_alg,
+            keynum_pk: KeynumPK {
+                keynum: sk.keynum_sk.keynum,
+                pk,
+            },
+        }
+    }
+
+    /// The text of the key, two lines: `untrusted comment: minisign public key: ` and the identifier,
+    /// read little endian, in 16 upper hexadecimal digits; the base64 of the 42 bytes. Only want of
+    /// memory is refused.
+    pub fn to_box(&self, alloc: Global) -> Result<PublicKeyBox>
+        ensures text { IfOk result (λ b. b ≡ public_key_text self.now) }
+        ensures reads_back { IfOk result (λ b. PublicKeyText b self.now) }
+        ensures refused { IfErr result (λ e. e ≡ out_of_memory) }
+    {
+        let encoded = self.to_base64(alloc)?;
+        let text = format!(in alloc;
+            "untrusted comment: minisign public key: {}\n{}\n",
+            Identifier(self.keynum_pk.keynum),
+            encoded
+        )?;
+        Ok(PublicKeyBox::from(text))
+    }
+
+    /// The base64 of the 42 bytes, 56 characters. Only want of memory is refused.
+    pub fn to_base64(&self, alloc: Global) -> Result<String>
+        ensures text { IfOk result (λ t. string_bytes t ≡ base64_of (public_key_bytes self.now)) }
+        ensures reads_back { IfOk result (λ t. BarePublicKey (string_bytes t) self.now) }
+        ensures refused { IfErr result (λ e. e ≡ out_of_memory) }
+    {
+        let bytes = self.to_bytes(alloc)?;
+        let text = encode(alloc, &bytes)?;
+        Ok(text)
+    }
+
     /// The 42 bytes that `from_bytes` reads as this key. Only want of memory is refused.
     pub fn to_bytes(&self, alloc: Global) -> Result<Vec<u8>>
         ensures bytes { IfOk result (λ v. v.items ≡ public_key_bytes self.now) }
@@ -63,6 +150,72 @@ impl PublicKey {
         bytes.extend_from_slice(&self.keynum_pk.keynum)?;
         bytes.extend_from_slice(&self.keynum_pk.pk)?;
         Ok(bytes)
+    }
+}
+
+// Reads a public key text.
+fn read_text(alloc: Global, text: &str) -> Result<PublicKey>
+    ensures read { IfOk result (PublicKeyText text.now) }
+    ensures refused { IfErr result (λ e. (e ≡ out_of_memory) ⊎ (public_key_fault text.now ≡ Some e)) }
+{
+    let line = key_line(text)?;
+    read_key_line(alloc, line)
+}
+
+// Reads the bare base64 of a key.
+fn read_bare(alloc: Global, text: &str) -> Result<PublicKey>
+    ensures read { IfOk result (BarePublicKey text.now) }
+    ensures refused { IfErr result (λ e. (e ≡ out_of_memory) ⊎ (bare_public_key_fault text.now ≡ Some e)) }
+{
+    if text.trim().len() != ENCODED_BYTES {
+        return Err(faults::bare_public_key_length());
+    }
+    match decode_key(alloc, text)? {
+        Some(key) => Ok(key),
+        None => Err(faults::bare_public_key_not_base64()),
+    }
+}
+
+// The second line of a text that may hold a public key.
+fn key_line(text: &str) -> Result<&str>
+    ensures line { IfOk result (λ l. IsSecondLine text.now l.now) }
+    ensures refused { IfErr result (λ e. public_key_fault text.now ≡ Some e) }
+{
+    let mut lines = text.lines();
+    let Some(_) = next_line(&mut lines) else {
+        return Err(faults::missing_public_key_comment());
+    };
+    match next_line(&mut lines) {
+        Some(line) => Ok(line),
+        None => Err(faults::missing_encoded_public_key()),
+    }
+}
+
+// Reads the second line of a public key text.
+fn read_key_line(alloc: Global, line: &str) -> Result<PublicKey>
+    ensures read { IfOk result (λ k. (length line.now ≡ 56) × EncodesPublicKey (trim line.now) k) }
+    ensures refused { IfErr result (λ e. (e ≡ out_of_memory)
+        ⊎ ((text : List ℕ) → IsSecondLine text line.now → public_key_fault text ≡ Some e)) }
+{
+    if line.len() != ENCODED_BYTES {
+        return Err(faults::public_key_line_length());
+    }
+    match decode_key(alloc, line.trim())? {
+        Some(key) => Ok(key),
+        None => Err(faults::public_key_line_not_base64()),
+    }
+}
+
+// The key that a text is the base64 of; nothing where the text is no base64.
+fn decode_key(alloc: Global, text: &str) -> Result<Option<PublicKey>>
+    ensures key { IfOk result (λ o. IfSome o (EncodesPublicKey text.now)) }
+    ensures none { IfOk result (λ o. IfNone o (is_base64 text.now ≡ false)) }
+    ensures refused { IfErr result (λ e. (e ≡ out_of_memory)
+        ⊎ ((e ≡ record_too_short) × (is_base64 text.now ≡ true) × (length (base64_bytes text.now) < 42))) }
+{
+    match decode(alloc, text)? {
+        Some(bytes) => Ok(Some(PublicKey::from_bytes(&bytes)?)),
+        None => Ok(None),
     }
 }
 

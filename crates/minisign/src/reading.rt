@@ -1,11 +1,12 @@
 //! Reading data to its end: hashed as it comes, or kept whole.
+
 ghost use Rattle.std.specs.Prelude.{◌≡◌, ℕ, ◌<◌, List, ◌++◌, false, length, vec_len, IfOk, IfErr, OnOk, OnErr};
 ghost use Rattle.std.specs.Io.KnownBytes.{IsAtEnd};
 ghost use Rattle.minisign_hash.specs.Blake2b.{blake2b_digest};
 ghost use Rattle.minisign_hash.specs.Fed.{IsFed, has_finalized, output_length};
 ghost use Rattle.minisign_base.specs.Devices.{Rose, HasGiven};
 ghost use Rattle.minisign_base.specs.Faults.{out_of_memory};
-ghost use Rattle.minisign.specs.Reading.{IsAhead, IsReadFault};
+ghost use Rattle.minisign.specs.Reading.{IsAhead, IsReadFault, ReadsWhole};
 
 use minisign_base::devices::DeviceFault;
 use minisign_base::devices::sources::Source;
@@ -16,12 +17,37 @@ use std::alloc::Global;
 // How many bytes a read asks for.
 const PIECE_BYTES: usize = 65536;
 
-// A buffer of zeros.
-fn zeros(alloc: Global, len: usize) -> Result<Vec<u8>>
-    ensures len { IfOk result (λ v. vec_len v ≡ len) }
-    ensures refused { IfErr result (λ e. e ≡ out_of_memory) }
+/// All that is ahead, in memory. It is read in pieces of 64 KiB. Refused are a failing source, and want of
+/// memory, for the buffer or for what is kept; some bytes may have been read by then.
+pub fn read_to_end<S: Source>(alloc: Global, source: &mut S) -> Result<Vec<u8>>
+    ensures bytes { IfOk result (λ v. ReadsWhole S.ahead S.behind S.faults source.old source.new v.items) }
+    ensures fault { IfErr result (IsReadFault S.faults source.old source.new) }
+    ensures given { HasGiven (S.ahead source.old) (S.ahead source.new) }
 {
-    Ok(vec![in alloc; 0u8; len]?)
+    let mut buf = piece_buffer(alloc)?;
+    let mut kept = Vec::new(alloc);
+    keep(source, &mut buf, &mut kept)?;
+    Ok(kept)
+}
+
+// The Blake2b digest of 64 bytes of all that is ahead, which is read in pieces, so that memory does
+// not grow with it.
+pub(crate) fn prehash<S: Source>(alloc: Global, source: &mut S) -> Result<[u8; 64]>
+    ensures digest { IfOk result (λ d. (message : List ℕ) × ReadsWhole S.ahead S.behind S.faults source.old source.new message
+        × (d ≡ blake2b_digest 64 message)) }
+    ensures fault { IfErr result (IsReadFault S.faults source.old source.new) }
+    ensures given { HasGiven (S.ahead source.old) (S.ahead source.new) }
+{
+    let mut buf = piece_buffer(alloc)?;
+    let mut hasher = Blake2b::new(64);
+    match feed(source, &mut buf, &mut hasher) {
+        Ok(()) => {
+            let mut digest = [0u8; 64];
+            hasher.finalize(&mut digest);
+            Ok(digest)
+        }
+        Err(_) => Err(faults::reading_failed()),
+    }
 }
 
 // Feeds all that is ahead to the hash, through the buffer.
@@ -32,12 +58,9 @@ fn feed<S: Source>(
 ) -> std::result::Result<(), DeviceFault>
     requires some { 0 < length buf.old }
     requires open { has_finalized hasher.old ≡ false }
-    ensures fed { OnOk result ((xs : List ℕ) × IsAhead (S.ahead source.old) xs
-        × ((m : List ℕ) → IsFed hasher.old m → IsFed hasher.new (m ++ xs))) }
+    ensures fed { OnOk result ((message : List ℕ) × ReadsWhole S.ahead S.behind S.faults source.old source.new message
+        × ((m : List ℕ) → IsFed hasher.old m → IsFed hasher.new (m ++ message))) }
     ensures length { output_length hasher.new ≡ output_length hasher.old }
-    ensures end { OnOk result (IsAtEnd (S.ahead source.new)) }
-    ensures mark { OnOk result (S.behind source.new ≡ S.behind source.old) }
-    ensures calm { OnOk result (S.faults source.new ≡ S.faults source.old) }
     ensures fault { OnErr result (Rose (S.faults source.old) (S.faults source.new)) }
     ensures given { HasGiven (S.ahead source.old) (S.ahead source.new) }
 {
@@ -50,36 +73,12 @@ fn feed<S: Source>(
     }
 }
 
-// The Blake2b digest of 64 bytes of all that is ahead, which is read in pieces, so that memory does
-// not grow with it.
-pub(crate) fn prehash<S: Source>(alloc: Global, source: &mut S) -> Result<[u8; 64]>
-    ensures digest { IfOk result (λ d. (xs : List ℕ) × IsAhead (S.ahead source.old) xs × (d ≡ blake2b_digest 64 xs)) }
-    ensures end { OnOk result (IsAtEnd (S.ahead source.new)) }
-    ensures mark { OnOk result (S.behind source.new ≡ S.behind source.old) }
-    ensures calm { OnOk result (S.faults source.new ≡ S.faults source.old) }
-    ensures fault { IfErr result (IsReadFault (S.faults source.old) (S.faults source.new)) }
-    ensures given { HasGiven (S.ahead source.old) (S.ahead source.new) }
-{
-    let mut buf = zeros(alloc, PIECE_BYTES)?;
-    let mut hasher = Blake2b::new(64);
-    match feed(source, &mut buf, &mut hasher) {
-        Ok(()) => {
-            let mut digest = [0u8; 64];
-            hasher.finalize(&mut digest);
-            Ok(digest)
-        }
-        Err(_) => Err(faults::reading_failed()),
-    }
-}
-
 // Adds all that is ahead, through the buffer.
 fn keep<S: Source>(source: &mut S, buf: &mut [u8], kept: &mut Vec<u8>) -> Result<()>
     requires { 0 < length buf.old }
-    ensures kept { OnOk result ((xs : List ℕ) × IsAhead (S.ahead source.old) xs × (kept.new.items ≡ kept.old.items ++ xs)) }
-    ensures end { OnOk result (IsAtEnd (S.ahead source.new)) }
-    ensures mark { OnOk result (S.behind source.new ≡ S.behind source.old) }
-    ensures calm { OnOk result (S.faults source.new ≡ S.faults source.old) }
-    ensures fault { IfErr result (IsReadFault (S.faults source.old) (S.faults source.new)) }
+    ensures kept { OnOk result ((message : List ℕ) × ReadsWhole S.ahead S.behind S.faults source.old source.new message
+        × (kept.new.items ≡ kept.old.items ++ message)) }
+    ensures fault { IfErr result (IsReadFault S.faults source.old source.new) }
     ensures given { HasGiven (S.ahead source.old) (S.ahead source.new) }
 {
     'pieces: loop {
@@ -95,17 +94,18 @@ fn keep<S: Source>(source: &mut S, buf: &mut [u8], kept: &mut Vec<u8>) -> Result
     }
 }
 
-/// All that is ahead, in memory.
-pub fn read_to_end<S: Source>(alloc: Global, source: &mut S) -> Result<Vec<u8>>
-    ensures bytes { IfOk result (λ v. IsAhead (S.ahead source.old) v.items) }
-    ensures end { OnOk result (IsAtEnd (S.ahead source.new)) }
-    ensures mark { OnOk result (S.behind source.new ≡ S.behind source.old) }
-    ensures calm { OnOk result (S.faults source.new ≡ S.faults source.old) }
-    ensures fault { IfErr result (IsReadFault (S.faults source.old) (S.faults source.new)) }
-    ensures given { HasGiven (S.ahead source.old) (S.ahead source.new) }
+// A buffer for pieces, of zeros.
+pub(crate) fn piece_buffer(alloc: Global) -> Result<Vec<u8>>
+    ensures len { IfOk result (λ v. vec_len v ≡ PIECE_BYTES) }
+    ensures refused { IfErr result (λ e. e ≡ out_of_memory) }
 {
-    let mut buf = zeros(alloc, PIECE_BYTES)?;
-    let mut kept = Vec::new(alloc);
-    keep(source, &mut buf, &mut kept)?;
-    Ok(kept)
+    zeros(alloc, PIECE_BYTES)
+}
+
+// A buffer of zeros.
+fn zeros(alloc: Global, len: usize) -> Result<Vec<u8>>
+    ensures len { IfOk result (λ v. vec_len v ≡ len) }
+    ensures refused { IfErr result (λ e. e ≡ out_of_memory) }
+{
+    Ok(vec![in alloc; 0u8; len]?)
 }

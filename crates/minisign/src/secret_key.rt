@@ -1,4 +1,5 @@
 //! A secret key, which signs.
+
 ghost use Rattle.std.specs.Prelude.{◌≡◌, ◌<◌, Some, length, MatchResult, IfOk, IfErr, bytes_eq};
 ghost use Rattle.std.specs.Cmp.{on_per, on_equiv, partial_equiv_from_equiv};
 ghost use Rattle.std.specs.Cmp.Lexicographic.{nat_list_eq_equiv};

@@ -1,4 +1,5 @@
 //! A signature as it is stored: algorithm, identifier, signature.
+
 ghost use Rattle.std.specs.Prelude.{◌≡◌, ◌<◌, ◌++◌, length, vec_len, replicate, MatchResult, IfOk, IfErr};
 ghost use Rattle.minisign_base.specs.Scheme.{IsBytes};
 ghost use Rattle.minisign_base.specs.Faults.{out_of_memory, record_too_short};

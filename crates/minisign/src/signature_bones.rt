@@ -1,4 +1,5 @@
 //! A signature with no comments.
+
 ghost use Rattle.std.specs.Prelude.{◌≡◌, ◌<◌, length, vec_len, IfOk, IfErr};
 ghost use Rattle.minisign_base.specs.Faults.{out_of_memory, unsupported_signature_algorithm};
 

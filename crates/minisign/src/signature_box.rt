@@ -1,4 +1,5 @@
 //! A signature with its comments.
+
 ghost use Rattle.std.specs.Prelude.{◌≡◌, None, Err, string_bytes, MatchOption, MatchResult, IfOk, IfErr};
 ghost use Rattle.minisign_base.specs.Faults.{out_of_memory, trusted_comment_absent};
 

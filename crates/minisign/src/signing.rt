@@ -1,82 +1,84 @@
 //! Signing with an opened secret key.
+
 ghost use Rattle.std.specs.Prelude.{◌≡◌, ℕ, true, false, List, ◌++◌, Some, ◌⊎◌, string_bytes, IfOk, IfErr, OnOk, IfSome, IsSomeAnd};
-ghost use Rattle.std.specs.Option.{option_map};
-ghost use Rattle.std.specs.Io.KnownBytes.{Consumes, IsAtEnd};
+ghost use Rattle.std.specs.Option.{option_map, unwrap_or};
+ghost use Rattle.std.specs.Io.KnownBytes.{Consumes};
 ghost use Rattle.minisign_hash.specs.Blake2b.{blake2b_digest};
-ghost use Rattle.minisign_base.specs.Devices.{Rose, HasGiven};
+ghost use Rattle.minisign_base.specs.Devices.{HasGiven};
 ghost use Rattle.minisign_base.specs.Scheme.{IsNonce};
-ghost use Rattle.minisign_base.specs.Faults.{out_of_memory, reading_failed, random_source_failed, encrypted_key_refused, refused_by_given_key};
-ghost use Rattle.minisign.specs.Reading.{IsAhead};
+ghost use Rattle.minisign_base.specs.Faults.{out_of_memory};
+ghost use Rattle.minisign.specs.Reading.{ReadsWhole};
 ghost use Rattle.minisign.specs.Records.{SignatureBoxRecord};
 ghost use Rattle.minisign.specs.Sealing.{is_encrypted};
-ghost use Rattle.minisign.specs.Acceptance.{AcceptedUnder, accepts_comments};
-ghost use Rattle.minisign.specs.Signing.{IsSigned, IsGenuine, comment_or, default_trusted_comment, default_untrusted_comment};
+ghost use Rattle.minisign.specs.Acceptance.{accepts_comments};
+ghost use Rattle.minisign.specs.Signing.{IsSigned, AcceptedIfGenuine, SigningFails, DrawFails, comments_or_defaults, default_trusted_comment, default_untrusted_comment};
 
+use crate::comment_signature::accepts_comments;
 use crate::constants::{DEFAULT_COMMENT, SIGALG_PREHASHED};
+use crate::drawing::draw;
 use crate::public_key::PublicKey;
 use crate::reading::prehash;
 use crate::secret_key::SecretKey;
 use crate::signature::Signature;
 use crate::signature_box::{Comments, SignatureBox};
-use crate::verifying::accepts_comments;
 use minisign_base::devices::random_sources::RandomSource;
 use minisign_base::devices::sources::Source;
 use minisign_base::scheme::Scheme;
 use minisign_base::{Result, faults};
 use std::alloc::Global;
 
-// 64 random bytes.
-fn draw<Z: RandomSource>(random: &mut Z) -> Result<[u8; 64]>
-    ensures drawn { IfOk result (λ z. Consumes (Z.random_ahead random.old) (Z.random_ahead random.new) z) }
-    ensures calm { OnOk result (Z.random_faults random.new ≡ Z.random_faults random.old) }
-    ensures refused { IfErr result (λ e. (e ≡ random_source_failed)
-        × Rose (Z.random_faults random.old) (Z.random_faults random.new)) }
-    ensures given { HasGiven (Z.random_ahead random.old) (Z.random_ahead random.new) }
-{
-    let mut bytes = [0u8; 64];
-    match random.fill(&mut bytes) {
-        Ok(()) => Ok(bytes),
-        Err(_) => Err(faults::random_source_failed()),
-    }
-}
+/// Signs all the data ahead of `data_reader` with `sk`, and answers a box with both comments.
+///
+/// The data is hashed in pieces of 64 KiB, so that memory does not grow with it. Without a trusted
+/// comment the box gets `timestamp:` and the `moment`, in seconds since 1970, and without an untrusted
+/// one `signature from rsign secret key`. Two draws of 64 random bytes are made.
+///
+/// Refused are, in this order: a sealed key, with nothing read or drawn; a failing `data_reader`; a
+/// failing `random`, once the data was read; and, where `pk` is given, a comment signature that its 32
+/// key bytes do not accept. Identifiers are not compared. Memory may be wanting once the key was tested: for
+/// the buffer of the reading, the two comments, and the comment signature and what it is over.
+pub fn sign<S: Scheme, R: Source, Z: RandomSource>(
+    alloc: Global,
+    scheme: &S,
+    pk: Option<&PublicKey>,
+    sk: &SecretKey,
+    data_reader: &mut R,
+    trusted_comment: Option<&str>,
+    untrusted_comment: Option<&str>,
+    random: &mut Z,
+    moment: u64,
+) -> Result<SignatureBox>
+    // The box that is answered, made with an opened key from all of the data, and what vouches for it: a
+    // genuine key's box is accepted under its own public key, whatever the comments.
+    ensures signed { IfOk result (λ x. (message : List ℕ) × ReadsWhole R.ahead R.behind R.faults data_reader.old data_reader.new message
+        × IsSigned (S.signature_of scheme.now) sk.now message
+        (comments_or_defaults (option_map (λ s. s.now) trusted_comment.entry) (option_map (λ s. s.now) untrusted_comment.entry) moment)
+        (Z.random_ahead random.old) (Z.random_ahead random.new) x
+        × AcceptedIfGenuine (S.accepts scheme.now) (S.public_of scheme.now) sk.now message x) }
+    ensures opened { OnOk result (is_encrypted sk.now ≡ false) }
+    ensures given_key { IfOk result (λ x. IfSome pk.entry (λ p. accepts_comments (S.accepts scheme.now) p.now x ≡ true)) }
+    ensures random_calm { OnOk result (Z.random_faults random.new ≡ Z.random_faults random.old) }
 
-// Twice 64 random bytes.
-fn draw_twice<Z: RandomSource>(random: &mut Z) -> Result<([u8; 64], [u8; 64])>
-    ensures drawn { IfOk result (λ z. Consumes (Z.random_ahead random.old) (Z.random_ahead random.new) (z.0 ++ z.1)) }
-    ensures calm { OnOk result (Z.random_faults random.new ≡ Z.random_faults random.old) }
-    ensures first { IfOk result (λ z. IsNonce (Some z.0)) }
-    ensures second { IfOk result (λ z. IsNonce (Some z.1)) }
-    ensures refused { IfErr result (λ e. (e ≡ random_source_failed)
-        × Rose (Z.random_faults random.old) (Z.random_faults random.new)) }
-    ensures given { HasGiven (Z.random_ahead random.old) (Z.random_ahead random.new) }
+    // Why it was refused.
+    ensures refused { IfErr result (SigningFails (S.accepts scheme.now) (S.signature_of scheme.now) (option_map (λ p. p.now) pk.entry) sk.now
+        (comments_or_defaults (option_map (λ s. s.now) trusted_comment.entry) (option_map (λ s. s.now) untrusted_comment.entry) moment)
+        R.ahead R.behind R.faults data_reader.old data_reader.new Z.random_ahead Z.random_faults random.old random.new) }
+    ensures given { HasGiven (R.ahead data_reader.old) (R.ahead data_reader.new) }
+    ensures drawn { HasGiven (Z.random_ahead random.old) (Z.random_ahead random.new) }
 {
-    let first = draw(random)?;
-    let second = draw(random)?;
-    Ok((first, second))
-}
-
-// The comment, or else the moment in decimal.
-#[tactic(auto, unfolding(crate::specs::Signing::default_trusted_comment))]
-fn trusted_or_default(alloc: Global, comment: Option<&str>, moment: u64) -> Result<String>
-    ensures comment { IfOk result (λ t. string_bytes t ≡ comment_or (option_map (λ s. s.now) comment.entry) (default_trusted_comment moment)) }
-    ensures refused { IfErr result (λ e. e ≡ out_of_memory) }
-{
-    match comment {
-        Some(comment) => Ok(String::from_str(alloc, comment)?),
-        None => Ok(format!(in alloc; "timestamp:{moment}")?),
+    if sk.is_encrypted() {
+        return Err(faults::encrypted_key_refused());
     }
-}
-
-// The comment, or else the one by default.
-#[tactic(auto, unfolding(crate::specs::Signing::default_untrusted_comment))]
-fn untrusted_or_default(alloc: Global, comment: Option<&str>) -> Result<String>
-    ensures comment { IfOk result (λ t. string_bytes t ≡ comment_or (option_map (λ s. s.now) comment.entry) default_untrusted_comment) }
-    ensures refused { IfErr result (λ e. e ≡ out_of_memory) }
-{
-    match comment {
-        Some(comment) => Ok(String::from_str(alloc, comment)?),
-        None => Ok(String::from_str(alloc, DEFAULT_COMMENT)?),
+    let digest = prehash(alloc, data_reader)?;
+    let trusted = trusted_or_default(alloc, trusted_comment, moment)?;
+    let untrusted = untrusted_or_default(alloc, untrusted_comment)?;
+    let signature_box = make_box(alloc, scheme, sk, &digest, trusted, untrusted, random)?;
+    if let Some(pk) = pk {
+        if !accepts_comments(alloc, scheme, pk, &signature_box)? {
+            return Err(faults::refused_by_given_key(pk.keynum_pk.keynum));
+        }
     }
+    Ok(signature_box)
 }
 
 // The box over a digest with both comments: signs the digest with 64 random bytes, and then that
@@ -91,14 +93,11 @@ fn make_box<S: Scheme, Z: RandomSource>(
     random: &mut Z,
 ) -> Result<SignatureBox>
     ensures signed { IfOk result (λ x. (message : List ℕ) → digest.now ≡ blake2b_digest 64 message →
-        IsSigned (S.signature_of scheme.now) sk.now message (string_bytes trusted_comment) (string_bytes untrusted_comment)
-        (Z.random_ahead random.old) (Z.random_ahead random.new) x) }
-    ensures genuine { IfOk result (λ x. (message seed : List ℕ) → digest.now ≡ blake2b_digest 64 message →
-        IsGenuine (S.public_of scheme.now) sk.now seed →
-        AcceptedUnder (S.accepts scheme.now) (S.public_of scheme.now seed) sk.now.keynum message x) }
+        IsSigned (S.signature_of scheme.now) sk.now message (record { trusted = string_bytes trusted_comment; untrusted = string_bytes untrusted_comment })
+        (Z.random_ahead random.old) (Z.random_ahead random.new) x
+        × AcceptedIfGenuine (S.accepts scheme.now) (S.public_of scheme.now) sk.now message x) }
     ensures calm { OnOk result (Z.random_faults random.new ≡ Z.random_faults random.old) }
-    ensures refused { IfErr result (λ e. (e ≡ out_of_memory)
-        ⊎ ((e ≡ random_source_failed) × Rose (Z.random_faults random.old) (Z.random_faults random.new))) }
+    ensures refused { IfErr result (λ e. (e ≡ out_of_memory) ⊎ DrawFails Z.random_faults random.old random.new e) }
     ensures given { HasGiven (Z.random_ahead random.old) (Z.random_ahead random.new) }
 {
     let secret = sk.keynum_sk.sk;
@@ -123,70 +122,40 @@ fn make_box<S: Scheme, Z: RandomSource>(
     })
 }
 
-/// Signs all the data ahead of `data_reader` with `sk`, and answers a box with both comments.
-///
-/// The data is hashed in pieces of 64 KiB, so that memory does not grow with it. Without a trusted
-/// comment the box gets `timestamp:` and the `moment`, in seconds since 1970, and without an untrusted
-/// one `signature from rsign secret key`. Two draws of 64 random bytes are made.
-///
-/// Refused are, in this order: a sealed key, with nothing read or drawn; a failing `data_reader`; a
-/// failing `random`, once the data was read; and, where `pk` is given, a comment signature that its 32
-/// key bytes do not accept. Identifiers are not compared.
-pub fn sign<S: Scheme, R: Source, Z: RandomSource>(
-    alloc: Global,
-    scheme: &S,
-    pk: Option<&PublicKey>,
-    sk: &SecretKey,
-    data_reader: &mut R,
-    trusted_comment: Option<&str>,
-    untrusted_comment: Option<&str>,
-    random: &mut Z,
-    moment: u64,
-) -> Result<SignatureBox>
-    // The box that is answered, made with an opened key from all of the data, and what vouches for it: a
-    // genuine key's box is accepted under its own public key, whatever the comments.
-    ensures signed { IfOk result (λ x. (message : List ℕ) × IsAhead (R.ahead data_reader.old) message
-        × IsSigned (S.signature_of scheme.now) sk.now message
-        (comment_or (option_map (λ s. s.now) trusted_comment.entry) (default_trusted_comment moment))
-        (comment_or (option_map (λ s. s.now) untrusted_comment.entry) default_untrusted_comment)
-        (Z.random_ahead random.old) (Z.random_ahead random.new) x
-        × ((seed : List ℕ) → IsGenuine (S.public_of scheme.now) sk.now seed →
-        AcceptedUnder (S.accepts scheme.now) (S.public_of scheme.now seed) sk.now.keynum message x)) }
-    ensures opened { OnOk result (is_encrypted sk.now ≡ false) }
-    ensures given_key { IfOk result (λ x. IfSome pk.entry (λ p. accepts_comments (S.accepts scheme.now) p.now x ≡ true)) }
-    ensures all_read { OnOk result (IsAtEnd (R.ahead data_reader.new)) }
-    ensures calm { OnOk result (R.faults data_reader.new ≡ R.faults data_reader.old) }
-    ensures random_calm { OnOk result (Z.random_faults random.new ≡ Z.random_faults random.old) }
-
-    // Why it was refused.
-    ensures refused { IfErr result (λ e.
-        ((e ≡ encrypted_key_refused) × (is_encrypted sk.now ≡ true) × (data_reader.new ≡ data_reader.old) × (random.new ≡ random.old))
-        ⊎ ((e ≡ out_of_memory) × (is_encrypted sk.now ≡ false))
-        ⊎ ((e ≡ reading_failed) × (is_encrypted sk.now ≡ false) × Rose (R.faults data_reader.old) (R.faults data_reader.new) × (random.new ≡ random.old))
-        ⊎ ((e ≡ random_source_failed) × (is_encrypted sk.now ≡ false) × Rose (Z.random_faults random.old) (Z.random_faults random.new)
-        × IsAtEnd (R.ahead data_reader.new) × (R.faults data_reader.new ≡ R.faults data_reader.old))
-        ⊎ (IsSomeAnd pk.entry (λ p. (e ≡ refused_by_given_key p.now.keynum) × (is_encrypted sk.now ≡ false)
-        × IsAtEnd (R.ahead data_reader.new) × (R.faults data_reader.new ≡ R.faults data_reader.old)
-        × (message : List ℕ) × IsAhead (R.ahead data_reader.old) message
-        × (x : SignatureBoxRecord) × (accepts_comments (S.accepts scheme.now) p.now x ≡ false)
-        × IsSigned (S.signature_of scheme.now) sk.now message
-        (comment_or (option_map (λ s. s.now) trusted_comment.entry) (default_trusted_comment moment))
-        (comment_or (option_map (λ s. s.now) untrusted_comment.entry) default_untrusted_comment)
-        (Z.random_ahead random.old) (Z.random_ahead random.new) x))) }
-    ensures given { HasGiven (R.ahead data_reader.old) (R.ahead data_reader.new) }
-    ensures drawn { HasGiven (Z.random_ahead random.old) (Z.random_ahead random.new) }
+// Twice 64 random bytes.
+fn draw_twice<Z: RandomSource>(random: &mut Z) -> Result<([u8; 64], [u8; 64])>
+    ensures drawn { IfOk result (λ z. Consumes (Z.random_ahead random.old) (Z.random_ahead random.new) (z.0 ++ z.1)) }
+    ensures calm { OnOk result (Z.random_faults random.new ≡ Z.random_faults random.old) }
+    ensures first { IfOk result (λ z. IsNonce (Some z.0)) }
+    ensures second { IfOk result (λ z. IsNonce (Some z.1)) }
+    ensures refused { IfErr result (DrawFails Z.random_faults random.old random.new) }
+    ensures given { HasGiven (Z.random_ahead random.old) (Z.random_ahead random.new) }
 {
-    if sk.is_encrypted() {
-        return Err(faults::encrypted_key_refused());
+    let first = draw(random)?;
+    let second = draw(random)?;
+    Ok((first, second))
+}
+
+// The comment, or else the moment in decimal.
+#[tactic(auto, unfolding(crate::specs::Signing::default_trusted_comment))]
+fn trusted_or_default(alloc: Global, comment: Option<&str>, moment: u64) -> Result<String>
+    ensures comment { IfOk result (λ t. string_bytes t ≡ unwrap_or (option_map (λ s. s.now) comment.entry) (default_trusted_comment moment)) }
+    ensures refused { IfErr result (λ e. e ≡ out_of_memory) }
+{
+    match comment {
+        Some(comment) => Ok(String::from_str(alloc, comment)?),
+        None => Ok(format!(in alloc; "timestamp:{moment}")?),
     }
-    let digest = prehash(alloc, data_reader)?;
-    let trusted = trusted_or_default(alloc, trusted_comment, moment)?;
-    let untrusted = untrusted_or_default(alloc, untrusted_comment)?;
-    let signature_box = make_box(alloc, scheme, sk, &digest, trusted, untrusted, random)?;
-    if let Some(pk) = pk {
-        if !accepts_comments(alloc, scheme, pk, &signature_box)? {
-            return Err(faults::refused_by_given_key(pk.keynum_pk.keynum));
-        }
+}
+
+// The comment, or else the one by default.
+#[tactic(auto, unfolding(crate::specs::Signing::default_untrusted_comment))]
+fn untrusted_or_default(alloc: Global, comment: Option<&str>) -> Result<String>
+    ensures comment { IfOk result (λ t. string_bytes t ≡ unwrap_or (option_map (λ s. s.now) comment.entry) default_untrusted_comment) }
+    ensures refused { IfErr result (λ e. e ≡ out_of_memory) }
+{
+    match comment {
+        Some(comment) => Ok(String::from_str(alloc, comment)?),
+        None => Ok(String::from_str(alloc, DEFAULT_COMMENT)?),
     }
-    Ok(signature_box)
 }

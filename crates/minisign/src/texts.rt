@@ -42,6 +42,7 @@ pub(crate) fn decode(alloc: Global, text: &str) -> Result<Option<Vec<u8>>>
 #[tactic(auto, unfolding(crate::specs::Texts::base64_of))]
 pub(crate) fn encode(alloc: Global, bytes: &[u8]) -> Result<String>
     ensures text { IfOk result (λ t. string_bytes t ≡ base64_of bytes.now) }
+    ensures base64 { IfOk result (λ t. IsBase64Of (string_bytes t) bytes.now) }
     ensures refused { IfErr result (λ e. e ≡ out_of_memory) }
 {
     Ok(STANDARD.encode(alloc, bytes)?)

@@ -1,34 +1,45 @@
 //! Whether a signature box vouches for data under a public key.
-ghost use Rattle.std.specs.Prelude.{◌≡◌, ℕ, ◌++◌, List, [], true, false, if◌then◌else◌, ◌⊎◌, IfOk, IfErr, OnOk, OnErr};
-ghost use Rattle.std.specs.Io.KnownBytes.{Appends, IsAtEnd};
-ghost use Rattle.minisign_base.specs.Devices.{Rose, HasGiven, AppendsFront};
-ghost use Rattle.minisign_base.specs.Faults.{out_of_memory, reading_failed, writing_failed};
-ghost use Rattle.minisign.specs.Reading.{IsAhead};
-ghost use Rattle.minisign.specs.Records.{PublicKeyRecord, SignatureBoxRecord};
-ghost use Rattle.minisign.specs.Acceptance.{Accepts, Refuses, SameWhereVouched, judged, accepts_comment, accepts_comments, first_refusal, line, status_lines};
 
+ghost use Rattle.std.specs.Prelude.{◌≡◌, ℕ, List, true, false, ◌⊎◌, IfOk, IfErr, OnOk, OnErr};
+ghost use Rattle.std.specs.Io.KnownBytes.{Appends};
+ghost use Rattle.minisign_hash.specs.Blake2b.{blake2b_digest};
+ghost use Rattle.minisign_base.specs.Devices.{Rose, StaysOrHides, HasGiven, AppendsFront};
+ghost use Rattle.minisign_base.specs.Faults.{out_of_memory, writing_failed, going_back_failed};
+ghost use Rattle.minisign.specs.Reading.{ReadsWhole};
+ghost use Rattle.minisign.specs.Records.{PublicKeyRecord, SignatureBoxRecord, is_prehashed};
+ghost use Rattle.minisign.specs.Acceptance.{Accepts, Refuses, SameWhereVouched, judged, first_refusal, status_lines};
+ghost use Rattle.minisign.specs.Verifying.{Delivers, TurnsDown, StatusFails, SayingFails, VerifyingFails, rereads, said};
+
+use crate::comment_signature::accepts_comments;
+use crate::copying::{copy_again, put_out};
 use crate::public_key::PublicKey;
 use crate::reading::{prehash, read_to_end};
-use crate::signature::Signature;
-use crate::signature_box::{Comments, SignatureBox};
-use minisign_base::devices::DeviceFault;
-use minisign_base::devices::sinks::{Sink, put_all};
+use crate::signature_box::SignatureBox;
+use minisign_base::devices::sinks::{Sink, put_line};
 use minisign_base::devices::sources::{Rereader, Source};
 use minisign_base::scheme::Scheme;
 use minisign_base::{Result, faults};
 use std::alloc::Global;
 
-/// Verifies that `signature_box` vouches for all the data ahead of `data_reader` under `pk`.
+/// Verifies that `signature_box` vouches for all the data ahead of `data_reader` under `pk`, and copies that
+/// data to `out` where `output` asks for it.
 ///
 /// The data is read to its end first; where the box is prehashed it is hashed in pieces of 64 KiB,
 /// else it is kept in memory. Then these are refused, in this order: an identifier other than the
 /// public key's, a signature over the data itself unless `allow_legacy`, a signature that the scheme
-/// does not accept, a comment signature that has under 64 bytes or is not accepted. After a refusal
-/// `status` is untouched; on success it gets a line, and another one with the trusted comment where
-/// there is one, unless `quiet`. `status` is not flushed.
+/// does not accept, a comment signature that has under 64 bytes or is not accepted. After such a refusal
+/// `status` and `out` are untouched; on success `status` gets a line, and another one with the trusted comment
+/// where there is one, unless `quiet`. `status` is not flushed.
 ///
-/// A failing `data_reader` is refused before anything is judged, and a failing `status` last. Copying the
-/// data to `out` is not there yet: `output` has to be false, and `out` stays as it is.
+/// With `output` the data of a prehashed box is read twice: its place is marked first, and gone back to after
+/// the verdict; the second pass is hashed while it is copied. Where its digest is the first one's, `out` is
+/// flushed; else `data_changed` is answered, `out` holds what the second pass gave, and is not flushed: nobody
+/// may rely on it. The kept data of a legacy box is written and flushed without a second reading.
+///
+/// A failing `data_reader` is refused before anything is judged, then a failing `status`, and a failing `out`
+/// last. Memory may be wanting for the buffer of a reading, for the data of a legacy box, for the trusted
+/// comment behind the signature, and for the lines of the status, with `status` and `out` untouched, and for
+/// the buffer of the second reading.
 #[tactic(auto, using(crate::proofs::Unvouched::unvouched_same))]
 pub fn verify<S: Scheme, R: Rereader, W: Sink, O: Sink>(
     alloc: Global,
@@ -42,30 +53,19 @@ pub fn verify<S: Scheme, R: Rereader, W: Sink, O: Sink>(
     status: &mut W,
     out: &mut O,
 ) -> Result<()>
-    requires { output ≡ false }
-
-    // What is accepted is vouched for, and this was said of it.
-    ensures accepted { OnOk result ((message : List ℕ) × IsAhead (R.ahead data_reader.old) message
-        × Accepts (S.accepts scheme.now) pk.now signature_box.now message allow_legacy) }
-    ensures said { OnOk result (Appends (W.taken status.old) (W.taken status.new)
-        (if quiet then [] else status_lines signature_box.now)) }
+    // What is accepted is vouched for, this was said of it, and it was copied where that is wanted.
+    ensures accepted { OnOk result ((message : List ℕ) × Accepts (S.accepts scheme.now) pk.now signature_box.now message allow_legacy
+        × Delivers output signature_box.now R.steady R.ahead R.behind R.faults data_reader.old data_reader.new O.taken out.old out.new message) }
+    ensures said { OnOk result (Appends (W.taken status.old) (W.taken status.new) (said quiet signature_box.now)) }
     ensures quiet { quiet ≡ true → status.new ≡ status.old }
-    ensures all_read { OnOk result (IsAtEnd (R.ahead data_reader.new)) }
-    ensures calm { OnOk result (R.faults data_reader.new ≡ R.faults data_reader.old) }
     ensures status_calm { OnOk result (W.sink_faults status.new ≡ W.sink_faults status.old) }
+    ensures out_calm { OnOk result (O.sink_faults out.new ≡ O.sink_faults out.old) }
 
     // Why it was refused.
-    ensures refused { IfErr result (λ e.
-        ((e ≡ out_of_memory) × (status.new ≡ status.old))
-        ⊎ ((e ≡ reading_failed) × Rose (R.faults data_reader.old) (R.faults data_reader.new) × (status.new ≡ status.old))
-        ⊎ ((message : List ℕ) × IsAhead (R.ahead data_reader.old) message
-        × IsAtEnd (R.ahead data_reader.new) × (R.faults data_reader.new ≡ R.faults data_reader.old)
-        × (R.behind data_reader.new ≡ R.behind data_reader.old)
-        × (((e ≡ writing_failed) × (quiet ≡ false) × Rose (W.sink_faults status.old) (W.sink_faults status.new)
-        × Accepts (S.accepts scheme.now) pk.now signature_box.now message allow_legacy)
-        ⊎ (Refuses (S.accepts scheme.now) pk.now signature_box.now message allow_legacy e × (status.new ≡ status.old))))) }
-    ensures said_front { OnErr result (AppendsFront (W.taken status.old) (W.taken status.new)
-        (if quiet then [] else status_lines signature_box.now)) }
+    ensures refused { IfErr result (VerifyingFails (S.accepts scheme.now) pk.now signature_box.now allow_legacy quiet output
+        R.steady R.ahead R.behind R.faults data_reader.old data_reader.new
+        W.taken W.sink_faults status.old status.new O.taken O.sink_faults out.old out.new) }
+    ensures said_front { OnErr result (AppendsFront (W.taken status.old) (W.taken status.new) (said quiet signature_box.now)) }
 
     // What the verdict does not depend on.
     ensures unvouched { (key : PublicKeyRecord) (other : SignatureBoxRecord) (message : List ℕ) →
@@ -73,49 +73,174 @@ pub fn verify<S: Scheme, R: Rereader, W: Sink, O: Sink>(
         first_refusal (S.accepts scheme.now) key other message allow_legacy
         ≡ first_refusal (S.accepts scheme.now) pk.now signature_box.now message allow_legacy }
 
-    ensures given { HasGiven (R.ahead data_reader.old) (R.ahead data_reader.new) }
-    ensures mark { OnOk result (R.behind data_reader.new ≡ R.behind data_reader.old) }
-    ensures out { out.new ≡ out.old }
+    ensures given { rereads output signature_box.now ≡ false → HasGiven (R.ahead data_reader.old) (R.ahead data_reader.new) }
+    ensures out { output ≡ false → out.new ≡ out.old }
 {
-    reach_verdict(alloc, scheme, pk, signature_box, data_reader, allow_legacy)?;
-    if quiet {
+    if !signature_box.is_prehashed() {
+        let message = verify_kept(
+            alloc,
+            scheme,
+            pk,
+            signature_box,
+            data_reader,
+            quiet,
+            allow_legacy,
+            status,
+        )?;
+        if output {
+            put_out(out, &message)?;
+        }
         return Ok(());
     }
-    match say(status, signature_box) {
-        Ok(()) => Ok(()),
-        Err(_) => Err(faults::writing_failed()),
+    if !output {
+        verify_hashed(
+            alloc,
+            scheme,
+            pk,
+            signature_box,
+            data_reader,
+            quiet,
+            allow_legacy,
+            status,
+        )?;
+        return Ok(());
     }
+    mark_place(data_reader)?;
+    let digest = verify_hashed(
+        alloc,
+        scheme,
+        pk,
+        signature_box,
+        data_reader,
+        quiet,
+        allow_legacy,
+        status,
+    )?;
+    copy_again(alloc, &digest, data_reader, out)
 }
 
-// Reads the data to its end, hashed where the box is prehashed, and then judges.
-fn reach_verdict<S: Scheme, R: Source>(
+// Keeps the data in memory, judges it and says so: answers the data.
+fn verify_kept<S: Scheme, R: Source, W: Sink>(
     alloc: Global,
     scheme: &S,
     pk: &PublicKey,
     signature_box: &SignatureBox,
     data_reader: &mut R,
+    quiet: bool,
     allow_legacy: bool,
-) -> Result<()>
-    ensures accepted { OnOk result ((message : List ℕ) × IsAhead (R.ahead data_reader.old) message
-        × Accepts (S.accepts scheme.now) pk.now signature_box.now message allow_legacy) }
-    ensures all_read { OnOk result (IsAtEnd (R.ahead data_reader.new)) }
-    ensures mark { OnOk result (R.behind data_reader.new ≡ R.behind data_reader.old) }
-    ensures calm { OnOk result (R.faults data_reader.new ≡ R.faults data_reader.old) }
-    ensures refused { IfErr result (λ e. (e ≡ out_of_memory)
-        ⊎ ((e ≡ reading_failed) × Rose (R.faults data_reader.old) (R.faults data_reader.new))
-        ⊎ ((message : List ℕ) × IsAhead (R.ahead data_reader.old) message
-        × IsAtEnd (R.ahead data_reader.new) × (R.faults data_reader.new ≡ R.faults data_reader.old)
-        × (R.behind data_reader.new ≡ R.behind data_reader.old)
-        × Refuses (S.accepts scheme.now) pk.now signature_box.now message allow_legacy e)) }
+    status: &mut W,
+) -> Result<Vec<u8>>
+    requires { is_prehashed signature_box.now.signature ≡ false }
+    ensures accepted { IfOk result (λ v. ReadsWhole R.ahead R.behind R.faults data_reader.old data_reader.new v.items
+        × Accepts (S.accepts scheme.now) pk.now signature_box.now v.items allow_legacy) }
+    ensures said { OnOk result (Appends (W.taken status.old) (W.taken status.new) (said quiet signature_box.now)) }
+    ensures quiet { quiet ≡ true → status.new ≡ status.old }
+    ensures status_calm { OnOk result (W.sink_faults status.new ≡ W.sink_faults status.old) }
+    ensures refused { IfErr result (SayingFails (S.accepts scheme.now) pk.now signature_box.now allow_legacy quiet
+        R.faults data_reader.old data_reader.new W.sink_faults status.old status.new
+        (ReadsWhole R.ahead R.behind R.faults data_reader.old data_reader.new)) }
+    ensures said_front { OnErr result (AppendsFront (W.taken status.old) (W.taken status.new) (said quiet signature_box.now)) }
     ensures given { HasGiven (R.ahead data_reader.old) (R.ahead data_reader.new) }
 {
-    if signature_box.is_prehashed() {
-        let digest = prehash(alloc, data_reader)?;
-        judge(alloc, scheme, pk, signature_box, &digest, allow_legacy)
-    } else {
-        let message = read_to_end(alloc, data_reader)?;
-        judge(alloc, scheme, pk, signature_box, &message, allow_legacy)
+    let message = read_to_end(alloc, data_reader)?;
+    judge_and_say(
+        alloc,
+        scheme,
+        pk,
+        signature_box,
+        &message,
+        quiet,
+        allow_legacy,
+        status,
+    )?;
+    Ok(message)
+}
+
+// Hashes the data, judges the digest and says so: answers the digest.
+fn verify_hashed<S: Scheme, R: Source, W: Sink>(
+    alloc: Global,
+    scheme: &S,
+    pk: &PublicKey,
+    signature_box: &SignatureBox,
+    data_reader: &mut R,
+    quiet: bool,
+    allow_legacy: bool,
+    status: &mut W,
+) -> Result<[u8; 64]>
+    requires { is_prehashed signature_box.now.signature ≡ true }
+    ensures accepted { IfOk result (λ d. (message : List ℕ) × ReadsWhole R.ahead R.behind R.faults data_reader.old data_reader.new message
+        × Accepts (S.accepts scheme.now) pk.now signature_box.now message allow_legacy × (d ≡ blake2b_digest 64 message)) }
+    ensures said { OnOk result (Appends (W.taken status.old) (W.taken status.new) (said quiet signature_box.now)) }
+    ensures quiet { quiet ≡ true → status.new ≡ status.old }
+    ensures status_calm { OnOk result (W.sink_faults status.new ≡ W.sink_faults status.old) }
+    ensures refused { IfErr result (SayingFails (S.accepts scheme.now) pk.now signature_box.now allow_legacy quiet
+        R.faults data_reader.old data_reader.new W.sink_faults status.old status.new
+        (ReadsWhole R.ahead R.behind R.faults data_reader.old data_reader.new)) }
+    ensures said_front { OnErr result (AppendsFront (W.taken status.old) (W.taken status.new) (said quiet signature_box.now)) }
+    ensures given { HasGiven (R.ahead data_reader.old) (R.ahead data_reader.new) }
+{
+    let digest = prehash(alloc, data_reader)?;
+    judge_and_say(
+        alloc,
+        scheme,
+        pk,
+        signature_box,
+        &digest,
+        quiet,
+        allow_legacy,
+        status,
+    )?;
+    Ok(digest)
+}
+
+// Remembers the place.
+fn mark_place<R: Rereader>(data_reader: &mut R) -> Result<()>
+    ensures ahead { OnOk result (R.ahead data_reader.new ≡ R.ahead data_reader.old) }
+    ensures behind { R.steady data_reader.old → OnOk result (R.behind data_reader.new ≡ R.ahead data_reader.old) }
+    ensures calm { OnOk result (R.faults data_reader.new ≡ R.faults data_reader.old) }
+    ensures refused { IfErr result (λ e. (e ≡ going_back_failed) × Rose (R.faults data_reader.old) (R.faults data_reader.new)
+        × StaysOrHides (R.ahead data_reader.old) (R.ahead data_reader.new)) }
+{
+    match data_reader.mark() {
+        Ok(()) => Ok(()),
+        Err(_) => Err(faults::going_back_failed()),
     }
+}
+
+// Judges what the signature is over, and says so unless it is to be quiet.
+fn judge_and_say<S: Scheme, W: Sink>(
+    alloc: Global,
+    scheme: &S,
+    pk: &PublicKey,
+    signature_box: &SignatureBox,
+    judged_message: &[u8],
+    quiet: bool,
+    allow_legacy: bool,
+    status: &mut W,
+) -> Result<()>
+    ensures accepted { OnOk result ((message : List ℕ) → judged_message.now ≡ judged signature_box.now message →
+        Accepts (S.accepts scheme.now) pk.now signature_box.now message allow_legacy) }
+    ensures said { OnOk result (Appends (W.taken status.old) (W.taken status.new) (said quiet signature_box.now)) }
+    ensures quiet { quiet ≡ true → status.new ≡ status.old }
+    ensures status_calm { OnOk result (W.sink_faults status.new ≡ W.sink_faults status.old) }
+    ensures refused { IfErr result (λ e. ((e ≡ out_of_memory) × (status.new ≡ status.old))
+        ⊎ ((message : List ℕ) → judged_message.now ≡ judged signature_box.now message →
+        TurnsDown (S.accepts scheme.now) pk.now signature_box.now message allow_legacy status.old status.new e
+        ⊎ StatusFails (S.accepts scheme.now) pk.now signature_box.now message allow_legacy quiet W.sink_faults status.old status.new e)) }
+    ensures said_front { OnErr result (AppendsFront (W.taken status.old) (W.taken status.new) (said quiet signature_box.now)) }
+{
+    judge(
+        alloc,
+        scheme,
+        pk,
+        signature_box,
+        judged_message,
+        allow_legacy,
+    )?;
+    if quiet {
+        return Ok(());
+    }
+    say(alloc, status, signature_box)
 }
 
 // Tests the conditions in their order over what the signature is over: the digest, or the data.
@@ -150,79 +275,27 @@ fn judge<S: Scheme>(
     Ok(())
 }
 
-// Whether the comment signature is accepted; a bare signature has none to test. Only the 32 bytes of
-// the key count.
-pub(crate) fn accepts_comments<S: Scheme>(
-    alloc: Global,
-    scheme: &S,
-    pk: &PublicKey,
-    signature_box: &SignatureBox,
-) -> Result<bool>
-    ensures answer { IfOk result (λ b. b ≡ accepts_comments (S.accepts scheme.now) pk.now signature_box.now) }
-    ensures refused { IfErr result (λ e. e ≡ out_of_memory) }
-{
-    match &signature_box.comments {
-        Some(comments) => accepts_comment(alloc, scheme, pk, &signature_box.signature, comments),
-        None => Ok(true),
-    }
-}
-
-// Whether the comment signature has at least 64 bytes, and the first 64 are accepted for the signature
-// followed by the trusted comment.
-fn accepts_comment<S: Scheme>(
-    alloc: Global,
-    scheme: &S,
-    pk: &PublicKey,
-    signature: &Signature,
-    comments: &Comments,
-) -> Result<bool>
-    ensures answer { IfOk result (λ b. b ≡ accepts_comment (S.accepts scheme.now) pk.now signature.now comments.now) }
-    ensures refused { IfErr result (λ e. e ≡ out_of_memory) }
-{
-    if comments.global_sig.len() < 64 {
-        return Ok(false);
-    }
-    let (front, _) = comments.global_sig.split_at(64);
-    let mut global_sig = [0u8; 64];
-    global_sig.copy_from_slice(front);
-    let signed = signature.with_comment(alloc, comments.trusted_comment.as_str())?;
-    Ok(scheme.verify(&signed, &pk.keynum_pk.pk, &global_sig))
-}
-
-// Writes what is said of a box that was accepted.
+// Writes what is said of a box that was accepted, in one write.
 #[tactic(auto, unfolding(crate::specs::Acceptance::verified_text, crate::specs::Acceptance::trusted_comment_text))]
-fn say<W: Sink>(
-    status: &mut W,
-    signature_box: &SignatureBox,
-) -> std::result::Result<(), DeviceFault>
+fn say<W: Sink>(alloc: Global, status: &mut W, signature_box: &SignatureBox) -> Result<()>
     ensures said { OnOk result (Appends (W.taken status.old) (W.taken status.new) (status_lines signature_box.now)) }
     ensures calm { OnOk result (W.sink_faults status.new ≡ W.sink_faults status.old) }
-    ensures fault { OnErr result (Rose (W.sink_faults status.old) (W.sink_faults status.new)) }
+    ensures refused { IfErr result (λ e. ((e ≡ out_of_memory) × (status.new ≡ status.old))
+        ⊎ ((e ≡ writing_failed) × Rose (W.sink_faults status.old) (W.sink_faults status.new))) }
     ensures front { OnErr result (AppendsFront (W.taken status.old) (W.taken status.new) (status_lines signature_box.now)) }
 {
-    put_line(status, b"Signature and comment signature verified", b"")?;
-    if let Some(comments) = &signature_box.comments {
-        put_line(
+    match &signature_box.comments {
+        Some(comments) => put_line(
+            alloc,
             status,
-            b"Trusted comment: ",
+            b"Signature and comment signature verified\nTrusted comment: ",
             comments.trusted_comment.as_bytes(),
-        )?;
+        ),
+        None => put_line(
+            alloc,
+            status,
+            b"Signature and comment signature verified",
+            b"",
+        ),
     }
-    Ok(())
-}
-
-// Writes a label, a text and a line feed.
-fn put_line<W: Sink>(
-    sink: &mut W,
-    label: &[u8],
-    text: &[u8],
-) -> std::result::Result<(), DeviceFault>
-    ensures bytes { OnOk result (Appends (W.taken sink.old) (W.taken sink.new) (line (label.now ++ text.now))) }
-    ensures calm { OnOk result (W.sink_faults sink.new ≡ W.sink_faults sink.old) }
-    ensures fault { OnErr result (Rose (W.sink_faults sink.old) (W.sink_faults sink.new)) }
-    ensures front { OnErr result (AppendsFront (W.taken sink.old) (W.taken sink.new) (line (label.now ++ text.now))) }
-{
-    put_all(sink, label)?;
-    put_all(sink, text)?;
-    put_all(sink, b"\n")
 }

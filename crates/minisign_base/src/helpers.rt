@@ -1,8 +1,10 @@
-//! Numbers as bytes, the parameters of scrypt that a key's limits lead to, and asking for a password.
+//! Numbers as bytes, the parameters of scrypt that a key's limits lead to, asking for a password, and
+//! the clock.
 
-ghost use Rattle.std.specs.Prelude.{◌≡◌, ℕ, ◌^◌, ◌<◌, ◌≤◌, List, Ok, Err, IfOk, IfErr, MatchResult, length, string_bytes, take};
+ghost use Rattle.std.specs.Prelude.{◌≡◌, ℕ, ◌/◌, ◌^◌, ◌<◌, ◌≤◌, List, Ok, Err, IfOk, IfErr, MatchResult, length, string_bytes, take};
 ghost use Rattle.std.specs.Int.{from_le_bytes, to_le_bytes, w64};
-ghost use Rattle.minisign_base.specs.Faults.{out_of_memory};
+ghost use Rattle.std.specs.Time.{system_time_nanos};
+ghost use Rattle.minisign_base.specs.Faults.{clock_incorrect, out_of_memory};
 ghost use Rattle.minisign_base.specs.Limits.{IsCostLog2, cost_log2, greatest_cost, limits, numbers, parallelization};
 ghost use Rattle.minisign_base.specs.Prompts.{HasAsked, IsAskingFault};
 
@@ -13,6 +15,7 @@ use crate::faults;
 use crate::prompt::Prompt;
 use minisign_kdf::params::Params;
 use std::alloc::Global;
+use std::time::{Clock, SystemTime, UNIX_EPOCH};
 
 // The block size r of every derivation.
 const BLOCK_SIZE: u32 = 8;
@@ -71,6 +74,27 @@ fn line_buffer(alloc: Global) -> Result<Vec<u8>>
     ensures refused { IfErr result (λ e. e ≡ out_of_memory) }
 {
     Ok(vec![in alloc; 0u8; 1026]?)
+}
+
+/// The seconds since 1970, rounded down. Where the clock can't be read or is set before 1970, that is
+/// `clock_incorrect`. Takes no memory.
+pub fn unix_timestamp(clock: &impl Clock) -> Result<u64>
+    ensures { IfErr result (λ e. e ≡ clock_incorrect) }
+{
+    match SystemTime::now(clock) {
+        Ok(now) => seconds_since_1970(now),
+        Err(_) => Err(faults::clock_incorrect()),
+    }
+}
+
+// The seconds from 1970 to a moment.
+fn seconds_since_1970(now: SystemTime) -> Result<u64>
+    ensures { result ≡ Ok (system_time_nanos now / 1000000000) }
+{
+    match now.duration_since(UNIX_EPOCH) {
+        Ok(passed) => Ok(passed.as_secs()),
+        Err(_) => Err(faults::clock_incorrect()),
+    }
 }
 
 /// The parameters of scrypt that a memory limit in bytes and an operations limit lead to, as

@@ -1,7 +1,6 @@
 -- How the state and the buffer follow a message as it grows.
-use Rattle.std.proofs.Common.{◌≡◌, ℕ, zero, suc, ◌+◌, ◌-◌, ◌*◌, ◌%◌, ◌^◌, ◌<◌, ◌≤◌, true, false, List, [], ◌++◌, length, take, drop, replicate, refl, sym, ap, ◌∙◌, arith, length-append, length-drop, add-one}
-use Rattle.std.proofs.lemmas.List.{take-append-le, drop-append-le, take_all, drop_all, append-nil}
-use Rattle.std.proofs.lemmas.Grind.{common_steps}
+use Rattle.std.proofs.Common.{◌≡◌, ℕ, zero, suc, ◌+◌, ◌-◌, ◌*◌, ◌/◌, ◌%◌, ◌^◌, ◌<◌, ◌≤◌, true, false, List, [], ◌++◌, length, take, drop, replicate, refl, sym, ap, ◌∙◌, arith, length-append, length-drop}
+use Rattle.std.proofs.lemmas.List.{append-nil, drop-append-le, drop-drop, drop_all, drop_at, length-take-le, take-append-le, take_all}
 use Rattle.minisign_hash.specs.Blake2b.{block, block_count, compress, last_state, state_after}
 use Rattle.minisign_hash.specs.Words.{words_of}
 use Rattle.minisign_hash.specs.Fed.{HeldAfter}
@@ -44,31 +43,51 @@ held_more n h count b c used m d i held e = record {
   counted = held.counted;
 }
 
--- a full buffer that is taken in
-pub held_next : (n : ℕ) (h : List ℕ) (count k : ℕ) (g b m : List ℕ) (i : ℕ) → HeldAfter n h count b 128 m i → length b ≡ 128
-    → k ≡ (count + 128) % 2 ^ 128 → g ≡ compress h (words_of b) k false → HeldAfter n g k b 0 m (i + 1)
+-- a whole block among those that lie ahead
+pub block_ahead : (m blocks behind : List ℕ) (i k : ℕ) → drop (128 * i) m ≡ blocks ++ behind → 128 * k + 128 ≤ length blocks
+    → block m (i + k) ≡ take 128 (drop (128 * k) blocks)
+unfolding block
+block_ahead m blocks behind i k ahead fits =
+    let place : 128 * (i + k) ≡ 128 * i + 128 * k = omega arith in
+    let here : drop (128 * (i + k)) m ≡ drop (128 * k) blocks ++ behind =
+    ap (λ (j : ℕ). drop j m) place ∙ sym (drop-drop (128 * k) (128 * i) m) ∙ ap (drop (128 * k)) ahead ∙ drop-append-le (128 * k) blocks behind (omega arith) in
+    let enough : 128 ≤ length (drop (128 * k) blocks) = omega (arith, length-drop (128 * k) blocks) in
+    let part : take 128 (drop (128 * (i + k)) m) ≡ take 128 (drop (128 * k) blocks) = ap (take 128) here ∙ take-append-le 128 (drop (128 * k) blocks) behind enough in
+    let size : length (take 128 (drop (128 * k) blocks)) ≡ 128 = length-take-le 128 (drop (128 * k) blocks) enough in
+    rw (part, size) (append-nil (take 128 (drop (128 * k) blocks)))
+
+-- one block more
+pub state_next : (n : ℕ) (m blocks behind : List ℕ) (i k : ℕ) (h g : List ℕ) (t : ℕ) → drop (128 * i) m ≡ blocks ++ behind → 128 * k + 128 ≤ length blocks
+    → h ≡ state_after n m (i + k) → t ≡ 128 * (i + k + 1) % 2 ^ 128 → g ≡ compress h (words_of (take 128 (drop (128 * k) blocks))) t false
+    → g ≡ state_after n m (i + (k + 1))
 unfolding state_after
-held_next n h count k g b m i held full ek eg =
-    let whole : b ≡ drop (128 * i) m = sym (take_all 128 b (omega arith)) ∙ held.rest in
-    let this : block m i ≡ b = block_whole m b i whole full in
-    let counted : k ≡ 128 * (i + 1) % 2 ^ 128 = omega (arith, held.counted) in
-    let next : state_after n m (i + 1) ≡ compress (state_after n m i) (words_of b) (128 * (i + 1) % 2 ^ 128) false =
-    ap (state_after n m) (add-one i) ∙ rw this refl in
+state_next n m blocks behind i k h g t ahead fits eh et eg =
+    let place : i + (k + 1) ≡ suc (i + k) = omega arith in
+    eg ∙ rw (et, eh, place, block_ahead m blocks behind i k ahead fits) refl
+
+-- s bytes, which are whole blocks, were taken in, and the buffer is empty
+pub held_taken : (n : ℕ) (g : List ℕ) (count k : ℕ) (b : List ℕ) (used : ℕ) (m : List ℕ) (i s : ℕ) → used ≡ 0 → length m ≡ 128 * i + s → s % 128 ≡ 0
+    → count ≡ 128 * i % 2 ^ 128 → k ≡ (count + s) % 2 ^ 128 → g ≡ state_after n m (i + s / 128) → HeldAfter n g k b used m (i + s / 128)
+held_taken n g count k b used m i s none len whole ec ek eg =
+    let taken : take used b ≡ [] = rw none refl in
     record {
-      len = omega (arith, held.len);
-      state = eg ∙ rw (counted, held.state) (sym next);
-      rest = sym (drop_all (128 * (i + 1)) m (omega (arith, held.len)));
-      counted = counted;
+      len = omega (arith, len, whole, none);
+      state = eg;
+      rest = taken ∙ sym (drop_all (128 * (i + s / 128)) m (omega (arith, len, whole)));
+      counted = omega (arith, ec, ek, whole);
     }
 
--- what is left is the last block
-pub held_last : (n : ℕ) (h : List ℕ) (count : ℕ) (b : List ℕ) (used : ℕ) (m : List ℕ) (i k : ℕ) → HeldAfter n h count b used m i
-    → (0 < length m → 0 < used) → used ≤ 128 → length b ≡ 128 → k ≡ (count + used) % 2 ^ 128
-    → compress h (words_of (take used b ++ replicate (128 - used) 0)) k true ≡ last_state n m
+-- what is left behind whole blocks is the last block
+pub last_taken : (n : ℕ) (h m blocks last : List ℕ) (i k : ℕ) → drop (128 * i) m ≡ blocks ++ last → length m ≡ 128 * i + length (blocks ++ last)
+    → length blocks % 128 ≡ 0 → length last ≤ 128 → (0 < length m → 0 < length last) → h ≡ state_after n m (i + length blocks / 128)
+    → k ≡ length m % 2 ^ 128 → compress h (words_of (last ++ replicate (128 - length last) 0)) k true ≡ last_state n m
 unfolding last_state
-held_last n h count b used m i k held lazy fits len ek =
-    let last : block_count m - 1 ≡ i = grind (arith, held.len, lazy) in
-    let size : length (take used b) ≡ used = grind (arith, common_steps) in
-    let this : block m i ≡ take used b ++ replicate (128 - used) 0 = block_rest m (take used b) i used held.rest size fits in
-    let counted : k ≡ length m % 2 ^ 128 = omega (arith, held.len, held.counted) in
-    rw (last, this, counted, held.state) refl
+last_taken n h m blocks last i k ahead len whole fits some eh ek =
+    let j : ℕ = i + length blocks / 128 in
+    let both : length (blocks ++ last) ≡ length blocks + length last = length-append blocks last in
+    let number : block_count m - 1 ≡ j = grind (arith, len, both, whole, some) in
+    let place : 128 * j ≡ 128 * i + length blocks = omega (arith, whole) in
+    let rest : last ≡ drop (128 * j) m =
+    sym (ap (λ (p : ℕ). drop p m) place ∙ sym (drop-drop (length blocks) (128 * i) m) ∙ ap (drop (length blocks)) ahead ∙ drop_at blocks last (length blocks) refl) in
+    let this : block m j ≡ last ++ replicate (128 - length last) 0 = block_rest m last j (length last) rest refl fits in
+    rw (number, this, ek, eh) refl

@@ -1,11 +1,10 @@
 -- Lists of eight words as their members, bounds on the members of lists, and steps of loops.
-use Rattle.std.proofs.Common.{◌≡◌, ℕ, zero, suc, ◌+◌, ◌%◌, add-one, ◌<◌, Bool, true, false, ◌&&◌, refl, w64, nat_lt, List, [], ◌∷◌, ◌++◌, length, take, slice_index, slice_index_or, sym, ap, ◌∙◌}
+use Rattle.std.proofs.Common.{◌≡◌, ℕ, zero, suc, ◌+◌, ◌<◌, Bool, true, false, ◌&&◌, refl, w64, nat_lt, List, [], ◌∷◌, ◌++◌, length, take, slice_index, slice_index_or, sym, ap, ◌∙◌}
 use Rattle.std.specs.Int.{to_le_bytes}
 use Rattle.std.specs.List.{flat_map, list_all}
 use Rattle.std.proofs.lemmas.List.{append-nil, take_more}
 use Rattle.std.proofs.lemmas.Bool.{ltb-true}
 use Rattle.std.proofs.lemmas.List.Concat.{flat_map-append}
-use Rattle.minisign_hash.specs.Blake2b.{round, rounds, sigma}
 use Rattle.minisign_hash.specs.Words.{bytes_of}
 use Rattle.std.proofs.lemmas.Simd.{pick_l_whole}
 
@@ -40,8 +39,3 @@ pub below_all : (k : ℕ) → 0 < k → (xss : List (List ℕ)) → list_all (li
 below_all k some [] h i j = some
 below_all k some (xs ∷ xss) h zero j = below_row k some xs (and-left _ _ h) j
 below_all k some (xs ∷ xss) h (suc i) j = below_all k some xss (and-right _ _ h) i j
-
--- one round more
-pub rounds_next : (v m : List ℕ) (i : ℕ) → rounds v m (i + 1) ≡ round (rounds v m i) m (slice_index_or sigma (i % 10) [])
-unfolding rounds
-rounds_next v m i = ap (rounds v m) (add-one i)

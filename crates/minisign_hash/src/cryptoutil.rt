@@ -8,78 +8,6 @@ ghost use Rattle.minisign_hash.specs.Words.{bytes_of, word_at, words_of};
 use std::io;
 use std::io::Write;
 
-/// Writes `input` into the eight bytes of `dst`, the lowest byte first.
-#[inline(always)]
-pub fn write_u64_le(dst: &mut [u8], input: u64)
-    requires { length dst.old ≡ 8 }
-    ensures { dst.new ≡ to_le_bytes w64 input }
-{
-    let bytes: [u8; 8] = input.to_le_bytes();
-    dst.copy_from_slice(&bytes);
-}
-
-/// Writes the words of `input` into `dst`, eight bytes a word, the lowest byte of each first.
-#[inline(always)]
-pub fn write_u64v_le(dst: &mut [u8], input: &[u64])
-    requires { length dst.old ≡ 8 * length input.now }
-    ensures { dst.new ≡ bytes_of input.now }
-{
-    'words: for i in 0..input.len() {
-        write_u64_le(&mut dst[8 * i..8 * i + 8], input[i]);
-    }
-}
-
-/// Writes `input` into the four bytes of `dst`, the lowest byte first.
-#[inline(always)]
-pub fn write_u32_le(dst: &mut [u8], input: u32)
-    requires { length dst.old ≡ 4 }
-    ensures { dst.new ≡ to_le_bytes w32 input }
-{
-    let bytes: [u8; 4] = input.to_le_bytes();
-    dst.copy_from_slice(&bytes);
-}
-
-// Word number `i` of `input`.
-#[inline(always)]
-#[tactic(auto, unfolding(crate::specs::Words::word_at))]
-fn read_word(input: &[u8], i: usize) -> u64
-    requires { 8 * i + 8 ≤ length input.now }
-    ensures { result ≡ word_at input.now i }
-{
-    let at = 8 * i;
-    u64::from_le_bytes([
-        input[at],
-        input[at + 1],
-        input[at + 2],
-        input[at + 3],
-        input[at + 4],
-        input[at + 5],
-        input[at + 6],
-        input[at + 7],
-    ])
-}
-
-/// Reads the words that the bytes of `input` are into `dst`, eight bytes a word, the lowest byte of
-/// each first.
-#[inline(always)]
-pub fn read_u64v_le(dst: &mut [u64], input: &[u8])
-    requires { 8 * length dst.old ≡ length input.now }
-    ensures { dst.new ≡ words_of input.now }
-{
-    'words: for i in 0..dst.len() {
-        dst[i] = read_word(input, i);
-    }
-}
-
-/// Copies `src` to the front of `dst`, which is at least as long. The rest of `dst` stays.
-#[inline(always)]
-pub fn copy_memory(src: &[u8], dst: &mut [u8])
-    requires { length src.now ≤ length dst.old }
-    ensures { dst.new ≡ src.now ++ drop (length src.now) dst.old }
-{
-    dst[..src.len()].copy_from_slice(src);
-}
-
 /// Numbers in little endian bytes, for every writer of std. Each call answers what the writer's own
 /// `write_all` answers for these bytes.
 pub trait WriteExt: Write {
@@ -112,4 +40,76 @@ impl<W: Write> WriteExt for W {
         write_u64_le(&mut bytes, val);
         self.write_all(&bytes)
     }
+}
+
+/// Writes the words of `input` into `dst`, eight bytes a word, the lowest byte of each first.
+#[inline(always)]
+pub fn write_u64v_le(dst: &mut [u8], input: &[u64])
+    requires { length dst.old ≡ 8 * length input.now }
+    ensures { dst.new ≡ bytes_of input.now }
+{
+    'words: for i in 0..input.len() {
+        write_u64_le(&mut dst[8 * i..8 * i + 8], input[i]);
+    }
+}
+
+/// Writes `input` into the eight bytes of `dst`, the lowest byte first.
+#[inline(always)]
+pub fn write_u64_le(dst: &mut [u8], input: u64)
+    requires { length dst.old ≡ 8 }
+    ensures { dst.new ≡ to_le_bytes w64 input }
+{
+    let bytes: [u8; 8] = input.to_le_bytes();
+    dst.copy_from_slice(&bytes);
+}
+
+/// Writes `input` into the four bytes of `dst`, the lowest byte first.
+#[inline(always)]
+pub fn write_u32_le(dst: &mut [u8], input: u32)
+    requires { length dst.old ≡ 4 }
+    ensures { dst.new ≡ to_le_bytes w32 input }
+{
+    let bytes: [u8; 4] = input.to_le_bytes();
+    dst.copy_from_slice(&bytes);
+}
+
+/// Reads the words that the bytes of `input` are into `dst`, eight bytes a word, the lowest byte of
+/// each first.
+#[inline(always)]
+pub fn read_u64v_le(dst: &mut [u64], input: &[u8])
+    requires { 8 * length dst.old ≡ length input.now }
+    ensures { dst.new ≡ words_of input.now }
+{
+    'words: for i in 0..dst.len() {
+        dst[i] = read_word(input, i);
+    }
+}
+
+// Word number `i` of `input`.
+#[inline(always)]
+#[tactic(auto, unfolding(crate::specs::Words::word_at))]
+fn read_word(input: &[u8], i: usize) -> u64
+    requires { 8 * i + 8 ≤ length input.now }
+    ensures { result ≡ word_at input.now i }
+{
+    let at = 8 * i;
+    u64::from_le_bytes([
+        input[at],
+        input[at + 1],
+        input[at + 2],
+        input[at + 3],
+        input[at + 4],
+        input[at + 5],
+        input[at + 6],
+        input[at + 7],
+    ])
+}
+
+/// Copies `src` to the front of `dst`, which is at least as long. The rest of `dst` stays.
+#[inline(always)]
+pub fn copy_memory(src: &[u8], dst: &mut [u8])
+    requires { length src.now ≤ length dst.old }
+    ensures { dst.new ≡ src.now ++ drop (length src.now) dst.old }
+{
+    dst[..src.len()].copy_from_slice(src);
 }

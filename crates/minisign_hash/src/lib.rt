@@ -11,6 +11,7 @@
 //! ```
 //!
 //! No call takes memory, and none fails but those of `cryptoutil::WriteExt`, where the writer does.
+
 #![tactic(auto)]
 
 pub mod blake2b;

@@ -1,6 +1,5 @@
 -- What callers need of a derived key: its length, and that it is bytes.
 use Rattle.std.proofs.Common.{◌≡◌, ℕ, zero, suc, ◌+◌, ◌*◌, ◌/◌, ◌^◌, ◌<◌, List, [], ◌∷◌, length, slice_index, All, mod-lt, lit<, subst, refl, sym, ap, ◌∙◌, arith, add-one, length-append}
-use Rattle.std.proofs.Math.Nat.{suc-mul}
 use Rattle.std.proofs.lemmas.List.{length-take-le}
 use Rattle.std.proofs.lemmas.List.Elements.{All-append, All-get_or, All-take}
 use Rattle.std.specs.Int.{w32, to_be_bytes}
@@ -9,7 +8,7 @@ use Rattle.minisign_kdf.specs.Blocks.{joined}
 use Rattle.minisign_kdf.specs.Hmac.{hmac}
 use Rattle.minisign_kdf.specs.Pbkdf2.{derived_block, pbkdf2}
 use Rattle.minisign_kdf.specs.Scrypt.{scrypt}
-use Rattle.minisign_kdf.proofs.Joined.{joined_next, joined_none}
+use Rattle.minisign_kdf.proofs.Joined.{joined_next, joined_none, length-joined}
 
 pub length-hmac : (key text : List ℕ) → length (hmac key text) ≡ 32
 unfolding hmac sha256 digest_bytes
@@ -18,12 +17,6 @@ length-hmac key text = refl
 length-derived_block : (password salt : List ℕ) (i : ℕ) → length (derived_block password salt i) ≡ 32
 unfolding derived_block
 length-derived_block password salt i = length-hmac password _
-
-length-joined : (f : ℕ → List ℕ) (k n : ℕ) → ((i : ℕ) → length (f i) ≡ k) → length (joined f n) ≡ n * k
-length-joined f k zero each = ap length (joined_none f) ∙ omega arith
-length-joined f k (suc n) each =
-    let before : length (joined f n) ≡ n * k = length-joined f k n each in
-    ap (λ (m : ℕ). length (joined f m)) (sym (add-one n)) ∙ ap length (joined_next f n) ∙ length-append (joined f n) (f n) ∙ (λ t. before t + each n t) ∙ sym (suc-mul n k)
 
 pub length-pbkdf2 : (password salt : List ℕ) (len : ℕ) → length (pbkdf2 password salt len) ≡ len
 unfolding pbkdf2

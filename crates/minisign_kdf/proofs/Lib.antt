@@ -1,6 +1,9 @@
 pub mod Sixteen
+pub mod Diagonal
 pub mod Bytes
 pub mod Joined
+pub mod Blocks
+pub mod Ordered
 pub mod Keys
 pub mod Mixing
 pub mod Derivation
@@ -8,3 +11,4 @@ pub mod ParamsFacts
 pub mod Rows
 pub mod Parts
 pub mod KeyFacts
+pub mod Facts

@@ -1,14 +1,16 @@
 -- scryptBlockMix, block by block.
-use Rattle.std.proofs.Common.{◌≡◌, ℕ, zero, suc, ◌+◌, ◌-◌, ◌*◌, ◌≤◌, List, ◌++◌, length, take, drop, bit_xor, refl, sym, ap, ◌∙◌, arith, add-one}
+use Rattle.std.proofs.Common.{◌≡◌, ℕ, zero, suc, ◌+◌, ◌-◌, ◌*◌, ◌<◌, ◌≤◌, List, ◌++◌, length, take, drop, bit_xor, refl, sym, ap, ◌∙◌, arith, add-one}
 use Rattle.std.specs.Simd.Lanes.{zip2}
-use Rattle.std.proofs.lemmas.List.{take_all}
+use Rattle.std.proofs.lemmas.List.{length-take-le, take_all}
 use Rattle.std.proofs.lemmas.Slice.{take-put_mid}
 use borrow.Rule.Slice.PartMut.{put_mid}
 use Rattle.minisign_kdf.specs.Blocks.{block, joined}
+use Rattle.minisign_kdf.specs.Diagonal.{diagonal_bytes, standard_order}
 use Rattle.minisign_kdf.specs.Salsa20.{bytes_of, salsa20_8}
 use Rattle.minisign_kdf.specs.Scrypt.{block_mix, mixed_block}
-use Rattle.minisign_kdf.proofs.Bytes.{block-bytes_of, bytes_of-append}
+use Rattle.minisign_kdf.proofs.Blocks.{cut-zip2}
 use Rattle.minisign_kdf.proofs.Joined.{joined_next}
+use Rattle.minisign_kdf.proofs.Ordered.{block-diagonal_bytes, diagonal_bytes-append, diagonal_bytes-block}
 
 -- what block number i is xored with: the last block at first, then the block mixed before it
 unfoldable pub before : ℕ → List ℕ → ℕ → List ℕ
@@ -25,37 +27,43 @@ unfolding before
 before_next r b i = rw add-one refl
 
 -- the next block, mixed
-pub mixed_next : (r : ℕ) (b xs x y c : List ℕ) (i n k : ℕ) → b ≡ bytes_of xs → bytes_of x ≡ before r b i → n ≡ 16 → k ≡ 16 * i
-    → c ≡ take n (drop k xs) → bytes_of y ≡ salsa20_8 (zip2 bit_xor (bytes_of x) (bytes_of c)) → bytes_of y ≡ mixed_block r b i
-mixed_next r b xs x y c i n k eb ex en ek ec ey =
-    let cut : bytes_of c ≡ block 64 b i = rw (ec, en, ek, eb) (sym (block-bytes_of xs i)) in
-    rw (ey, ex, cut) (sym (mixed_block_is r b i))
+pub mixed_next : (r : ℕ) (xs x y c : List ℕ) (i n k : ℕ) → length xs ≡ 32 * r → i < 2 * r → x ≡ before r (diagonal_bytes xs) i → n ≡ 16 → k ≡ 16 * i
+    → c ≡ take n (drop k xs) → y ≡ salsa20_8 (zip2 bit_xor x (bytes_of (standard_order c))) → y ≡ mixed_block r (diagonal_bytes xs) i
+mixed_next r xs x y c i n k len lt ex en ek ec ey =
+    let cut : bytes_of (standard_order c) ≡ block 64 (diagonal_bytes xs) i =
+    rw (ec, en, ek) (sym (block-diagonal_bytes xs (2 * r) i (omega arith) lt)) in
+    rw (ey, ex, cut) (sym (mixed_block_is r (diagonal_bytes xs) i))
 
 -- sixteen more words are written
-pub written_next : (f : ℕ → List ℕ) (i k : ℕ) (xs ys x : List ℕ) → bytes_of (take (16 * i) xs) ≡ joined f i → ys ≡ x → bytes_of x ≡ f i
-    → length ys ≡ 16 → 16 * i ≤ length xs → bytes_of (take (16 * (i + 1)) (put_mid (16 * i) k xs ys)) ≡ joined f (i + 1)
-written_next f i k xs ys x done ey ex len fits =
-    ap bytes_of (take-put_mid (16 * i) k xs ys (16 * (i + 1)) (omega arith) fits)
-    ∙ bytes_of-append (take (16 * i) xs) ys
-    ∙ (λ t. done t ++ (ap bytes_of ey ∙ ex) t)
+pub written_next : (f : ℕ → List ℕ) (i k : ℕ) (xs ys y : List ℕ) → diagonal_bytes (take (16 * i) xs) ≡ joined f i → ys ≡ y → bytes_of (standard_order y) ≡ f i
+    → length ys ≡ 16 → 16 * i ≤ length xs → diagonal_bytes (take (16 * (i + 1)) (put_mid (16 * i) k xs ys)) ≡ joined f (i + 1)
+written_next f i k xs ys y done ey ef len fits =
+    let front : length (take (16 * i) xs) ≡ 16 * i = length-take-le (16 * i) xs fits in
+    ap diagonal_bytes (take-put_mid (16 * i) k xs ys (16 * (i + 1)) (omega arith) fits)
+    ∙ diagonal_bytes-append (take (16 * i) xs) ys i 1 front len
+    ∙ (λ t. done t ++ (diagonal_bytes-block ys len ∙ ap (λ (l : List ℕ). bytes_of (standard_order l)) ey ∙ ef) t)
     ∙ sym (joined_next f i)
 
 -- all blocks are written
 pub written_all : (r i : ℕ) (b even odd : List ℕ) → i ≡ r → length even ≡ 16 * r → length odd ≡ 16 * r
-    → bytes_of (take (16 * i) even) ≡ joined (λ j. mixed_block r b (2 * j)) i → bytes_of (take (16 * i) odd) ≡ joined (λ j. mixed_block r b (2 * j + 1)) i
-    → bytes_of (even ++ odd) ≡ block_mix r b
+    → diagonal_bytes (take (16 * i) even) ≡ joined (λ j. mixed_block r b (2 * j)) i → diagonal_bytes (take (16 * i) odd) ≡ joined (λ j. mixed_block r b (2 * j + 1)) i
+    → diagonal_bytes (even ++ odd) ≡ block_mix r b
 unfolding block_mix
 written_all r i b even odd ei le lo he ho =
     let we : take (16 * i) even ≡ even = take_all (16 * i) even (omega arith) in
     let wo : take (16 * i) odd ≡ odd = take_all (16 * i) odd (omega arith) in
-    bytes_of-append even odd
-    ∙ (λ t. (ap bytes_of (sym we) ∙ he ∙ ap (joined (λ (j : ℕ). mixed_block r b (2 * j))) ei) t
-    ++ (ap bytes_of (sym wo) ∙ ho ∙ ap (joined (λ (j : ℕ). mixed_block r b (2 * j + 1))) ei) t)
+    diagonal_bytes-append even odd r r le lo
+    ∙ (λ t. (ap diagonal_bytes (sym we) ∙ he ∙ ap (joined (λ (j : ℕ). mixed_block r b (2 * j))) ei) t
+    ++ (ap diagonal_bytes (sym wo) ∙ ho ∙ ap (joined (λ (j : ℕ). mixed_block r b (2 * j + 1))) ei) t)
 
 -- the first block is xored with the last
 pub before_first : (r : ℕ) (xs x : List ℕ) (n k : ℕ) → length xs ≡ 32 * r → 1 ≤ r → n ≡ 16 → k ≡ 32 * r - 16 → x ≡ take n (drop k xs)
-    → bytes_of x ≡ before r (bytes_of xs) (2 * 0)
+    → bytes_of (standard_order x) ≡ before r (diagonal_bytes xs) (2 * 0)
 unfolding before
 before_first r xs x n k len some en ek ex =
     let e : 32 * r - 16 ≡ 16 * (2 * r - 1) = omega arith in
-    rw (ex, en, ek, e) (sym (block-bytes_of xs (2 * r - 1)))
+    rw (ex, en, ek, e) (sym (block-diagonal_bytes xs (2 * r) (2 * r - 1) (omega arith) (omega arith)))
+
+-- a block of two lists taken member by member, whose blocks were cut one by one
+pub xored_block : (x y z : List ℕ) (k n m : ℕ) → length x ≡ length y → n ≡ 16 → m ≡ 16 → z ≡ zip2 bit_xor (take n (drop k x)) (take m (drop k y)) → z ≡ take 16 (drop k (zip2 bit_xor x y))
+xored_block x y z k n m e en em ez = ez ∙ (λ t. zip2 bit_xor (take (en t) (drop k x)) (take (em t) (drop k y))) ∙ sym (cut-zip2 bit_xor 16 k x y e)

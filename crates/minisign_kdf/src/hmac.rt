@@ -9,40 +9,6 @@ use sha2::{Digest, Sha256};
 // How many bytes a block of SHA-256 has.
 const BLOCK_LEN: usize = 64;
 
-// The bytes, filled up with zeros to a block.
-fn filled(key: &[u8]) -> [u8; 64]
-    requires { length key.now ≤ 64 }
-    ensures { result ≡ key.now ++ replicate (64 - length key.now) 0 }
-{
-    let mut block = [0u8; 64];
-    let (front, _) = block.split_at_mut(key.len());
-    front.copy_from_slice(key);
-    block
-}
-
-// The key as a block: its digest in its place, where it is longer.
-#[tactic(auto, unfolding(crate::specs::Hmac::key_block))]
-fn key_block(key: &[u8]) -> [u8; 64]
-    ensures { result ≡ key_block key.now }
-{
-    if key.len() > BLOCK_LEN {
-        filled(&Sha256::digest(key))
-    } else {
-        filled(key)
-    }
-}
-
-// A block, each byte xored with the pad.
-fn padded(block: &[u8; 64], pad: u8) -> [u8; 64]
-    ensures { result ≡ map (λ b. bit_xor b pad) block.now }
-{
-    let mut padded = [0u8; 64];
-    'bytes: for i in 0..64 {
-        padded[i] = block[i] ^ pad;
-    }
-    padded
-}
-
 /// HMAC with SHA-256 (RFC 2104, section 2) under `key` of the joined `parts`. A key of any length
 /// will do; one longer than 64 bytes counts as its digest. Takes no memory.
 pub fn hmac_sha256(key: &[u8], parts: &[&[u8]]) -> [u8; 32]
@@ -59,4 +25,38 @@ pub fn hmac_sha256(key: &[u8], parts: &[&[u8]]) -> [u8; 32]
     outer.update(&padded(&block, 0x5c));
     outer.update(&digest);
     outer.finalize()
+}
+
+// A block, each byte xored with the pad.
+fn padded(block: &[u8; 64], pad: u8) -> [u8; 64]
+    ensures { result ≡ map (λ b. bit_xor b pad) block.now }
+{
+    let mut padded = [0u8; 64];
+    'bytes: for i in 0..64 {
+        padded[i] = block[i] ^ pad;
+    }
+    padded
+}
+
+// The key as a block: its digest in its place, where it is longer.
+#[tactic(auto, unfolding(crate::specs::Hmac::key_block))]
+fn key_block(key: &[u8]) -> [u8; 64]
+    ensures { result ≡ key_block key.now }
+{
+    if key.len() > BLOCK_LEN {
+        filled(&Sha256::digest(key))
+    } else {
+        filled(key)
+    }
+}
+
+// The bytes, filled up with zeros to a block.
+fn filled(key: &[u8]) -> [u8; 64]
+    requires { length key.now ≤ 64 }
+    ensures { result ≡ key.now ++ replicate (64 - length key.now) 0 }
+{
+    let mut block = [0u8; 64];
+    let (front, _) = block.split_at_mut(key.len());
+    front.copy_from_slice(key);
+    block
 }

@@ -6,6 +6,7 @@
 
 mod block_mix;
 pub mod hmac;
+mod order;
 pub mod params;
 pub mod pbkdf2;
 mod rom_mix;

@@ -27,17 +27,6 @@ impl fmt::Display for InvalidParams {
     }
 }
 
-// Whether 64 bits can count the bytes of a part's rows.
-fn is_countable(n_log2: u8, r: u32) -> bool
-    requires { 1 ≤ r }
-    ensures { result ≡ nat_lt (128 * r * 2 ^ n_log2) (2 ^ 64) }
-{
-    if n_log2 >= 64 {
-        return false;
-    }
-    (128 * u64::from(r)).checked_mul(1 << n_log2).is_some()
-}
-
 impl Params {
     /// The parameters N = 2^`n_log2`, `r` and `p`. All three are at least 1, `n_log2` is below 16 * r,
     /// r * p is below 2^30, and the 128 * r * N bytes of a part's rows are below 2^64; anything else
@@ -81,4 +70,15 @@ impl Params {
     {
         self.p
     }
+}
+
+// Whether 64 bits can count the bytes of a part's rows.
+fn is_countable(n_log2: u8, r: u32) -> bool
+    requires { 1 ≤ r }
+    ensures { result ≡ nat_lt (128 * r * 2 ^ n_log2) (2 ^ 64) }
+{
+    if n_log2 >= 64 {
+        return false;
+    }
+    (128 * u64::from(r)).checked_mul(1 << n_log2).is_some()
 }

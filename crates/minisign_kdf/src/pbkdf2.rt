@@ -9,25 +9,6 @@ use crate::hmac::hmac_sha256;
 // How many bytes a block of the derived key has.
 const BLOCK_LEN: usize = 32;
 
-// T_i.
-#[tactic(auto, unfolding(crate::specs::Pbkdf2::derived_block))]
-fn derived_block(password: &[u8], salt: &[u8], i: u32) -> [u8; 32]
-    ensures { result ≡ derived_block password.now salt.now i }
-{
-    hmac_sha256(password, &[salt, &i.to_be_bytes()])
-}
-
-// Fills `out` with whole blocks, from T_1 on.
-fn write_blocks(password: &[u8], salt: &[u8], count: u32, out: &mut [u8])
-    requires { length out.old ≡ 32 * count }
-    ensures { out.new ≡ joined (λ i. derived_block password.now salt.now (i + 1)) count }
-{
-    'whole: for i in 0..count {
-        let at = BLOCK_LEN * i as usize;
-        out[at..at + BLOCK_LEN].copy_from_slice(&derived_block(password, salt, i + 1));
-    }
-}
-
 /// Derives a key that fills `out`, by PBKDF2 (RFC 8018, section 5.2) with one iteration of HMAC with
 /// SHA-256. `out` has at most 137438953440 bytes, 2^32 - 1 blocks. Takes no memory.
 pub fn pbkdf2_once(password: &[u8], salt: &[u8], out: &mut [u8])
@@ -42,4 +23,23 @@ pub fn pbkdf2_once(password: &[u8], salt: &[u8], out: &mut [u8])
         let (front, _) = last.split_at(rest.len());
         rest.copy_from_slice(front);
     }
+}
+
+// Fills `out` with whole blocks, from T_1 on.
+fn write_blocks(password: &[u8], salt: &[u8], count: u32, out: &mut [u8])
+    requires { length out.old ≡ 32 * count }
+    ensures { out.new ≡ joined (λ i. derived_block password.now salt.now (i + 1)) count }
+{
+    'whole: for i in 0..count {
+        let at = BLOCK_LEN * i as usize;
+        out[at..at + BLOCK_LEN].copy_from_slice(&derived_block(password, salt, i + 1));
+    }
+}
+
+// T_i.
+#[tactic(auto, unfolding(crate::specs::Pbkdf2::derived_block))]
+fn derived_block(password: &[u8], salt: &[u8], i: u32) -> [u8; 32]
+    ensures { result ≡ derived_block password.now salt.now i }
+{
+    hmac_sha256(password, &[salt, &i.to_be_bytes()])
 }

@@ -1,88 +1,139 @@
-//! The Salsa20/8 Core (RFC 7914, section 3), on words.
+//! The Salsa20/8 Core (RFC 7914, section 3), on blocks whose words stand in diagonal order: both rounds
+//! are then steps on whole rows of four words.
 
-ghost use Rattle.std.specs.Prelude.{◌≡◌};
+ghost use Rattle.std.specs.Prelude.{◌≡◌, ◌<◌, length, map, bit_xor};
+ghost use Rattle.std.specs.Int.{w32, rotate_left};
 ghost use Rattle.std.specs.Simd.Lanes.{zip2};
-ghost use Rattle.minisign_kdf.specs.Salsa20.{add32, column_round, double_round, quarter_round, row_round, salsa_words};
+ghost use Rattle.minisign_kdf.specs.Diagonal.{block_words, placed_words, transposed};
+ghost use Rattle.minisign_kdf.specs.Salsa20.{add32, column_round, double_round, row_round, salsa_words};
 
-// The four words after one quarter of a round.
-#[inline(always)]
-#[tactic(auto, unfolding(crate::specs::Salsa20::quarter_round))]
-fn quarter_round(a: u32, b: u32, c: u32, d: u32) -> [u32; 4]
-    ensures { result ≡ quarter_round a b c d }
-{
-    let b = b ^ a.wrapping_add(d).rotate_left(7);
-    let c = c ^ b.wrapping_add(a).rotate_left(9);
-    let d = d ^ c.wrapping_add(b).rotate_left(13);
-    let a = a ^ d.wrapping_add(c).rotate_left(18);
-    [a, b, c, d]
+use std::simd::u32x4;
+
+/// A block's sixteen words in diagonal order: the rows hold the words 0, 5, 10, 15, the words 4, 9, 14, 3,
+/// the words 8, 13, 2, 7 and the words 12, 1, 6, 11.
+#[derive(Clone, Copy)]
+pub(crate) struct Block {
+    a: [u32; 4],
+    b: [u32; 4],
+    c: [u32; 4],
+    d: [u32; 4],
 }
 
-// A round on the four columns.
-#[inline(always)]
-fn column_round(x: [u32; 16]) -> [u32; 16]
-    ensures { result ≡ column_round x }
-{
-    let [x0, x4, x8, x12] = quarter_round(x[0], x[4], x[8], x[12]);
-    let [x5, x9, x13, x1] = quarter_round(x[5], x[9], x[13], x[1]);
-    let [x10, x14, x2, x6] = quarter_round(x[10], x[14], x[2], x[6]);
-    let [x15, x3, x7, x11] = quarter_round(x[15], x[3], x[7], x[11]);
-    [
-        x0, x1, x2, x3, x4, x5, x6, x7, x8, x9, x10, x11, x12, x13, x14, x15,
-    ]
+impl Block {
+    // The words of a slice.
+    #[inline(always)]
+    pub(crate) fn load(words: &[u32]) -> Block
+        requires { length words.now ≡ 16 }
+        ensures { placed_words result ≡ words.now }
+    {
+        let a = u32x4::from_slice(words).to_array();
+        let b = u32x4::from_slice(&words[4..]).to_array();
+        let c = u32x4::from_slice(&words[8..]).to_array();
+        let d = u32x4::from_slice(&words[12..]).to_array();
+        Block { a, b, c, d }
+    }
+
+    // Writes the words into a slice.
+    #[inline(always)]
+    pub(crate) fn store(self, words: &mut [u32])
+        requires { length words.old ≡ 16 }
+        ensures { words.new ≡ placed_words self }
+    {
+        let (front, back) = words.split_at_mut(8);
+        let (a, b) = front.split_at_mut(4);
+        let (c, d) = back.split_at_mut(4);
+        u32x4::from_array(self.a).copy_to_slice(a);
+        u32x4::from_array(self.b).copy_to_slice(b);
+        u32x4::from_array(self.c).copy_to_slice(c);
+        u32x4::from_array(self.d).copy_to_slice(d);
+    }
 }
 
-// A round on the four rows.
+// Salsa20/8 of a block.
 #[inline(always)]
-fn row_round(x: [u32; 16]) -> [u32; 16]
-    ensures { result ≡ row_round x }
+pub(crate) fn salsa20_8(x: Block) -> Block
+    ensures { block_words result ≡ salsa_words (block_words x) }
 {
-    let [x0, x1, x2, x3] = quarter_round(x[0], x[1], x[2], x[3]);
-    let [x5, x6, x7, x4] = quarter_round(x[5], x[6], x[7], x[4]);
-    let [x10, x11, x8, x9] = quarter_round(x[10], x[11], x[8], x[9]);
-    let [x15, x12, x13, x14] = quarter_round(x[15], x[12], x[13], x[14]);
-    [
-        x0, x1, x2, x3, x4, x5, x6, x7, x8, x9, x10, x11, x12, x13, x14, x15,
-    ]
+    sum_of(double_round(double_round(double_round(double_round(x)))), x)
+}
+
+// The words of x, each xored with that of y.
+#[inline(always)]
+pub(crate) fn xor_of(x: Block, y: Block) -> Block
+    ensures { placed_words result ≡ zip2 bit_xor (placed_words x) (placed_words y) }
+{
+    let a = (u32x4::from_array(x.a) ^ u32x4::from_array(y.a)).to_array();
+    let b = (u32x4::from_array(x.b) ^ u32x4::from_array(y.b)).to_array();
+    let c = (u32x4::from_array(x.c) ^ u32x4::from_array(y.c)).to_array();
+    let d = (u32x4::from_array(x.d) ^ u32x4::from_array(y.d)).to_array();
+    Block { a, b, c, d }
+}
+
+// The sums of the words of two blocks.
+#[inline(always)]
+fn sum_of(x: Block, y: Block) -> Block
+    ensures { placed_words result ≡ zip2 add32 (placed_words x) (placed_words y) }
+{
+    let a = (u32x4::from_array(x.a) + u32x4::from_array(y.a)).to_array();
+    let b = (u32x4::from_array(x.b) + u32x4::from_array(y.b)).to_array();
+    let c = (u32x4::from_array(x.c) + u32x4::from_array(y.c)).to_array();
+    let d = (u32x4::from_array(x.d) + u32x4::from_array(y.d)).to_array();
+    Block { a, b, c, d }
 }
 
 #[inline(always)]
-fn double_round(x: [u32; 16]) -> [u32; 16]
-    ensures { result ≡ double_round x }
+fn double_round(x: Block) -> Block
+    ensures { block_words result ≡ double_round (block_words x) }
 {
     row_round(column_round(x))
 }
 
-// The sixteen sums of the words of two blocks.
+// A round on the four columns.
 #[inline(always)]
-fn sum_of(x: [u32; 16], y: [u32; 16]) -> [u32; 16]
-    ensures { result ≡ zip2 add32 x y }
+fn column_round(x: Block) -> Block
+    ensures { block_words result ≡ column_round (block_words x) }
 {
-    [
-        x[0].wrapping_add(y[0]),
-        x[1].wrapping_add(y[1]),
-        x[2].wrapping_add(y[2]),
-        x[3].wrapping_add(y[3]),
-        x[4].wrapping_add(y[4]),
-        x[5].wrapping_add(y[5]),
-        x[6].wrapping_add(y[6]),
-        x[7].wrapping_add(y[7]),
-        x[8].wrapping_add(y[8]),
-        x[9].wrapping_add(y[9]),
-        x[10].wrapping_add(y[10]),
-        x[11].wrapping_add(y[11]),
-        x[12].wrapping_add(y[12]),
-        x[13].wrapping_add(y[13]),
-        x[14].wrapping_add(y[14]),
-        x[15].wrapping_add(y[15]),
-    ]
+    let b = xor_rotated_sum(x.b, x.a, x.d, 7);
+    let c = xor_rotated_sum(x.c, b, x.a, 9);
+    let d = xor_rotated_sum(x.d, c, b, 13);
+    let a = xor_rotated_sum(x.a, d, c, 18);
+    Block { a, b, c, d }
 }
 
-// Salsa20/8 of sixteen words.
+// A round on the four rows of the standard's order.
 #[inline(always)]
-#[tactic(auto, unfolding(crate::specs::Salsa20::salsa_words))]
-pub(crate) fn salsa20_8(x: [u32; 16]) -> [u32; 16]
-    ensures { result ≡ salsa_words x }
+fn row_round(x: Block) -> Block
+    ensures { block_words result ≡ row_round (block_words x) }
 {
-    let rounds = double_round(double_round(double_round(double_round(x))));
-    sum_of(rounds, x)
+    transposed(column_round(transposed(x)))
+}
+
+// The block with its rows and columns, in the standard's order, swapped.
+#[inline(always)]
+fn transposed(x: Block) -> Block
+    ensures { block_words result ≡ transposed (block_words x) }
+{
+    let a = x.a;
+    let b = u32x4::from_array(x.d)
+        .rotate_elements_left::<1>()
+        .to_array();
+    let c = u32x4::from_array(x.c)
+        .rotate_elements_left::<2>()
+        .to_array();
+    let d = u32x4::from_array(x.b)
+        .rotate_elements_right::<1>()
+        .to_array();
+    Block { a, b, c, d }
+}
+
+// The words of x, each xored with a sum of y and z that is rotated left by so many bits.
+#[inline(always)]
+fn xor_rotated_sum(x: [u32; 4], y: [u32; 4], z: [u32; 4], bits: u32) -> [u32; 4]
+    requires low { 0 < bits }
+    requires high { bits < 32 }
+    ensures { result ≡ zip2 bit_xor x (map (λ s. rotate_left w32 s bits) (zip2 add32 y z)) }
+{
+    let sum = u32x4::from_array(y) + u32x4::from_array(z);
+    let rotated = (sum << u32x4::splat(bits)) | (sum >> u32x4::splat(32 - bits));
+    (u32x4::from_array(x) ^ rotated).to_array()
 }

@@ -1,10 +1,11 @@
 //! scrypt (RFC 7914, section 6).
 
-ghost use Rattle.std.specs.Prelude.{◌≡◌, ◌+◌, ◌*◌, ◌^◌, ◌<◌, ◌≤◌, IfErr, IfOk, IsTrue, Some, codes, OnErr, OnOk, if◌then◌else◌, is_ok, length, vec_len};
+ghost use Rattle.std.specs.Prelude.{◌≡◌, ◌+◌, ◌*◌, ◌^◌, ◌<◌, ◌≤◌, IfErr, IfOk, IsTrue, Some, codes, OnErr, OnOk, if◌then◌else◌, is_ok, length, vec_capacity, vec_len};
 ghost use Rattle.minisign_kdf.specs.Blocks.{block, joined};
 ghost use Rattle.minisign_kdf.specs.Pbkdf2.{longest_key};
 ghost use Rattle.minisign_kdf.specs.Scrypt.{is_key_length, rom_mix, scrypt};
 
+use crate::order::{load_part, store_part};
 use crate::params::Params;
 use crate::pbkdf2::pbkdf2_once;
 use crate::rom_mix::{rom_mix, row_count};
@@ -68,69 +69,6 @@ impl From<InvalidOutputLen> for KdfError {
     }
 }
 
-// Refuses a length that no derived key has.
-fn check_len(len: usize) -> Result<(), InvalidOutputLen>
-    ensures { is_ok result ≡ is_key_length len }
-{
-    if len == 0 || len > LONGEST_KEY {
-        return Err(InvalidOutputLen);
-    }
-    Ok(())
-}
-
-// A buffer of so many words.
-fn words(alloc: Global, len: usize) -> Result<Vec<u32>, AllocError>
-    ensures { IfOk result (λ v. vec_len v ≡ len) }
-{
-    vec![in alloc; 0u32; len]
-}
-
-// A buffer of so many bytes.
-fn bytes(alloc: Global, len: usize) -> Result<Vec<u8>, AllocError>
-    ensures { IfOk result (λ v. vec_len v ≡ len) }
-{
-    vec![in alloc; 0u8; len]
-}
-
-// scryptROMix of each of the p parts, in place. What the rows and `work` held is not read.
-fn mix_parts(r: usize, n_log2: u8, p: usize, parts: &mut [u8], rows: &mut [u32], work: &mut [u32])
-    requires some { 1 ≤ r }
-    requires small { r < 2 ^ 32 }
-    requires cost { n_log2 < 64 }
-    requires parts_len { length parts.old ≡ 128 * r * p }
-    requires rows_len { length rows.old ≡ 32 * r * 2 ^ n_log2 }
-    requires work_len { length work.old ≡ 64 * r }
-    ensures { parts.new ≡ joined (λ i. rom_mix r (2 ^ n_log2) (block (128 * r) parts.old i)) p }
-{
-    let len = 128 * r;
-    'parts: for i in 0..p {
-        rom_mix(r, n_log2, &mut parts[len * i..len * i + len], rows, work);
-    }
-}
-
-// Derives the key in buffers whose content is not read.
-fn derive(
-    password: &[u8],
-    salt: &[u8],
-    params: &Params,
-    parts: &mut [u8],
-    rows: &mut [u32],
-    work: &mut [u32],
-    out: &mut [u8],
-)
-    requires parts_len { length parts.old ≡ 128 * params.now.r * params.now.p }
-    requires rows_len { length rows.old ≡ 32 * params.now.r * 2 ^ params.now.n_log2 }
-    requires work_len { length work.old ≡ 64 * params.now.r }
-    requires out_len { length out.old ≤ longest_key }
-    ensures { out.new ≡ scrypt password.now salt.now (2 ^ params.now.n_log2) params.now.r params.now.p (length out.old) }
-{
-    let r = params.r() as usize;
-    let p = params.p() as usize;
-    pbkdf2_once(password, salt, parts);
-    mix_parts(r, params.n_log2(), p, parts, rows, work);
-    pbkdf2_once(password, parts, out);
-}
-
 /// Derives a key that fills `out` from a password and a salt, by scrypt (RFC 7914, section 6).
 ///
 /// `InvalidOutputLen` is answered exactly where `out` is empty or longer than 137438953440 bytes, before
@@ -157,11 +95,86 @@ pub fn scrypt(
     check_len(out.len())?;
     let r = params.r() as usize;
     let p = params.p() as usize;
-    let mut rows = words(alloc, 32 * r * row_count(params.n_log2()))?;
+    let mut rows = Vec::with_capacity(alloc, 32 * r * row_count(params.n_log2()))?;
     let mut work = words(alloc, 64 * r)?;
     let mut parts = bytes(alloc, 128 * r * p)?;
     derive(
         password, salt, params, &mut parts, &mut rows, &mut work, out,
     );
     Ok(())
+}
+
+// Refuses a length that no derived key has.
+fn check_len(len: usize) -> Result<(), InvalidOutputLen>
+    ensures { is_ok result ≡ is_key_length len }
+{
+    if len == 0 || len > LONGEST_KEY {
+        return Err(InvalidOutputLen);
+    }
+    Ok(())
+}
+
+// A buffer of so many words.
+fn words(alloc: Global, len: usize) -> Result<Vec<u32>, AllocError>
+    ensures { IfOk result (λ v. vec_len v ≡ len) }
+{
+    vec![in alloc; 0u32; len]
+}
+
+// A buffer of so many bytes.
+fn bytes(alloc: Global, len: usize) -> Result<Vec<u8>, AllocError>
+    ensures { IfOk result (λ v. vec_len v ≡ len) }
+{
+    vec![in alloc; 0u8; len]
+}
+
+// Derives the key in buffers whose content is not read.
+fn derive(
+    password: &[u8],
+    salt: &[u8],
+    params: &Params,
+    parts: &mut [u8],
+    rows: &mut Vec<u32>,
+    work: &mut [u32],
+    out: &mut [u8],
+)
+    requires parts_len { length parts.old ≡ 128 * params.now.r * params.now.p }
+    requires room { 32 * params.now.r * 2 ^ params.now.n_log2 ≤ vec_capacity rows.old }
+    requires work_len { length work.old ≡ 64 * params.now.r }
+    requires out_len { length out.old ≤ longest_key }
+    ensures { out.new ≡ scrypt password.now salt.now (2 ^ params.now.n_log2) params.now.r params.now.p (length out.old) }
+{
+    let r = params.r() as usize;
+    let p = params.p() as usize;
+    pbkdf2_once(password, salt, parts);
+    mix_parts(r, params.n_log2(), p, parts, rows, work);
+    pbkdf2_once(password, parts, out);
+}
+
+// scryptROMix of each of the p parts, in place. What the rows and `work` held is not read.
+fn mix_parts(
+    r: usize,
+    n_log2: u8,
+    p: usize,
+    parts: &mut [u8],
+    rows: &mut Vec<u32>,
+    work: &mut [u32],
+)
+    requires some { 1 ≤ r }
+    requires small { r < 2 ^ 32 }
+    requires even { 1 ≤ n_log2 }
+    requires cost { n_log2 < 64 }
+    requires parts_len { length parts.old ≡ 128 * r * p }
+    requires room { 32 * r * 2 ^ n_log2 ≤ vec_capacity rows.old }
+    requires work_len { length work.old ≡ 64 * r }
+    ensures { parts.new ≡ joined (λ i. rom_mix r (2 ^ n_log2) (block (128 * r) parts.old i)) p }
+{
+    let len = 128 * r;
+    let (x, work) = work.split_at_mut(32 * r);
+    'parts: for i in 0..p {
+        let part = &mut parts[len * i..len * i + len];
+        load_part(part, x);
+        rom_mix(r, n_log2, rows, x, work);
+        store_part(x, part);
+    }
 }

@@ -1,43 +1,22 @@
 //! The program `minisign_tool`. It signs and verifies under a toy scheme that is insecure, and says so.
 #![tactic(auto)]
 
+mod arguments;
 mod report;
 #[cfg(test)]
 mod tests;
 mod verify_raw;
 
+use arguments::{Command, read_arguments};
 use minisign::base::devices::sinks::{Sink, WriterSink};
 use minisign::base::devices::sources::ReaderSource;
 use minisign::base::faults;
 use minisign::base::toy::ToyScheme;
 use report::{report, usage, warn};
+use std::fs;
+use std::os::fd::AsFd;
 use std::process::ExitCode;
-use std::rt::Env;
-use std::{env, fs, io};
 use verify_raw::run_verify_raw;
-
-// What the arguments ask for.
-#[derive(Drop)]
-enum Command {
-    // Verify standard input, with the files of a raw public key and a raw signature.
-    VerifyRaw { pk: String, sig: String },
-    // The arguments are none of the table's.
-    Usage,
-}
-
-// Reads the arguments behind the program's name.
-fn read_arguments<R: Env + AllocGlobal>(rt: &R) -> io::Result<Command> {
-    let mut arguments = env::args(rt)?;
-    let _program = arguments.next();
-    let (Some(name), Some(pk), Some(sig)) = (arguments.next(), arguments.next(), arguments.next())
-    else {
-        return Ok(Command::Usage);
-    };
-    if name.as_str() != "verify-raw" || arguments.next().is_some() {
-        return Ok(Command::Usage);
-    }
-    Ok(Command::VerifyRaw { pk, sig })
-}
 
 fn main(rt: HostRuntime) -> ExitCode {
     let mut errors = WriterSink::new(rt.stderr());
@@ -48,9 +27,13 @@ fn main(rt: HostRuntime) -> ExitCode {
             sig.as_str(),
             &mut errors,
         ),
-        _ => {
+        Ok(Command::Usage) => {
             warn(&mut errors);
             usage(&mut errors)
+        }
+        Err(fault) => {
+            warn(&mut errors);
+            report(rt.alloc(), &mut errors, &fault)
         }
     };
     ExitCode::from(status)
@@ -58,6 +41,10 @@ fn main(rt: HostRuntime) -> ExitCode {
 
 // Opens the files, the key first, and runs `verify-raw` over them and standard input.
 fn verify_raw_files<W: Sink>(rt: &HostRuntime, pk: &str, sig: &str, errors: &mut W) -> u8 {
+    // Where standard input is closed, the first file would get its number and be read as the data.
+    if rt.stdin().as_fd().try_clone_to_owned().is_err() {
+        return cannot_open(rt, errors);
+    }
     let Ok(pk_file) = fs::open(rt, pk) else {
         return cannot_open(rt, errors);
     };

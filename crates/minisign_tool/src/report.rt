@@ -1,43 +1,56 @@
-//! What the program says on the error stream. A line that cannot be written there changes no exit status.
-ghost use Rattle.std.specs.Prelude.{◌≡◌};
+//! What the program says on the error stream, each line in one write. A line that cannot be written there
+//! changes no exit status.
+
+ghost use Rattle.std.specs.Prelude.{◌≡◌, ◌⊎◌};
+ghost use Rattle.minisign_base.specs.Faults.{out_of_memory};
+ghost use Rattle.minisign_tool.specs.Report.{HasSaid, fault_line, usage_line, warning_line};
 
 use minisign::base::PError;
-use minisign::base::devices::DeviceFault;
 use minisign::base::devices::sinks::{Sink, put_all};
 use std::alloc::Global;
 
-/// Warns of the toy scheme. This line is always the first.
-pub fn warn<W: Sink>(errors: &mut W) {
-    let _ = put_line(errors, b"warning: insecure toy scheme, for tests only", b"");
+/// Warns of the toy scheme. This line is always the first. Takes no memory.
+#[tactic(auto, unfolding(crate::specs::Report::warning_line))]
+pub fn warn<W: Sink>(errors: &mut W)
+    ensures { HasSaid W.taken W.sink_faults errors.old errors.new warning_line }
+{
+    let _ = put_all(errors, b"warning: insecure toy scheme, for tests only\n");
 }
 
 /// Shows the arguments that there are, and answers the exit status of arguments that are none of them.
+/// Takes no memory.
+#[tactic(auto, unfolding(crate::specs::Report::usage_line))]
 pub fn usage<W: Sink>(errors: &mut W) -> u8
-    ensures { result ≡ 2 }
+    ensures status { result ≡ 2 }
+    ensures said { HasSaid W.taken W.sink_faults errors.old errors.new usage_line }
 {
-    let _ = put_line(
+    let _ = put_all(
         errors,
-        b"usage: minisign_tool keygen PK SK | sign SK FILE SIG | verify PK FILE SIG | verify-raw PK SIG",
-        b"",
+        b"usage: minisign_tool keygen PK SK | sign SK FILE SIG | verify PK FILE SIG | verify-raw PK SIG\n",
     );
     2
 }
 
-/// Shows a fault, and answers the exit status of one. Where memory is wanting for its text, that is shown
+/// Shows a fault, and answers the exit status of one. Where memory is wanting for its line, that is shown
 /// in its place.
 pub fn report<W: Sink>(alloc: Global, errors: &mut W, fault: &PError) -> u8
-    ensures { result ≡ 1 }
+    ensures status { result ≡ 1 }
+    ensures said { HasSaid W.taken W.sink_faults errors.old errors.new (fault_line fault.now)
+        ⊎ HasSaid W.taken W.sink_faults errors.old errors.new (fault_line out_of_memory) }
 {
-    let _ = match fault.to_string(alloc) {
-        Ok(text) => put_line(errors, b"error: ", text.as_bytes()),
-        Err(_) => put_line(errors, b"error: ", b"out of memory"),
-    };
+    match format!(in alloc; "error: {fault}\n") {
+        Ok(line) => {
+            let _ = put_all(errors, line.as_bytes());
+        }
+        Err(_) => report_want_of_memory(errors),
+    }
     1
 }
 
-// Writes a label, a text and a line feed.
-fn put_line<W: Sink>(sink: &mut W, label: &[u8], text: &[u8]) -> Result<(), DeviceFault> {
-    put_all(sink, label)?;
-    put_all(sink, text)?;
-    put_all(sink, b"\n")
+// Shows that memory is wanting, and takes none.
+#[tactic(auto, unfolding(minisign_base::specs::Faults::out_of_memory))]
+fn report_want_of_memory<W: Sink>(errors: &mut W)
+    ensures { HasSaid W.taken W.sink_faults errors.old errors.new (fault_line out_of_memory) }
+{
+    let _ = put_all(errors, b"error: out of memory\n");
 }

@@ -1,7 +1,14 @@
 //! The command `verify-raw`: a raw public key and a raw signature from files, the data from a reader.
-ghost use Rattle.std.specs.Prelude.{◌≡◌, ℕ, ◌≤◌, List, OnOk};
-ghost use Rattle.minisign.specs.Reading.{IsAhead};
-ghost use Rattle.minisign_tool.specs.VerifyRaw.{VouchesRaw};
+
+ghost use Rattle.std.specs.Prelude.{◌≡◌, ℕ, ◌≤◌, List, false, ◌⊎◌, OnOk, IfErr};
+ghost use Rattle.std.specs.Io.KnownBytes.{Appends};
+ghost use Rattle.minisign_base.specs.Devices.{Rose};
+ghost use Rattle.minisign_base.specs.Fault.{Fault};
+ghost use Rattle.minisign.specs.Acceptance.{line, verified_text};
+ghost use Rattle.minisign.specs.Reading.{IsAhead, ReadsWhole};
+ghost use Rattle.minisign.specs.Records.{PublicKeyRecord, SignatureRecord};
+ghost use Rattle.minisign.specs.Verifying.{VerifyingFails};
+ghost use Rattle.minisign_tool.specs.VerifyRaw.{FailsRaw, HoldsRaw, IsFileFault, VouchesRaw, bare_box};
 
 use crate::report::{report, warn};
 use minisign::base::devices::sinks::{Sink, VecSink};
@@ -27,16 +34,21 @@ pub fn run_verify_raw<S: Scheme, P: Source, Q: Source, R: Rereader, W: Sink>(
     ensures accepted { result ≡ 0 → (key signature message : List ℕ) × IsAhead (P.ahead pk_file.old) key
         × IsAhead (Q.ahead sig_file.old) signature × IsAhead (R.ahead data_reader.old) message
         × VouchesRaw (S.accepts scheme.now) key signature message }
+    ensures refused { result ≡ 1 → (e : Fault) × FailsRaw (S.accepts scheme.now)
+        (P.ahead pk_file.old) (Q.ahead sig_file.old) (R.ahead data_reader.old)
+        (Rose (P.faults pk_file.old) (P.faults pk_file.new) ⊎ Rose (Q.faults sig_file.old) (Q.faults sig_file.new)
+        ⊎ Rose (R.faults data_reader.old) (R.faults data_reader.new))
+        (Rose (W.sink_faults errors.old) (W.sink_faults errors.new)) e }
 {
     warn(errors);
-    match verify_raw(alloc, scheme, pk_file, sig_file, data_reader, errors) {
+    match read_and_verify(alloc, scheme, pk_file, sig_file, data_reader, errors) {
         Ok(()) => 0,
         Err(fault) => report(alloc, errors, &fault),
     }
 }
 
-// Reads both files whole, the key first, and then verifies.
-fn verify_raw<S: Scheme, P: Source, Q: Source, R: Rereader, W: Sink>(
+// Reads both files whole, the key first, and then verifies with what they held.
+fn read_and_verify<S: Scheme, P: Source, Q: Source, R: Rereader, W: Sink>(
     alloc: Global,
     scheme: &S,
     pk_file: &mut P,
@@ -47,12 +59,46 @@ fn verify_raw<S: Scheme, P: Source, Q: Source, R: Rereader, W: Sink>(
     ensures accepted { OnOk result ((key signature message : List ℕ) × IsAhead (P.ahead pk_file.old) key
         × IsAhead (Q.ahead sig_file.old) signature × IsAhead (R.ahead data_reader.old) message
         × VouchesRaw (S.accepts scheme.now) key signature message) }
+    ensures refused { IfErr result (λ e. FailsRaw (S.accepts scheme.now)
+        (P.ahead pk_file.old) (Q.ahead sig_file.old) (R.ahead data_reader.old)
+        (Rose (P.faults pk_file.old) (P.faults pk_file.new) ⊎ Rose (Q.faults sig_file.old) (Q.faults sig_file.new)
+        ⊎ Rose (R.faults data_reader.old) (R.faults data_reader.new))
+        (Rose (W.sink_faults errors.old) (W.sink_faults errors.new)) e) }
 {
     let key = read_to_end(alloc, pk_file)?;
     let signature = read_to_end(alloc, sig_file)?;
-    let pk = PublicKey::from_bytes(&key)?;
-    let bones = SignatureBones::from_bytes(&signature)?;
+    match verify_raw(alloc, scheme, &key, &signature, data_reader, errors) {
+        Ok(()) => Ok(()),
+        Err(fault) => Err(fault),
+    }
+}
+
+/// Verifies the data ahead of `data_reader` with the public key that `key` begins with, 42 bytes, and the
+/// bare signature that `signature` begins with, 74 bytes; later bytes of the two are ignored. A key and
+/// then a signature that are too short or of an unknown algorithm are refused before any data is read.
+/// On success `errors` gets the status line, and after any other refusal than a failing `errors` it is as
+/// it was.
+pub fn verify_raw<S: Scheme, R: Rereader, W: Sink>(
+    alloc: Global,
+    scheme: &S,
+    key: &[u8],
+    signature: &[u8],
+    data_reader: &mut R,
+    errors: &mut W,
+) -> Result<()>
+    ensures accepted { OnOk result ((message : List ℕ) × ReadsWhole R.ahead R.behind R.faults data_reader.old data_reader.new message
+        × VouchesRaw (S.accepts scheme.now) key.now signature.now message) }
+    ensures said { OnOk result (Appends (W.taken errors.old) (W.taken errors.new) (line verified_text)) }
+    ensures refused { IfErr result (λ e.
+        (IsFileFault key.now signature.now e × (data_reader.new ≡ data_reader.old) × (errors.new ≡ errors.old))
+        ⊎ ((pk : PublicKeyRecord) × (bones : SignatureRecord) × HoldsRaw key.now signature.now pk bones
+        × VerifyingFails (S.accepts scheme.now) pk (bare_box bones) false false
+        R.ahead R.behind R.faults data_reader.old data_reader.new W.sink_faults errors.old errors.new e)) }
+{
+    let pk = PublicKey::from_bytes(key)?;
+    let bones = SignatureBones::from_bytes(signature)?;
     let signature_box = SignatureBox::from_bones(bones);
+    let (quiet, output, allow_legacy) = (false, false, false);
     let mut nowhere = VecSink::new(alloc);
     verify(
         alloc,
@@ -60,9 +106,9 @@ fn verify_raw<S: Scheme, P: Source, Q: Source, R: Rereader, W: Sink>(
         &pk,
         &signature_box,
         data_reader,
-        false,
-        false,
-        false,
+        quiet,
+        output,
+        allow_legacy,
         errors,
         &mut nowhere,
     )

@@ -1,9 +1,9 @@
 //! A caller that signs and verifies with raw keys.
 
-ghost use Rattle.std.specs.Prelude.{◌≡◌, ℕ, List, false, ◌⊎◌, IfOk, IfErr};
+ghost use Rattle.std.specs.Prelude.{◌≡◌, ℕ, List, None, false, ◌⊎◌, IfOk, IfErr};
 ghost use Rattle.minisign_base.specs.Faults.{out_of_memory, reading_failed, random_source_failed};
 ghost use Rattle.minisign.specs.Acceptance.{Accepts};
-ghost use Rattle.minisign.specs.Signing.{IsGenuine, IsSigned, default_trusted_comment, default_untrusted_comment};
+ghost use Rattle.minisign.specs.Signing.{IsGenuine, IsSigned, comments_or_defaults};
 
 use minisign::{PublicKey, Result, SecretKey, SignatureBox, sign, verify};
 use minisign_base::devices::random_sources::RandomSource;
@@ -26,7 +26,7 @@ pub fn sign_and_verify<S: Scheme, Z: RandomSource>(
     random: &mut Z,
     moment: u64,
 ) -> Result<SignatureBox>
-    ensures signed { IfOk result (λ x. IsSigned (S.signature_of scheme.now) secret_key.now message.now (default_trusted_comment moment) default_untrusted_comment
+    ensures signed { IfOk result (λ x. IsSigned (S.signature_of scheme.now) secret_key.now message.now (comments_or_defaults None None moment)
         (Z.random_ahead random.old) (Z.random_ahead random.new) x) }
     ensures accepted { IfOk result (λ x. Accepts (S.accepts scheme.now) public_key.now x message.now false) }
     ensures genuine { (seed : List ℕ) → IsGenuine (S.public_of scheme.now) secret_key.now seed

@@ -5,6 +5,8 @@
 #![tactic(auto)]
 
 #[cfg(test)]
+mod clock;
+#[cfg(test)]
 mod devices;
 #[cfg(test)]
 mod devices_for_tests;
@@ -22,11 +24,14 @@ mod limits;
 #[cfg(test)]
 mod lines;
 #[cfg(test)]
+mod prompts;
+#[cfg(test)]
 mod records;
 #[cfg(test)]
 mod sealed_keys;
 #[cfg(test)]
 mod secret_keys;
+mod seeking;
 #[cfg(test)]
 mod sign;
 #[cfg(test)]

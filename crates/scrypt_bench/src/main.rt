@@ -1,5 +1,6 @@
 //! Derives a key of 64 bytes with scrypt, so that a benchmark can time it: of the arguments
 //! `PASSWORD SALT N_LOG2 R P` it prints the key in hexadecimal.
+
 #![tactic(auto)]
 
 use minisign_kdf::params::Params;
@@ -13,27 +14,6 @@ struct Request {
     password: String,
     salt: String,
     params: Params,
-}
-
-// The next argument as a number.
-fn next_number(arguments: &mut env::Args) -> Option<u32> {
-    arguments.next()?.parse::<u32>().ok()
-}
-
-// Reads the arguments behind the program's name.
-fn read_request(arguments: &mut env::Args) -> Option<Request> {
-    let _program = arguments.next()?;
-    let password = arguments.next()?;
-    let salt = arguments.next()?;
-    let n_log2 = u8::try_from(next_number(arguments)?).ok()?;
-    let r = next_number(arguments)?;
-    let p = next_number(arguments)?;
-    let params = Params::new(n_log2, r, p).ok()?;
-    Some(Request {
-        password,
-        salt,
-        params,
-    })
 }
 
 fn main(rt: HostRuntime) -> io::Result<ExitCode> {
@@ -59,4 +39,25 @@ fn main(rt: HostRuntime) -> io::Result<ExitCode> {
     }
     println!(rt; "")?;
     Ok(ExitCode::SUCCESS)
+}
+
+// Reads the arguments behind the program's name.
+fn read_request(arguments: &mut env::Args) -> Option<Request> {
+    let _program = arguments.next()?;
+    let password = arguments.next()?;
+    let salt = arguments.next()?;
+    let n_log2 = u8::try_from(next_number(arguments)?).ok()?;
+    let r = next_number(arguments)?;
+    let p = next_number(arguments)?;
+    let params = Params::new(n_log2, r, p).ok()?;
+    Some(Request {
+        password,
+        salt,
+        params,
+    })
+}
+
+// The next argument as a number.
+fn next_number(arguments: &mut env::Args) -> Option<u32> {
+    arguments.next()?.parse::<u32>().ok()
 }

@@ -6,7 +6,7 @@ ghost use Rattle.std.specs.Io.KnownBytes.{Consumes, IsAtEnd};
 ghost use Rattle.minisign_base.specs.Devices.{Rose, HasGiven, HasRead, HasMarked, HasGoneBack};
 
 use super::{DeviceFault, FaultCount};
-use std::io::Read;
+use std::io::{Read, Seek, SeekFrom};
 
 /// What gives bytes, a finite number of them.
 pub trait Source {
@@ -185,6 +185,67 @@ impl<R: Read> Rereader for ReaderSource<R> {
         ensures hides { IsNone (⟦<ReaderSource<R> as Source>⟧.ahead self.new) }
     {
         self.mark()
+    }
+}
+
+/// The bytes of a file, or of anything else of std that is read and seeks, 2^63 - 1 at most: a read after
+/// that is a fault. It marks its place and goes back by seeking. It tells no bytes, since std's files tell
+/// none, and so it is not known to be steady: a file may change between two readings.
+#[derive(Debug, Drop)]
+pub struct FileSource<F> {
+    reader: ReaderSource<F>,
+    marked: Option<u64>,
+}
+
+impl<F: Read + Seek> FileSource<F> {
+    /// All from the file's place on is ahead, and nothing is marked.
+    pub fn new(file: F) -> FileSource<F>
+        ensures ahead { ⟦<FileSource<F> as Source>⟧.ahead result ≡ None }
+        ensures left { ⟦<FileSource<F> as Source>⟧.left result ≡ 2 ^ 63 - 1 }
+        ensures faults { ⟦<FileSource<F> as Source>⟧.faults result ≡ 0 }
+    {
+        FileSource {
+            reader: ReaderSource::new(file),
+            marked: None,
+        }
+    }
+}
+
+impl<F: Read + Seek> Source for FileSource<F> {
+    ghost ahead = { λ _. None };
+
+    ghost left = { λ s. ⟦<ReaderSource<F> as Source>⟧.left s.reader };
+
+    ghost faults = { λ s. ⟦<ReaderSource<F> as Source>⟧.faults s.reader };
+
+    fn read(&mut self, buf: &mut [u8]) -> Result<usize, DeviceFault> {
+        self.reader.read(buf)
+    }
+}
+
+impl<F: Read + Seek> Rereader for FileSource<F> {
+    ghost steady = { λ _. ⊥ };
+
+    fn mark(&mut self) -> Result<(), DeviceFault> {
+        match self.reader.reader.stream_position() {
+            Ok(place) => {
+                self.marked = Some(place);
+                Ok(())
+            }
+            Err(_) => Err(self.reader.faults.raise()),
+        }
+    }
+
+    // Where nothing is marked, or the file is not at the marked place after seeking it, that is a fault.
+    fn back(&mut self) -> Result<(), DeviceFault> {
+        if let Some(marked) = self.marked {
+            if let Ok(place) = self.reader.reader.seek(SeekFrom::Start(marked)) {
+                if place == marked {
+                    return Ok(());
+                }
+            }
+        }
+        Err(self.reader.faults.raise())
     }
 }
 

@@ -1,53 +1,37 @@
-use Rattle.std.proofs.Common.{◌≡◌, List, ℕ, ◌++◌, Option, None, Some, append-nil, ap, sym, ◌∙◌}
-use Rattle.std.proofs.KnownBytes.{Appends-trans}
+use Rattle.std.proofs.Common.{◌≡◌, List, ℕ, [], ◌∷◌, ◌++◌, None, Some, OnOk, OnErr, codes, ap, sym, subst, ◌∙◌, refl}
 use Rattle.std.specs.Io.KnownBytes.{Appends}
 use Rattle.minisign_base.specs.Devices.{AppendsFront}
 use Rattle.minisign.specs.Records.{CommentsRecord, SignatureBoxRecord}
-use Rattle.minisign.specs.Acceptance.{verified_text, trusted_comment_text, line, status_lines}
-use Rattle.minisign_base.proofs.DeviceFacts.{AppendsFront-after, AppendsFront-more}
-use Rattle.minisign.proofs.Beginnings.{on_err_of}
+use Rattle.minisign.specs.Acceptance.{verified_text, trusted_comment_text, status_lines}
 use Rattle.minisign.proofs.verifying.say.Goals as goal
 
--- the line of a box with no comments
-said_bare : (old new : Option (List ℕ)) (x : SignatureBoxRecord) → x.comments ≡ None
-    → Appends old new (line verified_text) → Appends old new (status_lines x)
-said_bare old new x bare said = rw (bare, append-nil) said
-
 -- the two lines of a box with comments
-said_both : (old mid new : Option (List ℕ)) (x : SignatureBoxRecord) (c : CommentsRecord) (t : List ℕ) → x.comments ≡ Some c → t ≡ c.trusted
-    → Appends old mid (line verified_text) → Appends mid new (line (trusted_comment_text ++ t))
-    → Appends old new (status_lines x)
-said_both old mid new x c t both same first second = rw (both, ← same) (Appends-trans old mid new _ _ first second)
-
--- the first line, and a beginning of the second
-said_front : (old mid new : Option (List ℕ)) (x : SignatureBoxRecord) (c : CommentsRecord) (t : List ℕ) → x.comments ≡ Some c → t ≡ c.trusted
-    → Appends old mid (line verified_text) → AppendsFront mid new (line (trusted_comment_text ++ t))
-    → AppendsFront old new (status_lines x)
-said_front old mid new x c t both same first second = rw (both, ← same) (AppendsFront-after old mid new _ _ first second)
-
-pub returns-in_err-put_line-clause-front : goal.returns-in_err-put_line-clause-front
-unfolding verified_text
-returns-in_err-put_line-clause-front g c =
-    on_err_of _ _ (AppendsFront-more (g.W.Sink.taken c.args.status.now) (g.W.Sink.taken c.put_line.new.sink) (line verified_text) _ c.in_err-put_line.ensures.front)
-
-pub returns-in_err-put_line-2-clause-front : goal.returns-in_err-put_line-2-clause-front
+both_lines : (x : SignatureBoxRecord) (c : CommentsRecord) (t : List ℕ) → x.comments ≡ Some c → t ≡ c.trusted
+    → codes "Signature and comment signature verified\nTrusted comment: " ++ t ++ 10 ∷ [] ≡ status_lines x
 unfolding verified_text trusted_comment_text
-returns-in_err-put_line-2-clause-front g c =
-    let both = sym (ap (λ b. b.comments) c.signature_box.view_is) ∙ c.in-Some.is in
-    let same = c.as_bytes.ensures.value ∙ ap (λ x. x.trusted) c.comments.view_is in
-    on_err_of _ _ (said_front (g.W.Sink.taken c.args.status.now) (g.W.Sink.taken c.put_line.new.sink) (g.W.Sink.taken c.put_line-in-Some.new.sink) c.args.signature_box.now _ c.as_bytes.result.now both same
-    c.in_ok-put_line.ensures.bytes c.in_err-put_line-2.ensures.front)
+both_lines x c t both same = rw (both, same) refl
 
-pub returns-in_ok-put_line-2-clause-said : goal.returns-in_ok-put_line-2-clause-said
-unfolding verified_text trusted_comment_text
-returns-in_ok-put_line-2-clause-said g c =
-    let both = sym (ap (λ b. b.comments) c.signature_box.view_is) ∙ c.in-Some.is in
-    let same = c.as_bytes.ensures.value ∙ ap (λ x. x.trusted) c.comments.view_is in
-    said_both (g.W.Sink.taken c.args.status.now) (g.W.Sink.taken c.put_line.new.sink) (g.W.Sink.taken c.put_line-in-Some.new.sink) c.args.signature_box.now _ c.as_bytes.result.now both same
-    c.in_ok-put_line.ensures.bytes c.in_ok-put_line-2.ensures.bytes
-
-pub returns-in_default-clause-said : goal.returns-in_default-clause-said
+-- the line of a box with no comments
+one_line : (x : SignatureBoxRecord) → x.comments ≡ None → codes "Signature and comment signature verified" ++ [] ++ 10 ∷ [] ≡ status_lines x
 unfolding verified_text
-returns-in_default-clause-said g c =
-    let bare = sym (ap (λ b. b.comments) c.signature_box.view_is) ∙ c.in_default.is in
-    said_bare (g.W.Sink.taken c.args.status.now) (g.W.Sink.taken c.put_line.new.sink) c.args.signature_box.now bare c.in_ok-put_line.ensures.bytes
+one_line x bare = rw bare refl
+
+pub returns-in-Some-clause-said : goal.returns-in-Some-clause-said
+returns-in-Some-clause-said g c =
+    let lines = both_lines c.args.signature_box.now _ c.as_bytes.result.now (sym (ap (λ b. b.comments) c.signature_box.view_is) ∙ c.in-Some.is) (c.as_bytes.ensures.value ∙ ap (λ x. x.trusted) c.comments.view_is) in
+    subst (λ (l : List ℕ). OnOk c.put_line.result (Appends (g.W.Sink.taken c.args.status.now) (g.W.Sink.taken c.put_line.new.sink) l)) lines c.put_line.ensures.bytes
+
+pub returns-in-Some-clause-front : goal.returns-in-Some-clause-front
+returns-in-Some-clause-front g c =
+    let lines = both_lines c.args.signature_box.now _ c.as_bytes.result.now (sym (ap (λ b. b.comments) c.signature_box.view_is) ∙ c.in-Some.is) (c.as_bytes.ensures.value ∙ ap (λ x. x.trusted) c.comments.view_is) in
+    subst (λ (l : List ℕ). OnErr c.put_line.result (AppendsFront (g.W.Sink.taken c.args.status.now) (g.W.Sink.taken c.put_line.new.sink) l)) lines c.put_line.ensures.front
+
+pub returns-in-None-clause-said : goal.returns-in-None-clause-said
+returns-in-None-clause-said g c =
+    let lines = one_line c.args.signature_box.now (sym (ap (λ b. b.comments) c.signature_box.view_is) ∙ c.in-None.is) in
+    subst (λ (l : List ℕ). OnOk c.put_line-in-None.result (Appends (g.W.Sink.taken c.args.status.now) (g.W.Sink.taken c.put_line-in-None.new.sink) l)) lines c.put_line-in-None.ensures.bytes
+
+pub returns-in-None-clause-front : goal.returns-in-None-clause-front
+returns-in-None-clause-front g c =
+    let lines = one_line c.args.signature_box.now (sym (ap (λ b. b.comments) c.signature_box.view_is) ∙ c.in-None.is) in
+    subst (λ (l : List ℕ). OnErr c.put_line-in-None.result (AppendsFront (g.W.Sink.taken c.args.status.now) (g.W.Sink.taken c.put_line-in-None.new.sink) l)) lines c.put_line-in-None.ensures.front

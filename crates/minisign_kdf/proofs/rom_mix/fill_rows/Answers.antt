@@ -1,20 +1,42 @@
-use Rattle.std.proofs.Common.{◌≡◌, ℕ, ◌+◌, ◌*◌, ◌≤◌, length, refl, ◌∙◌, arith, lit<}
-use Rattle.std.proofs.lemmas.List.{length-take-le}
+use Rattle.std.proofs.Common.{◌≡◌, ℕ, List, ◌+◌, ◌-◌, ◌*◌, ◌++◌, length, sym, ap, ◌∙◌, refl, arith}
 use Rattle.minisign_kdf.specs.Blocks.{block}
-use Rattle.minisign_kdf.specs.Salsa20.{bytes_of}
-use Rattle.minisign_kdf.proofs.Rows.{filled_next, row_at_first, row_before}
+use Rattle.minisign_kdf.specs.Diagonal.{diagonal_bytes}
+use Rattle.minisign_kdf.specs.Scrypt.{block_mix}
+use Rattle.minisign_kdf.proofs.Blocks.{block_end, length_end}
+use Rattle.minisign_kdf.proofs.Rows.{filled_first, filled_next}
 use Rattle.minisign_kdf.proofs.rom_mix.fill_rows.Goals as goal
 
 pub rows-init : goal.rows-init
-rows-init c = λ k lt.
-    let e : k ≡ 0 = omega arith in
-    rw e (row_at_first _ _ 0 (lit< tt))
+rows-init c =
+    let x : List ℕ = c.args.x.now in
+    let items : c.push_row.new.rows.items ≡ x = c.push_row.ensures.items ∙ ap (λ (l : List ℕ). l ++ x) c.clear.ensures.items in
+    record {
+      len = omega arith;
+      rows = λ k lt. filled_first c.args.r k c.push_row.new.rows.items x items c.requires.x_len lt;
+      room = omega arith;
+    }
+
+pub block_mix-requires-clause-from_len : goal.block_mix-requires-clause-from_len
+block_mix-requires-clause-from_len c =
+    let len : length c.deref.result.now ≡ 32 * c.args.r * c.rows.i = c.deref.ensures.len ∙ c.rows.invariant.len in
+    length_end (32 * c.args.r) c.rows.i _ c.deref.result.now len (omega arith) refl
 
 pub rows-preserved : goal.rows-preserved
-rows-preserved c = λ k lt.
-    let len : ℕ = 32 * c.args.r in
-    let room : len * c.rows.i + len ≤ len * c.args.n = row_before len c.args.n c.rows.i (omega arith) in
-    let rest : len ≤ length c.split_at_mut-done.result.1.now = omega arith in
-    let made : length c.block_mix.new.into ≡ len = c.block_mix.auto.into ∙ length-take-le len c.split_at_mut-done.result.1.now rest in
-    filled_next c.args.r c.rows.i k _ (bytes_of (block len c.args.rows.now 0)) c.rows.rows c.split_at_mut-done.result.0.now c.block_mix.new.into _ _
-    c.rows.invariant c.split_at_mut-done.ensures.front (omega arith) (omega arith) made refl refl c.block_mix.ensures lt
+rows-preserved c =
+    let r : ℕ = c.args.r in
+    let i : ℕ = c.rows.i in
+    let xs : List ℕ = c.rows.rows.items in
+    let made = c.rows.invariant in
+    let seen : length c.deref.result.now ≡ 32 * r * i = c.deref.ensures.len ∙ made.len in
+    let len : length xs ≡ 32 * r * i = ap length (sym c.deref.ensures.value) ∙ seen in
+    let mixed : diagonal_bytes c.block_mix.new.into ≡ block_mix r (diagonal_bytes (block (32 * r) xs (i - 1))) =
+    c.block_mix.ensures ∙ ap (λ (l : List ℕ). block_mix r (diagonal_bytes l)) (block_end (32 * r) i _ _ c.deref.result.now seen (omega arith) refl refl)
+    ∙ ap (λ (l : List ℕ). block_mix r (diagonal_bytes (block (32 * r) l (i - 1)))) c.deref.ensures.value in
+    let wide : length c.block_mix.new.into ≡ 32 * r = omega arith in
+    let next : 32 * r * (i + 1) ≡ 32 * r * i + 32 * r = grind arith in
+    record {
+      len = omega arith;
+      rows = λ k lt. ap (λ (l : List ℕ). diagonal_bytes (block (32 * r) l k)) c.push_row-in-rows.ensures.items
+          ∙ filled_next r i k (diagonal_bytes c.args.x.now) xs c.block_mix.new.into made.rows len (omega arith) wide mixed lt;
+      room = omega arith;
+    }

@@ -1,8 +1,12 @@
-use Rattle.std.proofs.Common.{◌≡◌, ℕ, ◌<◌}
+use Rattle.std.proofs.Common.{◌≡◌, ℕ, ◌*◌, ◌<◌, ◌≤◌, vec_capacity, vec_len}
 use Rattle.minisign_kdf.specs.Blocks.{block}
-use Rattle.minisign_kdf.specs.Salsa20.{bytes_of}
+use Rattle.minisign_kdf.specs.Diagonal.{diagonal_bytes}
 use Rattle.minisign_kdf.specs.Scrypt.{row_at}
 use Rattle.minisign_kdf.proofs.rom_mix.fill_rows.Given as goal
 
 abbrev pub invariant-rows : goal.invariant-rows
-invariant-rows l = (k : ℕ) → k < l.i → bytes_of (block l.len l.rows k) ≡ row_at l.r (bytes_of (block l.len l.fn.rows 0)) k
+invariant-rows l = record {
+  len : vec_len l.rows ≡ 32 * l.r * l.i;
+  rows : (k : ℕ) → k < l.i → diagonal_bytes (block (32 * l.r) l.rows.items k) ≡ row_at l.r (diagonal_bytes l.fn.x) k;
+  room : vec_capacity l.fn.rows ≤ vec_capacity l.rows;
+}

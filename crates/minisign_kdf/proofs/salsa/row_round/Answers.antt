@@ -1,10 +1,10 @@
-use Rattle.std.proofs.Common.{◌≡◌, length, refl, arith}
-use Rattle.minisign_kdf.specs.Salsa20.{row_round, quarter_at}
-use Rattle.minisign_kdf.proofs.Sixteen.{sixteen_of}
+use Rattle.std.proofs.Common.{◌∙◌, ap, sym}
+use Rattle.minisign_kdf.specs.Diagonal.{placed_words, transposed}
+use Rattle.minisign_kdf.specs.Salsa20.{column_round}
+use Rattle.minisign_kdf.proofs.Diagonal.{length-standard_order, row_round-transposed}
 use Rattle.minisign_kdf.proofs.salsa.row_round.Goals as goal
 
 pub returns : goal.returns
-unfolding row_round quarter_at
 returns c =
-    let len : length c.args.x ≡ 16 = omega arith in
-    rw (c.quarter_round-4.ensures, c.quarter_round-3.ensures, c.quarter_round-2.ensures, c.quarter_round.ensures, sixteen_of c.args.x len) refl
+    c.transposed-2.ensures ∙ ap transposed (c.column_round.ensures ∙ ap column_round c.transposed.ensures)
+    ∙ sym (row_round-transposed _ (length-standard_order (placed_words c.args.x)))

@@ -1,9 +1,10 @@
-use Rattle.std.proofs.Common.{◌≡◌, length, refl, arith}
-use Rattle.minisign_kdf.proofs.Sixteen.{sixteen_of}
+use Rattle.std.proofs.Common.{arith}
+use Rattle.minisign_kdf.specs.Salsa20.{add32}
+use Rattle.minisign_kdf.proofs.Sixteen.{zip2_rows}
 use Rattle.minisign_kdf.proofs.salsa.sum_of.Goals as goal
 
 pub returns : goal.returns
 returns c =
-    let lx : length c.args.x ≡ 16 = omega arith in
-    let ly : length c.args.y ≡ 16 = omega arith in
-    rw (sixteen_of c.args.x lx, sixteen_of c.args.y ly) refl
+    let x = c.args.x in
+    let y = c.args.y in
+    zip2_rows add32 x.a x.b x.c x.d y.a y.b y.c y.d (omega arith) (omega arith) (omega arith) (omega arith) (omega arith) (omega arith) (omega arith) (omega arith)

@@ -1,7 +1,8 @@
-use Rattle.std.proofs.Common.{◌^◌}
+use Rattle.std.proofs.Common.{◌^◌, ◌≤◌, vec_capacity}
 use Rattle.minisign_kdf.specs.Scrypt.{rom_mix}
 use Rattle.minisign_kdf.proofs.Parts.{AreChanged}
 use Rattle.minisign_kdf.proofs.scrypt.mix_parts.Given as goal
 
 abbrev pub invariant-parts : goal.invariant-parts
-invariant-parts l = AreChanged (rom_mix l.r (2 ^ l.n_log2)) l.len l.i l.fn.parts l.parts
+invariant-parts l =
+    AreChanged (rom_mix l.r (2 ^ l.n_log2)) l.len l.i l.fn.parts l.parts × (vec_capacity l.fn.rows ≤ vec_capacity l.rows)

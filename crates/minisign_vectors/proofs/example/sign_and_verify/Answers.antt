@@ -5,9 +5,12 @@ use Rattle.minisign_vectors.proofs.example.sign_and_verify.Goals as goal
 
 pub returns-in_err-verify-clause-genuine : goal.returns-in_err-verify-clause-genuine
 returns-in_err-verify-clause-genuine g c seed genuine key keynum =
-    let (signed, ahead, made, vouched) = c.in_ok-signature_box.ensures.signed in
+    let (signed, read, made, vouched) = c.in_ok-signature_box.ensures.signed in
     passed_up c.from_residual-in_err-verify.result c.in_err-verify.field-0.0 _ c.from_residual-in_err-verify.ensures.1
-    (⊎_elim (λ full. inl full.0) (λ rest. ⊎_elim (λ failed. inr (inl failed.0)) (λ (judged, ahead2, end, calm, mark, told). absurd (⊎_elim
-    (λ unsaid. true≢false unsaid.1)
-    (λ refused. never_refused _ c.args.public_key.now _ _ _ _ _ signed judged _ _ c.new-data_reader.ensures.ahead c.new-data_reader-2.ensures.ahead ahead ahead2 (vouched seed genuine) key keynum refused.0)
-    told)) rest) c.in_err-verify.ensures.refused)
+    (⊎_elim
+    (λ broken. ⊎_elim (λ full. inl full) (λ failed. inr (inl failed.fault)) broken.failed)
+    (λ (judged, reread, told). absurd (⊎_elim
+    (λ down. never_refused _ c.args.public_key.now _ _ _ _ _ signed judged _ _ c.new-data_reader.ensures.ahead c.new-data_reader-2.ensures.ahead read.given reread.given (vouched seed genuine) key keynum down.refuses)
+    (λ unsaid. true≢false unsaid.wanted)
+    told))
+    c.in_err-verify.ensures.refused)

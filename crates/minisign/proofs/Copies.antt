@@ -1,0 +1,41 @@
+-- What an output holds of data that was copied in part.
+use Rattle.std.proofs.Common.{◌≡◌, ℕ, List, [], ◌++◌, Option, None, Some, Bool, true, false, not, bytes_eq, arith, append-nil, refl, sym, subst, ◌∙◌}
+use Rattle.std.proofs.lemmas.Slice.Eq.{bytes_eq-Decides}
+use Rattle.std.specs.Io.KnownBytes.{Appends, Consumes, Keeps}
+use Rattle.minisign_base.specs.Devices.{AppendsFront}
+use Rattle.minisign_base.proofs.DeviceFacts.{AppendsFront-after, AppendsFront-keeps, AppendsFront-more}
+use Rattle.minisign.specs.Reading.{IsAhead}
+
+-- all of a text is a beginning of it
+pub front_of_all : (a b c : Option (List ℕ)) (bs : List ℕ) → Appends a b bs → Keeps b c → AppendsFront a c bs
+front_of_all a b c bs all kept =
+    subst (AppendsFront a c) (append-nil bs) (AppendsFront-after a b c bs [] all (AppendsFront-keeps b c [] kept))
+
+-- a beginning of what was read so far is one of all that was ahead
+pub front_of_ahead : (ahead now old new : Option (List ℕ)) (bs : List ℕ) → Consumes ahead now bs → AppendsFront old new bs
+    → (message : List ℕ) × IsAhead ahead message × AppendsFront old new message
+front_of_ahead None now old new bs read front = (bs, tt, front)
+front_of_ahead (Some xs) None old new bs read front = absurd read
+front_of_ahead (Some xs) (Some ys) old new bs read front =
+    (xs, refl, subst (AppendsFront old new) (sym read) (AppendsFront-more old new bs ys front))
+
+-- before anything was read, nothing taken is a beginning of all that is ahead
+pub front_of_nothing : (ahead old new : Option (List ℕ)) → Keeps old new → (message : List ℕ) × IsAhead ahead message × AppendsFront old new message
+front_of_nothing None old new kept = ([], tt, AppendsFront-keeps old new [] kept)
+front_of_nothing (Some xs) old new kept = (xs, refl, AppendsFront-keeps old new xs kept)
+
+-- what a sink that was not written to keeps
+pub keeps_same : (known : Option (List ℕ)) → Keeps known known
+keeps_same None = tt
+keeps_same (Some xs) = refl
+
+-- all of a text stays taken
+pub all_kept : (a b c : Option (List ℕ)) (bs : List ℕ) → Appends a b bs → Keeps b c → Appends a c bs
+all_kept None b c bs all kept = tt
+all_kept (Some x) None c bs all kept = absurd all
+all_kept (Some x) (Some y) None bs all kept = absurd kept
+all_kept (Some x) (Some y) (Some z) bs all kept = kept ∙ all
+
+-- lists that do not differ by the test are equal
+pub not_different : (a b : List ℕ) → false ≡ not (bytes_eq a b) → a ≡ b
+not_different a b same = let equal : bytes_eq a b ≡ true = grind arith in (bytes_eq-Decides a b).0 equal

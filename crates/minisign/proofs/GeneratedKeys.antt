@@ -1,0 +1,107 @@
+-- What the keys that are generated are good for.
+use Rattle.std.proofs.Common.{◌≡◌, ◌⊎◌, ℕ, ◌≤◌, true, false, not, List, Option, None, Some, Ok, inl, inr, refl, sym, ap, ◌∙◌}
+use Rattle.std.specs.Int.{w64, to_le_bytes}
+use Rattle.std.specs.Str.{bytes_eq}
+use Rattle.std.proofs.lemmas.Slice.Eq.{bytes_eq-Decides}
+use Rattle.minisign_base.specs.Fault.{Fault}
+use Rattle.minisign_base.specs.Faults.{out_of_memory}
+use Rattle.minisign_base.specs.Limits.{Numbers, cost_log2, limits}
+use Rattle.minisign.specs.Records.{PublicKeyRecord, SecretKeyRecord}
+use Rattle.minisign.specs.Sealing.{IsUnencrypted, checksum_of, is_encrypted, key_limits, scrypt_kdf, unsealed, work_refusal, xored}
+use Rattle.minisign.specs.Generation.{AreSeedAndKeynum, IsGenuinePair, IsSealedOf, IsSealedPair, OpensToPair, opened_key, public_key_of, sealed_key, sealing_memory, sealing_operations, secret_of, unsealed_key}
+use Rattle.minisign.proofs.SealingLimits.{allowed_numbers, within_bound}
+
+-- the key that is not to be sealed is none that has to be opened
+pub unsealed_is_unencrypted : (keynum secret : List ℕ) → IsUnencrypted (unsealed_key keynum secret)
+unfolding unsealed_key
+unsealed_is_unencrypted keynum secret = record { kdf = refl; checksum = refl }
+
+unsealed_is_open : (keynum secret : List ℕ) → is_encrypted (unsealed_key keynum secret) ≡ false
+unfolding unsealed_key
+unsealed_is_open keynum secret = refl
+
+-- the pair that is not sealed belongs together
+pub unsealed_pair : (public_of : List ℕ → List ℕ) (seed keynum : List ℕ) (pk : PublicKeyRecord) (sk : SecretKeyRecord) → AreSeedAndKeynum seed keynum
+    → pk ≡ public_key_of public_of seed keynum → sk ≡ unsealed_key keynum (secret_of public_of seed) → IsGenuinePair public_of pk sk
+unfolding unsealed_key
+unsealed_pair public_of seed keynum pk sk lengths public secret = record {
+  seed = seed;
+  genuine = record {
+    seed_length = lengths.seed_length;
+    seed_bytes = lengths.seed_bytes;
+    secret = ap (λ k. k.secret) secret;
+    opened = ap is_encrypted secret ∙ unsealed_is_open keynum (secret_of public_of seed);
+  };
+  key = ap (λ k. k.key) public;
+  keynum = ap (λ k. k.keynum) public ∙ sym (ap (λ k. k.keynum) secret);
+}
+
+-- the limits by default are allowed, and lead to N of 2 ^ 15, r of 8 and p of 1
+default_limits : (k : SecretKeyRecord) → k.operations_limit ≡ to_le_bytes w64 sealing_operations → k.memory_limit ≡ to_le_bytes w64 sealing_memory
+    → key_limits k ≡ Ok (record { n_log2 = 15; r = 8; p = 1 })
+unfolding key_limits limits cost_log2
+default_limits k operations memory = rw (operations, memory) refl
+
+default_work : (k : SecretKeyRecord) (max_p : ℕ) → k.operations_limit ≡ to_le_bytes w64 sealing_operations → k.memory_limit ≡ to_le_bytes w64 sealing_memory
+    → 1 ≤ max_p → work_refusal k max_p ≡ None
+default_work k max_p operations memory one = within_bound k _ max_p (default_limits k operations memory) one
+
+-- where these limits stand, only memory is wanting
+pub only_memory : (k : SecretKeyRecord) (max_p : ℕ) (e : Fault) → k.operations_limit ≡ to_le_bytes w64 sealing_operations → k.memory_limit ≡ to_le_bytes w64 sealing_memory
+    → 1 ≤ max_p → ((e ≡ out_of_memory) × (work_refusal k max_p ≡ None)) ⊎ (work_refusal k max_p ≡ Some e) → e ≡ out_of_memory
+only_memory k max_p e operations memory one (inl (is, allowed)) = is
+only_memory k max_p e operations memory one (inr refused) = let allowed = default_work k max_p operations memory one in absurd (cc)
+
+no_mismatch : (xs : List ℕ) → not (bytes_eq xs xs) ≡ false
+no_mismatch xs = let same : bytes_eq xs xs ≡ true = (bytes_eq-Decides xs xs).1 refl in rw same refl
+
+opened_is_open : (keynum secret salt : List ℕ) → is_encrypted (opened_key keynum secret salt) ≡ false
+unfolding opened_key unsealed_key
+opened_is_open keynum secret salt = no_mismatch (checksum_of (unsealed_key keynum secret))
+
+-- what opening gives of a sealed pair belongs together
+opened_pair : (public_of : List ℕ → List ℕ) (seed keynum salt : List ℕ) (pk : PublicKeyRecord) (sk : SecretKeyRecord) → AreSeedAndKeynum seed keynum
+    → pk ≡ public_key_of public_of seed keynum → sk ≡ opened_key keynum (secret_of public_of seed) salt → IsGenuinePair public_of pk sk
+unfolding opened_key unsealed_key
+opened_pair public_of seed keynum salt pk sk lengths public secret = record {
+  seed = seed;
+  genuine = record {
+    seed_length = lengths.seed_length;
+    seed_bytes = lengths.seed_bytes;
+    secret = ap (λ k. k.secret) secret;
+    opened = ap is_encrypted secret ∙ opened_is_open keynum (secret_of public_of seed) salt;
+  };
+  key = ap (λ k. k.key) public;
+  keynum = ap (λ k. k.keynum) public ∙ sym (ap (λ k. k.keynum) secret);
+}
+
+-- what sealing leaves as it is
+sealed_kdf : (keynum secret salt password : List ℕ) → (sealed_key keynum secret salt password).kdf ≡ scrypt_kdf
+unfolding xored opened_key
+sealed_kdf keynum secret salt password = refl
+
+sealed_limits : (keynum secret salt password : List ℕ)
+    → ((sealed_key keynum secret salt password).operations_limit ≡ to_le_bytes w64 sealing_operations) × ((sealed_key keynum secret salt password).memory_limit ≡ to_le_bytes w64 sealing_memory)
+unfolding xored opened_key
+sealed_limits keynum secret salt password = (refl, refl)
+
+opened_checksum : (keynum secret salt : List ℕ) → (opened_key keynum secret salt).checksum ≡ checksum_of (opened_key keynum secret salt)
+unfolding opened_key unsealed_key
+opened_checksum keynum secret salt = refl
+
+-- a sealed pair opens under its password
+pub sealed_pair : (public_of : List ℕ → List ℕ) (password : List ℕ) (ahead left : Option (List ℕ)) (pk : PublicKeyRecord) (sk : SecretKeyRecord)
+    → IsSealedPair public_of password ahead left pk sk → OpensToPair public_of password pk sk
+sealed_pair public_of password ahead left pk sk pair =
+    let sealed : IsSealedOf public_of pair.seed pair.keynum pair.salt password pk sk = pair.sealed in
+    let secret : List ℕ = secret_of public_of pair.seed in
+    let limits = sealed_limits pair.keynum secret pair.salt password in
+    let allowed : key_limits sk ≡ Ok (record { n_log2 = 15; r = 8; p = 1 }) = default_limits sk (ap (λ k. k.operations_limit) sealed.secret ∙ limits.0) (ap (λ k. k.memory_limit) sealed.secret ∙ limits.1) in
+    record {
+      opens = record {
+        kdf = ap (λ k. k.kdf) sealed.secret ∙ sealed_kdf pair.keynum secret pair.salt password;
+        allowed = allowed ∙ ap (λ (v : Numbers). Ok v) (sym (allowed_numbers sk _ allowed));
+        restored = ap (λ k. k.checksum) sealed.opened ∙ opened_checksum pair.keynum secret pair.salt ∙ sym (ap checksum_of sealed.opened);
+      };
+      pair = opened_pair public_of pair.seed pair.keynum pair.salt pk (unsealed sk password) pair.lengths sealed.public sealed.opened;
+    }

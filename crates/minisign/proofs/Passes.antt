@@ -1,0 +1,45 @@
+-- The second pass over marked data, as a caller of the whole sees it.
+use Rattle.std.proofs.Common.{◌≡◌, ℕ, List, ◌≢◌, Option, None, Some, IfSome, ◌⊎◌, inl, inr, ⊎_elim, sym, subst, ◌∙◌}
+use Rattle.minisign_hash.specs.Blake2b.{blake2b_digest}
+use Rattle.minisign_base.specs.Devices.{Rose}
+use Rattle.minisign_base.specs.Fault.{Fault}
+use Rattle.minisign.specs.Reading.{IsAhead, IsReturned, IsReadFault}
+use Rattle.minisign.specs.Verifying.{SecondPass, CopyingFails}
+
+-- what is ahead after going back to where this was ahead
+what_was_marked : (first behind returned : Option (List ℕ)) (second : List ℕ) → behind ≡ first → IfSome behind (λ xs. returned ≡ Some xs) → IsAhead returned second
+    → IfSome first (λ xs. second ≡ xs)
+what_was_marked None behind returned second marked same given = tt
+what_was_marked (Some xs) behind returned second marked same given =
+    let back : returned ≡ Some xs = subst (λ known. IfSome known (λ ys. returned ≡ Some ys)) marked same in
+    sym (subst (λ known. IsAhead known second) back given)
+
+-- a source that was marked at first, and gone back to
+pub second_pass : {R : Type 0} (steady : R → Type 0) (ahead behind : R → Option (List ℕ)) (old mid : R) → (steady old → behind mid ≡ ahead old)
+    → (second : List ℕ) → IsReturned ahead behind mid second → SecondPass steady ahead old second
+second_pass steady ahead behind old mid marked second pass = record {
+  returned = pass.returned;
+  given = pass.given;
+  same = λ held. what_was_marked (ahead old) (behind mid) (ahead pass.returned) second (marked held) pass.same pass.given;
+}
+
+-- a read fault, counted from an earlier time
+read_fault : {R : Type 0} (faults : R → ℕ) (old mid new : R) (e : Fault) → faults mid ≡ faults old → IsReadFault faults mid new e → IsReadFault faults old new e
+read_fault faults old mid new e calm = ⊎_elim inl (λ failed. inr (record { fault = failed.fault; rose = subst (λ n. Rose n (faults new)) calm failed.rose }))
+
+-- a second pass that fails, seen from before the first
+pub copying_fails : {R O : Type 0} (Pass Seen : List ℕ → Type 0) (faults : R → ℕ) (old mid new : R) (taken : O → Option (List ℕ)) (out_faults : O → ℕ) (out_old out_new : O)
+    (digest same : List ℕ) (e : Fault) → ((second : List ℕ) → Pass second → Seen second) → faults mid ≡ faults old → digest ≡ same
+    → CopyingFails Pass faults mid new taken out_faults out_old out_new digest e → CopyingFails Seen faults old new taken out_faults out_old out_new same e
+copying_fails Pass Seen faults old mid new taken out_faults out_old out_new digest same e seen calm equal = ⊎_elim
+    (λ back. inl (record { fault = back.fault; rose = subst (λ n. Rose n (faults new)) calm back.rose; uncopied = back.uncopied }))
+    (λ (second, pass, ended). inr (
+      second,
+      seen second pass,
+      ⊎_elim (λ broken. inl (record { front = broken.front; failed = ⊎_elim (λ failed. inl (read_fault faults old mid new e calm failed)) inr broken.failed }))
+          (λ copied. inr (⊎_elim
+          (λ other. inl (record { all = other.all; fault = other.fault; changed = subst (λ d. blake2b_digest 64 second ≢ d) equal other.changed }))
+          (λ flushed. inr (record { all = flushed.all; unchanged = flushed.unchanged ∙ equal; failed = flushed.failed }))
+          copied))
+          ended,
+    ))

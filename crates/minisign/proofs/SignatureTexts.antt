@@ -1,0 +1,209 @@
+-- Texts of signatures: the first case that fails is none exactly where a box is read, and it is the only
+-- one.
+use Rattle.std.proofs.Common.{◌≡◌, ◌≢◌, ℕ, ◌+◌, ◌-◌, ◌<◌, ◌≤◌, Bool, true, false, ◌||◌, IsTrue, List, [], ◌∷◌, ◌++◌, length, take, drop, refl, sym, ap, subst, ◌∙◌, arith, inl, inr, ◌⊎◌, is_some, slice_get}
+use Rattle.std.specs.declared.option.Option.{Option}
+use Rattle.std.specs.declared.option.Option.TheVariants.{None, Some}
+use Rattle.std.specs.List.{starts_with}
+use Rattle.std.specs.Str.{trim, bytes_eq}
+use Rattle.std.specs.Str.Lines.{lines}
+use Rattle.std.proofs.Math.Bool.{cond}
+use Rattle.std.proofs.Math.Dec.{eqb, leb}
+use Rattle.std.proofs.lemmas.Bool.{le-leb, leb-true, lt-leb}
+use Rattle.std.proofs.lemmas.Bool.Decides.{Decides-eqb}
+use Rattle.std.proofs.lemmas.List.{append_cancel_left, length-take-le, length-drop, take-append-drop}
+use Rattle.std.proofs.lemmas.Slice.Eq.{starts_is, bytes_eq-Decides}
+use Rattle.minisign_base.specs.Fault.{Fault}
+use Rattle.minisign_base.specs.Faults.{missing_untrusted_comment, missing_signature, missing_trusted_comment, missing_global_signature, untrusted_comment_prefix, signature_not_base64, record_too_short, trusted_comment_prefix, unsupported_signature_algorithm}
+use Rattle.minisign.specs.Records.{CommentsRecord, SignatureRecord, SignatureBoxRecord, ReadsSignature, IsKnownAlgorithm, legacy_algorithm, prehashed_algorithm}
+use Rattle.minisign.specs.Texts.{IsBase64Of, IsDecided, base64_bytes, is_base64, has_line, line_at, untrusted_comment_label}
+use Rattle.minisign.specs.SignatureText.{EncodesSignature, SignatureText, HasFourLines, is_known_algorithm, signature_fault, trusted_comment_label}
+use Rattle.minisign.proofs.Base64Texts.{bytes_read, is_read, reads, one_decoding}
+use Rattle.minisign.proofs.RecordFields.{joined_fields, one_signature, stored_algorithm, stored_length}
+
+-- a line that begins with a label
+pub begins : (line label rest : List ℕ) → line ≡ label ++ rest → starts_with eqb line label ≡ true
+begins line label rest = (starts_is Decides-eqb line label (starts_with eqb line label) refl).1 rest
+
+begins_with : (line label : List ℕ) → starts_with eqb line label ≡ true → line ≡ label ++ drop (length label) line
+begins_with line label = (starts_is Decides-eqb line label (starts_with eqb line label) refl).0
+
+not_true : (b : Bool) → (b ≡ true → ⊥) → b ≡ false
+not_true true h = absurd (h refl)
+not_true false h = refl
+
+pub begins_not : (line label : List ℕ) → ((rest : List ℕ) → line ≢ label ++ rest) → starts_with eqb line label ≡ false
+begins_not line label h = not_true _ (λ t. h _ (begins_with line label t))
+
+-- the algorithms that are known
+or_left : (a b : Bool) → a ≡ true → a || b ≡ true
+or_left true b h = refl
+or_left false b h = cc h
+
+or_right : (a b : Bool) → b ≡ true → a || b ≡ true
+or_right true b h = refl
+or_right false b h = h
+
+or_cases : (a b : Bool) → a || b ≡ true → (a ≡ true) ⊎ (b ≡ true)
+or_cases true b h = inl refl
+or_cases false b h = inr h
+
+pub known : (a : List ℕ) → IsKnownAlgorithm a → is_known_algorithm a ≡ true
+known a (inl e) = or_left _ _ ((bytes_eq-Decides a legacy_algorithm).1 e)
+known a (inr e) = or_right _ _ ((bytes_eq-Decides a prehashed_algorithm).1 e)
+
+is_known : (a : List ℕ) → is_known_algorithm a ≡ true → IsKnownAlgorithm a
+is_known a h = elim (or_cases _ _ h) [
+  | inl e ↦ inl ((bytes_eq-Decides a legacy_algorithm).0 e)
+  | inr e ↦ inr ((bytes_eq-Decides a prehashed_algorithm).0 e)
+]
+
+-- what a text that encodes a signature is tested for
+encodes_tests : (text : List ℕ) (s : SignatureRecord) → EncodesSignature text s
+    → (is_base64 text ≡ true) × (leb 74 (length (base64_bytes text)) ≡ true) × (take 2 (base64_bytes text) ≡ s.algorithm)
+encodes_tests text s h =
+    let same : base64_bytes text ≡ h.bytes = bytes_read text h.bytes h.base64 in (
+      is_read text h.bytes h.base64,
+      le-leb 74 _ (subst (λ (b : List ℕ). 74 ≤ length b) (sym same) (stored_length h.bytes s h.reads)),
+      ap (take 2) same ∙ stored_algorithm h.bytes s h.reads,
+    )
+
+one_encoded : (text : List ℕ) (s t : SignatureRecord) → EncodesSignature text s → EncodesSignature text t → s ≡ t
+one_encoded text s t h j =
+    one_signature h.bytes s t h.reads (subst (λ b. ReadsSignature b t) (one_decoding text j.bytes h.bytes j.base64 h.base64) j.reads)
+
+lines_before : (ls : List (List ℕ)) → is_some (slice_get ls 3) ≡ true
+    → (is_some (slice_get ls 0) ≡ true) × (is_some (slice_get ls 1) ≡ true) × (is_some (slice_get ls 2) ≡ true)
+lines_before [] h = cc h
+lines_before (a ∷ []) h = cc h
+lines_before (a ∷ b ∷ []) h = cc h
+lines_before (a ∷ b ∷ c ∷ []) h = cc h
+lines_before (a ∷ b ∷ c ∷ d ∷ later) h = (refl, refl, refl)
+
+-- no case fails where a box is read
+pub no_fault : (text : List ℕ) (x : SignatureBoxRecord) → SignatureText text x → signature_fault text ≡ None
+unfolding signature_fault
+no_fault text x h =
+    let before = lines_before (lines text) h.four_lines in
+    let signature = encodes_tests (trim (line_at 1 text)) x.signature h.signature in
+    rw (before.0, before.1, before.2, h.four_lines, begins (line_at 0 text) untrusted_comment_label _ h.untrusted_comment, signature.0, signature.1,
+    begins (line_at 2 text) trusted_comment_label _ h.trusted_comment.1, signature.2, known x.signature.algorithm h.algorithm, is_read _ _ h.comment_signature) refl
+
+pub one_signature_text : (text : List ℕ) (x y : SignatureBoxRecord) → SignatureText text x → SignatureText text y → x ≡ y
+one_signature_text text x y h j =
+    let signature : x.signature ≡ y.signature = one_encoded _ _ _ h.signature j.signature in
+    let untrusted : h.comments.untrusted ≡ j.comments.untrusted =
+    append_cancel_left untrusted_comment_label _ _ (sym h.untrusted_comment ∙ j.untrusted_comment) in
+    let comment : h.trusted_comment.0 ≡ j.trusted_comment.0 =
+    append_cancel_left trusted_comment_label _ _ (sym h.trusted_comment.1 ∙ j.trusted_comment.1) in
+    let trusted : h.comments.trusted ≡ j.comments.trusted = sym h.trusted_comment.2 ∙ ap trim comment ∙ j.trusted_comment.2 in
+    let signed : h.comments.signature ≡ j.comments.signature = one_decoding _ _ _ h.comment_signature j.comment_signature in
+    let comments : h.comments ≡ j.comments = λ i. record { untrusted = untrusted i; trusted = trusted i; signature = signed i } in
+    let boxed : x.comments ≡ y.comments = h.box ∙ ap (λ c. Some c) comments ∙ sym j.box in
+    λ i. record { signature = signature i; comments = boxed i }
+
+-- bytes that are many enough begin with a signature
+signature_in : List ℕ → SignatureRecord
+signature_in bytes = record { algorithm = take 2 bytes; keynum = take 8 (drop 2 bytes); signature = take 64 (drop 8 (drop 2 bytes)) }
+
+signature_in_front : (bytes : List ℕ) → 74 ≤ length bytes → ReadsSignature bytes (signature_in bytes)
+unfolding signature_in
+signature_in_front bytes l = record {
+  algorithm_length = length-take-le 2 bytes (omega arith);
+  keynum_length = length-take-le 8 (drop 2 bytes) (omega (arith, length-drop 2 bytes));
+  signature_length = length-take-le 64 (drop 8 (drop 2 bytes)) (omega (arith, length-drop 2 bytes, length-drop 8 (drop 2 bytes)));
+  front = (drop 64 (drop 8 (drop 2 bytes)), joined_fields bytes _ _ _ _ _ _ (sym (take-append-drop 2 bytes)) (sym (take-append-drop 8 (drop 2 bytes))) (sym (take-append-drop 64 (drop 8 (drop 2 bytes)))));
+}
+
+tested : (holds : Bool) (others : Option Fault) (e : Fault) → cond holds others (Some e) ≡ None → (holds ≡ true) × (others ≡ None)
+tested true others e h = (refl, h)
+tested false others e h = cc h
+
+read_where_none_fails : (text : List ℕ) → signature_fault text ≡ None → (x : SignatureBoxRecord) × SignatureText text x
+unfolding signature_fault signature_in
+read_where_none_fails text h =
+    let first = tested _ _ _ h in
+    let second = tested _ _ _ first.1 in
+    let third = tested _ _ _ second.1 in
+    let fourth = tested _ _ _ third.1 in
+    let untrusted = tested _ _ _ fourth.1 in
+    let base64 = tested _ _ _ untrusted.1 in
+    let long = tested _ _ _ base64.1 in
+    let trusted = tested _ _ _ long.1 in
+    let algorithm = tested _ _ _ trusted.1 in
+    let signed = tested _ _ _ algorithm.1 in
+    let bytes : List ℕ = base64_bytes (trim (line_at 1 text)) in
+    let comments : CommentsRecord = record {
+      untrusted = drop (length untrusted_comment_label) (line_at 0 text);
+      trusted = trim (drop (length trusted_comment_label) (line_at 2 text));
+      signature = base64_bytes (trim (line_at 3 text));
+    } in (
+      record { signature = signature_in bytes; comments = Some comments },
+      record {
+        comments = comments;
+        four_lines = fourth.0;
+        untrusted_comment = begins_with (line_at 0 text) untrusted_comment_label untrusted.0;
+        signature = record { bytes = bytes; base64 = reads _ base64.0; reads = signature_in_front bytes (leb-true 74 _ long.0) };
+        algorithm = is_known (take 2 bytes) algorithm.0;
+        trusted_comment = (_, begins_with (line_at 2 text) trusted_comment_label trusted.0, refl);
+        comment_signature = reads _ signed.0;
+        box = refl;
+      },
+    )
+
+pub decided : (text : List ℕ) → IsDecided (SignatureText text) (signature_fault text)
+decided text = record {
+  none_fails = (read_where_none_fails text, λ read. no_fault text read.0 read.1);
+  one_value = one_signature_text text;
+}
+
+-- the case that fails where lines are missing
+pub no_first_line : (text : List ℕ) → lines text ≡ [] → signature_fault text ≡ Some missing_untrusted_comment
+unfolding signature_fault
+no_first_line text e = rw e refl
+
+pub no_second_line : (text a : List ℕ) → lines text ≡ a ∷ [] → signature_fault text ≡ Some missing_signature
+unfolding signature_fault
+no_second_line text a e = rw e refl
+
+pub no_third_line : (text a b : List ℕ) → lines text ≡ a ∷ b ∷ [] → signature_fault text ≡ Some missing_trusted_comment
+unfolding signature_fault
+no_third_line text a b e = rw e refl
+
+pub no_fourth_line : (text a b c : List ℕ) → lines text ≡ a ∷ b ∷ c ∷ [] → signature_fault text ≡ Some missing_global_signature
+unfolding signature_fault
+no_fourth_line text a b c e = rw e refl
+
+-- the case that fails in one of four lines
+module _ (text a b c d : List ℕ) (four : HasFourLines text a b c d) where
+  pub other_label : starts_with eqb a untrusted_comment_label ≡ false → signature_fault text ≡ Some untrusted_comment_prefix
+  unfolding signature_fault
+  other_label label = rw (four.cut, label) refl
+
+  module _ (label : starts_with eqb a untrusted_comment_label ≡ true) where
+    pub no_base64 : is_base64 (trim b) ≡ false → signature_fault text ≡ Some signature_not_base64
+    unfolding signature_fault
+    no_base64 other = rw (four.cut, label, other) refl
+
+    pub too_short : is_base64 (trim b) ≡ true → length (base64_bytes (trim b)) < 74 → signature_fault text ≡ Some record_too_short
+    unfolding signature_fault
+    too_short base64 short = rw (four.cut, label, base64, lt-leb 74 _ short) refl
+
+    module _ (s : SignatureRecord) (encodes : EncodesSignature (trim b) s) where
+      pub other_trusted_label : starts_with eqb c trusted_comment_label ≡ false → signature_fault text ≡ Some trusted_comment_prefix
+      unfolding signature_fault
+      other_trusted_label trusted =
+          let signature = encodes_tests (trim b) s encodes in
+          rw (four.cut, label, signature.0, signature.1, trusted) refl
+
+      module _ (trusted : starts_with eqb c trusted_comment_label ≡ true) where
+        pub unknown : is_known_algorithm s.algorithm ≡ false → signature_fault text ≡ Some unsupported_signature_algorithm
+        unfolding signature_fault
+        unknown other =
+            let signature = encodes_tests (trim b) s encodes in
+            rw (four.cut, label, signature.0, signature.1, trusted, signature.2, other) refl
+
+        pub no_comment_base64 : is_known_algorithm s.algorithm ≡ true → is_base64 (trim d) ≡ false → signature_fault text ≡ Some signature_not_base64
+        unfolding signature_fault
+        no_comment_base64 algorithm other =
+            let signature = encodes_tests (trim b) s encodes in
+            rw (four.cut, label, signature.0, signature.1, trusted, signature.2, algorithm, other) refl

@@ -1,0 +1,67 @@
+use Rattle.std.proofs.Common.{Bool, true, false, not, ◌≡◌, string_bytes, sym, inl, inr, refl}
+use Rattle.std.specs.String.{string_eq}
+use Rattle.std.proofs.lemmas.Slice.Eq.{bytes_eq-Decides}
+use Rattle.std.proofs.lemmas.Result.{err_from_is_err_and}
+use Rattle.minisign.specs.NewPassword.{purpose_line, first_question, second_question}
+use Rattle.minisign.proofs.keypair.choose_password.Goals as goal
+
+not_false : (b : Bool) → false ≡ not b → b ≡ true
+not_false true h = refl
+not_false false h = cc
+
+pub returns-in_err-password-clause-refused : goal.returns-in_err-password-clause-refused
+unfolding purpose_line first_question
+returns-in_err-password-clause-refused g c =
+    let p = err_from_is_err_and c.from_residual-in_err-password.result c.from_residual-in_err-password.ensures.1 in
+    rw (p.1, p.2) (inr (inl (record {
+      begun = c.say.new.self;
+      said = record { reader = c.in_ok-say.ensures.reader; written = c.in_ok-say.ensures.bytes; calm = c.in_ok-say.ensures.calm };
+      asking = c.in_err-password.ensures.fault;
+    })))
+
+pub returns-in_err-again-clause-refused : goal.returns-in_err-again-clause-refused
+unfolding purpose_line first_question second_question
+returns-in_err-again-clause-refused g c =
+    let p = err_from_is_err_and c.from_residual-in_err-again.result c.from_residual-in_err-again.ensures.1 in
+    rw (p.1, p.2) (inr (inr (inl (record {
+      begun = c.say.new.self;
+      between = c.get_password.new.prompt;
+      first_bytes = c.in_ok-password.ensures.asked.0;
+      password = string_bytes c.in_ok-password.password;
+      said = record { reader = c.in_ok-say.ensures.reader; written = c.in_ok-say.ensures.bytes; calm = c.in_ok-say.ensures.calm };
+      first = c.in_ok-password.ensures.asked.1;
+      asking = c.in_err-again.ensures.fault;
+    }))))
+
+pub returns-then-ne-clause-refused : goal.returns-then-ne-clause-refused
+unfolding purpose_line first_question second_question
+returns-then-ne-clause-refused g c =
+    inr (inr (inr (record {
+      password = string_bytes c.in_ok-password.password;
+      again = string_bytes c.in_ok-again.again;
+      asked = record {
+        begun = c.say.new.self;
+        between = c.get_password.new.prompt;
+        first_bytes = c.in_ok-password.ensures.asked.0;
+        second_bytes = c.in_ok-again.ensures.asked.0;
+        said = record { reader = c.in_ok-say.ensures.reader; written = c.in_ok-say.ensures.bytes; calm = c.in_ok-say.ensures.calm };
+        first = c.in_ok-password.ensures.asked.1;
+        second = c.in_ok-again.ensures.asked.1;
+      };
+      differ = λ e. let same : string_eq c.in_ok-password.password c.in_ok-again.again ≡ true = (bytes_eq-Decides _ _).1 e in let differs = rw same at c.if-ne.ensures in cc;
+      fault = c.passwords_differ.ensures;
+    })))
+
+pub returns-clause-chosen : goal.returns-clause-chosen
+unfolding purpose_line first_question second_question
+returns-clause-chosen g c =
+    let same : string_bytes c.in_ok-again.again ≡ string_bytes c.in_ok-password.password = sym ((bytes_eq-Decides (string_bytes c.in_ok-password.password) (string_bytes c.in_ok-again.again)).0 (not_false _ c.if-ne.ensures)) in
+    record {
+      begun = c.say.new.self;
+      between = c.get_password.new.prompt;
+      first_bytes = c.in_ok-password.ensures.asked.0;
+      second_bytes = c.in_ok-again.ensures.asked.0;
+      said = record { reader = c.in_ok-say.ensures.reader; written = c.in_ok-say.ensures.bytes; calm = c.in_ok-say.ensures.calm };
+      first = c.in_ok-password.ensures.asked.1;
+      second = rw same at c.in_ok-again.ensures.asked.1;
+    }

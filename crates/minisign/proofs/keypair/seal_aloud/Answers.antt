@@ -1,0 +1,33 @@
+use Rattle.std.proofs.Common.{inl, inr, refl}
+use Rattle.std.proofs.lemmas.Result.{err_from_is_err_and}
+use Rattle.minisign.specs.NewPassword.{sealing_text, done_line}
+use Rattle.minisign.proofs.keypair.seal_aloud.Goals as goal
+
+pub returns-in_err-pair-clause-refused : goal.returns-in_err-pair-clause-refused
+unfolding sealing_text
+returns-in_err-pair-clause-refused g c =
+    let p = err_from_is_err_and c.from_residual-in_err-pair.result c.from_residual-in_err-pair.ensures.1 in
+    rw (p.1, p.2) (inr (record {
+      between = c.say.new.self;
+      before = record { reader = c.in_ok-say.ensures.reader; written = c.in_ok-say.ensures.bytes; calm = c.in_ok-say.ensures.calm };
+      failed = inl (c.in_err-pair.ensures.refused, refl);
+    }))
+
+pub returns-in_err-say-2-clause-refused : goal.returns-in_err-say-2-clause-refused
+unfolding sealing_text done_line
+returns-in_err-say-2-clause-refused g c =
+    let p = err_from_is_err_and c.from_residual-in_err-say-2.result c.from_residual-in_err-say-2.ensures.1 in
+    let (is, rose) = c.in_err-say-2.ensures.fault in
+    rw (p.1, p.2) (inr (record {
+      between = c.say.new.self;
+      before = record { reader = c.in_ok-say.ensures.reader; written = c.in_ok-say.ensures.bytes; calm = c.in_ok-say.ensures.calm };
+      failed = inr (is, record { reader = c.in_err-say-2.ensures.reader; fault = rose; front = c.in_err-say-2.ensures.front });
+    }))
+
+pub returns-clause-told : goal.returns-clause-told
+unfolding sealing_text done_line
+returns-clause-told g c = record {
+  between = c.say.new.self;
+  before = record { reader = c.in_ok-say.ensures.reader; written = c.in_ok-say.ensures.bytes; calm = c.in_ok-say.ensures.calm };
+  after = record { reader = c.in_ok-say-2.ensures.reader; written = c.in_ok-say-2.ensures.bytes; calm = c.in_ok-say-2.ensures.calm };
+}

@@ -1,0 +1,16 @@
+use Rattle.std.proofs.Common.{List, ℕ, ◌∙◌, ap, sym, subst}
+use Rattle.minisign.specs.PublicKeyText.{PublicKeyText, BarePublicKey}
+use Rattle.minisign.specs.Records.{PublicKeyRecord}
+use Rattle.minisign.proofs.PublicKeyTexts.{spelled_text, written_text}
+use Rattle.minisign.proofs.public_key.PublicKey.to_box.Goals as goal
+
+pub returns-clause-text : goal.returns-clause-text
+returns-clause-text c =
+    let id = ap (λ (k : PublicKeyRecord). k.keynum) c.self.view_is in
+    c.from.ensures ∙ c.in_ok-text.ensures.ok ∙ spelled_text c.args.self.now _ _ id c.in_ok-encoded.ensures.text
+
+pub returns-clause-reads_back : goal.returns-clause-reads_back
+returns-clause-reads_back c =
+    let k : PublicKeyRecord = c.args.self.now in
+    let bare = subst (λ (t : List ℕ). BarePublicKey t k) c.in_ok-encoded.ensures.text c.in_ok-encoded.ensures.reads_back in
+    subst (λ (t : List ℕ). PublicKeyText t k) (sym (returns-clause-text c)) (written_text k bare)

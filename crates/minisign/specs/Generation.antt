@@ -1,0 +1,174 @@
+-- The pairs of keys that generation makes, from which random bytes, and what the sinks of a pair take.
+use Rattle.std.specs.Prelude.{◌≡◌, ℕ, ◌⊎◌, List, [], ◌++◌, length, replicate, Option, codes}
+use Rattle.std.specs.Int.{w64, to_le_bytes}
+use Rattle.std.specs.Io.KnownBytes.{Appends, Consumes}
+use Rattle.minisign_base.specs.declared.prompt.Prompt.{Prompt}
+use Rattle.minisign_base.specs.Devices.{AppendsFront, Rose}
+use Rattle.minisign_base.specs.Fault.{Fault}
+use Rattle.minisign_base.specs.Faults.{out_of_memory, writing_failed}
+use Rattle.minisign_base.specs.Scheme.{IsBytes}
+use Rattle.minisign.specs.NewPassword.{IsSealingFault}
+use Rattle.minisign.specs.Records.{PublicKeyRecord, SecretKeyRecord, legacy_algorithm, public_key_bytes, secret_key_bytes}
+use Rattle.minisign.specs.Sealing.{Opens, checksum_of, no_kdf, scrypt_kdf, unsealed}
+use Rattle.minisign.specs.Signing.{DrawFails, IsGenuine}
+
+-- the checksum's algorithm: Blake2b
+abbrev pub blake2b_algorithm : List ℕ
+blake2b_algorithm = codes "B2"
+
+-- the operations limit of a key that is sealed
+abbrev pub sealing_operations : ℕ
+sealing_operations = 1048576
+
+-- the memory limit of a key that is sealed, in bytes
+abbrev pub sealing_memory : ℕ
+sealing_memory = 33554432
+
+-- so many zero bytes
+abbrev pub zeros : ℕ → List ℕ
+zeros n = replicate n 0
+
+-- the public key of a seed under an identifier
+abbrev pub public_key_of : (List ℕ → List ℕ) → List ℕ → List ℕ → PublicKeyRecord
+public_key_of public_of seed keynum = record { algorithm = legacy_algorithm; keynum = keynum; key = public_of seed }
+
+-- the 64 secret bytes of a seed
+abbrev pub secret_of : (List ℕ → List ℕ) → List ℕ → List ℕ
+secret_of public_of seed = seed ++ public_of seed
+
+-- the key with the checksum that its other fields call for
+abbrev pub with_checksum : SecretKeyRecord → SecretKeyRecord
+with_checksum k = record k { checksum = checksum_of k }
+
+-- the secret key of an identifier and 64 secret bytes that is not to be sealed
+unfoldable pub unsealed_key : List ℕ → List ℕ → SecretKeyRecord
+unsealed_key keynum secret = with_checksum (record {
+  algorithm = legacy_algorithm;
+  kdf = no_kdf;
+  checksum_algorithm = blake2b_algorithm;
+  salt = zeros 32;
+  operations_limit = zeros 8;
+  memory_limit = zeros 8;
+  keynum = keynum;
+  secret = secret;
+  checksum = [];
+})
+
+-- the one that is to be sealed with a salt of 32 bytes, as it is before, and again once it is opened
+unfoldable pub opened_key : List ℕ → List ℕ → List ℕ → SecretKeyRecord
+opened_key keynum secret salt = record (unsealed_key keynum secret) {
+  kdf = scrypt_kdf;
+  salt = salt;
+  operations_limit = to_le_bytes w64 sealing_operations;
+  memory_limit = to_le_bytes w64 sealing_memory;
+}
+
+-- that key sealed under a password: the xor of sealing is that of opening
+abbrev pub sealed_key : List ℕ → List ℕ → List ℕ → List ℕ → SecretKeyRecord
+sealed_key keynum secret salt password = unsealed (opened_key keynum secret salt) password
+
+-- the keys belong together: the secret key is a genuine one, and the public key is that of its seed under
+-- its identifier
+pub record IsGenuinePair (public_of : List ℕ → List ℕ) (pk : PublicKeyRecord) (sk : SecretKeyRecord) : Type 0 where
+  pub seed : List ℕ
+  pub genuine : IsGenuine public_of sk seed
+  pub key : pk.key ≡ public_of seed
+  pub keynum : pk.keynum ≡ sk.keynum
+
+-- 32 random bytes of a seed, and then 8 of an identifier
+pub record AreSeedAndKeynum (seed keynum : List ℕ) : Type 0 where
+  pub seed_length : length seed ≡ 32
+  pub seed_bytes : IsBytes seed
+  pub keynum_length : length keynum ≡ 8
+  pub keynum_bytes : IsBytes keynum
+
+-- the pair that is not sealed, of random bytes that were drawn
+pub record IsUnsealedPair (public_of : List ℕ → List ℕ) (ahead left : Option (List ℕ)) (pk : PublicKeyRecord) (sk : SecretKeyRecord) : Type 0 where
+  pub seed : List ℕ
+  pub keynum : List ℕ
+  pub lengths : AreSeedAndKeynum seed keynum
+  pub drawn : Consumes ahead left (seed ++ keynum)
+  pub public : pk ≡ public_key_of public_of seed keynum
+  pub secret : sk ≡ unsealed_key keynum (secret_of public_of seed)
+
+-- the sealed pair of a seed under an identifier, with a salt, under a password
+pub record IsSealedOf (public_of : List ℕ → List ℕ) (seed keynum salt password : List ℕ) (pk : PublicKeyRecord) (sk : SecretKeyRecord) : Type 0 where
+  pub public : pk ≡ public_key_of public_of seed keynum
+  pub secret : sk ≡ sealed_key keynum (secret_of public_of seed) salt password
+  -- opening gives the key as it was
+  pub opened : unsealed sk password ≡ opened_key keynum (secret_of public_of seed) salt
+
+-- the sealed pair of random bytes that were drawn: those of the other pair, and then 32 of a salt
+pub record IsSealedPair (public_of : List ℕ → List ℕ) (password : List ℕ) (ahead left : Option (List ℕ)) (pk : PublicKeyRecord) (sk : SecretKeyRecord) : Type 0 where
+  pub seed : List ℕ
+  pub keynum : List ℕ
+  pub salt : List ℕ
+  pub lengths : AreSeedAndKeynum seed keynum
+  pub salt_length : length salt ≡ 32
+  pub drawn : Consumes ahead left (seed ++ keynum ++ salt)
+  pub sealed : IsSealedOf public_of seed keynum salt password pk sk
+
+-- the secret key opens under the password, and then belongs to the public key
+pub record OpensToPair (public_of : List ℕ → List ℕ) (password : List ℕ) (pk : PublicKeyRecord) (sk : SecretKeyRecord) : Type 0 where
+  pub opens : Opens sk password
+  pub pair : IsGenuinePair public_of pk (unsealed sk password)
+
+-- a sink took all of a part and passed it on
+pub record TakesPart {W : Type 0} (taken_of : W → Option (List ℕ)) (faults_of : W → ℕ) (old new : W) (part : List ℕ) : Type 0 where
+  pub bytes : Appends (taken_of old) (taken_of new) part
+  pub calm : faults_of new ≡ faults_of old
+
+-- a sink took a beginning of a part, and failed there or at passing it on
+pub record FailsAtPart {W : Type 0} (taken_of : W → Option (List ℕ)) (faults_of : W → ℕ) (old new : W) (part : List ℕ) : Type 0 where
+  pub front : AppendsFront (taken_of old) (taken_of new) part
+  pub rose : Rose (faults_of old) (faults_of new)
+
+-- the public sink failed at the public part; the secret sink is as it was
+pub record PublicPartFails {P K : Type 0} (pk_taken : P → Option (List ℕ)) (pk_faults : P → ℕ) (pk_old pk_new : P) (sk_old sk_new : K) (public : List ℕ) : Type 0 where
+  pub failed : FailsAtPart pk_taken pk_faults pk_old pk_new public
+  pub unbegun : sk_new ≡ sk_old
+
+-- the public sink took the public part, and the secret sink failed at the secret one
+pub record SecretPartFails {P K : Type 0} (pk_taken : P → Option (List ℕ)) (pk_faults : P → ℕ) (pk_old pk_new : P)
+    (sk_taken : K → Option (List ℕ)) (sk_faults : K → ℕ) (sk_old sk_new : K) (public secret : List ℕ) : Type 0 where
+  pub written : TakesPart pk_taken pk_faults pk_old pk_new public
+  pub failed : FailsAtPart sk_taken sk_faults sk_old sk_new secret
+
+-- the two parts could not be written
+pub record WritingFails {P K : Type 0} (pk_taken : P → Option (List ℕ)) (pk_faults : P → ℕ) (pk_old pk_new : P)
+    (sk_taken : K → Option (List ℕ)) (sk_faults : K → ℕ) (sk_old sk_new : K) (public secret : List ℕ) (e : Fault) : Type 0 where
+  pub fault : e ≡ writing_failed
+  pub part : PublicPartFails pk_taken pk_faults pk_old pk_new sk_old sk_new public
+      ⊎ SecretPartFails pk_taken pk_faults pk_old pk_new sk_taken sk_faults sk_old sk_new public secret
+
+-- a pair's parts are not written: memory was wanting for them, and both sinks are as they were, or a sink
+-- failed
+abbrev pub PartsFail : {P K : Type 0} → (P → Option (List ℕ)) → (P → ℕ) → P → P → (K → Option (List ℕ)) → (K → ℕ) → K → K
+    → List ℕ → List ℕ → Fault → Type 0
+PartsFail pk_taken pk_faults pk_old pk_new sk_taken sk_faults sk_old sk_new public secret e =
+    ((e ≡ out_of_memory) × (pk_new ≡ pk_old) × (sk_new ≡ sk_old))
+    ⊎ WritingFails pk_taken pk_faults pk_old pk_new sk_taken sk_faults sk_old sk_new public secret e
+
+-- a pair that is not sealed is not written as raw bytes: the random source failed, and both sinks are as they
+-- were, or a pair was made whose parts were not written
+abbrev pub RawPairFails : {Z P K : Type 0} → (List ℕ → List ℕ) → (Z → Option (List ℕ)) → (Z → ℕ) → Z → Z
+    → (P → Option (List ℕ)) → (P → ℕ) → P → P → (K → Option (List ℕ)) → (K → ℕ) → K → K → Fault → Type 0
+RawPairFails public_of ahead faults random_old random_new pk_taken pk_faults pk_old pk_new sk_taken sk_faults sk_old sk_new e =
+    (DrawFails faults random_old random_new e × (pk_new ≡ pk_old) × (sk_new ≡ sk_old))
+    ⊎ ((pk : PublicKeyRecord) × (sk : SecretKeyRecord) × IsUnsealedPair public_of (ahead random_old) (ahead random_new) pk sk
+    × PartsFail pk_taken pk_faults pk_old pk_new sk_taken sk_faults sk_old sk_new (public_key_bytes pk) (secret_key_bytes sk) e)
+
+-- the 72 random bytes of a sealed pair were drawn
+pub record AllDrawn {Z : Type 0} (ahead_of : Z → Option (List ℕ)) (faults_of : Z → ℕ) (old new : Z) : Type 0 where
+  pub bytes : List ℕ
+  pub count : length bytes ≡ 72
+  pub drawn : Consumes (ahead_of old) (ahead_of new) bytes
+  pub calm : faults_of new ≡ faults_of old
+
+-- a sealed pair is not made: the random source failed, before anything was asked, or else no key was sealed
+abbrev pub SealedPairFails : {Z R W : Type 0} → (Z → Option (List ℕ)) → (Z → ℕ) → Z → Z
+    → (R → Option (List ℕ)) → (R → ℕ) → (R → ℕ) → (W → Option (List ℕ)) → (W → ℕ) → Option (List ℕ) → Prompt R W → Prompt R W → Fault → Type 0
+SealedPairFails random_ahead random_faults random_old random_new ahead left faults taken sink_faults password old new e =
+    (DrawFails random_faults random_old random_new e × (new ≡ old))
+    ⊎ (AllDrawn random_ahead random_faults random_old random_new
+    × IsSealingFault ahead left faults taken sink_faults password old new e)

@@ -1,0 +1,72 @@
+-- Texts of signatures: which box a text reads as, which case fails first where it reads as none, and the
+-- text that is written for a box.
+use Rattle.std.specs.Prelude.{◌≡◌, ◌≢◌, ◌||◌, ◌-◌, ℕ, Bool, List, [], ◌∷◌, ◌++◌, IsTrue, length, take, slice_index, nat_eq, nat_le, bytes_eq, Option, Some, codes}
+use Rattle.std.specs.List.{starts_with}
+use Rattle.std.specs.Str.{trim}
+use Rattle.std.specs.Str.Iter.{LacksByte}
+use Rattle.std.specs.Str.Lines.{lines}
+use Rattle.minisign_base.specs.Fault.{Fault}
+use Rattle.minisign_base.specs.Faults.{missing_untrusted_comment, missing_signature, missing_trusted_comment, missing_global_signature, untrusted_comment_prefix, signature_not_base64, record_too_short, trusted_comment_prefix, unsupported_signature_algorithm}
+use Rattle.minisign.specs.Acceptance.{line}
+use Rattle.minisign.specs.Records.{CommentsRecord, SignatureRecord, SignatureBoxRecord, ReadsSignature, IsKnownAlgorithm, signature_bytes, legacy_algorithm, prehashed_algorithm}
+use Rattle.minisign.specs.Texts.{IsBase64Of, base64_of, base64_bytes, is_base64, has_line, line_at, first_failing, untrusted_comment_label}
+
+unfoldable pub trusted_comment_label : List ℕ
+trusted_comment_label = codes "trusted comment: "
+
+-- the text is the base64 of bytes that begin with the record of the signature, which has 74
+pub record EncodesSignature (text : List ℕ) (s : SignatureRecord) : Type 0 where
+  pub bytes : List ℕ
+  pub base64 : IsBase64Of text bytes
+  pub reads : ReadsSignature bytes s
+
+-- the text reads as the box: four lines, of which the first and the third are a label and a comment, the
+-- trusted one trimmed, and the second and the fourth, trimmed, are base64; later lines do not matter
+pub record SignatureText (text : List ℕ) (x : SignatureBoxRecord) : Type 0 where
+  pub comments : CommentsRecord
+  pub four_lines : IsTrue (has_line 3 text)
+  pub untrusted_comment : line_at 0 text ≡ untrusted_comment_label ++ comments.untrusted
+  pub signature : EncodesSignature (trim (line_at 1 text)) x.signature
+  pub algorithm : IsKnownAlgorithm x.signature.algorithm
+  pub trusted_comment : (comment : List ℕ) × (line_at 2 text ≡ trusted_comment_label ++ comment) × (trim comment ≡ comments.trusted)
+  pub comment_signature : IsBase64Of (trim (line_at 3 text)) comments.signature
+  pub box : x.comments ≡ Some comments
+
+-- the test of an algorithm
+abbrev pub is_known_algorithm : List ℕ → Bool
+is_known_algorithm a = bytes_eq a legacy_algorithm || bytes_eq a prehashed_algorithm
+
+-- the first case that fails
+unfoldable pub signature_fault : List ℕ → Option Fault
+signature_fault text =
+    first_failing (
+      record { holds = has_line 0 text; fault = missing_untrusted_comment }
+      ∷ record { holds = has_line 1 text; fault = missing_signature }
+      ∷ record { holds = has_line 2 text; fault = missing_trusted_comment }
+      ∷ record { holds = has_line 3 text; fault = missing_global_signature }
+      ∷ record { holds = starts_with nat_eq (line_at 0 text) untrusted_comment_label; fault = untrusted_comment_prefix }
+      ∷ record { holds = is_base64 (trim (line_at 1 text)); fault = signature_not_base64 }
+      ∷ record { holds = nat_le 74 (length (base64_bytes (trim (line_at 1 text)))); fault = record_too_short }
+      ∷ record { holds = starts_with nat_eq (line_at 2 text) trusted_comment_label; fault = trusted_comment_prefix }
+      ∷ record { holds = is_known_algorithm (take 2 (base64_bytes (trim (line_at 1 text)))); fault = unsupported_signature_algorithm }
+      ∷ record { holds = is_base64 (trim (line_at 3 text)); fault = signature_not_base64 }
+      ∷ []
+    )
+
+-- the text that is written for a signature with comments
+abbrev pub signature_text : SignatureRecord → CommentsRecord → List ℕ
+signature_text s c =
+    line (untrusted_comment_label ++ c.untrusted) ++ (line (base64_of (signature_bytes s))
+    ++ (line (trusted_comment_label ++ c.trusted) ++ line (base64_of c.signature)))
+
+-- comments that are read back as they were written
+pub record KeepsComments (c : CommentsRecord) : Type 0 where
+  pub untrusted_one_line : LacksByte 10 c.untrusted
+  pub untrusted_end : slice_index c.untrusted (length c.untrusted - 1) ≢ 13
+  pub trusted_one_line : LacksByte 10 c.trusted
+  pub trusted_trimmed : trim c.trusted ≡ c.trusted
+
+-- a text has these four lines at its front
+pub record HasFourLines (text first second third fourth : List ℕ) : Type 0 where
+  pub later : List (List ℕ)
+  pub cut : lines text ≡ first ∷ second ∷ third ∷ fourth ∷ later

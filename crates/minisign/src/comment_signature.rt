@@ -1,0 +1,51 @@
+//! Whether the comment signature of a box is accepted, which signing and verifying both ask.
+
+ghost use Rattle.std.specs.Prelude.{◌≡◌, IfOk, IfErr};
+ghost use Rattle.minisign_base.specs.Faults.{out_of_memory};
+ghost use Rattle.minisign.specs.Acceptance.{accepts_comment, accepts_comments};
+
+use crate::public_key::PublicKey;
+use crate::signature::Signature;
+use crate::signature_box::{Comments, SignatureBox};
+use minisign_base::Result;
+use minisign_base::scheme::Scheme;
+use std::alloc::Global;
+
+// Whether the comment signature is accepted; a bare signature has none to test. Only the 32 bytes of
+// the key count.
+pub(crate) fn accepts_comments<S: Scheme>(
+    alloc: Global,
+    scheme: &S,
+    pk: &PublicKey,
+    signature_box: &SignatureBox,
+) -> Result<bool>
+    ensures answer { IfOk result (λ b. b ≡ accepts_comments (S.accepts scheme.now) pk.now signature_box.now) }
+    ensures refused { IfErr result (λ e. e ≡ out_of_memory) }
+{
+    match &signature_box.comments {
+        Some(comments) => accepts_comment(alloc, scheme, pk, &signature_box.signature, comments),
+        None => Ok(true),
+    }
+}
+
+// Whether the comment signature has at least 64 bytes, and the first 64 are accepted for the signature
+// followed by the trusted comment.
+fn accepts_comment<S: Scheme>(
+    alloc: Global,
+    scheme: &S,
+    pk: &PublicKey,
+    signature: &Signature,
+    comments: &Comments,
+) -> Result<bool>
+    ensures answer { IfOk result (λ b. b ≡ accepts_comment (S.accepts scheme.now) pk.now signature.now comments.now) }
+    ensures refused { IfErr result (λ e. e ≡ out_of_memory) }
+{
+    if comments.global_sig.len() < 64 {
+        return Ok(false);
+    }
+    let (front, _) = comments.global_sig.split_at(64);
+    let mut global_sig = [0u8; 64];
+    global_sig.copy_from_slice(front);
+    let signed = signature.with_comment(alloc, comments.trusted_comment.as_str())?;
+    Ok(scheme.verify(&signed, &pk.keynum_pk.pk, &global_sig))
+}

@@ -1,0 +1,137 @@
+//! Copying the data of a box that was accepted: the data that was kept, or a second pass over the source
+//! that has to give the digest of the first.
+
+ghost use Rattle.std.specs.Prelude.{◌≡◌, ◌≢◌, ℕ, ◌<◌, ◌++◌, ◌⊎◌, List, false, length, vec_len, IfSome, IfOk, IfErr, OnOk, OnErr};
+ghost use Rattle.std.specs.Io.KnownBytes.{Appends, IsAtEnd, Keeps};
+ghost use Rattle.minisign_hash.specs.Blake2b.{blake2b_digest};
+ghost use Rattle.minisign_hash.specs.Fed.{IsFed, has_finalized, output_length};
+ghost use Rattle.minisign_base.specs.Devices.{Rose, HasGiven, AppendsFront};
+ghost use Rattle.minisign_base.specs.Faults.{out_of_memory, going_back_failed, data_changed};
+ghost use Rattle.minisign.specs.Reading.{IsAhead, IsReadFault, IsReturned, ReadsWhole};
+ghost use Rattle.minisign.specs.Verifying.{OutputFails, KeptFails, CopyingFails};
+
+use crate::reading::piece_buffer;
+use minisign_base::devices::sinks::{Sink, put_all};
+use minisign_base::devices::sources::{Rereader, Source};
+use minisign_base::{Result, faults};
+use minisign_hash::blake2b::Blake2b;
+use std::alloc::Global;
+
+// Writes all of the bytes and flushes.
+pub(crate) fn put_out<O: Sink>(out: &mut O, bytes: &[u8]) -> Result<()>
+    ensures all { OnOk result (Appends (O.taken out.old) (O.taken out.new) bytes.now) }
+    ensures calm { OnOk result (O.sink_faults out.new ≡ O.sink_faults out.old) }
+    ensures refused { IfErr result (KeptFails O.taken O.sink_faults out.old out.new bytes.now) }
+{
+    put_bytes(out, bytes)?;
+    flush(out)
+}
+
+// Goes back to the mark and copies what is ahead then, and flushes where it has the digest.
+pub(crate) fn copy_again<R: Rereader, O: Sink>(
+    alloc: Global,
+    digest: &[u8; 64],
+    data_reader: &mut R,
+    out: &mut O,
+) -> Result<()>
+    ensures copied { OnOk result ((second : List ℕ) × IsReturned R.ahead R.behind data_reader.old second
+        × Appends (O.taken out.old) (O.taken out.new) second × (blake2b_digest 64 second ≡ digest.now)) }
+    ensures end { OnOk result (IsAtEnd (R.ahead data_reader.new)) }
+    ensures calm { OnOk result (R.faults data_reader.new ≡ R.faults data_reader.old) }
+    ensures out_calm { OnOk result (O.sink_faults out.new ≡ O.sink_faults out.old) }
+    ensures refused { IfErr result (CopyingFails (IsReturned R.ahead R.behind data_reader.old) R.faults data_reader.old data_reader.new
+        O.taken O.sink_faults out.old out.new digest.now) }
+{
+    go_back(data_reader)?;
+    let second = copy_hashed(alloc, data_reader, out)?;
+    if second != *digest {
+        return Err(faults::data_changed());
+    }
+    flush(out)
+}
+
+// Copies all that is ahead, and answers its Blake2b digest of 64 bytes.
+fn copy_hashed<S: Source, O: Sink>(alloc: Global, source: &mut S, out: &mut O) -> Result<[u8; 64]>
+    ensures copied { IfOk result (λ d. (message : List ℕ) × ReadsWhole S.ahead S.behind S.faults source.old source.new message
+        × Appends (O.taken out.old) (O.taken out.new) message × (d ≡ blake2b_digest 64 message)) }
+    ensures calm { OnOk result (O.sink_faults out.new ≡ O.sink_faults out.old) }
+    ensures refused { IfErr result (λ e. IsReadFault S.faults source.old source.new e ⊎ OutputFails O.sink_faults out.old out.new e) }
+    ensures front { OnErr result ((message : List ℕ) × IsAhead (S.ahead source.old) message
+        × AppendsFront (O.taken out.old) (O.taken out.new) message) }
+{
+    let mut buf = piece_buffer(alloc)?;
+    let mut hasher = Blake2b::new(64);
+    copy_pieces(source, &mut buf, &mut hasher, out)?;
+    let mut digest = [0u8; 64];
+    hasher.finalize(&mut digest);
+    Ok(digest)
+}
+
+// Copies all that is ahead through the buffer, and feeds it to the hash.
+fn copy_pieces<S: Source, O: Sink>(
+    source: &mut S,
+    buf: &mut [u8],
+    hasher: &mut Blake2b,
+    out: &mut O,
+) -> Result<()>
+    requires some { 0 < length buf.old }
+    requires open { has_finalized hasher.old ≡ false }
+    ensures fed { OnOk result ((message : List ℕ) × ReadsWhole S.ahead S.behind S.faults source.old source.new message
+        × Appends (O.taken out.old) (O.taken out.new) message
+        × ((m : List ℕ) → IsFed hasher.old m → IsFed hasher.new (m ++ message))) }
+    ensures length { output_length hasher.new ≡ output_length hasher.old }
+    ensures calm { OnOk result (O.sink_faults out.new ≡ O.sink_faults out.old) }
+    ensures refused { IfErr result (λ e. IsReadFault S.faults source.old source.new e ⊎ OutputFails O.sink_faults out.old out.new e) }
+    ensures front { OnErr result ((message : List ℕ) × IsAhead (S.ahead source.old) message
+        × AppendsFront (O.taken out.old) (O.taken out.new) message) }
+{
+    'pieces: loop {
+        match source.read(buf) {
+            Ok(n) => {
+                if n == 0 {
+                    return Ok(());
+                }
+                hasher.update(&buf[..n]);
+                put_bytes(out, &buf[..n])?;
+            }
+            Err(_) => return Err(faults::reading_failed()),
+        }
+    }
+}
+
+// Returns to the mark.
+fn go_back<R: Rereader>(data_reader: &mut R) -> Result<()>
+    ensures returned { OnOk result (IfSome (R.behind data_reader.old) (λ xs. R.ahead data_reader.new ≡ Some xs)) }
+    ensures calm { OnOk result (R.faults data_reader.new ≡ R.faults data_reader.old) }
+    ensures refused { IfErr result (λ e. (e ≡ going_back_failed) × Rose (R.faults data_reader.old) (R.faults data_reader.new)) }
+{
+    match data_reader.back() {
+        Ok(()) => Ok(()),
+        Err(_) => Err(faults::going_back_failed()),
+    }
+}
+
+// Writes all of the bytes.
+fn put_bytes<O: Sink>(out: &mut O, bytes: &[u8]) -> Result<()>
+    ensures all { OnOk result (Appends (O.taken out.old) (O.taken out.new) bytes.now) }
+    ensures calm { OnOk result (O.sink_faults out.new ≡ O.sink_faults out.old) }
+    ensures refused { IfErr result (OutputFails O.sink_faults out.old out.new) }
+    ensures front { OnErr result (AppendsFront (O.taken out.old) (O.taken out.new) bytes.now) }
+{
+    match put_all(out, bytes) {
+        Ok(()) => Ok(()),
+        Err(_) => Err(faults::writing_failed()),
+    }
+}
+
+// Passes on what was written.
+fn flush<O: Sink>(out: &mut O) -> Result<()>
+    ensures bytes { Keeps (O.taken out.old) (O.taken out.new) }
+    ensures calm { OnOk result (O.sink_faults out.new ≡ O.sink_faults out.old) }
+    ensures refused { IfErr result (OutputFails O.sink_faults out.old out.new) }
+{
+    match out.flush() {
+        Ok(()) => Ok(()),
+        Err(_) => Err(faults::writing_failed()),
+    }
+}

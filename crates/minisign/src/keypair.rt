@@ -1,0 +1,332 @@
+//! Pairs of keys, and how they are made.
+
+ghost use Rattle.std.specs.Prelude.{◌≡◌, ◌⊎◌, ℕ, List, ◌++◌, length, string_bytes, IfOk, IfErr, OnOk, OnErr};
+ghost use Rattle.std.specs.Option.{option_map};
+ghost use Rattle.std.specs.Int.{to_le_bytes, w64};
+ghost use Rattle.std.specs.Io.KnownBytes.{Consumes};
+ghost use Rattle.minisign_base.specs.Devices.{HasGiven};
+ghost use Rattle.minisign_base.specs.Faults.{out_of_memory, writing_failed};
+ghost use Rattle.minisign.specs.Records.{public_key_bytes, secret_key_bytes};
+ghost use Rattle.minisign.specs.Sealing.{IsUnencrypted, unsealed};
+ghost use Rattle.minisign.specs.Signing.{DrawFails};
+ghost use Rattle.minisign.specs.NewPassword.{HasAskedTwice, HasNotSealed, HasTold, HasTyped, IsChoosingFault, IsPassword, IsSealingFault, IsTellingFault};
+ghost use Rattle.minisign.specs.Generation.{AreSeedAndKeynum, FailsAtPart, IsGenuinePair, IsSealedOf, IsSealedPair, IsUnsealedPair, OpensToPair, SealedPairFails, RawPairFails, TakesPart, WritingFails, opened_key, public_key_of, sealed_key, sealing_memory, sealing_operations, secret_of, unsealed_key};
+
+use crate::constants::{CHK_ALG, KDF_ALG, KDF_NONE, MEMLIMIT, OPSLIMIT, SIGALG};
+use crate::drawing::draw;
+use crate::keynum::{KeynumPK, KeynumSK};
+use crate::public_key::PublicKey;
+use crate::secret_key::SecretKey;
+use minisign_base::devices::random_sources::RandomSource;
+use minisign_base::devices::sinks::{Sink, put_and_flush};
+use minisign_base::devices::sources::Source;
+use minisign_base::helpers::{get_password, store_u64_le};
+use minisign_base::prompt::Prompt;
+use minisign_base::scheme::Scheme;
+use minisign_base::{Result, faults};
+use std::alloc::Global;
+
+/// A public key and the secret key that belongs to it.
+#[derive(Clone, Debug, Drop)]
+pub struct KeyPair {
+    /// The public key.
+    pub pk: PublicKey,
+    /// The secret key, sealed or not.
+    pub sk: SecretKey,
+}
+
+// The random bytes of a sealed pair, in the order in which they are drawn.
+#[derive(Drop)]
+struct Drawn {
+    seed: [u8; 32],
+    keynum: [u8; 8],
+    salt: [u8; 32],
+}
+
+impl KeyPair {
+    /// Makes a pair that is not sealed, of 32 random bytes of a seed and then 8 of an identifier.
+    ///
+    /// Takes no memory: it succeeds unless the random source failed.
+    pub fn generate_unencrypted_keypair<S: Scheme, Z: RandomSource>(
+        scheme: &S,
+        random: &mut Z,
+    ) -> Result<KeyPair>
+        ensures made { IfOk result (λ pair. IsUnsealedPair (S.public_of scheme.now) (Z.random_ahead random.old) (Z.random_ahead random.new) pair.pk pair.sk) }
+        ensures genuine { IfOk result (λ pair. IsGenuinePair (S.public_of scheme.now) pair.pk pair.sk) }
+        ensures unencrypted { IfOk result (λ pair. IsUnencrypted pair.sk) }
+        ensures calm { OnOk result (Z.random_faults random.new ≡ Z.random_faults random.old) }
+        ensures refused { IfErr result (DrawFails Z.random_faults random.old random.new) }
+        ensures given { HasGiven (Z.random_ahead random.old) (Z.random_ahead random.new) }
+    {
+        let (seed, keynum) = draw_seed_and_keynum(random)?;
+        Ok(make_pair(scheme, &seed, keynum))
+    }
+
+    /// Makes a pair that is not sealed, and writes the 42 bytes of its public key to `pk_sink` and the 158
+    /// of its secret key to `sk_sink`.
+    ///
+    /// Refused are, in this order: a failing `random`; memory for the bytes of both keys, with neither sink
+    /// touched; a failing `pk_sink`; and a failing `sk_sink`. The public key is written and flushed before
+    /// the secret one is begun, and the secret one is flushed at the end. A sink that failed took a
+    /// beginning of its key.
+    pub fn generate_and_write_unencrypted_keypair<S: Scheme, Z: RandomSource, P: Sink, K: Sink>(
+        alloc: Global,
+        scheme: &S,
+        random: &mut Z,
+        pk_sink: &mut P,
+        sk_sink: &mut K,
+    ) -> Result<KeyPair>
+        // The pair, and what the sinks took of it.
+        ensures made { IfOk result (λ pair. IsUnsealedPair (S.public_of scheme.now) (Z.random_ahead random.old) (Z.random_ahead random.new) pair.pk pair.sk) }
+        ensures genuine { IfOk result (λ pair. IsGenuinePair (S.public_of scheme.now) pair.pk pair.sk) }
+        ensures unencrypted { IfOk result (λ pair. IsUnencrypted pair.sk) }
+        ensures public { IfOk result (λ pair. TakesPart P.taken P.sink_faults pk_sink.old pk_sink.new (public_key_bytes pair.pk)) }
+        ensures secret { IfOk result (λ pair. TakesPart K.taken K.sink_faults sk_sink.old sk_sink.new (secret_key_bytes pair.sk)) }
+        ensures calm { OnOk result (Z.random_faults random.new ≡ Z.random_faults random.old) }
+
+        // Why it was refused.
+        ensures refused { IfErr result (RawPairFails (S.public_of scheme.now) Z.random_ahead Z.random_faults random.old random.new
+            P.taken P.sink_faults pk_sink.old pk_sink.new K.taken K.sink_faults sk_sink.old sk_sink.new) }
+        ensures given { HasGiven (Z.random_ahead random.old) (Z.random_ahead random.new) }
+    {
+        let pair = KeyPair::generate_unencrypted_keypair(scheme, random)?;
+        let public = pair.pk.to_bytes(alloc)?;
+        let secret = pair.sk.to_bytes(alloc)?;
+        write_parts(pk_sink, sk_sink, &public, &secret)?;
+        Ok(pair)
+    }
+
+    /// Makes a pair whose secret key is sealed under a password, of 32 random bytes of a seed, then 8 of an
+    /// identifier, and then 32 of a salt. All of them are drawn before anything is asked.
+    ///
+    /// Where no `password` is handed in, the prompt says what it is for, asks for it twice, and tells of the
+    /// derivation, which takes some 32 MiB of memory; else the prompt is left alone. The secret key is opened
+    /// again by `SecretKey::from_box` with the same password.
+    ///
+    /// Refused are, in this order: a failing `random`, with nothing asked; what `get_password` refuses, at the
+    /// first question and then at the second; two passwords that differ (`passwords_differ`); memory for the
+    /// derivation. A prompt that cannot be written to is refused at each text.
+    pub fn generate_encrypted_keypair<S: Scheme, Z: RandomSource, R: Source, W: Sink>(
+        alloc: Global,
+        scheme: &S,
+        random: &mut Z,
+        password: Option<String>,
+        prompt: &mut Prompt<R, W>,
+    ) -> Result<KeyPair>
+        ensures made { IfOk result (λ pair. (typed : List ℕ)
+            × IsPassword R.ahead R.left R.faults W.taken W.sink_faults (option_map (λ s. string_bytes s) password) prompt.old prompt.new typed
+            × IsSealedPair (S.public_of scheme.now) typed (Z.random_ahead random.old) (Z.random_ahead random.new) pair.pk pair.sk
+            × OpensToPair (S.public_of scheme.now) typed pair.pk pair.sk) }
+        ensures calm { OnOk result (Z.random_faults random.new ≡ Z.random_faults random.old) }
+        ensures refused { IfErr result (SealedPairFails Z.random_ahead Z.random_faults random.old random.new
+            R.ahead R.left R.faults W.taken W.sink_faults (option_map (λ s. string_bytes s) password) prompt.old prompt.new) }
+        ensures given { HasGiven (Z.random_ahead random.old) (Z.random_ahead random.new) }
+    {
+        let drawn = draw_with_salt(random)?;
+        seal_pair(alloc, scheme, &drawn, password, prompt)
+    }
+}
+
+// Seals a pair under the password, or asks for one.
+fn seal_pair<S: Scheme, R: Source, W: Sink>(
+    alloc: Global,
+    scheme: &S,
+    drawn: &Drawn,
+    password: Option<String>,
+    prompt: &mut Prompt<R, W>,
+) -> Result<KeyPair>
+    ensures sealed { IfOk result (λ pair. (typed : List ℕ)
+        × IsPassword R.ahead R.left R.faults W.taken W.sink_faults (option_map (λ s. string_bytes s) password) prompt.old prompt.new typed
+        × IsSealedOf (S.public_of scheme.now) drawn.now.seed drawn.now.keynum drawn.now.salt typed pair.pk pair.sk) }
+    ensures refused { IfErr result (IsSealingFault R.ahead R.left R.faults W.taken W.sink_faults (option_map (λ s. string_bytes s) password) prompt.old prompt.new) }
+{
+    match password {
+        Some(password) => make_sealed_pair(alloc, scheme, drawn, password.as_bytes()),
+        None => ask_and_seal(alloc, scheme, drawn, prompt),
+    }
+}
+
+// Asks for a password, and seals a pair under it.
+fn ask_and_seal<S: Scheme, R: Source, W: Sink>(
+    alloc: Global,
+    scheme: &S,
+    drawn: &Drawn,
+    prompt: &mut Prompt<R, W>,
+) -> Result<KeyPair>
+    ensures typed { IfOk result (λ pair. (password : List ℕ) × HasTyped R.ahead R.left R.faults W.taken W.sink_faults prompt.old prompt.new password
+        × IsSealedOf (S.public_of scheme.now) drawn.now.seed drawn.now.keynum drawn.now.salt password pair.pk pair.sk) }
+    ensures refused { IfErr result (λ e. IsChoosingFault R.ahead R.left R.faults W.taken W.sink_faults prompt.old prompt.new e
+        ⊎ HasNotSealed R.ahead R.left R.faults W.taken W.sink_faults prompt.old prompt.new e) }
+{
+    let password = choose_password(alloc, prompt)?;
+    seal_aloud(alloc, scheme, drawn, password.as_bytes(), prompt)
+}
+
+// Says what a password is for, and asks for it twice.
+#[tactic(auto, unfolding(crate::specs::NewPassword::purpose_line, crate::specs::NewPassword::first_question, crate::specs::NewPassword::second_question))]
+fn choose_password<R: Source, W: Sink>(alloc: Global, prompt: &mut Prompt<R, W>) -> Result<String>
+    ensures chosen { IfOk result (λ password. HasAskedTwice R.ahead R.left R.faults W.taken W.sink_faults prompt.old prompt.new (string_bytes password) (string_bytes password)) }
+    ensures refused { IfErr result (IsChoosingFault R.ahead R.left R.faults W.taken W.sink_faults prompt.old prompt.new) }
+{
+    prompt.say("Please enter a password to protect the secret key.\n")?;
+    let password = get_password(alloc, prompt, "Password: ")?;
+    let again = get_password(alloc, prompt, "Password (one more time): ")?;
+    if password != again {
+        return Err(faults::passwords_differ());
+    }
+    Ok(password)
+}
+
+// Seals a pair under a password, and tells of it.
+#[tactic(auto, unfolding(crate::specs::NewPassword::sealing_text, crate::specs::NewPassword::done_line))]
+fn seal_aloud<S: Scheme, R: Source, W: Sink>(
+    alloc: Global,
+    scheme: &S,
+    drawn: &Drawn,
+    password: &[u8],
+    prompt: &mut Prompt<R, W>,
+) -> Result<KeyPair>
+    ensures told { OnOk result (HasTold W.taken W.sink_faults prompt.old prompt.new) }
+    ensures sealed { IfOk result (λ pair. IsSealedOf (S.public_of scheme.now) drawn.now.seed drawn.now.keynum drawn.now.salt password.now pair.pk pair.sk) }
+    ensures refused { IfErr result (IsTellingFault W.taken W.sink_faults prompt.old prompt.new) }
+{
+    prompt.say("Deriving a key from the password in order to encrypt the secret key... ")?;
+    let pair = make_sealed_pair(alloc, scheme, drawn, password)?;
+    prompt.say("done\n")?;
+    Ok(pair)
+}
+
+// Writes both parts: the public one is passed on before the secret one is begun.
+fn write_parts<P: Sink, K: Sink>(
+    pk_sink: &mut P,
+    sk_sink: &mut K,
+    public: &[u8],
+    secret: &[u8],
+) -> Result<()>
+    ensures public { OnOk result (TakesPart P.taken P.sink_faults pk_sink.old pk_sink.new public.now) }
+    ensures secret { OnOk result (TakesPart K.taken K.sink_faults sk_sink.old sk_sink.new secret.now) }
+    ensures refused { IfErr result (WritingFails P.taken P.sink_faults pk_sink.old pk_sink.new
+        K.taken K.sink_faults sk_sink.old sk_sink.new public.now secret.now) }
+{
+    write_part(pk_sink, public)?;
+    write_part(sk_sink, secret)
+}
+
+// Writes a part and passes it on.
+fn write_part<W: Sink>(sink: &mut W, part: &[u8]) -> Result<()>
+    ensures taken { OnOk result (TakesPart W.taken W.sink_faults sink.old sink.new part.now) }
+    ensures failed { OnErr result (FailsAtPart W.taken W.sink_faults sink.old sink.new part.now) }
+    ensures refused { IfErr result (λ e. e ≡ writing_failed) }
+{
+    match put_and_flush(sink, part) {
+        Ok(()) => Ok(()),
+        Err(_) => Err(faults::writing_failed()),
+    }
+}
+
+// The pair of a seed under an identifier, sealed with a salt under a password.
+fn make_sealed_pair<S: Scheme>(
+    alloc: Global,
+    scheme: &S,
+    drawn: &Drawn,
+    password: &[u8],
+) -> Result<KeyPair>
+    ensures sealed { IfOk result (λ pair. IsSealedOf (S.public_of scheme.now) drawn.now.seed drawn.now.keynum drawn.now.salt password.now pair.pk pair.sk) }
+    ensures refused { IfErr result (λ e. e ≡ out_of_memory) }
+{
+    let KeyPair { pk, sk } = make_pair(scheme, &drawn.seed, drawn.keynum);
+    let sk = sk.seal(alloc, drawn.salt, password)?;
+    Ok(KeyPair { pk, sk })
+}
+
+// The random bytes of a sealed pair: a seed, an identifier, and a salt.
+fn draw_with_salt<Z: RandomSource>(random: &mut Z) -> Result<Drawn>
+    ensures drawn { IfOk result (λ z. Consumes (Z.random_ahead random.old) (Z.random_ahead random.new) (z.seed ++ z.keynum ++ z.salt)) }
+    ensures lengths { IfOk result (λ z. AreSeedAndKeynum z.seed z.keynum) }
+    ensures salt { IfOk result (λ z. length z.salt ≡ 32) }
+    ensures calm { OnOk result (Z.random_faults random.new ≡ Z.random_faults random.old) }
+    ensures refused { IfErr result (DrawFails Z.random_faults random.old random.new) }
+    ensures given { HasGiven (Z.random_ahead random.old) (Z.random_ahead random.new) }
+{
+    let (seed, keynum) = draw_seed_and_keynum(random)?;
+    let salt = draw(random)?;
+    Ok(Drawn { seed, keynum, salt })
+}
+
+// Draws 32 bytes of a seed, and then 8 of an identifier.
+fn draw_seed_and_keynum<Z: RandomSource>(random: &mut Z) -> Result<([u8; 32], [u8; 8])>
+    ensures drawn { IfOk result (λ z. Consumes (Z.random_ahead random.old) (Z.random_ahead random.new) (z.0 ++ z.1)) }
+    ensures lengths { IfOk result (λ z. AreSeedAndKeynum z.0 z.1) }
+    ensures calm { OnOk result (Z.random_faults random.new ≡ Z.random_faults random.old) }
+    ensures refused { IfErr result (DrawFails Z.random_faults random.old random.new) }
+    ensures given { HasGiven (Z.random_ahead random.old) (Z.random_ahead random.new) }
+{
+    let seed = draw(random)?;
+    let keynum = draw(random)?;
+    Ok((seed, keynum))
+}
+
+// The pair of a seed under an identifier, not sealed.
+fn make_pair<S: Scheme>(scheme: &S, seed: &[u8; 32], keynum: [u8; 8]) -> KeyPair
+    ensures public { result.pk ≡ public_key_of (S.public_of scheme.now) seed.now keynum }
+    ensures secret { result.sk ≡ unsealed_key keynum (secret_of (S.public_of scheme.now) seed.now) }
+{
+    let (secret, public) = scheme.keypair(seed);
+    KeyPair {
+        pk: PublicKey {
+            sig_alg: SIGALG,
+            keynum_pk: KeynumPK { keynum, pk: public },
+        },
+        sk: make_secret_key(keynum, secret),
+    }
+}
+
+// The secret key of these secret bytes under an identifier, not sealed.
+#[tactic(auto, unfolding(crate::specs::Generation::unsealed_key))]
+fn make_secret_key(keynum: [u8; 8], secret: [u8; 64]) -> SecretKey
+    ensures { result ≡ unsealed_key keynum secret }
+{
+    let mut sk = SecretKey {
+        sig_alg: SIGALG,
+        kdf_alg: KDF_NONE,
+        chk_alg: CHK_ALG,
+        kdf_salt: [0; 32],
+        kdf_opslimit_le: [0; 8],
+        kdf_memlimit_le: [0; 8],
+        keynum_sk: KeynumSK {
+            keynum,
+            sk: secret,
+            chk: [0; 32],
+        },
+    };
+    sk.write_checksum();
+    sk
+}
+
+impl SecretKey {
+    // Seals a key that is not sealed, with a salt and the limits by default.
+    fn seal(self, alloc: Global, salt: [u8; 32], password: &[u8]) -> Result<SecretKey>
+        ensures sealed { (keynum secret : List ℕ) → self ≡ unsealed_key keynum secret → IfOk result (λ k. k ≡ sealed_key keynum secret salt password.now) }
+        ensures opened { (keynum secret : List ℕ) → self ≡ unsealed_key keynum secret → IfOk result (λ k. unsealed k password.now ≡ opened_key keynum secret salt) }
+        ensures refused { IfErr result (λ e. e ≡ out_of_memory) }
+    {
+        let mut sk = self.with_limits(salt);
+        sk.unseal(alloc, password, u32::MAX)?;
+        Ok(sk)
+    }
+
+    // Names the key derivation, its salt and the limits by default.
+    #[tactic(auto, unfolding(crate::specs::Generation::opened_key))]
+    fn with_limits(self, salt: [u8; 32]) -> SecretKey
+        ensures named { (keynum secret : List ℕ) → self ≡ unsealed_key keynum secret → result ≡ opened_key keynum secret salt }
+        ensures memory { result.memory_limit ≡ to_le_bytes w64 sealing_memory }
+        ensures operations { result.operations_limit ≡ to_le_bytes w64 sealing_operations }
+    {
+        let mut sk = self;
+        sk.kdf_alg = KDF_ALG;
+        sk.kdf_salt = salt;
+        sk.kdf_opslimit_le = store_u64_le(OPSLIMIT);
+        sk.kdf_memlimit_le = store_u64_le(MEMLIMIT);
+        sk
+    }
+}

@@ -1,0 +1,105 @@
+//! A public key as a text.
+
+ghost use Rattle.std.specs.Prelude.{◌≡◌, ◌⊎◌, Some, MatchResult, IfOk, IfErr, string_bytes};
+ghost use Rattle.minisign_base.specs.Faults.{out_of_memory};
+ghost use Rattle.minisign.specs.PublicKeyText.{PublicKeyText, public_key_fault};
+ghost use Rattle.minisign.specs.Records.{PublicKeyRecord};
+ghost use Rattle.minisign.specs.Texts.{IsRefused};
+
+use crate::public_key::PublicKey;
+use minisign_base::Result;
+use std::alloc::Global;
+use std::fmt;
+use std::marker::Model;
+
+/// A text that may hold a public key; nothing is tested before a key is read from it. `Display` writes
+/// the text.
+#[derive(Debug, Drop)]
+pub struct PublicKeyBox(String);
+
+impl Model for PublicKeyBox {
+    ghost use Rattle.std.specs.Prelude.{List, ℕ, string_bytes};
+
+    ghost Value = { List ℕ };
+
+    ghost view = { λ b. string_bytes b.0 };
+}
+
+impl PublicKeyBox {
+    /// A box that holds a copy of the text. Only want of memory is refused.
+    pub fn from_string(alloc: Global, text: &str) -> Result<PublicKeyBox>
+        ensures text { IfOk result (λ b. b ≡ text.now) }
+        ensures refused { IfErr result (λ e. e ≡ out_of_memory) }
+    {
+        Ok(PublicKeyBox(String::from_str(alloc, text)?))
+    }
+
+    /// The text. Takes no memory.
+    pub fn into_string(self) -> String
+        ensures { string_bytes result ≡ self }
+    {
+        self.0
+    }
+
+    /// The bytes of the text. Only want of memory is refused.
+    pub fn to_bytes(&self, alloc: Global) -> Result<Vec<u8>>
+        ensures bytes { IfOk result (λ v. v.items ≡ self.now) }
+        ensures refused { IfErr result (λ e. e ≡ out_of_memory) }
+    {
+        let mut bytes = Vec::new(alloc);
+        bytes.extend_from_slice(self.0.as_bytes())?;
+        Ok(bytes)
+    }
+
+    /// A box with the same text. Only want of memory is refused.
+    pub fn try_clone(&self, alloc: Global) -> Result<PublicKeyBox>
+        ensures text { IfOk result (λ b. b ≡ self.now) }
+        ensures refused { IfErr result (λ e. e ≡ out_of_memory) }
+    {
+        PublicKeyBox::from_string(alloc, self.as_str())
+    }
+
+    /// The public key that the text holds: `PublicKey::from_box` of this box.
+    pub fn into_public_key(self, alloc: Global) -> Result<PublicKey>
+        ensures read { IfOk result (PublicKeyText self) }
+        ensures exact { (k : PublicKeyRecord) → PublicKeyText self k →
+            MatchResult result (λ v. v ≡ k) (λ e. e ≡ out_of_memory) }
+        ensures refused { IfErr result (λ e. (e ≡ out_of_memory)
+            ⊎ IsRefused (PublicKeyText self) (public_key_fault self) e) }
+    {
+        PublicKey::from_box(alloc, self)
+    }
+
+    // The text.
+    pub(crate) fn as_str(&self) -> &str
+        ensures { result.now ≡ self.now }
+    {
+        self.0.as_str()
+    }
+}
+
+/// Takes no memory.
+impl From<String> for PublicKeyBox {
+    ghost from_gives = { λ text b. b ≡ string_bytes text };
+
+    fn from(text: String) -> PublicKeyBox {
+        PublicKeyBox(text)
+    }
+}
+
+/// Takes no memory.
+impl From<PublicKeyBox> for String {
+    ghost from_gives = { λ b text. string_bytes text ≡ b };
+
+    fn from(public_key_box: PublicKeyBox) -> String {
+        public_key_box.into_string()
+    }
+}
+
+impl fmt::Display for PublicKeyBox {
+    ghost output = { λ b. Some b };
+
+    fn fmt<W: fmt::Write>(&self, f: &mut fmt::Formatter<W>) -> fmt::Result {
+        f.write_str(self.as_str())
+    }
+}

@@ -1,0 +1,7 @@
+use Rattle.std.proofs.Common.{refl}
+use Rattle.minisign_kdf.specs.Diagonal.{standard_order}
+use Rattle.minisign_kdf.proofs.order.in_standard_order.Goals as goal
+
+pub returns : goal.returns
+unfolding standard_order
+returns c = refl

@@ -1,0 +1,9 @@
+use Rattle.std.proofs.Common.{bit_xor, arith}
+use Rattle.minisign_kdf.proofs.Sixteen.{zip2_rows}
+use Rattle.minisign_kdf.proofs.salsa.xor_of.Goals as goal
+
+pub returns : goal.returns
+returns c =
+    let x = c.args.x in
+    let y = c.args.y in
+    zip2_rows bit_xor x.a x.b x.c x.d y.a y.b y.c y.d (omega arith) (omega arith) (omega arith) (omega arith) (omega arith) (omega arith) (omega arith) (omega arith)

@@ -1,0 +1,39 @@
+/* Preloaded into a program, refuses its request for memory number REFUSE_AT, and where REFUSE_REST is
+   set each one behind it too. Says so by one byte on the descriptor REFUSE_SAYS. */
+#define _GNU_SOURCE
+#include <dlfcn.h>
+#include <stddef.h>
+#include <stdlib.h>
+#include <unistd.h>
+
+static long requests;
+
+static int is_refused(void)
+{
+    const char *at = getenv("REFUSE_AT");
+    const char *says = getenv("REFUSE_SAYS");
+    long number = at ? atol(at) : 0;
+
+    requests += 1;
+    if (number == 0 || requests < number || (requests > number && !getenv("REFUSE_REST")))
+        return 0;
+    return says && write(atoi(says), "x", 1) == 1;
+}
+
+void *malloc(size_t size)
+{
+    static void *(*given)(size_t);
+
+    if (!given)
+        given = (void *(*)(size_t))dlsym(RTLD_NEXT, "malloc");
+    return is_refused() ? NULL : given(size);
+}
+
+void *realloc(void *old, size_t size)
+{
+    static void *(*given)(void *, size_t);
+
+    if (!given)
+        given = (void *(*)(void *, size_t))dlsym(RTLD_NEXT, "realloc");
+    return is_refused() ? NULL : given(old, size);
+}
