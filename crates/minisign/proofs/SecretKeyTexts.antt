@@ -24,8 +24,7 @@ record IsSecondLine (text y : List ℕ) : Type 0 where
 
 second_line : (text x y : List ℕ) (rest : List (List ℕ)) → lines text ≡ x ∷ y ∷ rest → IsSecondLine text y
 second_line text x y rest cut =
-    let two : 1 < length (lines text) = rw cut (omega arith) in
-    record { some = lt-ltb 0 (length (lines text)) (omega arith); more = lt-ltb 1 (length (lines text)) two; at = rw cut refl }
+    record { some = rw cut refl; more = rw cut refl; at = rw cut refl }
 
 -- a text whose second line is the base64 of a key
 read_text : (text x y bytes : List ℕ) (rest : List (List ℕ)) (k : SecretKeyRecord) → lines text ≡ x ∷ y ∷ rest → IsBase64Of y bytes → ReadsSecretKey bytes k
