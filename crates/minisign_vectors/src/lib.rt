@@ -22,6 +22,8 @@ mod limits;
 #[cfg(test)]
 mod records;
 #[cfg(test)]
+mod scalar_blake2b;
+#[cfg(test)]
 mod sign;
 #[cfg(test)]
 mod toy;
