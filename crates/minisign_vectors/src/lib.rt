@@ -32,6 +32,7 @@ mod sealed_keys;
 #[cfg(test)]
 mod secret_keys;
 mod seeking;
+mod scalar_blake2b;
 #[cfg(test)]
 mod sign;
 #[cfg(test)]
