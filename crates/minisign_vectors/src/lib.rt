@@ -20,6 +20,8 @@ mod keys_for_tests;
 #[cfg(test)]
 mod limits;
 #[cfg(test)]
+mod plain_scrypt;
+#[cfg(test)]
 mod records;
 #[cfg(test)]
 mod sign;
