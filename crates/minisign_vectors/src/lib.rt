@@ -25,6 +25,7 @@ mod limits;
 mod lines;
 #[cfg(test)]
 mod prompts;
+mod plain_scrypt;
 #[cfg(test)]
 mod records;
 #[cfg(test)]
