@@ -2,6 +2,7 @@
 //!
 //! Each expected value comes from outside: from a standard, from Python's hashlib, or worked out by hand
 //! from a definition. None is what a crate of this repository answered.
+
 #![tactic(auto)]
 
 #[cfg(test)]
@@ -24,16 +25,19 @@ mod limits;
 #[cfg(test)]
 mod lines;
 #[cfg(test)]
-mod prompts;
 mod plain_scrypt;
 #[cfg(test)]
+mod prompts;
+#[cfg(test)]
 mod records;
+#[cfg(test)]
+mod scalar_blake2b;
 #[cfg(test)]
 mod sealed_keys;
 #[cfg(test)]
 mod secret_keys;
+#[cfg(test)]
 mod seeking;
-mod scalar_blake2b;
 #[cfg(test)]
 mod sign;
 #[cfg(test)]
