@@ -18,3 +18,4 @@ pub mod SecretKeyTexts
 pub mod GeneratedKeys
 pub mod Openings
 pub mod SignatureTexts
+pub mod VouchedTexts

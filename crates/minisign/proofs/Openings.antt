@@ -146,7 +146,7 @@ pub opening_headline : (text password : List ℕ) (max_p : ℕ) (r : Result Secr
     → MatchResult r (IsOpened text password max_p) (λ e. (e ≡ out_of_memory) ⊎ RefusesOpening text password max_p e)
     → (k : SecretKeyRecord) → SecretKeyText text k → k.kdf ≡ scrypt_kdf
     → MatchResult r (λ v. OpensWithin k password max_p × (v ≡ unsealed k password))
-      (λ e. (e ≡ out_of_memory) ⊎ (¬ (OpensWithin k password max_p) × (password_refusal k password max_p ≡ Some e)))
+    (λ e. (e ≡ out_of_memory) ⊎ (¬ (OpensWithin k password max_p) × (password_refusal k password max_p ≡ Some e)))
 opening_headline text password max_p (Ok v) opened k read kdf =
     let same : opened.sealed ≡ k = one_key_text text k opened.sealed read opened.read in
     (rw same at opened.opens, opened.key ∙ ap (λ (l : SecretKeyRecord). unsealed l password) same)

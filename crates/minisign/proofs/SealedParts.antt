@@ -109,6 +109,7 @@ pub restored_key : (k new : SecretKeyRecord) (stream password : List ℕ) → st
 restored_key k new stream password is once twice =
     let same : stream_of new password ≡ stream = ap (λ (l : SecretKeyRecord). stream_of l password) once ∙ same_stream k stream password ∙ sym is in
     ap (xored new) same ∙ twice
+
 -- the stream does not depend on what is sealed
 pub stream_of_xored : (k : SecretKeyRecord) (stream password : List ℕ) → stream_of (xored k stream) password ≡ stream_of k password
 unfolding xored stream_of key_numbers
