@@ -1,6 +1,6 @@
 -- What the two lines of a text say of the secret key that it reads as.
 use Rattle.std.proofs.Common.{◌≡◌, ℕ, ◌+◌, ◌<◌, ◌≤◌, ◌⊎◌, true, false, List, ◌∷◌, ◌++◌, length, nat_le, Some, Result, Ok, Err, MatchResult, IfOk, refl, sym, ap, ◌∙◌, inr, arith}
-use Rattle.std.proofs.lemmas.Bool.{lt-ltb, lt-leb}
+use Rattle.std.proofs.lemmas.Bool.{lt-leb}
 use Rattle.std.proofs.lemmas.List.{length-append}
 use Rattle.std.specs.Str.Lines.{lines}
 use Rattle.minisign_base.specs.Fault.{Fault}
@@ -23,9 +23,7 @@ record IsSecondLine (text y : List ℕ) : Type 0 where
   at : line_at 1 text ≡ y
 
 second_line : (text x y : List ℕ) (rest : List (List ℕ)) → lines text ≡ x ∷ y ∷ rest → IsSecondLine text y
-second_line text x y rest cut =
-    let two : 1 < length (lines text) = rw cut (omega arith) in
-    record { some = lt-ltb 0 (length (lines text)) (omega arith); more = lt-ltb 1 (length (lines text)) two; at = rw cut refl }
+second_line text x y rest cut = record { some = rw cut refl; more = rw cut refl; at = rw cut refl }
 
 -- a text whose second line is the base64 of a key
 read_text : (text x y bytes : List ℕ) (rest : List (List ℕ)) (k : SecretKeyRecord) → lines text ≡ x ∷ y ∷ rest → IsBase64Of y bytes → ReadsSecretKey bytes k
