@@ -19,3 +19,4 @@ pub mod GeneratedKeys
 pub mod Openings
 pub mod Asking
 pub mod SignatureTexts
+pub mod VouchedTexts

@@ -27,6 +27,7 @@ pub mod signing;
 mod signing_texts;
 mod texts;
 pub mod verifying;
+pub mod verifying_texts;
 
 pub use constants::DEFAULT_COMMENT;
 pub use keypair::KeyPair;
@@ -42,3 +43,4 @@ pub use signature_bones::SignatureBones;
 pub use signature_box::SignatureBox;
 pub use signing::sign;
 pub use verifying::verify;
+pub use verifying_texts::verify_texts;
