@@ -23,7 +23,8 @@ record IsSecondLine (text y : List ℕ) : Type 0 where
   at : line_at 1 text ≡ y
 
 second_line : (text x y : List ℕ) (rest : List (List ℕ)) → lines text ≡ x ∷ y ∷ rest → IsSecondLine text y
-second_line text x y rest cut = record { some = rw cut refl; more = rw cut refl; at = rw cut refl }
+second_line text x y rest cut =
+    record { some = rw cut refl; more = rw cut refl; at = rw cut refl }
 
 -- a text whose second line is the base64 of a key
 pub read_text : (text x y bytes : List ℕ) (rest : List (List ℕ)) (k : SecretKeyRecord) → lines text ≡ x ∷ y ∷ rest → IsBase64Of y bytes → ReadsSecretKey bytes k
