@@ -16,8 +16,9 @@ use Rattle.minisign_base.specs.Fault.{Fault}
 use Rattle.minisign_base.specs.Faults.{missing_untrusted_comment, missing_signature, missing_trusted_comment, missing_global_signature, untrusted_comment_prefix, signature_not_base64, record_too_short, trusted_comment_prefix, unsupported_signature_algorithm}
 use Rattle.minisign.specs.Records.{CommentsRecord, SignatureRecord, SignatureBoxRecord, ReadsSignature, IsKnownAlgorithm, legacy_algorithm, prehashed_algorithm}
 use Rattle.minisign.specs.Texts.{IsBase64Of, IsDecided, base64_bytes, is_base64, has_line, line_at, untrusted_comment_label}
-use Rattle.minisign.specs.SignatureText.{EncodesSignature, SignatureText, HasFourLines, is_known_algorithm, signature_fault, trusted_comment_label}
+use Rattle.minisign.specs.SignatureText.{EncodesSignature, SignatureText, HasFourLines, is_known_algorithm, signature_tests, signature_fault, trusted_comment_label}
 use Rattle.minisign.proofs.Base64Texts.{bytes_read, is_read, reads, one_decoding}
+use Rattle.minisign.proofs.ReadTexts.{all_hold}
 use Rattle.minisign.proofs.RecordFields.{joined_fields, one_signature, stored_algorithm, stored_length}
 
 -- a line that begins with a label
@@ -85,8 +86,19 @@ unfolding signature_fault
 no_fault text x h =
     let before = lines_before (lines text) h.four_lines in
     let signature = encodes_tests (trim (line_at 1 text)) x.signature h.signature in
-    rw (before.0, before.1, before.2, h.four_lines, begins (line_at 0 text) untrusted_comment_label _ h.untrusted_comment, signature.0, signature.1,
-    begins (line_at 2 text) trusted_comment_label _ h.trusted_comment.1, signature.2, known x.signature.algorithm h.algorithm, is_read _ _ h.comment_signature) refl
+    rw (
+      before.0,
+      before.1,
+      before.2,
+      h.four_lines,
+      begins (line_at 0 text) untrusted_comment_label _ h.untrusted_comment,
+      signature.0,
+      signature.1,
+      begins (line_at 2 text) trusted_comment_label _ h.trusted_comment.1,
+      signature.2,
+      known x.signature.algorithm h.algorithm,
+      is_read _ _ h.comment_signature,
+    ) refl
 
 pub one_signature_text : (text : List ℕ) (x y : SignatureBoxRecord) → SignatureText text x → SignatureText text y → x ≡ y
 one_signature_text text x y h j =
@@ -114,23 +126,10 @@ signature_in_front bytes l = record {
   front = (drop 64 (drop 8 (drop 2 bytes)), joined_fields bytes _ _ _ _ _ _ (sym (take-append-drop 2 bytes)) (sym (take-append-drop 8 (drop 2 bytes))) (sym (take-append-drop 64 (drop 8 (drop 2 bytes)))));
 }
 
-tested : (holds : Bool) (others : Option Fault) (e : Fault) → cond holds others (Some e) ≡ None → (holds ≡ true) × (others ≡ None)
-tested true others e h = (refl, h)
-tested false others e h = cc h
-
 read_where_none_fails : (text : List ℕ) → signature_fault text ≡ None → (x : SignatureBoxRecord) × SignatureText text x
 unfolding signature_fault signature_in
 read_where_none_fails text h =
-    let first = tested _ _ _ h in
-    let second = tested _ _ _ first.1 in
-    let third = tested _ _ _ second.1 in
-    let fourth = tested _ _ _ third.1 in
-    let untrusted = tested _ _ _ fourth.1 in
-    let base64 = tested _ _ _ untrusted.1 in
-    let long = tested _ _ _ base64.1 in
-    let trusted = tested _ _ _ long.1 in
-    let algorithm = tested _ _ _ trusted.1 in
-    let signed = tested _ _ _ algorithm.1 in
+    let (_, (_, (_, (fourth, (untrusted, (base64, (long, (trusted, (algorithm, (signed, _)))))))))) = all_hold (signature_tests text) h in
     let bytes : List ℕ = base64_bytes (trim (line_at 1 text)) in
     let comments : CommentsRecord = record {
       untrusted = drop (length untrusted_comment_label) (line_at 0 text);
@@ -140,12 +139,12 @@ read_where_none_fails text h =
       record { signature = signature_in bytes; comments = Some comments },
       record {
         comments = comments;
-        four_lines = fourth.0;
-        untrusted_comment = begins_with (line_at 0 text) untrusted_comment_label untrusted.0;
-        signature = record { bytes = bytes; base64 = reads _ base64.0; reads = signature_in_front bytes (leb-true 74 _ long.0) };
-        algorithm = is_known (take 2 bytes) algorithm.0;
-        trusted_comment = (_, begins_with (line_at 2 text) trusted_comment_label trusted.0, refl);
-        comment_signature = reads _ signed.0;
+        four_lines = fourth;
+        untrusted_comment = begins_with (line_at 0 text) untrusted_comment_label untrusted;
+        signature = record { bytes = bytes; base64 = reads _ base64; reads = signature_in_front bytes (leb-true 74 _ long) };
+        algorithm = is_known (take 2 bytes) algorithm;
+        trusted_comment = (_, begins_with (line_at 2 text) trusted_comment_label trusted, refl);
+        comment_signature = reads _ signed;
         box = refl;
       },
     )

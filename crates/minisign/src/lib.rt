@@ -26,6 +26,7 @@ pub mod signature_box;
 pub mod signing;
 mod texts;
 pub mod verifying;
+pub mod verifying_texts;
 
 pub use constants::DEFAULT_COMMENT;
 pub use keypair::KeyPair;
@@ -41,3 +42,4 @@ pub use signature_bones::SignatureBones;
 pub use signature_box::SignatureBox;
 pub use signing::sign;
 pub use verifying::verify;
+pub use verifying_texts::verify_texts;
