@@ -18,5 +18,6 @@ pub mod SecretKeyTexts
 pub mod GeneratedKeys
 pub mod Openings
 pub mod Asking
+pub mod WrittenKeys
 pub mod SignatureTexts
 pub mod VouchedTexts

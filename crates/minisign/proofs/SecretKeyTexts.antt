@@ -26,7 +26,7 @@ second_line : (text x y : List ℕ) (rest : List (List ℕ)) → lines text ≡ 
 second_line text x y rest cut = record { some = rw cut refl; more = rw cut refl; at = rw cut refl }
 
 -- a text whose second line is the base64 of a key
-read_text : (text x y bytes : List ℕ) (rest : List (List ℕ)) (k : SecretKeyRecord) → lines text ≡ x ∷ y ∷ rest → IsBase64Of y bytes → ReadsSecretKey bytes k
+pub read_text : (text x y bytes : List ℕ) (rest : List (List ℕ)) (k : SecretKeyRecord) → lines text ≡ x ∷ y ∷ rest → IsBase64Of y bytes → ReadsSecretKey bytes k
     → SecretKeyText text k
 read_text text x y bytes rest k cut encoded stored =
     let second = second_line text x y rest cut in
