@@ -126,7 +126,7 @@ asking_refused ahead left faults taken sink_faults old new text max_p k (Err e) 
 pub end_told : {R W : Type 0} (taken : W → Option (List ℕ)) (sink_faults : W → ℕ) (old mid new : Prompt R W) (k : SecretKeyRecord) (password : List ℕ) (max_p : ℕ) (e : Fault)
     → work_refusal k max_p ≡ None → HasSaid taken sink_faults old mid deriving_text
     → ((e ≡ writing_failed) × HasNotSaid taken sink_faults mid new done_text)
-      ⊎ ((checksum_refusal (unsealed k password) wrong_password ≡ Some e) × HasSaid taken sink_faults mid new done_text)
+    ⊎ ((checksum_refusal (unsealed k password) wrong_password ≡ Some e) × HasSaid taken sink_faults mid new done_text)
     → IsToldRefusal (HasSaid taken sink_faults old new) (HasNotSaid taken sink_faults old new) k password max_p e
 end_told taken sink_faults old mid new k password max_p e work said (inl (is, failed)) =
     inr (inr (inr (inl (is, work, said_one taken sink_faults old mid new deriving_text done_text said failed))))

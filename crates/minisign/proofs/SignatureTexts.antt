@@ -85,8 +85,19 @@ unfolding signature_fault
 no_fault text x h =
     let before = lines_before (lines text) h.four_lines in
     let signature = encodes_tests (trim (line_at 1 text)) x.signature h.signature in
-    rw (before.0, before.1, before.2, h.four_lines, begins (line_at 0 text) untrusted_comment_label _ h.untrusted_comment, signature.0, signature.1,
-    begins (line_at 2 text) trusted_comment_label _ h.trusted_comment.1, signature.2, known x.signature.algorithm h.algorithm, is_read _ _ h.comment_signature) refl
+    rw (
+      before.0,
+      before.1,
+      before.2,
+      h.four_lines,
+      begins (line_at 0 text) untrusted_comment_label _ h.untrusted_comment,
+      signature.0,
+      signature.1,
+      begins (line_at 2 text) trusted_comment_label _ h.trusted_comment.1,
+      signature.2,
+      known x.signature.algorithm h.algorithm,
+      is_read _ _ h.comment_signature,
+    ) refl
 
 pub one_signature_text : (text : List ℕ) (x y : SignatureBoxRecord) → SignatureText text x → SignatureText text y → x ≡ y
 one_signature_text text x y h j =

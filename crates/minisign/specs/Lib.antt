@@ -11,3 +11,5 @@ pub mod SecretKeyText
 pub mod Generation
 pub mod NewPassword
 pub mod Opening
+pub mod NewPassword
+pub mod Generation

@@ -40,17 +40,17 @@ is_known_algorithm a = bytes_eq a legacy_algorithm || bytes_eq a prehashed_algor
 unfoldable pub signature_fault : List ℕ → Option Fault
 signature_fault text =
     first_failing (
-      record { holds = has_line 0 text; fault = missing_untrusted_comment }
-      ∷ record { holds = has_line 1 text; fault = missing_signature }
-      ∷ record { holds = has_line 2 text; fault = missing_trusted_comment }
-      ∷ record { holds = has_line 3 text; fault = missing_global_signature }
-      ∷ record { holds = starts_with nat_eq (line_at 0 text) untrusted_comment_label; fault = untrusted_comment_prefix }
-      ∷ record { holds = is_base64 (trim (line_at 1 text)); fault = signature_not_base64 }
-      ∷ record { holds = nat_le 74 (length (base64_bytes (trim (line_at 1 text)))); fault = record_too_short }
-      ∷ record { holds = starts_with nat_eq (line_at 2 text) trusted_comment_label; fault = trusted_comment_prefix }
-      ∷ record { holds = is_known_algorithm (take 2 (base64_bytes (trim (line_at 1 text)))); fault = unsupported_signature_algorithm }
-      ∷ record { holds = is_base64 (trim (line_at 3 text)); fault = signature_not_base64 }
-      ∷ []
+    record { holds = has_line 0 text; fault = missing_untrusted_comment }
+    ∷ record { holds = has_line 1 text; fault = missing_signature }
+    ∷ record { holds = has_line 2 text; fault = missing_trusted_comment }
+    ∷ record { holds = has_line 3 text; fault = missing_global_signature }
+    ∷ record { holds = starts_with nat_eq (line_at 0 text) untrusted_comment_label; fault = untrusted_comment_prefix }
+    ∷ record { holds = is_base64 (trim (line_at 1 text)); fault = signature_not_base64 }
+    ∷ record { holds = nat_le 74 (length (base64_bytes (trim (line_at 1 text)))); fault = record_too_short }
+    ∷ record { holds = starts_with nat_eq (line_at 2 text) trusted_comment_label; fault = trusted_comment_prefix }
+    ∷ record { holds = is_known_algorithm (take 2 (base64_bytes (trim (line_at 1 text)))); fault = unsupported_signature_algorithm }
+    ∷ record { holds = is_base64 (trim (line_at 3 text)); fault = signature_not_base64 }
+    ∷ []
     )
 
 -- the text that is written for a signature with comments
