@@ -18,4 +18,5 @@ pub mod SecretKeyTexts
 pub mod GeneratedKeys
 pub mod Openings
 pub mod Asking
+pub mod WrittenKeys
 pub mod SignatureTexts

@@ -23,12 +23,10 @@ record IsSecondLine (text y : List ℕ) : Type 0 where
   at : line_at 1 text ≡ y
 
 second_line : (text x y : List ℕ) (rest : List (List ℕ)) → lines text ≡ x ∷ y ∷ rest → IsSecondLine text y
-second_line text x y rest cut =
-    let two : 1 < length (lines text) = rw cut (omega arith) in
-    record { some = lt-ltb 0 (length (lines text)) (omega arith); more = lt-ltb 1 (length (lines text)) two; at = rw cut refl }
+second_line text x y rest cut = record { some = rw cut refl; more = rw cut refl; at = rw cut refl }
 
 -- a text whose second line is the base64 of a key
-read_text : (text x y bytes : List ℕ) (rest : List (List ℕ)) (k : SecretKeyRecord) → lines text ≡ x ∷ y ∷ rest → IsBase64Of y bytes → ReadsSecretKey bytes k
+pub read_text : (text x y bytes : List ℕ) (rest : List (List ℕ)) (k : SecretKeyRecord) → lines text ≡ x ∷ y ∷ rest → IsBase64Of y bytes → ReadsSecretKey bytes k
     → SecretKeyText text k
 read_text text x y bytes rest k cut encoded stored =
     let second = second_line text x y rest cut in

@@ -1,6 +1,7 @@
 //! A secret key read from its text, and written to it.
 
-ghost use Rattle.std.specs.Prelude.{◌≡◌, ◌⊎◌, Some, MatchResult, IfOk, IfErr};
+ghost use Rattle.std.specs.Prelude.{◌≡◌, ◌⊎◌, Some, MatchResult, IfOk, IfErr, IfSome};
+ghost use Rattle.std.specs.Str.Iter.{LacksByte};
 ghost use Rattle.std.specs.Option.{option_map};
 ghost use Rattle.minisign_base.specs.Faults.{out_of_memory};
 ghost use Rattle.minisign.specs.Records.{SecretKeyRecord};
@@ -35,10 +36,12 @@ impl SecretKey {
     /// Writes the key as a text: `untrusted comment: ` and the comment, or `rsign encrypted secret key`
     /// where none is given, on one line, and the base64 of the 158 bytes on another, each ended by a line
     /// feed. The bytes are written as they stand: of an opened sealed key the opened ones, still under
-    /// the name of its key derivation. Only want of memory is refused.
+    /// the name of its key derivation. Where no line feed stands in the comment, the text reads as the key
+    /// again. Only want of memory is refused.
     #[tactic(auto, unfolding(crate::specs::SecretKeyText::secret_key_text, crate::specs::SecretKeyText::default_secret_key_comment))]
     pub fn to_box(&self, alloc: Global, comment: Option<&str>) -> Result<SecretKeyBox>
         ensures text { IfOk result (λ b. b ≡ secret_key_text (option_map (λ s. s.now) comment.entry) self.now) }
+        ensures reads_back { IfSome comment.entry (λ s. LacksByte 10 s.now) → IfOk result (λ b. SecretKeyText b self.now) }
         ensures refused { IfErr result (λ e. e ≡ out_of_memory) }
     {
         match comment {
@@ -51,6 +54,7 @@ impl SecretKey {
     #[tactic(auto, unfolding(crate::specs::SecretKeyText::secret_key_text, crate::specs::Texts::untrusted_comment_label))]
     fn write_box(&self, alloc: Global, comment: &str) -> Result<SecretKeyBox>
         ensures text { IfOk result (λ b. b ≡ secret_key_text (Some comment.now) self.now) }
+        ensures reads_back { LacksByte 10 comment.now → IfOk result (λ b. SecretKeyText b self.now) }
         ensures refused { IfErr result (λ e. e ≡ out_of_memory) }
     {
         let bytes = self.to_bytes(alloc)?;

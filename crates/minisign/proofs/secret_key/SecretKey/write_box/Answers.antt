@@ -1,0 +1,20 @@
+use Rattle.std.proofs.Common.{◌∙◌, refl, sym, subst, rules}
+use Rattle.base64.specs.GeneralPurpose.{IsBytes}
+use Rattle.minisign.specs.Records.{SecretKeyRecord, ReadsSecretKey, secret_key_bytes}
+use Rattle.minisign.specs.SecretKeyText.{secret_key_text}
+use Rattle.minisign.specs.Texts.{IsBase64Of, base64_of, untrusted_comment_label}
+use Rattle.minisign.proofs.WrittenKeys.{written_secret_key}
+use Rattle.minisign.proofs.secret_key.SecretKey.write_box.Goals as goal
+
+pub returns-clause-text : goal.returns-clause-text
+unfolding secret_key_text untrusted_comment_label
+returns-clause-text c = search rules
+
+pub returns-clause-reads_back : goal.returns-clause-reads_back
+unfolding secret_key_text
+returns-clause-reads_back c = λ lacks.
+    let k : SecretKeyRecord = c.args.self.now in
+    let base64 : IsBase64Of (base64_of (secret_key_bytes k)) (secret_key_bytes k) =
+    record { each = subst IsBytes (c.deref.ensures.value ∙ c.in_ok-bytes.ensures.bytes) c.in_ok-encoded.ensures.base64.each; encoded = refl } in
+    let stored : ReadsSecretKey (secret_key_bytes k) k = subst (λ b. ReadsSecretKey b k) c.in_ok-bytes.ensures.bytes c.in_ok-bytes.ensures.reads_back in
+    written_secret_key c.args.comment.now (base64_of (secret_key_bytes k)) (secret_key_bytes k) c.from.result k lacks base64 stored (returns-clause-text c)
