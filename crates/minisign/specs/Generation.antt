@@ -7,9 +7,11 @@ use Rattle.minisign_base.specs.Devices.{AppendsFront, Rose}
 use Rattle.minisign_base.specs.Fault.{Fault}
 use Rattle.minisign_base.specs.Faults.{out_of_memory, writing_failed}
 use Rattle.minisign_base.specs.Scheme.{IsBytes}
-use Rattle.minisign.specs.NewPassword.{IsSealingFault}
+use Rattle.minisign.specs.NewPassword.{IsPassword, IsSealingFault}
+use Rattle.minisign.specs.PublicKeyText.{public_key_text}
 use Rattle.minisign.specs.Records.{PublicKeyRecord, SecretKeyRecord, legacy_algorithm, public_key_bytes, secret_key_bytes}
 use Rattle.minisign.specs.Sealing.{Opens, checksum_of, no_kdf, scrypt_kdf, unsealed}
+use Rattle.minisign.specs.SecretKeyText.{secret_key_text}
 use Rattle.minisign.specs.Signing.{DrawFails, IsGenuine}
 
 -- the checksum's algorithm: Blake2b
@@ -172,3 +174,25 @@ SealedPairFails random_ahead random_faults random_old random_new ahead left faul
     (DrawFails random_faults random_old random_new e × (new ≡ old))
     ⊎ (AllDrawn random_ahead random_faults random_old random_new
     × IsSealingFault ahead left faults taken sink_faults password old new e)
+
+-- a sealed pair was made, under the password that was handed in or typed
+pub record HasSealed {R W : Type 0} (public_of : List ℕ → List ℕ) (random_old random_new : Option (List ℕ))
+    (ahead_of : R → Option (List ℕ)) (left_of faults_of : R → ℕ) (taken_of : W → Option (List ℕ)) (sink_faults_of : W → ℕ)
+    (given : Option (List ℕ)) (old new : Prompt R W) (pk : PublicKeyRecord) (sk : SecretKeyRecord) : Type 0 where
+  pub password : List ℕ
+  pub prompted : IsPassword ahead_of left_of faults_of taken_of sink_faults_of given old new password
+  pub pair : IsSealedPair public_of password random_old random_new pk sk
+  pub opens : OpensToPair public_of password pk sk
+
+-- a sealed pair is not written as texts: it was not made, and both sinks are as they were, or its parts were
+-- not written
+abbrev pub SealedTextsFail : {Z R W P K : Type 0} → (List ℕ → List ℕ) → (Z → Option (List ℕ)) → (Z → ℕ) → Z → Z
+    → (R → Option (List ℕ)) → (R → ℕ) → (R → ℕ) → (W → Option (List ℕ)) → (W → ℕ) → Option (List ℕ) → Prompt R W → Prompt R W
+    → (P → Option (List ℕ)) → (P → ℕ) → P → P → (K → Option (List ℕ)) → (K → ℕ) → K → K → Option (List ℕ) → Fault → Type 0
+SealedTextsFail public_of random_ahead random_faults random_old random_new ahead left faults taken sink_faults password old new
+    pk_taken pk_faults pk_old pk_new sk_taken sk_faults sk_old sk_new comment e =
+    (SealedPairFails random_ahead random_faults random_old random_new ahead left faults taken sink_faults password old new e
+    × (pk_new ≡ pk_old) × (sk_new ≡ sk_old))
+    ⊎ ((pk : PublicKeyRecord) × (sk : SecretKeyRecord)
+    × HasSealed public_of (random_ahead random_old) (random_ahead random_new) ahead left faults taken sink_faults password old new pk sk
+    × PartsFail pk_taken pk_faults pk_old pk_new sk_taken sk_faults sk_old sk_new (public_key_text pk) (secret_key_text comment sk) e)

@@ -1,33 +1,21 @@
 -- What a prompt writes and reads where a key is sealed: unless a password is handed in, it says what for, asks
 -- twice, and tells of the derivation.
 use Rattle.std.specs.Prelude.{◌≡◌, ◌≢◌, ◌⊎◌, ℕ, List, Option, None, Some, Ok, codes}
-use Rattle.std.specs.Io.KnownBytes.{Appends}
 use Rattle.minisign_base.specs.declared.prompt.Prompt.{Prompt}
 use Rattle.minisign_base.specs.Fault.{Fault}
 use Rattle.minisign_base.specs.Faults.{out_of_memory, passwords_differ, writing_failed}
 use Rattle.minisign_base.specs.Prompts.{HasAsked, HasNotSaid, IsAskingFault}
 use Rattle.minisign.specs.Acceptance.{line}
+use Rattle.minisign.specs.Opening.{HasSaid, asking_text, done_text}
 
 unfoldable pub purpose_line : List ℕ
 purpose_line = line (codes "Please enter a password to protect the secret key.")
-
-unfoldable pub first_question : List ℕ
-first_question = codes "Password: "
 
 unfoldable pub second_question : List ℕ
 second_question = codes "Password (one more time): "
 
 unfoldable pub sealing_text : List ℕ
 sealing_text = codes "Deriving a key from the password in order to encrypt the secret key... "
-
-unfoldable pub done_line : List ℕ
-done_line = line (codes "done")
-
--- a text was written and passed on; nothing was read
-pub record HasSaid {R W : Type 0} (taken_of : W → Option (List ℕ)) (sink_faults_of : W → ℕ) (old new : Prompt R W) (text : List ℕ) : Type 0 where
-  pub reader : new.reader ≡ old.reader
-  pub written : Appends (taken_of old.writer) (taken_of new.writer) text
-  pub calm : sink_faults_of new.writer ≡ sink_faults_of old.writer
 
 -- it was said what for, and a password was typed, and then another
 pub record HasAskedTwice {R W : Type 0} (ahead_of : R → Option (List ℕ)) (left_of faults_of : R → ℕ) (taken_of : W → Option (List ℕ)) (sink_faults_of : W → ℕ)
@@ -37,7 +25,7 @@ pub record HasAskedTwice {R W : Type 0} (ahead_of : R → Option (List ℕ)) (le
   pub first_bytes : List ℕ
   pub second_bytes : List ℕ
   pub said : HasSaid taken_of sink_faults_of old begun purpose_line
-  pub first : HasAsked ahead_of left_of faults_of taken_of sink_faults_of begun between first_question first_bytes (Ok password)
+  pub first : HasAsked ahead_of left_of faults_of taken_of sink_faults_of begun between asking_text first_bytes (Ok password)
   pub second : HasAsked ahead_of left_of faults_of taken_of sink_faults_of between new second_question second_bytes (Ok again)
 
 -- it was said what for, and no first password came
@@ -45,7 +33,7 @@ pub record HasNoFirst {R W : Type 0} (ahead_of : R → Option (List ℕ)) (left_
     (old new : Prompt R W) (e : Fault) : Type 0 where
   pub begun : Prompt R W
   pub said : HasSaid taken_of sink_faults_of old begun purpose_line
-  pub asking : IsAskingFault ahead_of left_of faults_of taken_of sink_faults_of begun new first_question e
+  pub asking : IsAskingFault ahead_of left_of faults_of taken_of sink_faults_of begun new asking_text e
 
 -- a first password was typed, and no second one came
 pub record HasNoSecond {R W : Type 0} (ahead_of : R → Option (List ℕ)) (left_of faults_of : R → ℕ) (taken_of : W → Option (List ℕ)) (sink_faults_of : W → ℕ)
@@ -55,7 +43,7 @@ pub record HasNoSecond {R W : Type 0} (ahead_of : R → Option (List ℕ)) (left
   pub first_bytes : List ℕ
   pub password : List ℕ
   pub said : HasSaid taken_of sink_faults_of old begun purpose_line
-  pub first : HasAsked ahead_of left_of faults_of taken_of sink_faults_of begun between first_question first_bytes (Ok password)
+  pub first : HasAsked ahead_of left_of faults_of taken_of sink_faults_of begun between asking_text first_bytes (Ok password)
   pub asking : IsAskingFault ahead_of left_of faults_of taken_of sink_faults_of between new second_question e
 
 -- two passwords were typed, and they differ
@@ -79,13 +67,13 @@ IsChoosingFault ahead left faults taken sink_faults old new e =
 pub record HasTold {R W : Type 0} (taken_of : W → Option (List ℕ)) (sink_faults_of : W → ℕ) (old new : Prompt R W) : Type 0 where
   pub between : Prompt R W
   pub before : HasSaid taken_of sink_faults_of old between sealing_text
-  pub after : HasSaid taken_of sink_faults_of between new done_line
+  pub after : HasSaid taken_of sink_faults_of between new done_text
 
 -- the derivation was told of, and memory was wanting for it, or its end could not be told
 pub record HasNotDone {R W : Type 0} (taken_of : W → Option (List ℕ)) (sink_faults_of : W → ℕ) (old new : Prompt R W) (e : Fault) : Type 0 where
   pub between : Prompt R W
   pub before : HasSaid taken_of sink_faults_of old between sealing_text
-  pub failed : ((e ≡ out_of_memory) × (new ≡ between)) ⊎ ((e ≡ writing_failed) × HasNotSaid taken_of sink_faults_of between new done_line)
+  pub failed : ((e ≡ out_of_memory) × (new ≡ between)) ⊎ ((e ≡ writing_failed) × HasNotSaid taken_of sink_faults_of between new done_text)
 
 -- why no key was sealed once the password was chosen
 abbrev pub IsTellingFault : {R W : Type 0} → (W → Option (List ℕ)) → (W → ℕ) → Prompt R W → Prompt R W → Fault → Type 0

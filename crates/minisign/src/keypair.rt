@@ -10,7 +10,9 @@ ghost use Rattle.minisign.specs.Records.{public_key_bytes, secret_key_bytes};
 ghost use Rattle.minisign.specs.Sealing.{IsUnencrypted, unsealed};
 ghost use Rattle.minisign.specs.Signing.{DrawFails};
 ghost use Rattle.minisign.specs.NewPassword.{HasAskedTwice, HasNotSealed, HasTold, HasTyped, IsChoosingFault, IsPassword, IsSealingFault, IsTellingFault};
-ghost use Rattle.minisign.specs.Generation.{AreSeedAndKeynum, FailsAtPart, IsGenuinePair, IsSealedOf, IsSealedPair, IsUnsealedPair, OpensToPair, SealedPairFails, RawPairFails, TakesPart, WritingFails, opened_key, public_key_of, sealed_key, sealing_memory, sealing_operations, secret_of, unsealed_key};
+ghost use Rattle.minisign.specs.PublicKeyText.{public_key_text};
+ghost use Rattle.minisign.specs.SecretKeyText.{secret_key_text};
+ghost use Rattle.minisign.specs.Generation.{AreSeedAndKeynum, FailsAtPart, HasSealed, IsGenuinePair, IsSealedOf, IsSealedPair, IsUnsealedPair, OpensToPair, SealedPairFails, SealedTextsFail, RawPairFails, TakesPart, WritingFails, opened_key, public_key_of, sealed_key, sealing_memory, sealing_operations, secret_of, unsealed_key};
 
 use crate::constants::{CHK_ALG, KDF_ALG, KDF_NONE, MEMLIMIT, OPSLIMIT, SIGALG};
 use crate::drawing::draw;
@@ -113,10 +115,8 @@ impl KeyPair {
         password: Option<String>,
         prompt: &mut Prompt<R, W>,
     ) -> Result<KeyPair>
-        ensures made { IfOk result (λ pair. (typed : List ℕ)
-            × IsPassword R.ahead R.left R.faults W.taken W.sink_faults (option_map (λ s. string_bytes s) password) prompt.old prompt.new typed
-            × IsSealedPair (S.public_of scheme.now) typed (Z.random_ahead random.old) (Z.random_ahead random.new) pair.pk pair.sk
-            × OpensToPair (S.public_of scheme.now) typed pair.pk pair.sk) }
+        ensures made { IfOk result (λ pair. HasSealed (S.public_of scheme.now) (Z.random_ahead random.old) (Z.random_ahead random.new)
+            R.ahead R.left R.faults W.taken W.sink_faults (option_map (λ s. string_bytes s) password) prompt.old prompt.new pair.pk pair.sk) }
         ensures calm { OnOk result (Z.random_faults random.new ≡ Z.random_faults random.old) }
         ensures refused { IfErr result (SealedPairFails Z.random_ahead Z.random_faults random.old random.new
             R.ahead R.left R.faults W.taken W.sink_faults (option_map (λ s. string_bytes s) password) prompt.old prompt.new) }
@@ -124,6 +124,52 @@ impl KeyPair {
     {
         let drawn = draw_with_salt(random)?;
         seal_pair(alloc, scheme, &drawn, password, prompt)
+    }
+
+    /// Makes a sealed pair as `generate_encrypted_keypair` does, and writes the text of its public key to
+    /// `pk_sink` and the one of its secret key, with the `comment` or the one by default, to `sk_sink`.
+    ///
+    /// Refused are, in this order: what that call refuses, and memory for the two texts, with neither sink
+    /// touched; a failing `pk_sink`; and a failing `sk_sink`. The public key is written and flushed before
+    /// the secret one is begun, and the secret one is flushed at the end. A sink that failed took a
+    /// beginning of its text.
+    pub fn generate_and_write_encrypted_keypair<
+        S: Scheme,
+        Z: RandomSource,
+        P: Sink,
+        K: Sink,
+        R: Source,
+        W: Sink,
+    >(
+        alloc: Global,
+        scheme: &S,
+        random: &mut Z,
+        pk_sink: &mut P,
+        sk_sink: &mut K,
+        comment: Option<&str>,
+        password: Option<String>,
+        prompt: &mut Prompt<R, W>,
+    ) -> Result<KeyPair>
+        // The pair, and what the sinks took of it.
+        ensures made { IfOk result (λ pair. HasSealed (S.public_of scheme.now) (Z.random_ahead random.old) (Z.random_ahead random.new)
+            R.ahead R.left R.faults W.taken W.sink_faults (option_map (λ s. string_bytes s) password) prompt.old prompt.new pair.pk pair.sk) }
+        ensures public { IfOk result (λ pair. TakesPart P.taken P.sink_faults pk_sink.old pk_sink.new (public_key_text pair.pk)) }
+        ensures secret { IfOk result (λ pair. TakesPart K.taken K.sink_faults sk_sink.old sk_sink.new
+            (secret_key_text (option_map (λ s. s.now) comment.entry) pair.sk)) }
+        ensures calm { OnOk result (Z.random_faults random.new ≡ Z.random_faults random.old) }
+
+        // Why it was refused.
+        ensures refused { IfErr result (SealedTextsFail (S.public_of scheme.now) Z.random_ahead Z.random_faults random.old random.new
+            R.ahead R.left R.faults W.taken W.sink_faults (option_map (λ s. string_bytes s) password) prompt.old prompt.new
+            P.taken P.sink_faults pk_sink.old pk_sink.new K.taken K.sink_faults sk_sink.old sk_sink.new
+            (option_map (λ s. s.now) comment.entry)) }
+        ensures given { HasGiven (Z.random_ahead random.old) (Z.random_ahead random.new) }
+    {
+        let pair = KeyPair::generate_encrypted_keypair(alloc, scheme, random, password, prompt)?;
+        let public = pair.pk.to_box(alloc)?.into_string();
+        let secret = pair.sk.to_box(alloc, comment)?.into_string();
+        write_parts(pk_sink, sk_sink, public.as_bytes(), secret.as_bytes())?;
+        Ok(pair)
     }
 }
 
@@ -163,7 +209,7 @@ fn ask_and_seal<S: Scheme, R: Source, W: Sink>(
 }
 
 // Says what a password is for, and asks for it twice.
-#[tactic(auto, unfolding(crate::specs::NewPassword::purpose_line, crate::specs::NewPassword::first_question, crate::specs::NewPassword::second_question))]
+#[tactic(auto, unfolding(crate::specs::NewPassword::purpose_line, crate::specs::Opening::asking_text, crate::specs::NewPassword::second_question))]
 fn choose_password<R: Source, W: Sink>(alloc: Global, prompt: &mut Prompt<R, W>) -> Result<String>
     ensures chosen { IfOk result (λ password. HasAskedTwice R.ahead R.left R.faults W.taken W.sink_faults prompt.old prompt.new (string_bytes password) (string_bytes password)) }
     ensures refused { IfErr result (IsChoosingFault R.ahead R.left R.faults W.taken W.sink_faults prompt.old prompt.new) }
@@ -178,7 +224,7 @@ fn choose_password<R: Source, W: Sink>(alloc: Global, prompt: &mut Prompt<R, W>)
 }
 
 // Seals a pair under a password, and tells of it.
-#[tactic(auto, unfolding(crate::specs::NewPassword::sealing_text, crate::specs::NewPassword::done_line))]
+#[tactic(auto, unfolding(crate::specs::NewPassword::sealing_text, crate::specs::Opening::done_text))]
 fn seal_aloud<S: Scheme, R: Source, W: Sink>(
     alloc: Global,
     scheme: &S,

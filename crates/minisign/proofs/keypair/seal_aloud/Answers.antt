@@ -1,6 +1,7 @@
 use Rattle.std.proofs.Common.{inl, inr, refl}
 use Rattle.std.proofs.lemmas.Result.{err_from_is_err_and}
-use Rattle.minisign.specs.NewPassword.{sealing_text, done_line}
+use Rattle.minisign.specs.NewPassword.{sealing_text}
+use Rattle.minisign.specs.Opening.{done_text}
 use Rattle.minisign.proofs.keypair.seal_aloud.Goals as goal
 
 pub returns-in_err-pair-clause-refused : goal.returns-in_err-pair-clause-refused
@@ -14,7 +15,7 @@ returns-in_err-pair-clause-refused g c =
     }))
 
 pub returns-in_err-say-2-clause-refused : goal.returns-in_err-say-2-clause-refused
-unfolding sealing_text done_line
+unfolding sealing_text done_text
 returns-in_err-say-2-clause-refused g c =
     let p = err_from_is_err_and c.from_residual-in_err-say-2.result c.from_residual-in_err-say-2.ensures.1 in
     let (is, rose) = c.in_err-say-2.ensures.fault in
@@ -25,7 +26,7 @@ returns-in_err-say-2-clause-refused g c =
     }))
 
 pub returns-clause-told : goal.returns-clause-told
-unfolding sealing_text done_line
+unfolding sealing_text done_text
 returns-clause-told g c = record {
   between = c.say.new.self;
   before = record { reader = c.in_ok-say.ensures.reader; written = c.in_ok-say.ensures.bytes; calm = c.in_ok-say.ensures.calm };

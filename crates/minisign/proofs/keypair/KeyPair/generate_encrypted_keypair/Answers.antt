@@ -16,7 +16,7 @@ returns-clause-made g c =
     IfOk-weaker c.seal_pair.result _ _ (λ pair (typed, prompted, sealed).
     let made : IsSealedPair public_of typed ahead left pair.pk pair.sk =
     record { seed = seed; keynum = keynum; salt = salt; lengths = c.in_ok-drawn.ensures.lengths; salt_length = c.in_ok-drawn.ensures.salt; drawn = c.in_ok-drawn.ensures.drawn; sealed = sealed } in
-    (typed, prompted, made, sealed_pair public_of typed ahead left pair.pk pair.sk made)) c.seal_pair.ensures.sealed
+    record { password = typed; prompted = prompted; pair = made; opens = sealed_pair public_of typed ahead left pair.pk pair.sk made }) c.seal_pair.ensures.sealed
 
 pub returns-clause-refused : goal.returns-clause-refused
 returns-clause-refused g c =
