@@ -1,19 +1,13 @@
 -- What the two lines of a text say of the secret key that it reads as.
-use Rattle.std.proofs.Common.{◌≡◌, ℕ, ◌+◌, ◌<◌, ◌≤◌, ◌⊎◌, true, false, List, ◌∷◌, ◌++◌, length, nat_le, Some, Result, Ok, Err, MatchResult, IfOk, refl, sym, ap, ◌∙◌, inr, arith}
-use Rattle.std.proofs.lemmas.Bool.{lt-leb}
+use Rattle.std.proofs.Common.{◌≡◌, ℕ, ◌<◌, ◌≤◌, ◌⊎◌, true, false, List, ◌∷◌, length, nat_le, Result, Ok, Err, MatchResult, IfOk, refl, ap, ◌∙◌, inr, arith}
+use Rattle.std.proofs.lemmas.Bool.{lt-ltb, lt-leb}
 use Rattle.std.proofs.lemmas.List.{length-append}
 use Rattle.std.specs.Str.Lines.{lines}
 use Rattle.minisign_base.specs.Fault.{Fault}
 use Rattle.minisign_base.specs.Faults.{out_of_memory, secret_key_not_base64, record_too_short}
-<<<<<<< HEAD
-use Rattle.minisign.specs.Records.{SecretKeyRecord, ReadsSecretKey, secret_key_bytes}
-use Rattle.minisign.specs.SecretKeyText.{SecretKeyText, RefusesSecretKeyText, secret_key_text_tests}
-use Rattle.minisign.specs.Texts.{IsBase64Of, base64_bytes, first_failing, has_line, is_base64, line_at}
-=======
 use Rattle.minisign.specs.Records.{SecretKeyRecord, ReadsSecretKey}
 use Rattle.minisign.specs.SecretKeyText.{SecretKeyText, secret_key_fault}
 use Rattle.minisign.specs.Texts.{IsBase64Of, IsRefused, base64_bytes, has_line, is_base64, line_at}
->>>>>>> 102d28af20c5d7d5a7e398a07fb3ad327ed67908
 use Rattle.minisign.proofs.Base64Texts.{bytes_read, is_read, one_decoding}
 use Rattle.minisign.proofs.RecordFields.{one_secret_key}
 
@@ -29,7 +23,8 @@ record IsSecondLine (text y : List ℕ) : Type 0 where
   at : line_at 1 text ≡ y
 
 second_line : (text x y : List ℕ) (rest : List (List ℕ)) → lines text ≡ x ∷ y ∷ rest → IsSecondLine text y
-second_line text x y rest cut = record { some = rw cut refl; more = rw cut refl; at = rw cut refl }
+second_line text x y rest cut =
+    record { some = rw cut refl; more = rw cut refl; at = rw cut refl }
 
 -- a text whose second line is the base64 of a key
 pub read_text : (text x y bytes : List ℕ) (rest : List (List ℕ)) (k : SecretKeyRecord) → lines text ≡ x ∷ y ∷ rest → IsBase64Of y bytes → ReadsSecretKey bytes k
