@@ -24,7 +24,6 @@ pub mod signature;
 pub mod signature_bones;
 pub mod signature_box;
 pub mod signing;
-mod signing_texts;
 mod texts;
 pub mod verifying;
 pub mod verifying_texts;
