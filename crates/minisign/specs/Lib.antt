@@ -1,7 +1,7 @@
 pub mod Records
 pub mod Texts
 pub mod Reading
-pub mod Acceptance
+pub mod Verifier
 pub mod PublicKeyText
 pub mod SignatureText
 pub mod Sealing
