@@ -13,7 +13,7 @@ use Rattle.minisign.specs.Acceptance.{Verifier, Vouches, Refuses, first_refusal}
 use Rattle.minisign.specs.Reading.{IsAhead, IsReadFault}
 use Rattle.minisign.specs.Verifying.{VerifyingFails, SayingFails, CopyingFails, OutputRefused, FirstPass, SecondPass, rereads}
 use Rattle.minisign.specs.VerifyingTexts.{ReadTexts, TextsFail, VerifyingTextsFails}
-use Rattle.minisign.specs.Headline.{IsVouchedFor, IsTurnedDown, IsVerdict}
+use Rattle.minisign.specs.Headline.{TextsVouchFor, IsTurnedDown, IsVerdict}
 use Rattle.minisign.proofs.PublicKeyTexts as key_texts
 use Rattle.minisign.proofs.SignatureTexts as signature_texts
 

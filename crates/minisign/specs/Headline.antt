@@ -10,7 +10,7 @@ use Rattle.minisign.specs.SignatureText.{SignatureText, signature_fault}
 
 -- the texts vouch for the message: one reads as a public key, the other as a signature box, and the box
 -- vouches for the message under the key; legacy says whether a signature over the message itself will do
-pub record IsVouchedFor (accepts : Verifier) (pk_text sig_text message : List ℕ) (legacy : Bool) : Type 0 where
+pub record TextsVouchFor (accepts : Verifier) (pk_text sig_text message : List ℕ) (legacy : Bool) : Type 0 where
   pub key : PublicKeyRecord
   pub box : SignatureBoxRecord
   pub key_read : PublicKeyText pk_text key
@@ -29,9 +29,9 @@ IsFirstCase accepts pk_text sig_text message legacy e =
 -- the texts do not vouch for the message, and this is the first failing case
 pub record IsTurnedDown (accepts : Verifier) (pk_text sig_text message : List ℕ) (legacy : Bool) (e : Fault) : Type 0 where
   pub first_case : IsFirstCase accepts pk_text sig_text message legacy e
-  pub unvouched : ¬ (IsVouchedFor accepts pk_text sig_text message legacy)
+  pub unvouched : ¬ (TextsVouchFor accepts pk_text sig_text message legacy)
 
 -- success is answered exactly where the texts vouch for the message, and else the first failing case
 abbrev pub IsVerdict : {T : Type 0} → Verifier → List ℕ → List ℕ → List ℕ → Bool → Result T Fault → Type 0
 IsVerdict accepts pk_text sig_text message legacy r =
-    MatchResult r (λ _. IsVouchedFor accepts pk_text sig_text message legacy) (IsTurnedDown accepts pk_text sig_text message legacy)
+    MatchResult r (λ _. TextsVouchFor accepts pk_text sig_text message legacy) (IsTurnedDown accepts pk_text sig_text message legacy)
