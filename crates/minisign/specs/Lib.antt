@@ -1,7 +1,7 @@
 pub mod Records
 pub mod Texts
 pub mod Reading
-pub mod Verifier
+pub mod Acceptance
 pub mod PublicKeyText
 pub mod SignatureText
 pub mod Sealing
