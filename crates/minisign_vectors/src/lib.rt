@@ -24,17 +24,23 @@ mod lines;
 #[cfg(test)]
 mod prompts;
 #[cfg(test)]
+mod public_key_texts;
+#[cfg(test)]
 mod records;
 #[cfg(test)]
 mod secret_keys;
 #[cfg(test)]
 mod sign;
 #[cfg(test)]
+mod signature_texts;
+#[cfg(test)]
 mod table;
 #[cfg(test)]
 mod toy;
 #[cfg(test)]
 mod two_signatures;
+#[cfg(test)]
+mod upstream_texts;
 #[cfg(test)]
 mod verify;
 #[cfg(test)]
