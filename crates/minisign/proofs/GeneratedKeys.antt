@@ -1,5 +1,5 @@
 -- What the keys that are generated are good for.
-use Rattle.std.proofs.Common.{◌≡◌, ◌⊎◌, ℕ, ◌≤◌, true, false, not, List, Option, None, Some, Ok, inl, inr, refl, sym, ap, ◌∙◌}
+use Rattle.std.proofs.Common.{◌≡◌, ◌⊎◌, ℕ, ◌≤◌, true, false, not, List, Option, None, Some, Ok, inl, inr, refl, sym, ap, ◌∙◌, arith}
 use Rattle.std.specs.Int.{w64, to_le_bytes}
 use Rattle.std.specs.Str.{bytes_eq}
 use Rattle.std.proofs.lemmas.Slice.Eq.{bytes_eq-Decides}
@@ -7,8 +7,10 @@ use Rattle.minisign_base.specs.Fault.{Fault}
 use Rattle.minisign_base.specs.Faults.{out_of_memory}
 use Rattle.minisign_base.specs.Limits.{Numbers, cost_log2, limits}
 use Rattle.minisign.specs.Records.{PublicKeyRecord, SecretKeyRecord}
-use Rattle.minisign.specs.Sealing.{IsUnencrypted, checksum_of, is_encrypted, key_limits, scrypt_kdf, unsealed, work_refusal, xored}
-use Rattle.minisign.specs.Generation.{AreSeedAndKeynum, IsGenuinePair, IsSealedOf, IsSealedPair, OpensToPair, opened_key, public_key_of, sealed_key, sealing_memory, sealing_operations, secret_of, unsealed_key}
+use Rattle.minisign.specs.Sealing.{IsUnencrypted, Opens, checksum_of, is_encrypted, key_limits, key_numbers, scrypt_kdf, unsealed, work_refusal, xored}
+use Rattle.minisign.specs.SecretKeyText.{SecretKeyText}
+use Rattle.minisign.specs.Generation.{AreSeedAndKeynum, IsGenuinePair, IsSealedOf, IsSealedPair, OpensOnlyTo, OpensToPair, opened_key, public_key_of, sealed_key, sealing_memory, sealing_operations, secret_of, unsealed_key}
+use Rattle.minisign.proofs.SecretKeyTexts.{one_key_text}
 use Rattle.minisign.proofs.SealingLimits.{allowed_numbers, within_bound}
 
 -- the key that is not to be sealed is none that has to be opened
@@ -89,6 +91,14 @@ opened_checksum : (keynum secret salt : List ℕ) → (opened_key keynum secret 
 unfolding opened_key unsealed_key
 opened_checksum keynum secret salt = refl
 
+-- a text that reads as a key which opens, with the limits by default, opens to that key alone
+opened_text : (sk : SecretKeyRecord) (password text : List ℕ) → Opens sk password → (key_numbers sk).p ≡ 1 → SecretKeyText text sk
+    → OpensOnlyTo text password (unsealed sk password)
+opened_text sk password text opens one read = record {
+  opens = λ max_p least. record { sealed = sk; read = read; opens = record { opens = opens; bounded = omega (arith, one, least) }; key = refl };
+  only = λ max_p other is. is.key ∙ ap (λ (k : SecretKeyRecord). unsealed k password) (one_key_text text sk is.sealed read is.read);
+}
+
 -- a sealed pair opens under its password
 pub sealed_pair : (public_of : List ℕ → List ℕ) (password : List ℕ) (ahead left : Option (List ℕ)) (pk : PublicKeyRecord) (sk : SecretKeyRecord)
     → IsSealedPair public_of password ahead left pk sk → OpensToPair public_of password pk sk
@@ -97,11 +107,14 @@ sealed_pair public_of password ahead left pk sk pair =
     let secret : List ℕ = secret_of public_of pair.seed in
     let limits = sealed_limits pair.keynum secret pair.salt password in
     let allowed : key_limits sk ≡ Ok (record { n_log2 = 15; r = 8; p = 1 }) = default_limits sk (ap (λ k. k.operations_limit) sealed.secret ∙ limits.0) (ap (λ k. k.memory_limit) sealed.secret ∙ limits.1) in
+    let numbers = allowed_numbers sk _ allowed in
+    let opens : Opens sk password = record {
+      kdf = ap (λ k. k.kdf) sealed.secret ∙ sealed_kdf pair.keynum secret pair.salt password;
+      allowed = allowed ∙ ap (λ (v : Numbers). Ok v) (sym numbers);
+      restored = ap (λ k. k.checksum) sealed.opened ∙ opened_checksum pair.keynum secret pair.salt ∙ sym (ap checksum_of sealed.opened);
+    } in
     record {
-      opens = record {
-        kdf = ap (λ k. k.kdf) sealed.secret ∙ sealed_kdf pair.keynum secret pair.salt password;
-        allowed = allowed ∙ ap (λ (v : Numbers). Ok v) (sym (allowed_numbers sk _ allowed));
-        restored = ap (λ k. k.checksum) sealed.opened ∙ opened_checksum pair.keynum secret pair.salt ∙ sym (ap checksum_of sealed.opened);
-      };
+      opens = opens;
       pair = opened_pair public_of pair.seed pair.keynum pair.salt pk (unsealed sk password) pair.lengths sealed.public sealed.opened;
+      texts = λ text read. opened_text sk password text opens (ap (λ (v : Numbers). v.p) numbers) read;
     }

@@ -1,5 +1,5 @@
 -- The pairs of keys that generation makes, from which random bytes, and what the sinks of a pair take.
-use Rattle.std.specs.Prelude.{◌≡◌, ℕ, ◌⊎◌, List, [], ◌++◌, length, replicate, Option, codes}
+use Rattle.std.specs.Prelude.{◌≡◌, ℕ, ◌≤◌, ◌⊎◌, List, [], ◌++◌, length, replicate, Option, codes}
 use Rattle.std.specs.Int.{w64, to_le_bytes}
 use Rattle.std.specs.Io.KnownBytes.{Appends, Consumes}
 use Rattle.minisign_base.specs.declared.prompt.Prompt.{Prompt}
@@ -11,7 +11,8 @@ use Rattle.minisign.specs.NewPassword.{IsPassword, IsSealingFault}
 use Rattle.minisign.specs.PublicKeyText.{public_key_text}
 use Rattle.minisign.specs.Records.{PublicKeyRecord, SecretKeyRecord, legacy_algorithm, public_key_bytes, secret_key_bytes}
 use Rattle.minisign.specs.Sealing.{Opens, checksum_of, no_kdf, scrypt_kdf, unsealed}
-use Rattle.minisign.specs.SecretKeyText.{secret_key_text}
+use Rattle.minisign.specs.Opening.{IsOpened}
+use Rattle.minisign.specs.SecretKeyText.{SecretKeyText, secret_key_text}
 use Rattle.minisign.specs.Signing.{DrawFails, IsGenuine}
 
 -- the checksum's algorithm: Blake2b
@@ -110,10 +111,17 @@ pub record IsSealedPair (public_of : List ℕ → List ℕ) (password : List ℕ
   pub drawn : Consumes ahead left (seed ++ keynum ++ salt)
   pub sealed : IsSealedOf public_of seed keynum salt password pk sk
 
--- the secret key opens under the password, and then belongs to the public key
+-- the text opens under the password, whatever bound p is within, to this key and to no other
+pub record OpensOnlyTo (text password : List ℕ) (key : SecretKeyRecord) : Type 0 where
+  pub opens : (max_p : ℕ) → 1 ≤ max_p → IsOpened text password max_p key
+  pub only : (max_p : ℕ) (other : SecretKeyRecord) → IsOpened text password max_p other → other ≡ key
+
+-- the secret key opens under the password, and then belongs to the public key; so does each text that reads
+-- as it
 pub record OpensToPair (public_of : List ℕ → List ℕ) (password : List ℕ) (pk : PublicKeyRecord) (sk : SecretKeyRecord) : Type 0 where
   pub opens : Opens sk password
   pub pair : IsGenuinePair public_of pk (unsealed sk password)
+  pub texts : (text : List ℕ) → SecretKeyText text sk → OpensOnlyTo text password (unsealed sk password)
 
 -- a sink took all of a part and passed it on
 pub record TakesPart {W : Type 0} (taken_of : W → Option (List ℕ)) (faults_of : W → ℕ) (old new : W) (part : List ℕ) : Type 0 where

@@ -1,7 +1,8 @@
 //! Pairs of keys, and how they are made.
 
-ghost use Rattle.std.specs.Prelude.{◌≡◌, ◌⊎◌, ℕ, List, ◌++◌, length, string_bytes, IfOk, IfErr, OnOk, OnErr};
+ghost use Rattle.std.specs.Prelude.{◌≡◌, ◌⊎◌, ℕ, List, ◌++◌, length, string_bytes, IfSome, IfOk, IfErr, OnOk, OnErr};
 ghost use Rattle.std.specs.Option.{option_map};
+ghost use Rattle.std.specs.Str.Iter.{LacksByte};
 ghost use Rattle.std.specs.Int.{to_le_bytes, w64};
 ghost use Rattle.std.specs.Io.KnownBytes.{Consumes};
 ghost use Rattle.minisign_base.specs.Devices.{HasGiven};
@@ -11,8 +12,9 @@ ghost use Rattle.minisign.specs.Sealing.{IsUnencrypted, unsealed};
 ghost use Rattle.minisign.specs.Signing.{DrawFails};
 ghost use Rattle.minisign.specs.NewPassword.{HasAskedTwice, HasNotSealed, HasTold, HasTyped, IsChoosingFault, IsPassword, IsSealingFault, IsTellingFault};
 ghost use Rattle.minisign.specs.PublicKeyText.{public_key_text};
-ghost use Rattle.minisign.specs.SecretKeyText.{secret_key_text};
-ghost use Rattle.minisign.specs.Generation.{AreSeedAndKeynum, FailsAtPart, HasSealed, IsGenuinePair, IsSealedOf, IsSealedPair, IsUnsealedPair, OpensToPair, SealedPairFails, SealedTextsFail, RawPairFails, TakesPart, WritingFails, opened_key, public_key_of, sealed_key, sealing_memory, sealing_operations, secret_of, unsealed_key};
+ghost use Rattle.minisign.specs.SecretKeyText.{SecretKeyText, secret_key_text};
+ghost use Rattle.minisign.specs.Opening.{IsUnencryptedText};
+ghost use Rattle.minisign.specs.Generation.{AreSeedAndKeynum, FailsAtPart, HasSealed, IsGenuinePair, IsSealedOf, IsSealedPair, IsUnsealedPair, OpensOnlyTo, OpensToPair, SealedPairFails, SealedTextsFail, RawPairFails, TakesPart, WritingFails, opened_key, public_key_of, sealed_key, sealing_memory, sealing_operations, secret_of, unsealed_key};
 
 use crate::constants::{CHK_ALG, KDF_ALG, KDF_NONE, MEMLIMIT, OPSLIMIT, SIGALG};
 use crate::drawing::draw;
@@ -56,6 +58,8 @@ impl KeyPair {
         ensures made { IfOk result (λ pair. IsUnsealedPair (S.public_of scheme.now) (Z.random_ahead random.old) (Z.random_ahead random.new) pair.pk pair.sk) }
         ensures genuine { IfOk result (λ pair. IsGenuinePair (S.public_of scheme.now) pair.pk pair.sk) }
         ensures unencrypted { IfOk result (λ pair. IsUnencrypted pair.sk) }
+        // Each text that reads as the secret key is one that `SecretKey::from_unencrypted_box` takes.
+        ensures texts { IfOk result (λ pair. (text : List ℕ) → SecretKeyText text pair.sk → IsUnencryptedText text pair.sk) }
         ensures calm { OnOk result (Z.random_faults random.new ≡ Z.random_faults random.old) }
         ensures refused { IfErr result (DrawFails Z.random_faults random.old random.new) }
         ensures given { HasGiven (Z.random_ahead random.old) (Z.random_ahead random.new) }
@@ -156,6 +160,10 @@ impl KeyPair {
         ensures public { IfOk result (λ pair. TakesPart P.taken P.sink_faults pk_sink.old pk_sink.new (public_key_text pair.pk)) }
         ensures secret { IfOk result (λ pair. TakesPart K.taken K.sink_faults sk_sink.old sk_sink.new
             (secret_key_text (option_map (λ s. s.now) comment.entry) pair.sk)) }
+        // That text opens under the password, where the comment has no line feed.
+        ensures opens_again { IfSome comment.entry (λ s. LacksByte 10 s.now) → IfOk result (λ pair. (typed : List ℕ) →
+            OpensToPair (S.public_of scheme.now) typed pair.pk pair.sk →
+            OpensOnlyTo (secret_key_text (option_map (λ s. s.now) comment.entry) pair.sk) typed (unsealed pair.sk typed)) }
         ensures calm { OnOk result (Z.random_faults random.new ≡ Z.random_faults random.old) }
 
         // Why it was refused.

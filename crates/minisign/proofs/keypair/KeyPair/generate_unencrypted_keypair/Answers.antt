@@ -9,3 +9,6 @@ returns-clause-genuine g c =
 
 pub returns-clause-unencrypted : goal.returns-clause-unencrypted
 returns-clause-unencrypted g c = subst IsUnencrypted (sym c.make_pair.ensures.secret) (unsealed_is_unencrypted _ _)
+
+pub returns-clause-texts : goal.returns-clause-texts
+returns-clause-texts g c = λ text read. record { read = read; unencrypted = returns-clause-unencrypted g c }
