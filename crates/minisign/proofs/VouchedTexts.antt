@@ -9,16 +9,16 @@ use Rattle.minisign_base.specs.Devices.{Rose}
 use Rattle.minisign_base.specs.Fault.{Fault}
 use Rattle.minisign_base.specs.Faults.{out_of_memory}
 use Rattle.minisign.specs.Records.{PublicKeyRecord, SignatureBoxRecord, is_prehashed}
-use Rattle.minisign.specs.Acceptance.{Acceptance, Accepts, Refuses, first_refusal}
+use Rattle.minisign.specs.Acceptance.{Verifier, Vouches, Refuses, first_refusal}
 use Rattle.minisign.specs.Reading.{IsAhead, IsReadFault}
 use Rattle.minisign.specs.Verifying.{VerifyingFails, SayingFails, CopyingFails, OutputRefused, FirstPass, SecondPass, rereads}
 use Rattle.minisign.specs.VerifyingTexts.{ReadTexts, TextsFail, VerifyingTextsFails}
-use Rattle.minisign.specs.Headline.{IsVouchedFor, IsTurnedDown, IsVerdict}
+use Rattle.minisign.specs.Headline.{TextsVouchFor, IsTurnedDown, IsVerdict}
 use Rattle.minisign.proofs.PublicKeyTexts as key_texts
 use Rattle.minisign.proofs.SignatureTexts as signature_texts
 
 -- a text is refused
-refused_text : (accepts : Acceptance) (pk sig message : List ℕ) (legacy : Bool) (e : Fault) → e ≢ out_of_memory → TextsFail pk sig e
+refused_text : (accepts : Verifier) (pk sig message : List ℕ) (legacy : Bool) (e : Fault) → e ≢ out_of_memory → TextsFail pk sig e
     → IsTurnedDown accepts pk sig message legacy e
 refused_text accepts pk sig message legacy e memory (inl e_is) = absurd (memory e_is)
 refused_text accepts pk sig message legacy e memory (inr (inl refused)) = record {
@@ -30,13 +30,13 @@ refused_text accepts pk sig message legacy e memory (inr (inr (read, refused))) 
   unvouched = λ v. refused.unread v.box v.box_read;
 }
 
-pub text_verdict : {T : Type 0} (accepts : Acceptance) (pk sig message : List ℕ) (legacy : Bool) (r : Result T Fault) (e : Fault) → r ≡ Err e → TextsFail pk sig e
+pub text_verdict : {T : Type 0} (accepts : Verifier) (pk sig message : List ℕ) (legacy : Bool) (r : Result T Fault) (e : Fault) → r ≡ Err e → TextsFail pk sig e
     → IfErr r (λ e. e ≢ out_of_memory) → IsVerdict accepts pk sig message legacy r
 text_verdict accepts pk sig message legacy r e is fails memory =
     subst (IsVerdict accepts pk sig message legacy) (sym is)
     (refused_text accepts pk sig message legacy e (subst (λ r. IfErr r (λ e. e ≢ out_of_memory)) is memory) fails)
 
-module _ {R W O : Type 0} (accepts : Acceptance) (pk sig : List ℕ) (legacy quiet output : Bool)
+module _ {R W O : Type 0} (accepts : Verifier) (pk sig : List ℕ) (legacy quiet output : Bool)
     (steady : R → Type 0) (ahead behind : R → Option (List ℕ)) (faults : R → ℕ) (old new : R)
     (status_taken : W → Option (List ℕ)) (status_faults : W → ℕ) (status_old status_new : W)
     (taken : O → Option (List ℕ)) (out_faults : O → ℕ) (out_old out_new : O)
@@ -64,9 +64,9 @@ module _ {R W O : Type 0} (accepts : Acceptance) (pk sig : List ℕ) (legacy qui
         record {
           first_case = inr (inr (key, box, read.key_read, read.box_read, subst (λ (t : List ℕ). first_refusal accepts key box t legacy ≡ Some e) same h.first));
           unvouched = λ v. h.unacceptable (
-              subst (λ (t : List ℕ). Accepts accepts key box t legacy) (sym same)
-              (subst (λ k. Accepts accepts k box message legacy) (key_texts.one_public_key_text pk _ _ v.key_read read.key_read)
-              (subst (λ x. Accepts accepts v.key x message legacy) (signature_texts.one_signature_text sig _ _ v.box_read read.box_read) v.vouches))
+              subst (λ (t : List ℕ). Vouches accepts key box t legacy) (sym same)
+              (subst (λ k. Vouches accepts k box message legacy) (key_texts.one_public_key_text pk _ _ v.key_read read.key_read)
+              (subst (λ x. Vouches accepts v.key x message legacy) (signature_texts.one_signature_text sig _ _ v.box_read read.box_read) v.vouches))
               );
         }
 
@@ -103,7 +103,7 @@ module _ {R W O : Type 0} (accepts : Acceptance) (pk sig : List ℕ) (legacy qui
 
     -- the verdict where both texts are read
     pub read_verdict : {T : Type 0} (r : Result T Fault)
-        → OnOk r ((m : List ℕ) × Accepts accepts key box m legacy × IsAhead (ahead old) m)
+        → OnOk r ((m : List ℕ) × Vouches accepts key box m legacy × IsAhead (ahead old) m)
         → IfErr r (VerifyingFails accepts key box legacy quiet output steady ahead behind faults old new status_taken status_faults status_old status_new taken out_faults out_old out_new)
         → IfErr r (λ e. e ≢ out_of_memory) → IsVerdict accepts pk sig message legacy r
     read_verdict (Ok x) ok err memory = record {
@@ -111,6 +111,6 @@ module _ {R W O : Type 0} (accepts : Acceptance) (pk sig : List ℕ) (legacy qui
       box = box;
       key_read = read.key_read;
       box_read = read.box_read;
-      vouches = subst (λ (t : List ℕ). Accepts accepts key box t legacy) (the_message ok.0 ok.2) ok.1;
+      vouches = subst (λ (t : List ℕ). Vouches accepts key box t legacy) (the_message ok.0 ok.2) ok.1;
     }
     read_verdict (Err e) ok err memory = fails e memory err

@@ -13,4 +13,3 @@ pub mod SecretKeyText
 pub mod Generation
 pub mod NewPassword
 pub mod Opening
-pub mod SigningTexts

@@ -3,7 +3,7 @@ use Rattle.std.specs.Prelude.{◌≡◌, ℕ, Bool, ◌⊎◌, List, Option}
 use Rattle.minisign_base.specs.Fault.{Fault}
 use Rattle.minisign_base.specs.Faults.{out_of_memory}
 use Rattle.minisign.specs.Records.{PublicKeyRecord, SignatureBoxRecord}
-use Rattle.minisign.specs.Acceptance.{Acceptance}
+use Rattle.minisign.specs.Acceptance.{Verifier}
 use Rattle.minisign.specs.PublicKeyText.{PublicKeyText, public_key_fault}
 use Rattle.minisign.specs.SignatureText.{SignatureText, signature_fault}
 use Rattle.minisign.specs.Texts.{IsRefused}
@@ -29,7 +29,7 @@ pub record RefusesTexts {R W O : Type 0} (pk_text sig_text : List ℕ) (old new 
   pub uncopied : out_new ≡ out_old
 
 -- a text is refused, or verifying fails with the key and the box that the texts read as
-abbrev pub VerifyingTextsFails : {R W O : Type 0} → Acceptance → List ℕ → List ℕ → Bool → Bool → Bool
+abbrev pub VerifyingTextsFails : {R W O : Type 0} → Verifier → List ℕ → List ℕ → Bool → Bool → Bool
     → (R → Type 0) → (R → Option (List ℕ)) → (R → Option (List ℕ)) → (R → ℕ) → R → R
     → (W → Option (List ℕ)) → (W → ℕ) → W → W → (O → Option (List ℕ)) → (O → ℕ) → O → O → Fault → Type 0
 VerifyingTextsFails accepts pk_text sig_text legacy quiet output steady ahead behind faults old new

@@ -24,12 +24,14 @@ pub mod signature;
 pub mod signature_bones;
 pub mod signature_box;
 pub mod signing;
-mod signing_texts;
 mod texts;
 pub mod verifying;
 pub mod verifying_texts;
 
-pub use constants::DEFAULT_COMMENT;
+pub use constants::{
+    DEFAULT_COMMENT, SIG_DEFAULT_CONFIG_DIR, SIG_DEFAULT_CONFIG_DIR_ENV_VAR, SIG_DEFAULT_PKFILE,
+    SIG_DEFAULT_SKFILE, SIG_SUFFIX,
+};
 pub use keypair::KeyPair;
 pub use minisign_base as base;
 pub use minisign_base::{ErrorKind, PError, Result};

@@ -1,6 +1,6 @@
 //! A signature with its comments.
 
-ghost use Rattle.std.specs.Prelude.{◌≡◌, ◌≢◌, ◌⊎◌, ◌<◌, ◌++◌, List, ℕ, true, false, None, Some, Err, length, string_bytes, MatchOption, MatchResult, IfOk, IfErr};
+ghost use Rattle.std.specs.Prelude.{◌≡◌, ◌≢◌, ◌⊎◌, ◌<◌, ◌++◌, List, ℕ, true, false, None, Some, Err, length, string_bytes, MatchOption, MatchResult, IfOk, IfErr, IfSome};
 ghost use Rattle.std.specs.Str.{trim};
 ghost use Rattle.minisign_base.specs.Faults.{out_of_memory, record_too_short, signature_box_incomplete, signature_not_base64, trusted_comment_absent, trusted_comment_prefix, unsupported_signature_algorithm, untrusted_comment_prefix};
 ghost use Rattle.minisign.specs.Records.{CommentsRecord, SignatureBoxRecord, SignatureRecord, IsKnownAlgorithm};
@@ -10,7 +10,7 @@ ghost use Rattle.minisign.specs.Texts.{IsBase64Of, IsDecided, IsRefused, base64_
 use crate::constants::{SIGALG, SIGALG_PREHASHED};
 use crate::signature::Signature;
 use crate::signature_bones::SignatureBones;
-use crate::texts::{decode, encode, next_line, push_line};
+use crate::texts::{decode, encode, next_line};
 use minisign_base::{Result, faults};
 use std::alloc::Global;
 use std::marker::Model;
@@ -99,6 +99,58 @@ impl SignatureBox {
         read_text(alloc, text.as_str())
     }
 
+    /// The text of the box, the four lines that `from_string` reads, each ended by a line feed. A box that
+    /// was made from a bare signature is refused, and want of memory.
+    ///
+    /// Comments are written as they stand: they are read back where the untrusted one has no line feed and
+    /// no carriage return at its end, and the trusted one no line feed and no white space at its ends.
+    pub fn to_string(&self, alloc: Global) -> Result<String>
+        ensures text { MatchOption self.now.comments (result ≡ Err signature_box_incomplete)
+            (λ c. MatchResult result (λ t. string_bytes t ≡ signature_text self.now.signature c) (λ e. e ≡ out_of_memory)) }
+        ensures reads_back { IfSome self.now.comments KeepsComments → IfOk result (λ t. SignatureText (string_bytes t) self.now) }
+    {
+        match &self.comments {
+            Some(comments) => written(alloc, &self.signature, comments),
+            None => Err(faults::signature_box_incomplete()),
+        }
+    }
+
+    /// As `to_string`, of a box that is handed over.
+    pub fn into_string(self, alloc: Global) -> Result<String>
+        ensures text { MatchOption self.comments (result ≡ Err signature_box_incomplete)
+            (λ c. MatchResult result (λ t. string_bytes t ≡ signature_text self.signature c) (λ e. e ≡ out_of_memory)) }
+    {
+        self.to_string(alloc)
+    }
+
+    /// The bytes of the text of the box, refused as `to_string`.
+    pub fn to_bytes(&self, alloc: Global) -> Result<Vec<u8>>
+        ensures { MatchOption self.now.comments (result ≡ Err signature_box_incomplete)
+            (λ c. MatchResult result (λ v. v.items ≡ signature_text self.now.signature c) (λ e. e ≡ out_of_memory)) }
+    {
+        match self.to_string(alloc) {
+            Ok(text) => Ok(text.into_bytes()),
+            Err(fault) => Err(fault),
+        }
+    }
+
+    /// A box that holds the same. Only want of memory is refused.
+    pub fn try_clone(&self, alloc: Global) -> Result<SignatureBox>
+        ensures same { IfOk result (λ b. b ≡ self.now) }
+        ensures refused { IfErr result (λ e. e ≡ out_of_memory) }
+    {
+        match &self.comments {
+            Some(comments) => Ok(SignatureBox {
+                signature: self.signature.clone()?,
+                comments: Some(comments.try_clone(alloc)?),
+            }),
+            None => Ok(SignatureBox {
+                signature: self.signature.clone()?,
+                comments: None,
+            }),
+        }
+    }
+
     /// Whether the signature is over the digest of the data and not over the data itself.
     pub fn is_prehashed(&self) -> bool
         ensures { result ≡ is_prehashed self.now.signature }
@@ -136,6 +188,36 @@ impl SignatureBox {
     {
         &self.signature.keynum[..]
     }
+}
+
+impl Comments {
+    fn try_clone(&self, alloc: Global) -> Result<Comments>
+        ensures same { IfOk result (λ c. c ≡ self.now) }
+        ensures refused { IfErr result (λ e. e ≡ out_of_memory) }
+    {
+        Ok(Comments {
+            untrusted_comment: String::from_str(alloc, self.untrusted_comment.as_str())?,
+            trusted_comment: String::from_str(alloc, self.trusted_comment.as_str())?,
+            global_sig: Vec::from_slice(alloc, &self.global_sig)?,
+        })
+    }
+}
+
+// The text of a signature with comments.
+fn written(alloc: Global, signature: &Signature, comments: &Comments) -> Result<String>
+    ensures text { IfOk result (λ t. string_bytes t ≡ signature_text signature.now comments.now) }
+    ensures reads_back { KeepsComments comments.now → IsKnownAlgorithm signature.now.algorithm →
+        IfOk result (λ t. SignatureText (string_bytes t) (record { signature = signature.now; comments = Some comments.now })) }
+    ensures refused { IfErr result (λ e. e ≡ out_of_memory) }
+{
+    let bytes = signature.to_bytes(alloc)?;
+    let encoded = encode(alloc, &bytes)?;
+    let global_sig = encode(alloc, &comments.global_sig)?;
+    let text = format!(in alloc;
+        "untrusted comment: {}\n{}\ntrusted comment: {}\n{}\n",
+        comments.untrusted_comment, encoded, comments.trusted_comment, global_sig
+    )?;
+    Ok(text)
 }
 
 // The first four lines of a signature text.

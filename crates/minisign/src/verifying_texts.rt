@@ -5,7 +5,7 @@ ghost use Rattle.std.specs.Io.KnownBytes.{Appends};
 ghost use Rattle.minisign_base.specs.Devices.{Rose, HasGiven, AppendsFront};
 ghost use Rattle.minisign_base.specs.Faults.{out_of_memory};
 ghost use Rattle.minisign.specs.Records.{PublicKeyRecord, SignatureBoxRecord};
-ghost use Rattle.minisign.specs.Acceptance.{Accepts};
+ghost use Rattle.minisign.specs.Acceptance.{Vouches};
 ghost use Rattle.minisign.specs.Verifying.{Delivers, said};
 ghost use Rattle.minisign.specs.VerifyingTexts.{ReadTexts, TextsFail, VerifyingTextsFails};
 ghost use Rattle.minisign.specs.Headline.{IsVerdict};
@@ -48,7 +48,7 @@ pub fn verify_texts<S: Scheme, R: Rereader, W: Sink, O: Sink>(
     // What is accepted is vouched for, this was said of it, and it was copied where that is wanted.
     ensures accepted { OnOk result ((key : PublicKeyRecord) × (box : SignatureBoxRecord) × (message : List ℕ)
         × ReadTexts pk_text.now sig_text.now key box
-        × Accepts (S.accepts scheme.now) key box message allow_legacy
+        × Vouches (S.accepts scheme.now) key box message allow_legacy
         × Delivers output box R.steady R.ahead R.behind R.faults data_reader.old data_reader.new O.taken out.old out.new message
         × Appends (W.taken status.old) (W.taken status.new) (said quiet box)) }
     ensures quiet { quiet ≡ true → status.new ≡ status.old }
