@@ -29,6 +29,8 @@ mod plain_scrypt;
 #[cfg(test)]
 mod prompts;
 #[cfg(test)]
+mod public_key_texts;
+#[cfg(test)]
 mod records;
 #[cfg(test)]
 mod scalar_blake2b;
@@ -41,11 +43,15 @@ mod seeking;
 #[cfg(test)]
 mod sign;
 #[cfg(test)]
+mod signature_texts;
+#[cfg(test)]
 mod table;
 #[cfg(test)]
 mod toy;
 #[cfg(test)]
 mod two_signatures;
+#[cfg(test)]
+mod upstream_texts;
 #[cfg(test)]
 mod verify;
 #[cfg(test)]
