@@ -5,17 +5,21 @@ Needs: Python 3.9 or later whose hashlib has scrypt (OpenSSL's), 1.1 GB of memor
 `scrypt_bench`, built by `rt run -- password NaCl 10 8 16` in crates/scrypt_bench (which proves it, and
 leaves it in that crate's folder out); for the other two the packages libsodium23 and libscrypt-kdf1. All
 derive 64 bytes with r 8 and p 1, each in a process of its own and in turn; the keys are compared. Of each
-the call alone is timed, and the least time counts.
+the call alone is timed, and the least time counts. On a machine that does other work at the same time take
+`scrypt.py cpu`: it takes the processor time, of ours that of the whole process.
 """
 
 import ctypes.util
 import os
+import resource
 import sys
 
 from timing import compare, timed
 
 BENCH = os.path.join(os.path.dirname(__file__), "..", "crates", "scrypt_bench", "out", "scrypt_bench")
 PASSWORD, SALT = "pleaseletmein", "SodiumChloride"
+CPU = sys.argv[1:] == ["cpu"]
+CLOCK = "process_time" if CPU else "perf_counter"
 COMMON = """
 import ctypes, hashlib, sys, time
 password, salt, n = sys.argv[1].encode(), sys.argv[2].encode(), 1 << int(sys.argv[3])
@@ -28,10 +32,10 @@ def of_library(function):
         return out.raw
     return call
 """
-CALL = """
-begun = time.perf_counter()
+CALL = f"""
+begun = time.{CLOCK}()
 key = call()
-print(time.perf_counter() - begun)
+print(time.{CLOCK}() - begun)
 print(key.hex())
 """
 OPENSSL = """
@@ -47,11 +51,18 @@ call = of_library(ctypes.CDLL(sys.argv[4]).crypto_scrypt)
 """
 
 
+def processor_time():
+    """The processor time of the processes that have ended."""
+    used = resource.getrusage(resource.RUSAGE_CHILDREN)
+    return used.ru_utime + used.ru_stime
+
+
 def ours(n_log2):
     """Derives by scrypt_bench, and answers the seconds of the call, the process's memory and the key."""
+    before = processor_time()
     _, memory, output = timed([BENCH, PASSWORD, SALT, n_log2, "8", "1"])
     microseconds, key = output.split()
-    return int(microseconds) / 1e6, memory, key
+    return processor_time() - before if CPU else int(microseconds) / 1e6, memory, key
 
 
 def theirs(script, library, n_log2):
