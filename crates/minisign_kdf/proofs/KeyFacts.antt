@@ -1,5 +1,5 @@
 -- What callers need of a derived key: its length, and that it is bytes.
-use Rattle.std.proofs.Common.{◌≡◌, ℕ, zero, suc, ◌+◌, ◌*◌, ◌/◌, ◌^◌, ◌<◌, List, [], ◌∷◌, length, slice_index, All, mod-lt, lit<, subst, refl, sym, ap, ◌∙◌, arith, add-one, length-append}
+use Rattle.std.proofs.Common.{◌≡◌, ℕ, zero, suc, ◌+◌, ◌/◌, ◌^◌, ◌<◌, List, [], ◌∷◌, length, slice_index, All, mod-lt, lit<, subst, refl, sym, ap, ◌∙◌, arith, add-one}
 use Rattle.std.proofs.lemmas.List.{length-take-le}
 use Rattle.std.proofs.lemmas.List.Elements.{All-append, All-get_or, All-take}
 use Rattle.std.specs.Int.{w32, to_be_bytes}

@@ -1,5 +1,5 @@
 use Rattle.std.proofs.Common.{◌≡◌, ℕ, List, ◌+◌, ◌*◌, refl, sym, ap, ◌∙◌, arith}
-use Rattle.minisign_kdf.specs.Diagonal.{block_words, diagonal_bytes, standard_order}
+use Rattle.minisign_kdf.specs.Diagonal.{block_words, diagonal_bytes}
 use Rattle.minisign_kdf.specs.Salsa20.{bytes_of}
 use Rattle.minisign_kdf.specs.Scrypt.{mixed_block}
 use Rattle.minisign_kdf.proofs.Joined.{joined_none}

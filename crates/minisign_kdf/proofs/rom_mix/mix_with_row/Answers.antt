@@ -1,4 +1,4 @@
-use Rattle.std.proofs.Common.{ℕ, ◌*◌, ◌%◌, ap, ◌∙◌, arith}
+use Rattle.std.proofs.Common.{ℕ, ◌*◌, ◌%◌, ap, arith}
 use Rattle.minisign_kdf.proofs.Rows.{mixed_with_row}
 use Rattle.minisign_kdf.proofs.rom_mix.mix_with_row.Goals as goal
 

@@ -1,4 +1,4 @@
-use Rattle.std.proofs.Common.{◌≡◌, List, length, ap, ◌∙◌, arith}
+use Rattle.std.proofs.Common.{◌≡◌, length, ap, ◌∙◌, arith}
 use Rattle.minisign_kdf.specs.Diagonal.{placed_words, standard_order}
 use Rattle.minisign_kdf.specs.Salsa20.{double_round}
 use Rattle.minisign_kdf.proofs.Diagonal.{salsa_words-ordered}
