@@ -2,6 +2,7 @@ pub mod Xor
 pub mod SealedParts
 pub mod SealingLimits
 pub mod RecordFields
+pub mod Alone
 pub mod Beginnings
 pub mod Copies
 pub mod Passes

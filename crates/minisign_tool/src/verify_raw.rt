@@ -7,7 +7,7 @@ ghost use Rattle.minisign_base.specs.Fault.{Fault};
 ghost use Rattle.minisign.specs.Acceptance.{line, verified_text};
 ghost use Rattle.minisign.specs.Reading.{IsAhead, ReadsWhole};
 ghost use Rattle.minisign.specs.Records.{PublicKeyRecord, SignatureRecord};
-ghost use Rattle.minisign.specs.Verifying.{VerifyingFails};
+ghost use Rattle.minisign.specs.Verifying.{SayingFails};
 ghost use Rattle.minisign_tool.specs.VerifyRaw.{FailsRaw, HoldsRaw, IsFileFault, VouchesRaw, bare_box};
 
 use crate::report::{report, warn};
@@ -92,8 +92,8 @@ pub fn verify_raw<S: Scheme, R: Rereader, W: Sink>(
     ensures refused { IfErr result (λ e.
         (IsFileFault key.now signature.now e × (data_reader.new ≡ data_reader.old) × (errors.new ≡ errors.old))
         ⊎ ((pk : PublicKeyRecord) × (bones : SignatureRecord) × HoldsRaw key.now signature.now pk bones
-        × VerifyingFails (S.accepts scheme.now) pk (bare_box bones) false false
-        R.ahead R.behind R.faults data_reader.old data_reader.new W.sink_faults errors.old errors.new e)) }
+        × SayingFails (S.accepts scheme.now) pk (bare_box bones) false false R.faults data_reader.old data_reader.new
+        W.sink_faults errors.old errors.new (ReadsWhole R.ahead R.behind R.faults data_reader.old data_reader.new) e)) }
 {
     let pk = PublicKey::from_bytes(key)?;
     let bones = SignatureBones::from_bytes(signature)?;
