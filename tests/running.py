@@ -88,11 +88,11 @@ class Runner:
 
     def __init__(self, program, room):
         self.room = room
-        self.nobody = may_become_nobody()
         self.program = os.path.join(room, "program")
         shutil.copyfile(program, self.program)
         os.chmod(self.program, 0o755)
         os.chmod(room, 0o711)
+        self.nobody = runs_as_nobody(self.program)
         self.preload = None
 
     def run(self, case):
@@ -285,7 +285,13 @@ class Streams:
 
 
 def open_full(kind):
-    return os.open("/dev/full", os.O_WRONLY) if kind == FULL else None
+    """What takes nothing that is written to it, where that is asked for."""
+    if kind != FULL:
+        return None
+    try:
+        return os.open("/dev/full", os.O_WRONLY)
+    except OSError as error:
+        raise Skip(f"there is no full device here: {error}") from error
 
 
 def feed(pipe, given):
@@ -334,14 +340,16 @@ def make_files(folder, files):
     return pipes
 
 
-def may_become_nobody():
-    """Whether the script runs as root and may start programs as nobody."""
+def runs_as_nobody(program):
+    """Whether the script runs as root and may start the program as nobody."""
     if os.geteuid() != 0:
         return False
     try:
-        return subprocess.run(["true"], user=NOBODY, group=NOBODY, extra_groups=[]).returncode == 0
+        subprocess.run([program], user=NOBODY, group=NOBODY, extra_groups=[], stdin=subprocess.DEVNULL,
+                       stdout=subprocess.DEVNULL, stderr=subprocess.DEVNULL, timeout=SECONDS)
     except (OSError, subprocess.SubprocessError):
         return False
+    return True
 
 
 def build_preload(room):

@@ -10,7 +10,7 @@ use Rattle.minisign.specs.Records.{SecretKeyRecord}
 use Rattle.minisign_base.specs.Faults.{out_of_memory, writing_failed, wrong_password}
 use Rattle.minisign.specs.Sealing.{checksum_refusal, kdf_refusal, password_refusal, unsealed, work_refusal}
 use Rattle.minisign.specs.SecretKeyText.{SecretKeyText}
-use Rattle.minisign.specs.Opening.{HasSaid, HasAskedAndSaid, HasAskedAndNotSaid, IsOpenedAsking, IsRefused, IsToldRefusal, RefusesAsking, asking_text, deriving_text, done_text}
+use Rattle.minisign.specs.Opening.{HasSaid, HasAskedAndSaid, HasAskedAndNotSaid, IsOpenedAsking, RefusesKey, IsToldRefusal, RefusesAsking, asking_text, deriving_text, done_text}
 use Rattle.minisign.proofs.Openings.{kdf_held, opened_text}
 
 pub asked_said : {R W : Type 0} (ahead : R → Option (List ℕ)) (left faults : R → ℕ) (taken : W → Option (List ℕ)) (sink_faults : W → ℕ) (old mid new : Prompt R W) (bytes password text : List ℕ)
@@ -98,7 +98,7 @@ asked_refused ahead left faults taken sink_faults old mid new k max_p bytes pass
 
 -- a text that no password opens: nothing was asked
 pub nothing_asked : {R W : Type 0} (ahead : R → Option (List ℕ)) (left faults : R → ℕ) (taken : W → Option (List ℕ)) (sink_faults : W → ℕ) (old new : Prompt R W)
-    (text : List ℕ) (max_p : ℕ) (e : Fault) → new ≡ old → (e ≡ out_of_memory) ⊎ IsRefused text kdf_refusal e
+    (text : List ℕ) (max_p : ℕ) (e : Fault) → new ≡ old → (e ≡ out_of_memory) ⊎ RefusesKey text kdf_refusal e
     → RefusesAsking ahead left faults taken sink_faults old new text max_p e
 nothing_asked ahead left faults taken sink_faults old new text max_p e same (inl memory) = inl (memory, same)
 nothing_asked ahead left faults taken sink_faults old new text max_p e same (inr refused) = inr (inl (refused, same))

@@ -69,3 +69,7 @@ short_of text b d n h same short = (
   is_read text b h,
   subst (λ (l : List ℕ). length l < n) (same ∙ sym (bytes_read text b h)) short,
 )
+
+-- bytes that have a base64
+pub own_base64 : (t b d : List ℕ) → IsBase64Of t b → b ≡ d → IsBase64Of (base64_of d) d
+own_base64 t b d h same = record { each = subst IsBytes same h.each; encoded = refl }

@@ -20,3 +20,4 @@ pub mod Openings
 pub mod Asking
 pub mod WrittenKeys
 pub mod SignatureTexts
+pub mod VouchedTexts

@@ -10,7 +10,7 @@ use Rattle.minisign_base.specs.Limits.{Numbers, parallelization}
 use Rattle.minisign.specs.Records.{SecretKeyRecord}
 use Rattle.minisign.specs.SecretKeyText.{SecretKeyText}
 use Rattle.minisign.specs.Sealing.{IsUnencrypted, Opens, OpensWithin, bound_refusal, checksum_of, checksum_refusal, kdf_refusal, key_limits, key_numbers, no_kdf, scrypt_kdf, opening_refusal, password_refusal, unbounded_refusal, unencrypted_refusal, unsealed, work_refusal}
-use Rattle.minisign.specs.Opening.{IsRefused, IsOpened, RefusesOpening, IsUnencryptedText, RefusesUnencrypted}
+use Rattle.minisign.specs.Opening.{RefusesKey, IsOpened, RefusesOpening, IsUnencryptedText, RefusesUnencrypted}
 use Rattle.minisign.proofs.SecretKeyTexts.{one_key_text}
 use Rattle.minisign.proofs.SealingLimits.{allowed_numbers, within_bound}
 
@@ -43,8 +43,8 @@ unencrypted_none k h =
 
 -- a key that is refused is not one that is not
 not_refused : (text : List ℕ) (refusal : SecretKeyRecord → Option Fault) (e : Fault) (k : SecretKeyRecord)
-    → IsRefused text refusal e → SecretKeyText text k → ¬ (refusal k ≡ None)
-not_refused text refusal e k (inl unread) read none = unread.unreadable k read
+    → RefusesKey text refusal e → SecretKeyText text k → ¬ (refusal k ≡ None)
+not_refused text refusal e k (inl unread) read none = unread.unread k read
 not_refused text refusal e k (inr (l, other, refused)) read none =
     let same : k ≡ l = one_key_text text l k other read in
     let both : refusal l ≡ None = ap refusal (sym same) ∙ none in
@@ -52,7 +52,7 @@ not_refused text refusal e k (inr (l, other, refused)) read none =
 
 -- what the tests of a key that was never sealed say of its text
 pub unencrypted_outcome : (text : List ℕ) (r : Result SecretKeyRecord Fault)
-    → IfOk r (λ k. SecretKeyText text k × (unencrypted_refusal k ≡ None)) → IfErr r (λ e. (e ≡ out_of_memory) ⊎ IsRefused text unencrypted_refusal e)
+    → IfOk r (λ k. SecretKeyText text k × (unencrypted_refusal k ≡ None)) → IfErr r (λ e. (e ≡ out_of_memory) ⊎ RefusesKey text unencrypted_refusal e)
     → MatchResult r (IsUnencryptedText text) (λ e. (e ≡ out_of_memory) ⊎ RefusesUnencrypted text e)
 unencrypted_outcome text (Ok k) (read, none) refused = record { read = read; unencrypted = unencrypted_held k none }
 unencrypted_outcome text (Err e) ok (inl memory) = inl memory
@@ -72,8 +72,8 @@ kdf_none : (k : SecretKeyRecord) → k.kdf ≡ scrypt_kdf → kdf_refusal k ≡ 
 kdf_none k h = rw h refl
 
 -- what is refused for its key derivation is refused for no later reason
-first_refused : (text : List ℕ) (later : SecretKeyRecord → Option Fault) (e : Fault) → IsRefused text kdf_refusal e
-    → IsRefused text (λ k. option_or (kdf_refusal k) (later k)) e
+first_refused : (text : List ℕ) (later : SecretKeyRecord → Option Fault) (e : Fault) → RefusesKey text kdf_refusal e
+    → RefusesKey text (λ k. option_or (kdf_refusal k) (later k)) e
 first_refused text later e (inl unread) = inl unread
 first_refused text later e (inr (k, read, refused)) = inr (k, read, ap (λ (o : Option Fault). option_or o (later k)) refused)
 
@@ -112,7 +112,7 @@ opening_none k password max_p h =
     (λ i. option_or (kdf_none k h.opens.kdf i) (option_or (work i) (checksum i)))
 
 -- a text that no password opens
-pub any_password : (text password : List ℕ) (max_p : ℕ) (e : Fault) → (e ≡ out_of_memory) ⊎ IsRefused text kdf_refusal e
+pub any_password : (text password : List ℕ) (max_p : ℕ) (e : Fault) → (e ≡ out_of_memory) ⊎ RefusesKey text kdf_refusal e
     → (e ≡ out_of_memory) ⊎ RefusesOpening text password max_p e
 any_password text password max_p e (inl memory) = inl memory
 any_password text password max_p e (inr refused) = inr (record {
@@ -140,13 +140,13 @@ opening_outcome text password max_p sealed (Ok k) read kdf (is, none) refused = 
 opening_outcome text password max_p sealed (Err e) read kdf ok (inl (memory, work)) = inl memory
 opening_outcome text password max_p sealed (Err e) read kdf ok (inr refused) =
     let first : opening_refusal sealed password max_p ≡ Some e = ap (λ (o : Option Fault). option_or o (password_refusal sealed password max_p)) kdf ∙ refused in
-    let whole : IsRefused text (λ k. opening_refusal k password max_p) e = inr (sealed, read, first) in
+    let whole : RefusesKey text (λ k. opening_refusal k password max_p) e = inr (sealed, read, first) in
     inr (record { first = whole; closed = λ k other h. not_refused text (λ k. opening_refusal k password max_p) e k whole other (opening_none k password max_p h) })
 
 -- why a key that is read does not open
-refused_key : (text password : List ℕ) (max_p : ℕ) (e : Fault) (k : SecretKeyRecord) → IsRefused text (λ k. opening_refusal k password max_p) e
+refused_key : (text password : List ℕ) (max_p : ℕ) (e : Fault) (k : SecretKeyRecord) → RefusesKey text (λ k. opening_refusal k password max_p) e
     → SecretKeyText text k → k.kdf ≡ scrypt_kdf → password_refusal k password max_p ≡ Some e
-refused_key text password max_p e k (inl unread) read kdf = absurd (unread.unreadable k read)
+refused_key text password max_p e k (inl unread) read kdf = absurd (unread.unread k read)
 refused_key text password max_p e k (inr (l, other, refused)) read kdf =
     let same : k ≡ l = one_key_text text l k other read in
     ap (λ (o : Option Fault). option_or o (password_refusal k password max_p)) (sym (kdf_none k kdf)) ∙ ap (λ (m : SecretKeyRecord). opening_refusal m password max_p) same ∙ refused

@@ -1,12 +1,24 @@
 -- What a reading call answers, from what is read and from the first case that fails.
-use Rattle.std.proofs.Common.{◌≡◌, ◌⊎◌, ℕ, List, sym, ap, subst, ◌∙◌, inl, inr, IfOk, IfErr, MatchResult}
+use Rattle.std.proofs.Common.{◌≡◌, ◌⊎◌, ℕ, Bool, true, false, List, [], ◌∷◌, refl, sym, ap, subst, ◌∙◌, inl, inr, IfOk, IfErr, MatchResult}
+use Rattle.std.proofs.Math.Bool.{cond}
+use Rattle.std.specs.List.{AllByRecursion}
 use Rattle.std.specs.declared.option.Option.{Option}
 use Rattle.std.specs.declared.option.Option.TheVariants.{None, Some}
 use Rattle.std.specs.declared.result.Result.{Result}
 use Rattle.std.specs.declared.result.Result.TheVariants.{Ok, Err}
 use Rattle.minisign_base.specs.Fault.{Fault}
 use Rattle.minisign_base.specs.Faults.{out_of_memory}
-use Rattle.minisign.specs.Texts.{IsRefused, IsDecided}
+use Rattle.minisign.specs.Texts.{IsRefused, IsDecided, Test, first_failing}
+
+-- all tests hold where no case fails
+pub all_hold : (tests : List Test) → first_failing tests ≡ None → AllByRecursion (λ t. t.holds ≡ true) tests
+all_hold [] h = tt
+all_hold (t ∷ tests) h = held t.holds refl (λ g. all_hold tests g) h
+  where
+    held : (b : Bool) → t.holds ≡ b → (first_failing tests ≡ None → AllByRecursion (λ t. t.holds ≡ true) tests)
+        → cond b (first_failing tests) (Some t.fault) ≡ None → (t.holds ≡ true) × AllByRecursion (λ t. t.holds ≡ true) tests
+    held true e others g = (e, others g)
+    held false e others g = cc g
 
 -- where a case fails, no value is read
 refused_at : {V : Type 0} (reads : V → Type 0) (first : Option Fault) (e : Fault) → IsDecided reads first → first ≡ Some e → IsRefused reads first e

@@ -6,8 +6,8 @@ use Rattle.std.specs.Str.Lines.{lines}
 use Rattle.minisign_base.specs.Fault.{Fault}
 use Rattle.minisign_base.specs.Faults.{out_of_memory, secret_key_not_base64, record_too_short}
 use Rattle.minisign.specs.Records.{SecretKeyRecord, ReadsSecretKey}
-use Rattle.minisign.specs.SecretKeyText.{SecretKeyText, RefusesSecretKeyText}
-use Rattle.minisign.specs.Texts.{IsBase64Of, base64_bytes, has_line, is_base64, line_at}
+use Rattle.minisign.specs.SecretKeyText.{SecretKeyText, secret_key_fault}
+use Rattle.minisign.specs.Texts.{IsBase64Of, IsRefused, base64_bytes, has_line, is_base64, line_at}
 use Rattle.minisign.proofs.Base64Texts.{bytes_read, is_read, one_decoding}
 use Rattle.minisign.proofs.RecordFields.{one_secret_key}
 
@@ -23,7 +23,8 @@ record IsSecondLine (text y : List ℕ) : Type 0 where
   at : line_at 1 text ≡ y
 
 second_line : (text x y : List ℕ) (rest : List (List ℕ)) → lines text ≡ x ∷ y ∷ rest → IsSecondLine text y
-second_line text x y rest cut = record { some = rw cut refl; more = rw cut refl; at = rw cut refl }
+second_line text x y rest cut =
+    record { some = rw cut refl; more = rw cut refl; at = rw cut refl }
 
 -- a text whose second line is the base64 of a key
 pub read_text : (text x y bytes : List ℕ) (rest : List (List ℕ)) (k : SecretKeyRecord) → lines text ≡ x ∷ y ∷ rest → IsBase64Of y bytes → ReadsSecretKey bytes k
@@ -33,33 +34,33 @@ read_text text x y bytes rest k cut encoded stored =
     record { bytes = bytes; second_line = second.more; encoded = rw second.at encoded; stored = stored }
 
 -- a text whose second line is no base64
-pub not_base64_text : (text x y : List ℕ) (rest : List (List ℕ)) → lines text ≡ x ∷ y ∷ rest → is_base64 y ≡ false → RefusesSecretKeyText text secret_key_not_base64
+pub not_base64_text : (text x y : List ℕ) (rest : List (List ℕ)) → lines text ≡ x ∷ y ∷ rest → is_base64 y ≡ false → IsRefused (SecretKeyText text) (secret_key_fault text) secret_key_not_base64
 not_base64_text text x y rest cut failed =
     let second = second_line text x y rest cut in
     let no : is_base64 (line_at 1 text) ≡ false = ap is_base64 second.at ∙ failed in
     record {
-      first = rw (second.some, second.more, no) refl;
-      unreadable = λ k read. let yes : is_base64 (line_at 1 text) ≡ true = is_read (line_at 1 text) read.bytes read.encoded in absurd (cc);
+      first_case = rw (second.some, second.more, no) refl;
+      unread = λ k read. let yes : is_base64 (line_at 1 text) ≡ true = is_read (line_at 1 text) read.bytes read.encoded in absurd (cc);
     }
 
 -- a text whose second line is the base64 of too few bytes
 short_text : (text x y bytes : List ℕ) (rest : List (List ℕ)) → lines text ≡ x ∷ y ∷ rest → IsBase64Of y bytes → length bytes < 158
-    → RefusesSecretKeyText text record_too_short
+    → IsRefused (SecretKeyText text) (secret_key_fault text) record_too_short
 short_text text x y bytes rest cut encoded short =
     let second = second_line text x y rest cut in
     let read : is_base64 (line_at 1 text) ≡ true = ap is_base64 second.at ∙ is_read y bytes encoded in
     let decoded : base64_bytes (line_at 1 text) ≡ bytes = ap base64_bytes second.at ∙ bytes_read y bytes encoded in
     let few : nat_le 158 (length bytes) ≡ false = lt-leb 158 (length bytes) short in
     record {
-      first = rw (second.some, second.more, read, decoded, few) refl;
-      unreadable = λ k other. let same : other.bytes ≡ bytes = one_decoding (line_at 1 text) other.bytes bytes other.encoded (rw second.at encoded) in
+      first_case = rw (second.some, second.more, read, decoded, few) refl;
+      unread = λ k other. let same : other.bytes ≡ bytes = one_decoding (line_at 1 text) other.bytes bytes other.encoded (rw second.at encoded) in
           absurd (omega (arith, stored_length other.bytes k other.stored, ap length same));
     }
 
 -- what reading the record says of the text
 pub text_outcome : (text x y bytes : List ℕ) (rest : List (List ℕ)) (r : Result SecretKeyRecord Fault) → lines text ≡ x ∷ y ∷ rest → IsBase64Of y bytes
     → MatchResult r (ReadsSecretKey bytes) (λ e. (e ≡ record_too_short) × (length bytes < 158))
-    → MatchResult r (SecretKeyText text) (λ e. (e ≡ out_of_memory) ⊎ RefusesSecretKeyText text e)
+    → MatchResult r (SecretKeyText text) (λ e. (e ≡ out_of_memory) ⊎ IsRefused (SecretKeyText text) (secret_key_fault text) e)
 text_outcome text x y bytes rest (Ok k) cut encoded stored = read_text text x y bytes rest k cut encoded stored
 text_outcome text x y bytes rest (Err e) cut encoded (is, short) = inr (rw is (short_text text x y bytes rest cut encoded short))
 

@@ -1,23 +1,29 @@
 -- Texts of signatures: the first case that fails is none exactly where a box is read, and it is the only
 -- one.
-use Rattle.std.proofs.Common.{◌≡◌, ◌≢◌, ℕ, ◌+◌, ◌-◌, ◌<◌, ◌≤◌, Bool, true, false, ◌||◌, IsTrue, List, [], ◌∷◌, ◌++◌, length, take, drop, refl, sym, ap, subst, ◌∙◌, arith, inl, inr, ◌⊎◌, is_some, slice_get}
+use Rattle.std.proofs.Common.{◌≡◌, ◌≢◌, ℕ, ◌+◌, ◌-◌, ◌<◌, ◌≤◌, Bool, true, false, ◌||◌, IsTrue, List, [], ◌∷◌, ◌++◌, length, take, drop, codes, slice_index_or, refl, sym, ap, subst, ◌∙◌, arith, inl, inr, ◌⊎◌, is_some, slice_get}
 use Rattle.std.specs.declared.option.Option.{Option}
 use Rattle.std.specs.declared.option.Option.TheVariants.{None, Some}
 use Rattle.std.specs.List.{starts_with}
 use Rattle.std.specs.Str.{trim, bytes_eq}
 use Rattle.std.specs.Str.Lines.{lines}
 use Rattle.std.proofs.Math.Bool.{cond}
-use Rattle.std.proofs.Math.Dec.{eqb, leb}
+use Rattle.std.proofs.Math.Dec.{eqb, leb, lit<}
 use Rattle.std.proofs.lemmas.Bool.{le-leb, leb-true, lt-leb}
 use Rattle.std.proofs.lemmas.Bool.Decides.{Decides-eqb}
-use Rattle.std.proofs.lemmas.List.{append_cancel_left, length-take-le, length-drop, take-append-drop}
+use Rattle.std.proofs.lemmas.List.{append_assoc, append_cancel_left, length-take-le, length-drop, take-append-drop}
 use Rattle.std.proofs.lemmas.Slice.Eq.{starts_is, bytes_eq-Decides}
 use Rattle.minisign_base.specs.Fault.{Fault}
 use Rattle.minisign_base.specs.Faults.{missing_untrusted_comment, missing_signature, missing_trusted_comment, missing_global_signature, untrusted_comment_prefix, signature_not_base64, record_too_short, trusted_comment_prefix, unsupported_signature_algorithm}
-use Rattle.minisign.specs.Records.{CommentsRecord, SignatureRecord, SignatureBoxRecord, ReadsSignature, IsKnownAlgorithm, legacy_algorithm, prehashed_algorithm}
-use Rattle.minisign.specs.Texts.{IsBase64Of, IsDecided, base64_bytes, is_base64, has_line, line_at, untrusted_comment_label}
-use Rattle.minisign.specs.SignatureText.{EncodesSignature, SignatureText, HasFourLines, is_known_algorithm, signature_fault, trusted_comment_label}
+use Rattle.minisign.specs.Records.{CommentsRecord, SignatureRecord, SignatureBoxRecord, ReadsSignature, IsKnownAlgorithm, signature_bytes, legacy_algorithm, prehashed_algorithm}
+use Rattle.minisign.specs.Texts.{IsBase64Of, IsDecided, base64_of, base64_bytes, is_base64, has_line, line_at, untrusted_comment_label}
+use Rattle.minisign.specs.SignatureText.{EncodesSignature, SignatureText, HasFourLines, KeepsComments, signature_text, is_known_algorithm, signature_tests, signature_fault, trusted_comment_label}
 use Rattle.minisign.proofs.Base64Texts.{bytes_read, is_read, reads, one_decoding}
+use Rattle.base64.specs.GeneralPurpose.{IsBytes}
+use Rattle.base64.proofs.EngineFacts.{front_bytes}
+use Rattle.minisign.specs.Acceptance.{line}
+use Rattle.minisign.proofs.Letters.{AllGraphic, graphic_base64, trim_graphic}
+use Rattle.minisign.proofs.WrittenLines.{AllShown, labelled, labelled_one_line, lines_line, lines_last, shown_codes, shown_graphic, shown_one_line, trimmed_end}
+use Rattle.minisign.proofs.ReadTexts.{all_hold}
 use Rattle.minisign.proofs.RecordFields.{joined_fields, one_signature, stored_algorithm, stored_length}
 
 -- a line that begins with a label
@@ -125,23 +131,10 @@ signature_in_front bytes l = record {
   front = (drop 64 (drop 8 (drop 2 bytes)), joined_fields bytes _ _ _ _ _ _ (sym (take-append-drop 2 bytes)) (sym (take-append-drop 8 (drop 2 bytes))) (sym (take-append-drop 64 (drop 8 (drop 2 bytes)))));
 }
 
-tested : (holds : Bool) (others : Option Fault) (e : Fault) → cond holds others (Some e) ≡ None → (holds ≡ true) × (others ≡ None)
-tested true others e h = (refl, h)
-tested false others e h = cc h
-
 read_where_none_fails : (text : List ℕ) → signature_fault text ≡ None → (x : SignatureBoxRecord) × SignatureText text x
 unfolding signature_fault signature_in
 read_where_none_fails text h =
-    let first = tested _ _ _ h in
-    let second = tested _ _ _ first.1 in
-    let third = tested _ _ _ second.1 in
-    let fourth = tested _ _ _ third.1 in
-    let untrusted = tested _ _ _ fourth.1 in
-    let base64 = tested _ _ _ untrusted.1 in
-    let long = tested _ _ _ base64.1 in
-    let trusted = tested _ _ _ long.1 in
-    let algorithm = tested _ _ _ trusted.1 in
-    let signed = tested _ _ _ algorithm.1 in
+    let (_, (_, (_, (fourth, (untrusted, (base64, (long, (trusted, (algorithm, (signed, _)))))))))) = all_hold (signature_tests text) h in
     let bytes : List ℕ = base64_bytes (trim (line_at 1 text)) in
     let comments : CommentsRecord = record {
       untrusted = drop (length untrusted_comment_label) (line_at 0 text);
@@ -151,12 +144,12 @@ read_where_none_fails text h =
       record { signature = signature_in bytes; comments = Some comments },
       record {
         comments = comments;
-        four_lines = fourth.0;
-        untrusted_comment = begins_with (line_at 0 text) untrusted_comment_label untrusted.0;
-        signature = record { bytes = bytes; base64 = reads _ base64.0; reads = signature_in_front bytes (leb-true 74 _ long.0) };
-        algorithm = is_known (take 2 bytes) algorithm.0;
-        trusted_comment = (_, begins_with (line_at 2 text) trusted_comment_label trusted.0, refl);
-        comment_signature = reads _ signed.0;
+        four_lines = fourth;
+        untrusted_comment = begins_with (line_at 0 text) untrusted_comment_label untrusted;
+        signature = record { bytes = bytes; base64 = reads _ base64; reads = signature_in_front bytes (leb-true 74 _ long) };
+        algorithm = is_known (take 2 bytes) algorithm;
+        trusted_comment = (_, begins_with (line_at 2 text) trusted_comment_label trusted, refl);
+        comment_signature = reads _ signed;
         box = refl;
       },
     )
@@ -218,3 +211,64 @@ module _ (text a b c d : List ℕ) (four : HasFourLines text a b c d) where
         no_comment_base64 algorithm other =
             let signature = encodes_tests (trim b) s encodes in
             rw (four.cut, label, signature.0, signature.1, trusted, signature.2, algorithm, other) refl
+
+-- the text that is written, letter by letter
+pub spelled_text : (s : SignatureRecord) (c : CommentsRecord) (u b t g : List ℕ) → u ≡ c.untrusted → b ≡ base64_of (signature_bytes s) → t ≡ c.trusted → g ≡ base64_of c.signature
+    → codes "untrusted comment: " ++ (u ++ (10 ∷ (b ++ (10 ∷ (codes "trusted comment: " ++ (t ++ (10 ∷ (g ++ 10 ∷ [])))))))) ≡ signature_text s c
+unfolding untrusted_comment_label trusted_comment_label
+spelled_text s c u b t g same_u same_b same_t same_g =
+    let encoded : List ℕ = base64_of (signature_bytes s) in
+    let last : List ℕ = line (base64_of c.signature) in
+    rw (same_u, same_b, same_t, same_g) (sym (
+    labelled (codes "untrusted comment: ") c.untrusted (line encoded ++ (line (codes "trusted comment: " ++ c.trusted) ++ last))
+    ∙ ap (λ (r : List ℕ). codes "untrusted comment: " ++ (c.untrusted ++ (10 ∷ r)))
+    (append_assoc encoded (10 ∷ []) (line (codes "trusted comment: " ++ c.trusted) ++ last)
+    ∙ ap (λ (r : List ℕ). encoded ++ (10 ∷ r)) (labelled (codes "trusted comment: ") c.trusted last))
+    ))
+
+shown_untrusted : AllShown untrusted_comment_label
+unfolding untrusted_comment_label
+shown_untrusted = shown_codes (codes "untrusted comment: ") refl
+
+some_untrusted : 0 < length untrusted_comment_label
+unfolding untrusted_comment_label
+some_untrusted = lit< tt
+
+shown_trusted : AllShown trusted_comment_label
+unfolding trusted_comment_label
+shown_trusted = shown_codes (codes "trusted comment: ") refl
+
+some_trusted : 0 < length trusted_comment_label
+unfolding trusted_comment_label
+some_trusted = lit< tt
+
+-- a written text reads as its signature and comments
+module _ (s : SignatureRecord) (c : CommentsRecord) (encodes : EncodesSignature (base64_of (signature_bytes s)) s) (signed : IsBase64Of (base64_of c.signature) c.signature)
+    (keeps : KeepsComments c) (algorithm : IsKnownAlgorithm s.algorithm) where
+  graphic : AllGraphic (base64_of (signature_bytes s))
+  graphic = graphic_base64 (signature_bytes s) (front_bytes (signature_bytes s) _ (subst IsBytes encodes.reads.front.1 encodes.base64.each))
+
+  graphic_comment : AllGraphic (base64_of c.signature)
+  graphic_comment = graphic_base64 c.signature signed.each
+
+  written_lines : lines (signature_text s c)
+      ≡ (untrusted_comment_label ++ c.untrusted) ∷ base64_of (signature_bytes s) ∷ (trusted_comment_label ++ c.trusted) ∷ base64_of c.signature ∷ []
+  written_lines =
+      lines_line _ _ (labelled_one_line untrusted_comment_label c.untrusted shown_untrusted some_untrusted keeps.untrusted_one_line keeps.untrusted_end)
+      ∙ ap (λ l. (untrusted_comment_label ++ c.untrusted) ∷ l) (lines_line _ _ (shown_one_line _ (shown_graphic _ graphic))
+      ∙ ap (λ l. base64_of (signature_bytes s) ∷ l) (lines_line _ _ (labelled_one_line trusted_comment_label c.trusted shown_trusted some_trusted keeps.trusted_one_line (trimmed_end c.trusted keeps.trusted_trimmed))
+      ∙ ap (λ l. (trusted_comment_label ++ c.trusted) ∷ l) (lines_last _ (shown_one_line _ (shown_graphic _ graphic_comment)))))
+
+  pub written_text : SignatureText (signature_text s c) (record { signature = s; comments = Some c })
+  written_text =
+      let at = λ (n : ℕ). ap (λ (ls : List (List ℕ)). slice_index_or ls n []) written_lines in
+      record {
+        comments = c;
+        four_lines = rw written_lines refl;
+        untrusted_comment = at 0;
+        signature = subst (λ (t : List ℕ). EncodesSignature t s) (sym (ap trim (at 1) ∙ trim_graphic _ graphic)) encodes;
+        algorithm = algorithm;
+        trusted_comment = (c.trusted, at 2, keeps.trusted_trimmed);
+        comment_signature = subst (λ (t : List ℕ). IsBase64Of t c.signature) (sym (ap trim (at 3) ∙ trim_graphic _ graphic_comment)) signed;
+        box = refl;
+      }

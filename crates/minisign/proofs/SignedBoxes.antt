@@ -4,8 +4,8 @@ use Rattle.std.proofs.lemmas.List.{take_all}
 use Rattle.minisign_hash.specs.Blake2b.{blake2b_digest}
 use Rattle.minisign_base.specs.Scheme.{IsBytes, IsNonce}
 use Rattle.minisign.specs.Records.{SecretKeyRecord, SignatureBoxRecord, prehashed_algorithm}
-use Rattle.minisign.specs.Acceptance.{Acceptance}
-use Rattle.minisign.specs.Signing.{Signer, ChosenComments, signed_box, AcceptedIfGenuine}
+use Rattle.minisign.specs.Acceptance.{Verifier}
+use Rattle.minisign.specs.Signing.{Signer, ChosenComments, signed_box, VouchesWhereGenuine}
 
 -- a box of these parts
 abbrev pub box_of : List ℕ → List ℕ → ChosenComments → List ℕ → SignatureBoxRecord
@@ -23,17 +23,17 @@ made_box sign sk message chosen first second keynum signature global same_keynum
     rw (same_keynum, same_global, same_signature) refl
 
 -- the law of a scheme: what was signed with a seed's secret key is accepted under its public key
-abbrev pub AcceptsOwn : Acceptance → Signer → (List ℕ → List ℕ) → Type 0
+abbrev pub AcceptsOwn : Verifier → Signer → (List ℕ → List ℕ) → Type 0
 AcceptsOwn accepts sign public_of = (seed m : List ℕ) (z : Option (List ℕ)) → IsBytes seed → length seed ≡ 32 → IsBytes m → IsNonce z
     → accepts m (public_of seed) (sign m (seed ++ public_of seed) z) ≡ true
 
 -- parts that were made with a genuine key are accepted under its public key
-pub genuine_box : (accepts : Acceptance) (sign : Signer) (public_of : List ℕ → List ℕ) → AcceptsOwn accepts sign public_of
+pub genuine_box : (accepts : Verifier) (sign : Signer) (public_of : List ℕ → List ℕ) → AcceptsOwn accepts sign public_of
     → (sk : SecretKeyRecord) (message : List ℕ) (chosen : ChosenComments) (first second keynum signature global : List ℕ)
     → keynum ≡ sk.keynum → signature ≡ sign (blake2b_digest 64 message) sk.secret (Some first)
     → global ≡ sign (signature ++ chosen.trusted) sk.secret (Some second)
     → IsBytes (blake2b_digest 64 message) → IsBytes (signature ++ chosen.trusted) → IsNonce (Some first) → IsNonce (Some second)
-    → length global ≡ 64 → AcceptedIfGenuine accepts public_of sk message (box_of keynum signature chosen global)
+    → length global ≡ 64 → VouchesWhereGenuine accepts public_of sk message (box_of keynum signature chosen global)
 genuine_box accepts sign public_of own sk message chosen first second keynum signature global
     same_keynum same_signature same_global digest_bytes signed_bytes first_nonce second_nonce long seed genuine pk legacy key identifier =
     let digest_accepted = own seed (blake2b_digest 64 message) (Some first) genuine.seed_bytes genuine.seed_length digest_bytes first_nonce in

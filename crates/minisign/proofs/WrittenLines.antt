@@ -1,9 +1,16 @@
 -- Lines that are written and read back.
-use Rattle.std.proofs.Common.{◌≡◌, ◌≢◌, ℕ, zero, suc, ◌+◌, ◌-◌, ◌<◌, ◌≤◌, Bool, true, false, ◌&&◌, List, [], ◌∷◌, ◌++◌, length, take, slice_index, refl, sym, ap, ◌∙◌, arith}
+use Rattle.std.proofs.Common.{◌≡◌, ◌≢◌, ◌==◌, subst, ℕ, zero, suc, ◌+◌, ◌-◌, ◌<◌, ◌≤◌, Bool, true, false, ◌&&◌, List, [], ◌∷◌, ◌++◌, length, take, slice_index, refl, sym, ap, ◌∙◌, arith}
 use Rattle.std.proofs.Math.Dec.{eqb, leb}
 use Rattle.std.proofs.Math.Bool.{cond}
-use Rattle.std.proofs.lemmas.Bool.{ne_eqb, leb-true}
-use Rattle.std.proofs.lemmas.List.{append-nil, append_assoc, length-append, length-replicate, get_or_default}
+use Rattle.std.proofs.lemmas.Bool.{cases_lt, ne_eqb, leb-true}
+use Rattle.std.proofs.Math.Logic.{⊎_elim}
+use Rattle.std.proofs.Math.ListN.{get_or-append}
+use Rattle.std.proofs.Math.Seq.{get_or-append_right}
+use Rattle.std.proofs.lemmas.List.{append-nil, append_assoc, length-append, length-replicate, get_or_default, get_or-append-add}
+use Rattle.std.proofs.lemmas.Str.{inside_one, len_utf8_bounds, length-encode, length-le-encodes}
+use Rattle.std.specs.Char.{encode_utf8, is_whitespace}
+use Rattle.std.specs.Str.{chars, drop_trailing_whitespace, encode_utf8_all, trim, trim_end, trim_start}
+use Rattle.std.specs.Str.Iter.{LacksByte}
 use Rattle.std.specs.List.{All, AllByRecursion}
 use Rattle.std.specs.Str.Lines.{lines}
 use Rattle.base64.specs.Engines.{standard}
@@ -76,3 +83,55 @@ shown_codes [] h = tt
 shown_codes (x ∷ xs) h =
     let (first, others) = both (leb 32 x) (all_shown xs) h in
     (leb-true 32 x first, shown_codes xs others)
+
+-- a line that begins with a label, and what stands behind it
+pub labelled : (label x rest : List ℕ) → line (label ++ x) ++ rest ≡ label ++ (x ++ (10 ∷ rest))
+labelled label x rest = append_assoc (label ++ x) (10 ∷ []) rest ∙ append_assoc label x (10 ∷ rest)
+
+last_append : (xs ys : List ℕ) → 0 < length ys → slice_index (xs ++ ys) (length (xs ++ ys) - 1) ≡ slice_index ys (length ys - 1)
+last_append xs ys some =
+    let at : length (xs ++ ys) - 1 ≡ length xs + (length ys - 1) = omega (arith, length-append xs ys) in
+    ap (λ (n : ℕ). slice_index (xs ++ ys) n) at ∙ get_or-append-add xs ys (length ys - 1) 0
+
+-- a line is one with a label before it
+pub labelled_one_line : (label x : List ℕ) → AllShown label → 0 < length label → LacksByte 10 x → slice_index x (length x - 1) ≢ 13 → IsOneLine (label ++ x)
+labelled_one_line label x shown some lacks end = record {
+  no_feed = λ k l e. ⊎_elim
+      (λ before. absurd (omega (arith, shown_at label k shown before, get_or-append label x 0 k before, e)))
+      (λ behind. lacks (k - length label) (omega (arith, l, length-append label x)) (sym (get_or-append_right label x k 0 behind) ∙ e))
+      (cases_lt k (length label));
+  no_return = last_of x lacks end;
+}
+  where
+    last_of : (x : List ℕ) → LacksByte 10 x → slice_index x (length x - 1) ≢ 13 → slice_index (label ++ x) (length (label ++ x) - 1) ≢ 13
+    last_of [] lacks end e =
+        let same : label ++ [] ≡ label = append-nil label in
+        let at : slice_index label (length label - 1) ≡ 13 = subst (λ (t : List ℕ). slice_index t (length t - 1) ≡ 13) same e in
+        absurd (omega (arith, at, shown_at label (length label - 1) shown (omega arith)))
+    last_of (y ∷ ys) lacks end e = end (sym (last_append label (y ∷ ys) (omega arith)) ∙ e)
+
+-- a text that is trimmed does not end with a carriage return
+last_of_letter : (c : ℕ) → is_whitespace c ≡ false → slice_index (encode_utf8 c) (length (encode_utf8 c) - 1) ≢ 13
+last_of_letter c dark e =
+    let some : 0 < length (encode_utf8 c) = omega (arith, length-encode c, (len_utf8_bounds c).0) in
+    let same : c ≡ slice_index (encode_utf8 c) (length (encode_utf8 c) - 1) = inside_one c [] (encode_utf8 c) _ (sym (append-nil _)) (omega arith) (omega (arith, e)) in
+    let white : is_whitespace c ≡ true = ap is_whitespace (same ∙ e) in
+    let no = sym dark ∙ white in
+    cc no
+
+last_dark : (cs : List ℕ) → slice_index (encode_utf8_all (drop_trailing_whitespace cs)) (length (encode_utf8_all (drop_trailing_whitespace cs)) - 1) ≢ 13
+last_dark [] = λ e. absurd (omega arith)
+last_dark (c ∷ cs) = step (drop_trailing_whitespace cs) (is_whitespace c) refl (last_dark cs)
+  where
+    step : (ds : List ℕ) (white : Bool) → is_whitespace c ≡ white → slice_index (encode_utf8_all ds) (length (encode_utf8_all ds) - 1) ≢ 13
+        → slice_index (encode_utf8_all (cond (white && length ds == 0) [] (c ∷ ds))) (length (encode_utf8_all (cond (white && length ds == 0) [] (c ∷ ds))) - 1) ≢ 13
+    step [] true is others = λ e. absurd (omega arith)
+    step [] false is others = subst (λ (t : List ℕ). slice_index t (length t - 1) ≢ 13) (sym (append-nil (encode_utf8 c))) (last_of_letter c is)
+    step (d ∷ ds) true is others =
+        let more : length (d ∷ ds) == 0 ≡ false = ne_eqb _ 0 (λ z. absurd (omega arith)) in
+        rw more (λ e. others (sym (last_append (encode_utf8 c) (encode_utf8_all (d ∷ ds)) (omega (arith, length-le-encodes (d ∷ ds)))) ∙ e))
+    step (d ∷ ds) false is others = λ e. others (sym (last_append (encode_utf8 c) (encode_utf8_all (d ∷ ds)) (omega (arith, length-le-encodes (d ∷ ds)))) ∙ e)
+
+pub trimmed_end : (t : List ℕ) → trim t ≡ t → slice_index t (length t - 1) ≢ 13
+unfolding trim_end
+trimmed_end t same = subst (λ (x : List ℕ). slice_index x (length x - 1) ≢ 13) same (last_dark (chars (trim_start t)))

@@ -8,8 +8,8 @@ use Rattle.minisign_base.specs.Faults.{different_key_ids, legacy_not_accepted, s
 use Rattle.minisign.specs.Records.{PublicKeyRecord, SignatureRecord, CommentsRecord, SignatureBoxRecord, is_prehashed, prehashed_algorithm}
 
 -- what a scheme accepts: a message, a public key and a signature
-abbrev pub Acceptance : Type 0
-Acceptance = List ℕ → List ℕ → List ℕ → Bool
+abbrev pub Verifier : Type 0
+Verifier = List ℕ → List ℕ → List ℕ → Bool
 
 -- what the signature is over: the Blake2b digest of 64 bytes of the message, or the message itself
 abbrev pub judged : SignatureBoxRecord → List ℕ → List ℕ
@@ -17,34 +17,34 @@ judged x message = if is_prehashed x.signature then blake2b_digest 64 message el
 
 -- the comment signature has at least 64 bytes, and the first 64 are accepted for the signature
 -- followed by the trusted comment
-pub record AcceptsComment (accepts : Acceptance) (pk : PublicKeyRecord) (s : SignatureRecord) (c : CommentsRecord) : Type 0 where
+pub record CommentIsSigned (accepts : Verifier) (pk : PublicKeyRecord) (s : SignatureRecord) (c : CommentsRecord) : Type 0 where
   pub long_enough : 64 ≤ length c.signature
   pub signed : IsTrue (accepts (s.signature ++ c.trusted) pk.key (take 64 c.signature))
 
 -- the box vouches for the message under the public key; legacy says whether a signature over the
 -- message itself will do
-pub record Accepts (accepts : Acceptance) (pk : PublicKeyRecord) (x : SignatureBoxRecord) (message : List ℕ) (legacy : Bool) : Type 0 where
+pub record Vouches (accepts : Verifier) (pk : PublicKeyRecord) (x : SignatureBoxRecord) (message : List ℕ) (legacy : Bool) : Type 0 where
   pub same_key : x.signature.keynum ≡ pk.keynum
   pub allowed : (x.signature.algorithm ≡ prehashed_algorithm) ⊎ IsTrue legacy
   pub signed : IsTrue (accepts (judged x message) pk.key x.signature.signature)
-  pub comment_signed : IfSome x.comments (AcceptsComment accepts pk x.signature)
+  pub comment_signed : IfSome x.comments (CommentIsSigned accepts pk x.signature)
 
 -- the box vouches for the message under every public key that has these 32 bytes and this identifier
-abbrev pub AcceptedUnder : Acceptance → List ℕ → List ℕ → List ℕ → SignatureBoxRecord → Type 0
-AcceptedUnder accepts key keynum message x =
-    (pk : PublicKeyRecord) (legacy : Bool) → pk.key ≡ key → pk.keynum ≡ keynum → Accepts accepts pk x message legacy
+abbrev pub VouchesUnderEachKey : Verifier → List ℕ → List ℕ → List ℕ → SignatureBoxRecord → Type 0
+VouchesUnderEachKey accepts key keynum message x =
+    (pk : PublicKeyRecord) (legacy : Bool) → pk.key ≡ key → pk.keynum ≡ keynum → Vouches accepts pk x message legacy
 
 -- the test of the comment signature
-abbrev pub accepts_comment : Acceptance → PublicKeyRecord → SignatureRecord → CommentsRecord → Bool
+abbrev pub accepts_comment : Verifier → PublicKeyRecord → SignatureRecord → CommentsRecord → Bool
 accepts_comment accepts pk s c =
     nat_le 64 (length c.signature) && accepts (s.signature ++ c.trusted) pk.key (take 64 c.signature)
 
 -- the test of the comments of a box; a bare signature has none to test
-abbrev pub accepts_comments : Acceptance → PublicKeyRecord → SignatureBoxRecord → Bool
+abbrev pub accepts_comments : Verifier → PublicKeyRecord → SignatureBoxRecord → Bool
 accepts_comments accepts pk x = option_map_or (accepts_comment accepts pk x.signature) x.comments true
 
 -- the first condition that fails, in the order of the record above
-abbrev pub first_refusal : Acceptance → PublicKeyRecord → SignatureBoxRecord → List ℕ → Bool → Option Fault
+abbrev pub first_refusal : Verifier → PublicKeyRecord → SignatureBoxRecord → List ℕ → Bool → Option Fault
 first_refusal accepts pk x message legacy =
     if bytes_eq x.signature.keynum pk.keynum then
     (if is_prehashed x.signature || legacy then
@@ -71,9 +71,9 @@ pub record SameWhereVouched (pk other : PublicKeyRecord) (x y : SignatureBoxReco
   pub comments : SameComments x.comments y.comments
 
 -- the box does not vouch for the message, and this is why
-pub record Refuses (accepts : Acceptance) (pk : PublicKeyRecord) (x : SignatureBoxRecord) (message : List ℕ) (legacy : Bool) (e : Fault) : Type 0 where
+pub record Refuses (accepts : Verifier) (pk : PublicKeyRecord) (x : SignatureBoxRecord) (message : List ℕ) (legacy : Bool) (e : Fault) : Type 0 where
   pub first : first_refusal accepts pk x message legacy ≡ Some e
-  pub unacceptable : ¬ (Accepts accepts pk x message legacy)
+  pub unacceptable : ¬ (Vouches accepts pk x message legacy)
 
 -- a line
 abbrev pub line : List ℕ → List ℕ

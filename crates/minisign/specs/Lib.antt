@@ -7,9 +7,9 @@ pub mod SignatureText
 pub mod Sealing
 pub mod Signing
 pub mod Verifying
+pub mod Headline
+pub mod VerifyingTexts
 pub mod SecretKeyText
 pub mod Generation
 pub mod NewPassword
 pub mod Opening
-pub mod NewPassword
-pub mod Generation

@@ -8,12 +8,13 @@ use Rattle.minisign_base.specs.Fault.{Fault}
 use Rattle.minisign_base.specs.Faults.{out_of_memory, writing_failed, wrong_password}
 use Rattle.minisign_base.specs.Prompts.{HasReadLine, IsAskingFault, password_of, written_after}
 use Rattle.minisign.specs.Records.{SecretKeyRecord}
-use Rattle.minisign.specs.SecretKeyText.{SecretKeyText, RefusesSecretKeyText}
+use Rattle.minisign.specs.SecretKeyText.{SecretKeyText, secret_key_fault}
+use Rattle.minisign.specs.Texts.{IsRefused}
 use Rattle.minisign.specs.Sealing.{IsUnencrypted, OpensWithin, checksum_refusal, kdf_refusal, opening_refusal, scrypt_kdf, unencrypted_refusal, unsealed, work_refusal}
 
 -- the text reads as no key, or as one that is refused, and this is why
-abbrev pub IsRefused : List ℕ → (SecretKeyRecord → Option Fault) → Fault → Type 0
-IsRefused text refusal e = RefusesSecretKeyText text e ⊎ ((k : SecretKeyRecord) × SecretKeyText text k × (refusal k ≡ Some e))
+abbrev pub RefusesKey : List ℕ → (SecretKeyRecord → Option Fault) → Fault → Type 0
+RefusesKey text refusal e = IsRefused (SecretKeyText text) (secret_key_fault text) e ⊎ ((k : SecretKeyRecord) × SecretKeyText text k × (refusal k ≡ Some e))
 
 -- the text reads as a key that opens under the password within the bound, and this is the key opened
 pub record IsOpened (text password : List ℕ) (max_p : ℕ) (opened : SecretKeyRecord) : Type 0 where
@@ -24,7 +25,7 @@ pub record IsOpened (text password : List ℕ) (max_p : ℕ) (opened : SecretKey
 
 -- the text reads as no such key, and this is the first reason
 pub record RefusesOpening (text password : List ℕ) (max_p : ℕ) (e : Fault) : Type 0 where
-  pub first : IsRefused text (λ k. opening_refusal k password max_p) e
+  pub first : RefusesKey text (λ k. opening_refusal k password max_p) e
   pub closed : (k : SecretKeyRecord) → SecretKeyText text k → ¬ (OpensWithin k password max_p)
 
 -- the text reads as this key, which was never sealed and whose checksum matches
@@ -34,7 +35,7 @@ pub record IsUnencryptedText (text : List ℕ) (k : SecretKeyRecord) : Type 0 wh
 
 -- the text reads as no such key, and this is the first reason
 pub record RefusesUnencrypted (text : List ℕ) (e : Fault) : Type 0 where
-  pub first : IsRefused text unencrypted_refusal e
+  pub first : RefusesKey text unencrypted_refusal e
   pub none : (k : SecretKeyRecord) → SecretKeyText text k → ¬ (IsUnencrypted k)
 
 -- the text that asks, the text before the derivation, and the line behind it
@@ -91,7 +92,7 @@ IsOpenedAsking ahead left faults taken sink_faults old new text max_p opened =
 abbrev pub RefusesAsking : {R W : Type 0} → (R → Option (List ℕ)) → (R → ℕ) → (R → ℕ) → (W → Option (List ℕ)) → (W → ℕ) → Prompt R W → Prompt R W → List ℕ → ℕ → Fault → Type 0
 RefusesAsking ahead left faults taken sink_faults old new text max_p e =
     ((e ≡ out_of_memory) × (new ≡ old))
-    ⊎ ((IsRefused text kdf_refusal e × (new ≡ old))
+    ⊎ ((RefusesKey text kdf_refusal e × (new ≡ old))
     ⊎ ((k : SecretKeyRecord) × SecretKeyText text k × (k.kdf ≡ scrypt_kdf)
     × (IsAskingFault ahead left faults taken sink_faults old new asking_text e
     ⊎ ((bytes : List ℕ) × (password : List ℕ)

@@ -24,10 +24,9 @@ secret_key_text_tests text =
     ∷ record { holds = nat_le 158 (length (base64_bytes (line_at 1 text))); fault = record_too_short }
     ∷ []
 
--- the text reads as no key, and this is the first test that fails
-pub record RefusesSecretKeyText (text : List ℕ) (e : Fault) : Type 0 where
-  pub first : first_failing (secret_key_text_tests text) ≡ Some e
-  pub unreadable : (k : SecretKeyRecord) → ¬ (SecretKeyText text k)
+-- the first case that fails
+abbrev pub secret_key_fault : List ℕ → Option Fault
+secret_key_fault text = first_failing (secret_key_text_tests text)
 
 unfoldable pub default_secret_key_comment : List ℕ
 default_secret_key_comment = codes "rsign encrypted secret key"

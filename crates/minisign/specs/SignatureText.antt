@@ -9,7 +9,7 @@ use Rattle.minisign_base.specs.Fault.{Fault}
 use Rattle.minisign_base.specs.Faults.{missing_untrusted_comment, missing_signature, missing_trusted_comment, missing_global_signature, untrusted_comment_prefix, signature_not_base64, record_too_short, trusted_comment_prefix, unsupported_signature_algorithm}
 use Rattle.minisign.specs.Acceptance.{line}
 use Rattle.minisign.specs.Records.{CommentsRecord, SignatureRecord, SignatureBoxRecord, ReadsSignature, IsKnownAlgorithm, signature_bytes, legacy_algorithm, prehashed_algorithm}
-use Rattle.minisign.specs.Texts.{IsBase64Of, base64_of, base64_bytes, is_base64, has_line, line_at, first_failing, untrusted_comment_label}
+use Rattle.minisign.specs.Texts.{IsBase64Of, base64_of, base64_bytes, is_base64, has_line, line_at, Test, first_failing, untrusted_comment_label}
 
 unfoldable pub trusted_comment_label : List ℕ
 trusted_comment_label = codes "trusted comment: "
@@ -36,10 +36,9 @@ pub record SignatureText (text : List ℕ) (x : SignatureBoxRecord) : Type 0 whe
 abbrev pub is_known_algorithm : List ℕ → Bool
 is_known_algorithm a = bytes_eq a legacy_algorithm || bytes_eq a prehashed_algorithm
 
--- the first case that fails
-unfoldable pub signature_fault : List ℕ → Option Fault
-signature_fault text =
-    first_failing (
+-- the tests of a text, in their order
+abbrev pub signature_tests : List ℕ → List Test
+signature_tests text =
     record { holds = has_line 0 text; fault = missing_untrusted_comment }
     ∷ record { holds = has_line 1 text; fault = missing_signature }
     ∷ record { holds = has_line 2 text; fault = missing_trusted_comment }
@@ -51,7 +50,10 @@ signature_fault text =
     ∷ record { holds = is_known_algorithm (take 2 (base64_bytes (trim (line_at 1 text)))); fault = unsupported_signature_algorithm }
     ∷ record { holds = is_base64 (trim (line_at 3 text)); fault = signature_not_base64 }
     ∷ []
-    )
+
+-- the first case that fails
+unfoldable pub signature_fault : List ℕ → Option Fault
+signature_fault text = first_failing (signature_tests text)
 
 -- the text that is written for a signature with comments
 abbrev pub signature_text : SignatureRecord → CommentsRecord → List ℕ

@@ -9,7 +9,7 @@ use Rattle.minisign_base.specs.Fault.{Fault}
 use Rattle.minisign_base.specs.Faults.{out_of_memory, random_source_failed, encrypted_key_refused, refused_by_given_key}
 use Rattle.minisign_base.specs.Scheme.{IsBytes, IsNonce}
 use Rattle.minisign.specs.Records.{PublicKeyRecord, SecretKeyRecord, SignatureBoxRecord, prehashed_algorithm}
-use Rattle.minisign.specs.Acceptance.{Acceptance, AcceptedUnder, accepts_comments}
+use Rattle.minisign.specs.Acceptance.{Verifier, VouchesUnderEachKey, accepts_comments}
 use Rattle.minisign.specs.Reading.{ReadsWhole, ReadingFails}
 use Rattle.minisign.specs.Sealing.{is_encrypted}
 
@@ -66,9 +66,9 @@ pub record IsGenuine (public_of : List ℕ → List ℕ) (sk : SecretKeyRecord) 
   pub opened : is_encrypted sk ≡ false
 
 -- where the key is genuine, the box is accepted under its own public key
-abbrev pub AcceptedIfGenuine : Acceptance → (List ℕ → List ℕ) → SecretKeyRecord → List ℕ → SignatureBoxRecord → Type 0
-AcceptedIfGenuine accepts public_of sk message x =
-    (seed : List ℕ) → IsGenuine public_of sk seed → AcceptedUnder accepts (public_of seed) sk.keynum message x
+abbrev pub VouchesWhereGenuine : Verifier → (List ℕ → List ℕ) → SecretKeyRecord → List ℕ → SignatureBoxRecord → Type 0
+VouchesWhereGenuine accepts public_of sk message x =
+    (seed : List ℕ) → IsGenuine public_of sk seed → VouchesUnderEachKey accepts (public_of seed) sk.keynum message x
 
 -- the key is sealed; nothing was read or drawn
 pub record KeyIsSealed {R Z : Type 0} (sk : SecretKeyRecord) (old new : R) (random_old random_new : Z) (e : Fault) : Type 0 where
@@ -88,7 +88,7 @@ pub record DrawFails {Z : Type 0} (faults : Z → ℕ) (random_old random_new : 
   pub rose : Rose (faults random_old) (faults random_new)
 
 -- the public key that was given does not accept the comment signature of the box that was made
-pub record GivenKeyRefuses (accepts : Acceptance) (sign : Signer) (pk : PublicKeyRecord) (sk : SecretKeyRecord) (message : List ℕ) (chosen : ChosenComments) (ahead left : Option (List ℕ)) (e : Fault) : Type 0 where
+pub record GivenKeyRefuses (accepts : Verifier) (sign : Signer) (pk : PublicKeyRecord) (sk : SecretKeyRecord) (message : List ℕ) (chosen : ChosenComments) (ahead left : Option (List ℕ)) (e : Fault) : Type 0 where
   pub fault : e ≡ refused_by_given_key pk.keynum
   pub made : SignatureBoxRecord
   pub signed : IsSigned sign sk message chosen ahead left made
@@ -96,7 +96,7 @@ pub record GivenKeyRefuses (accepts : Acceptance) (sign : Signer) (pk : PublicKe
 
 -- signing fails: the key is sealed; or it is opened, and memory is wanting, the data fails, or all of it was
 -- read and the random source fails or the given public key refuses
-abbrev pub SigningFails : {R Z : Type 0} → Acceptance → Signer → Option PublicKeyRecord → SecretKeyRecord → ChosenComments
+abbrev pub SigningFails : {R Z : Type 0} → Verifier → Signer → Option PublicKeyRecord → SecretKeyRecord → ChosenComments
     → (R → Option (List ℕ)) → (R → Option (List ℕ)) → (R → ℕ) → R → R → (Z → Option (List ℕ)) → (Z → ℕ) → Z → Z → Fault → Type 0
 SigningFails accepts sign pk sk chosen ahead behind faults old new random_ahead random_faults random_old random_new e =
     KeyIsSealed sk old new random_old random_new e

@@ -6,7 +6,7 @@ use Rattle.minisign_base.specs.Devices.{Rose, StaysOrHides, AppendsFront}
 use Rattle.minisign_base.specs.Fault.{Fault}
 use Rattle.minisign_base.specs.Faults.{writing_failed, going_back_failed, data_changed}
 use Rattle.minisign.specs.Records.{PublicKeyRecord, SignatureBoxRecord, is_prehashed}
-use Rattle.minisign.specs.Acceptance.{Acceptance, Accepts, Refuses, judged, status_lines}
+use Rattle.minisign.specs.Acceptance.{Verifier, Vouches, Refuses, judged, status_lines}
 use Rattle.minisign.specs.Reading.{IsAhead, ReadsWhole, IsReadFault}
 
 -- what is to be said of a box that was accepted
@@ -68,20 +68,20 @@ pub record BreaksOff {R W : Type 0} (faults : R → ℕ) (old new : R) (status_o
   pub unsaid : status_new ≡ status_old
 
 -- the box does not vouch for the message, and this is why; nothing was said
-pub record TurnsDown {W : Type 0} (accepts : Acceptance) (pk : PublicKeyRecord) (x : SignatureBoxRecord) (message : List ℕ) (legacy : Bool) (status_old status_new : W) (e : Fault) : Type 0 where
+pub record TurnsDown {W : Type 0} (accepts : Verifier) (pk : PublicKeyRecord) (x : SignatureBoxRecord) (message : List ℕ) (legacy : Bool) (status_old status_new : W) (e : Fault) : Type 0 where
   pub refuses : Refuses accepts pk x message legacy e
   pub unsaid : status_new ≡ status_old
 
 -- the box vouches for the message, and the status failed at taking what was to be said
-pub record StatusFails {W : Type 0} (accepts : Acceptance) (pk : PublicKeyRecord) (x : SignatureBoxRecord) (message : List ℕ) (legacy quiet : Bool) (faults : W → ℕ) (status_old status_new : W) (e : Fault) : Type 0 where
-  pub vouches : Accepts accepts pk x message legacy
+pub record StatusFails {W : Type 0} (accepts : Verifier) (pk : PublicKeyRecord) (x : SignatureBoxRecord) (message : List ℕ) (legacy quiet : Bool) (faults : W → ℕ) (status_old status_new : W) (e : Fault) : Type 0 where
+  pub vouches : Vouches accepts pk x message legacy
   pub fault : e ≡ writing_failed
   pub wanted : quiet ≡ false
   pub rose : Rose (faults status_old) (faults status_new)
 
 -- no verdict was said: it was broken off, or all the data was read, and the box is turned down or the
 -- status fails
-abbrev pub SayingFails : {R W : Type 0} → Acceptance → PublicKeyRecord → SignatureBoxRecord → Bool → Bool → (R → ℕ) → R → R
+abbrev pub SayingFails : {R W : Type 0} → Verifier → PublicKeyRecord → SignatureBoxRecord → Bool → Bool → (R → ℕ) → R → R
     → (W → ℕ) → W → W → (List ℕ → Type 0) → Fault → Type 0
 SayingFails accepts pk x legacy quiet faults old new status_faults status_old status_new Read e =
     BreaksOff faults old new status_old status_new e
@@ -133,13 +133,13 @@ pub record KeptFails {O : Type 0} (taken : O → Option (List ℕ)) (faults : O 
   pub failed : OutputFails faults out_old out_new e
 
 -- the box vouches for the message, which was said, and the copying failed
-pub record OutputRefused {R W O : Type 0} (accepts : Acceptance) (pk : PublicKeyRecord) (x : SignatureBoxRecord) (legacy quiet output : Bool)
+pub record OutputRefused {R W O : Type 0} (accepts : Verifier) (pk : PublicKeyRecord) (x : SignatureBoxRecord) (legacy quiet output : Bool)
     (steady : R → Type 0) (ahead : R → Option (List ℕ)) (faults : R → ℕ) (old new : R)
     (status_taken : W → Option (List ℕ)) (status_old status_new : W)
     (taken : O → Option (List ℕ)) (out_faults : O → ℕ) (out_old out_new : O) (e : Fault) : Type 0 where
   pub message : List ℕ
   pub given : IsAhead (ahead old) message
-  pub vouches : Accepts accepts pk x message legacy
+  pub vouches : Vouches accepts pk x message legacy
   pub wanted : output ≡ true
   pub said_all : Appends (status_taken status_old) (status_taken status_new) (said quiet x)
   pub kept : is_prehashed x.signature ≡ false → KeptFails taken out_faults out_old out_new message e
@@ -147,7 +147,7 @@ pub record OutputRefused {R W O : Type 0} (accepts : Acceptance) (pk : PublicKey
 
 -- verifying fails: nothing is copied where the place cannot be marked or no verdict is said, and else the
 -- copying fails
-abbrev pub VerifyingFails : {R W O : Type 0} → Acceptance → PublicKeyRecord → SignatureBoxRecord → Bool → Bool → Bool
+abbrev pub VerifyingFails : {R W O : Type 0} → Verifier → PublicKeyRecord → SignatureBoxRecord → Bool → Bool → Bool
     → (R → Type 0) → (R → Option (List ℕ)) → (R → Option (List ℕ)) → (R → ℕ) → R → R
     → (W → Option (List ℕ)) → (W → ℕ) → W → W → (O → Option (List ℕ)) → (O → ℕ) → O → O → Fault → Type 0
 VerifyingFails accepts pk x legacy quiet output steady ahead behind faults old new

@@ -52,7 +52,7 @@ impl KeynumSK {
     }
 }
 
-/// The 64 secret bytes in lower hexadecimal, each without leading zeros.
+/// Prints the secret: its 64 bytes in lower hexadecimal, each without leading zeros. Keep it out of logs.
 impl fmt::Debug for KeynumSK {
     ghost debug_output = { λ k. Some (secret_text k.sk) };
 

@@ -26,8 +26,12 @@ pub mod signature_box;
 pub mod signing;
 mod texts;
 pub mod verifying;
+pub mod verifying_texts;
 
-pub use constants::DEFAULT_COMMENT;
+pub use constants::{
+    DEFAULT_COMMENT, SIG_DEFAULT_CONFIG_DIR, SIG_DEFAULT_CONFIG_DIR_ENV_VAR, SIG_DEFAULT_PKFILE,
+    SIG_DEFAULT_SKFILE, SIG_SUFFIX,
+};
 pub use keypair::KeyPair;
 pub use minisign_base as base;
 pub use minisign_base::{ErrorKind, PError, Result};
@@ -41,3 +45,4 @@ pub use signature_bones::SignatureBones;
 pub use signature_box::SignatureBox;
 pub use signing::sign;
 pub use verifying::verify;
+pub use verifying_texts::verify_texts;

@@ -5,7 +5,7 @@ ghost use Rattle.minisign_base.specs.Faults.{out_of_memory, writing_failed, wron
 ghost use Rattle.minisign.specs.Records.{SecretKeyRecord};
 ghost use Rattle.minisign.specs.SecretKeyText.{SecretKeyText};
 ghost use Rattle.minisign.specs.Sealing.{Opens, OpensWithin, checksum_refusal, kdf_refusal, password_refusal, scrypt_kdf, unbounded_refusal, unencrypted_refusal, unsealed, work_refusal};
-ghost use Rattle.minisign.specs.Opening.{IsRefused, IsOpened, RefusesOpening, IsUnencryptedText, RefusesUnencrypted, HasSaid, HasAskedAndSaid, HasAskedAndNotSaid, IsOpenedAsking, IsToldRefusal, RefusesAsking, asking_text, deriving_text, done_text};
+ghost use Rattle.minisign.specs.Opening.{RefusesKey, IsOpened, RefusesOpening, IsUnencryptedText, RefusesUnencrypted, HasSaid, HasAskedAndSaid, HasAskedAndNotSaid, IsOpenedAsking, IsToldRefusal, RefusesAsking, asking_text, deriving_text, done_text};
 ghost use Rattle.minisign_base.specs.Prompts.{HasAsked, IsAskingFault, HasNotSaid};
 
 use crate::constants::{KDF_ALG, KDF_NONE};
@@ -144,7 +144,7 @@ impl SecretKey {
     // Reads the text of a key that was never sealed.
     fn unencrypted_from_text(alloc: Global, text: &str) -> Result<SecretKey>
         ensures unencrypted { IfOk result (λ v. SecretKeyText text.now v × (unencrypted_refusal v ≡ None)) }
-        ensures refused { IfErr result (λ e. (e ≡ out_of_memory) ⊎ IsRefused text.now unencrypted_refusal e) }
+        ensures refused { IfErr result (λ e. (e ≡ out_of_memory) ⊎ RefusesKey text.now unencrypted_refusal e) }
         ensures one_reading { IfOk result (λ v. (other : SecretKeyRecord) → SecretKeyText text.now other → other ≡ v) }
     {
         let sk = SecretKey::from_text(alloc, text)?;
@@ -177,7 +177,7 @@ impl SecretKey {
     // Reads the text of a key that is sealed by scrypt.
     fn sealed_from_text(alloc: Global, text: &str) -> Result<SecretKey>
         ensures sealed { IfOk result (λ v. SecretKeyText text.now v × (kdf_refusal v ≡ None)) }
-        ensures refused { IfErr result (λ e. (e ≡ out_of_memory) ⊎ IsRefused text.now kdf_refusal e) }
+        ensures refused { IfErr result (λ e. (e ≡ out_of_memory) ⊎ RefusesKey text.now kdf_refusal e) }
         ensures one_reading { IfOk result (λ v. (other : SecretKeyRecord) → SecretKeyText text.now other → other ≡ v) }
     {
         let sk = SecretKey::from_text(alloc, text)?;

@@ -148,7 +148,7 @@ impl Eq for SecretKey {
     ghost laws = { on_equiv (λ k. k.secret) nat_list_eq_equiv };
 }
 
-/// The 64 secret bytes in lower hexadecimal, each without leading zeros.
+/// Prints the secret: its 64 bytes in lower hexadecimal, each without leading zeros. Keep it out of logs.
 impl fmt::Debug for SecretKey {
     ghost use Rattle.minisign.specs.Records.{secret_text};
 

@@ -1,12 +1,16 @@
 //! A signature as it is stored: algorithm, identifier, signature.
 
-ghost use Rattle.std.specs.Prelude.{◌≡◌, ◌<◌, ◌++◌, length, vec_len, replicate, MatchResult, IfOk, IfErr};
+ghost use Rattle.std.specs.Prelude.{◌≡◌, Some, ◌<◌, ◌++◌, length, vec_len, replicate, MatchResult, IfOk, IfErr};
 ghost use Rattle.minisign_base.specs.Scheme.{IsBytes};
 ghost use Rattle.minisign_base.specs.Faults.{out_of_memory, record_too_short};
+ghost use Rattle.minisign.specs.Records.{signature_bytes};
 
 use crate::fields::split_field;
+use base64::display::Base64Display;
+use base64::engine::general_purpose::STANDARD;
 use minisign_base::Result;
 use std::alloc::Global;
+use std::fmt;
 use std::marker::Model;
 
 /// A signature: an algorithm of 2 bytes, the identifier of the key of 8, and the signature of 64.
@@ -66,6 +70,19 @@ impl Signature {
 }
 
 impl Signature {
+    // The 74 bytes.
+    fn stored(&self) -> [u8; 74]
+        ensures { result ≡ signature_bytes self.now }
+    {
+        let mut bytes = [0u8; 74];
+        let (sig_alg, rest) = bytes.split_at_mut(2);
+        let (keynum, sig) = rest.split_at_mut(8);
+        sig_alg.copy_from_slice(&self.sig_alg);
+        keynum.copy_from_slice(&self.keynum);
+        sig.copy_from_slice(&self.sig);
+        bytes
+    }
+
     // What a comment signature is over: the signature followed by the trusted comment.
     pub(crate) fn with_comment(&self, alloc: Global, trusted_comment: &str) -> Result<Vec<u8>>
         ensures bytes { IfOk result (λ v. v.items ≡ self.now.signature ++ trusted_comment.now) }
@@ -86,6 +103,19 @@ fn joined(alloc: Global, front: &[u8], back: &[u8]) -> Result<Vec<u8>>
     bytes.extend_from_slice(front)?;
     bytes.extend_from_slice(back)?;
     Ok(bytes)
+}
+
+/// The base64 of the 74 bytes, 100 characters.
+impl fmt::Display for Signature {
+    ghost use Rattle.minisign.specs.Records.{signature_bytes};
+    ghost use Rattle.minisign.specs.Texts.{base64_of};
+
+    ghost output = { λ s. Some (base64_of (signature_bytes s)) };
+
+    #[tactic(auto, unfolding(crate::specs::Texts::base64_of))]
+    fn fmt<W: fmt::Write>(&self, f: &mut fmt::Formatter<W>) -> fmt::Result {
+        Base64Display::new(&self.stored(), &STANDARD).fmt(f)
+    }
 }
 
 /// 74 zeros.

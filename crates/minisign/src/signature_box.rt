@@ -1,11 +1,16 @@
 //! A signature with its comments.
 
-ghost use Rattle.std.specs.Prelude.{◌≡◌, None, Err, string_bytes, MatchOption, MatchResult, IfOk, IfErr};
-ghost use Rattle.minisign_base.specs.Faults.{out_of_memory, trusted_comment_absent};
+ghost use Rattle.std.specs.Prelude.{◌≡◌, ◌≢◌, ◌⊎◌, ◌<◌, ◌++◌, List, ℕ, true, false, None, Some, Err, length, string_bytes, MatchOption, MatchResult, IfOk, IfErr, IfSome};
+ghost use Rattle.std.specs.Str.{trim};
+ghost use Rattle.minisign_base.specs.Faults.{out_of_memory, record_too_short, signature_box_incomplete, signature_not_base64, trusted_comment_absent, trusted_comment_prefix, unsupported_signature_algorithm, untrusted_comment_prefix};
+ghost use Rattle.minisign.specs.Records.{CommentsRecord, SignatureBoxRecord, SignatureRecord, IsKnownAlgorithm};
+ghost use Rattle.minisign.specs.SignatureText.{EncodesSignature, HasFourLines, SignatureText, KeepsComments, is_known_algorithm, signature_fault, signature_text, trusted_comment_label};
+ghost use Rattle.minisign.specs.Texts.{IsBase64Of, IsDecided, IsRefused, base64_bytes, is_base64, untrusted_comment_label};
 
-use crate::constants::SIGALG_PREHASHED;
+use crate::constants::{SIGALG, SIGALG_PREHASHED};
 use crate::signature::Signature;
 use crate::signature_bones::SignatureBones;
+use crate::texts::{decode, encode, next_line};
 use minisign_base::{Result, faults};
 use std::alloc::Global;
 use std::marker::Model;
@@ -63,6 +68,89 @@ impl SignatureBox {
         }
     }
 
+    /// Reads a signature text of four lines: `untrusted comment: ` and a comment; the base64 of the 74
+    /// bytes of a signature; `trusted comment: ` and the comment that is signed; the base64 of the comment
+    /// signature, of any length. The second and the fourth line and the trusted comment are trimmed of
+    /// white space, the untrusted comment is kept as it stands, and later lines are ignored.
+    ///
+    /// These are refused, in this order: a missing line, the first one first; another beginning of the first
+    /// line; a second line that is no base64, or of fewer than 74 bytes; another beginning of the third line;
+    /// an algorithm other than `Ed` and `ED`; a fourth line that is no base64. Want of memory may come at any
+    /// time.
+    pub fn from_string(alloc: Global, text: &str) -> Result<SignatureBox>
+        ensures read { IfOk result (SignatureText text.now) }
+        ensures exact { (x : SignatureBoxRecord) → SignatureText text.now x →
+            MatchResult result (λ y. y ≡ x) (λ e. e ≡ out_of_memory) }
+        ensures refused { IfErr result (λ e. (e ≡ out_of_memory)
+            ⊎ IsRefused (SignatureText text.now) (signature_fault text.now) e) }
+        ensures decided { IsDecided (SignatureText text.now) (signature_fault text.now) }
+    {
+        read_text(alloc, text)
+    }
+
+    /// As `from_string`, of a text that is handed over.
+    pub fn try_from_string(alloc: Global, text: String) -> Result<SignatureBox>
+        ensures read { IfOk result (SignatureText (string_bytes text)) }
+        ensures exact { (x : SignatureBoxRecord) → SignatureText (string_bytes text) x →
+            MatchResult result (λ y. y ≡ x) (λ e. e ≡ out_of_memory) }
+        ensures refused { IfErr result (λ e. (e ≡ out_of_memory)
+            ⊎ IsRefused (SignatureText (string_bytes text)) (signature_fault (string_bytes text)) e) }
+    {
+        read_text(alloc, text.as_str())
+    }
+
+    /// The text of the box, the four lines that `from_string` reads, each ended by a line feed. A box that
+    /// was made from a bare signature is refused, and want of memory.
+    ///
+    /// Comments are written as they stand: they are read back where the untrusted one has no line feed and
+    /// no carriage return at its end, and the trusted one no line feed and no white space at its ends.
+    pub fn to_string(&self, alloc: Global) -> Result<String>
+        ensures text { MatchOption self.now.comments (result ≡ Err signature_box_incomplete)
+            (λ c. MatchResult result (λ t. string_bytes t ≡ signature_text self.now.signature c) (λ e. e ≡ out_of_memory)) }
+        ensures reads_back { IfSome self.now.comments KeepsComments → IfOk result (λ t. SignatureText (string_bytes t) self.now) }
+    {
+        match &self.comments {
+            Some(comments) => written(alloc, &self.signature, comments),
+            None => Err(faults::signature_box_incomplete()),
+        }
+    }
+
+    /// As `to_string`, of a box that is handed over.
+    pub fn into_string(self, alloc: Global) -> Result<String>
+        ensures text { MatchOption self.comments (result ≡ Err signature_box_incomplete)
+            (λ c. MatchResult result (λ t. string_bytes t ≡ signature_text self.signature c) (λ e. e ≡ out_of_memory)) }
+    {
+        self.to_string(alloc)
+    }
+
+    /// The bytes of the text of the box, refused as `to_string`.
+    pub fn to_bytes(&self, alloc: Global) -> Result<Vec<u8>>
+        ensures { MatchOption self.now.comments (result ≡ Err signature_box_incomplete)
+            (λ c. MatchResult result (λ v. v.items ≡ signature_text self.now.signature c) (λ e. e ≡ out_of_memory)) }
+    {
+        match self.to_string(alloc) {
+            Ok(text) => Ok(text.into_bytes()),
+            Err(fault) => Err(fault),
+        }
+    }
+
+    /// A box that holds the same. Only want of memory is refused.
+    pub fn try_clone(&self, alloc: Global) -> Result<SignatureBox>
+        ensures same { IfOk result (λ b. b ≡ self.now) }
+        ensures refused { IfErr result (λ e. e ≡ out_of_memory) }
+    {
+        match &self.comments {
+            Some(comments) => Ok(SignatureBox {
+                signature: self.signature.clone()?,
+                comments: Some(comments.try_clone(alloc)?),
+            }),
+            None => Ok(SignatureBox {
+                signature: self.signature.clone()?,
+                comments: None,
+            }),
+        }
+    }
+
     /// Whether the signature is over the digest of the data and not over the data itself.
     pub fn is_prehashed(&self) -> bool
         ensures { result ≡ is_prehashed self.now.signature }
@@ -99,5 +187,166 @@ impl SignatureBox {
         ensures { result.now ≡ self.now.signature.keynum }
     {
         &self.signature.keynum[..]
+    }
+}
+
+impl Comments {
+    fn try_clone(&self, alloc: Global) -> Result<Comments>
+        ensures same { IfOk result (λ c. c ≡ self.now) }
+        ensures refused { IfErr result (λ e. e ≡ out_of_memory) }
+    {
+        Ok(Comments {
+            untrusted_comment: String::from_str(alloc, self.untrusted_comment.as_str())?,
+            trusted_comment: String::from_str(alloc, self.trusted_comment.as_str())?,
+            global_sig: Vec::from_slice(alloc, &self.global_sig)?,
+        })
+    }
+}
+
+// The text of a signature with comments.
+fn written(alloc: Global, signature: &Signature, comments: &Comments) -> Result<String>
+    ensures text { IfOk result (λ t. string_bytes t ≡ signature_text signature.now comments.now) }
+    ensures reads_back { KeepsComments comments.now → IsKnownAlgorithm signature.now.algorithm →
+        IfOk result (λ t. SignatureText (string_bytes t) (record { signature = signature.now; comments = Some comments.now })) }
+    ensures refused { IfErr result (λ e. e ≡ out_of_memory) }
+{
+    let bytes = signature.to_bytes(alloc)?;
+    let encoded = encode(alloc, &bytes)?;
+    let global_sig = encode(alloc, &comments.global_sig)?;
+    let text = format!(in alloc;
+        "untrusted comment: {}\n{}\ntrusted comment: {}\n{}\n",
+        comments.untrusted_comment, encoded, comments.trusted_comment, global_sig
+    )?;
+    Ok(text)
+}
+
+// The first four lines of a signature text.
+#[derive(Clone, Copy, Drop)]
+struct TextLines<'a> {
+    untrusted_comment: &'a str,
+    signature: &'a str,
+    trusted_comment: &'a str,
+    global_sig: &'a str,
+}
+
+// Reads a signature text.
+fn read_text(alloc: Global, text: &str) -> Result<SignatureBox>
+    ensures read { IfOk result (SignatureText text.now) }
+    ensures refused { IfErr result (λ e. (e ≡ out_of_memory) ⊎ (signature_fault text.now ≡ Some e)) }
+{
+    let lines = four_lines(text)?;
+    read_lines(alloc, lines)
+}
+
+fn four_lines(text: &str) -> Result<TextLines<'_>>
+    ensures lines { IfOk result (λ l. HasFourLines text.now l.untrusted_comment.now l.signature.now
+        l.trusted_comment.now l.global_sig.now) }
+    ensures refused { IfErr result (λ e. signature_fault text.now ≡ Some e) }
+{
+    let mut lines = text.lines();
+    let Some(untrusted_comment) = next_line(&mut lines) else {
+        return Err(faults::missing_untrusted_comment());
+    };
+    let Some(signature) = next_line(&mut lines) else {
+        return Err(faults::missing_signature());
+    };
+    let Some(trusted_comment) = next_line(&mut lines) else {
+        return Err(faults::missing_trusted_comment());
+    };
+    let Some(global_sig) = next_line(&mut lines) else {
+        return Err(faults::missing_global_signature());
+    };
+    Ok(TextLines {
+        untrusted_comment,
+        signature,
+        trusted_comment,
+        global_sig,
+    })
+}
+
+// What stands in the first four lines.
+fn read_lines(alloc: Global, lines: TextLines) -> Result<SignatureBox>
+    ensures read { IfOk result (λ x. (text : List ℕ) → HasFourLines text lines.entry.untrusted_comment.now
+        lines.entry.signature.now lines.entry.trusted_comment.now lines.entry.global_sig.now → SignatureText text x) }
+    ensures refused { IfErr result (λ e. (e ≡ out_of_memory) ⊎ ((text : List ℕ) → HasFourLines text
+        lines.entry.untrusted_comment.now lines.entry.signature.now lines.entry.trusted_comment.now
+        lines.entry.global_sig.now → signature_fault text ≡ Some e)) }
+{
+    let untrusted_comment = untrusted_comment_in(lines.untrusted_comment)?;
+    let signature = decode_signature(alloc, lines.signature.trim())?;
+    let trusted_comment = trusted_comment_in(lines.trusted_comment)?;
+    let signature = known(signature)?;
+    let global_sig = decode_comment_signature(alloc, lines.global_sig.trim())?;
+    let comments = Comments {
+        untrusted_comment: String::from_str(alloc, untrusted_comment)?,
+        trusted_comment: String::from_str(alloc, trusted_comment.trim())?,
+        global_sig,
+    };
+    Ok(SignatureBox {
+        signature,
+        comments: Some(comments),
+    })
+}
+
+// The comment in the first line.
+#[tactic(auto, unfolding(crate::specs::Texts::untrusted_comment_label))]
+fn untrusted_comment_in(line: &str) -> Result<&str>
+    ensures comment { IfOk result (λ c. line.now ≡ untrusted_comment_label ++ c.now) }
+    ensures refused { IfErr result (λ e. (e ≡ untrusted_comment_prefix)
+        × ((comment : List ℕ) → line.now ≢ untrusted_comment_label ++ comment)) }
+{
+    match line.strip_prefix("untrusted comment: ") {
+        Some(comment) => Ok(comment),
+        None => Err(faults::untrusted_comment_prefix()),
+    }
+}
+
+// The comment in the third line.
+#[tactic(auto, unfolding(crate::specs::SignatureText::trusted_comment_label))]
+fn trusted_comment_in(line: &str) -> Result<&str>
+    ensures comment { IfOk result (λ c. line.now ≡ trusted_comment_label ++ c.now) }
+    ensures refused { IfErr result (λ e. (e ≡ trusted_comment_prefix)
+        × ((comment : List ℕ) → line.now ≢ trusted_comment_label ++ comment)) }
+{
+    match line.strip_prefix("trusted comment: ") {
+        Some(comment) => Ok(comment),
+        None => Err(faults::trusted_comment_prefix()),
+    }
+}
+
+// The signature that a text is the base64 of.
+fn decode_signature(alloc: Global, text: &str) -> Result<Signature>
+    ensures signature { IfOk result (EncodesSignature text.now) }
+    ensures refused { IfErr result (λ e. (e ≡ out_of_memory)
+        ⊎ ((e ≡ signature_not_base64) × (is_base64 text.now ≡ false))
+        ⊎ ((e ≡ record_too_short) × (is_base64 text.now ≡ true) × (length (base64_bytes text.now) < 74))) }
+{
+    match decode(alloc, text)? {
+        Some(bytes) => Ok(Signature::from_bytes(&bytes)?),
+        None => Err(faults::signature_not_base64()),
+    }
+}
+
+// A signature of an algorithm that is known.
+fn known(signature: Signature) -> Result<Signature>
+    ensures same { IfOk result (λ s. (s ≡ signature) × IsKnownAlgorithm s.algorithm) }
+    ensures refused { IfErr result (λ e. (e ≡ unsupported_signature_algorithm)
+        × (is_known_algorithm signature.algorithm ≡ false)) }
+{
+    if signature.sig_alg != SIGALG && signature.sig_alg != SIGALG_PREHASHED {
+        return Err(faults::unsupported_signature_algorithm());
+    }
+    Ok(signature)
+}
+
+// The comment signature that a text is the base64 of.
+fn decode_comment_signature(alloc: Global, text: &str) -> Result<Vec<u8>>
+    ensures bytes { IfOk result (λ v. IsBase64Of text.now v.items) }
+    ensures refused { IfErr result (λ e. (e ≡ out_of_memory)
+        ⊎ ((e ≡ signature_not_base64) × (is_base64 text.now ≡ false))) }
+{
+    match decode(alloc, text)? {
+        Some(bytes) => Ok(bytes),
+        None => Err(faults::signature_not_base64()),
     }
 }

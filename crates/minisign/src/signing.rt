@@ -11,7 +11,7 @@ ghost use Rattle.minisign.specs.Reading.{ReadsWhole};
 ghost use Rattle.minisign.specs.Records.{SignatureBoxRecord};
 ghost use Rattle.minisign.specs.Sealing.{is_encrypted};
 ghost use Rattle.minisign.specs.Acceptance.{accepts_comments};
-ghost use Rattle.minisign.specs.Signing.{IsSigned, AcceptedIfGenuine, SigningFails, DrawFails, comments_or_defaults, default_trusted_comment, default_untrusted_comment};
+ghost use Rattle.minisign.specs.Signing.{IsSigned, VouchesWhereGenuine, SigningFails, DrawFails, comments_or_defaults, default_trusted_comment, default_untrusted_comment};
 
 use crate::comment_signature::accepts_comments;
 use crate::constants::{DEFAULT_COMMENT, SIGALG_PREHASHED};
@@ -54,7 +54,7 @@ pub fn sign<S: Scheme, R: Source, Z: RandomSource>(
         × IsSigned (S.signature_of scheme.now) sk.now message
         (comments_or_defaults (option_map (λ s. s.now) trusted_comment.entry) (option_map (λ s. s.now) untrusted_comment.entry) moment)
         (Z.random_ahead random.old) (Z.random_ahead random.new) x
-        × AcceptedIfGenuine (S.accepts scheme.now) (S.public_of scheme.now) sk.now message x) }
+        × VouchesWhereGenuine (S.accepts scheme.now) (S.public_of scheme.now) sk.now message x) }
     ensures opened { OnOk result (is_encrypted sk.now ≡ false) }
     ensures given_key { IfOk result (λ x. IfSome pk.entry (λ p. accepts_comments (S.accepts scheme.now) p.now x ≡ true)) }
     ensures random_calm { OnOk result (Z.random_faults random.new ≡ Z.random_faults random.old) }
@@ -95,7 +95,7 @@ fn make_box<S: Scheme, Z: RandomSource>(
     ensures signed { IfOk result (λ x. (message : List ℕ) → digest.now ≡ blake2b_digest 64 message →
         IsSigned (S.signature_of scheme.now) sk.now message (record { trusted = string_bytes trusted_comment; untrusted = string_bytes untrusted_comment })
         (Z.random_ahead random.old) (Z.random_ahead random.new) x
-        × AcceptedIfGenuine (S.accepts scheme.now) (S.public_of scheme.now) sk.now message x) }
+        × VouchesWhereGenuine (S.accepts scheme.now) (S.public_of scheme.now) sk.now message x) }
     ensures calm { OnOk result (Z.random_faults random.new ≡ Z.random_faults random.old) }
     ensures refused { IfErr result (λ e. (e ≡ out_of_memory) ⊎ DrawFails Z.random_faults random.old random.new e) }
     ensures given { HasGiven (Z.random_ahead random.old) (Z.random_ahead random.new) }

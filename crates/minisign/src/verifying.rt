@@ -7,7 +7,7 @@ ghost use Rattle.minisign_base.specs.Devices.{Rose, StaysOrHides, HasGiven, Appe
 ghost use Rattle.minisign_base.specs.Faults.{out_of_memory, writing_failed, going_back_failed};
 ghost use Rattle.minisign.specs.Reading.{ReadsWhole};
 ghost use Rattle.minisign.specs.Records.{PublicKeyRecord, SignatureBoxRecord, is_prehashed};
-ghost use Rattle.minisign.specs.Acceptance.{Accepts, Refuses, SameWhereVouched, judged, first_refusal, status_lines};
+ghost use Rattle.minisign.specs.Acceptance.{Vouches, Refuses, SameWhereVouched, judged, first_refusal, status_lines};
 ghost use Rattle.minisign.specs.Verifying.{Delivers, TurnsDown, StatusFails, SayingFails, VerifyingFails, rereads, said};
 
 use crate::comment_signature::accepts_comments;
@@ -54,7 +54,7 @@ pub fn verify<S: Scheme, R: Rereader, W: Sink, O: Sink>(
     out: &mut O,
 ) -> Result<()>
     // What is accepted is vouched for, this was said of it, and it was copied where that is wanted.
-    ensures accepted { OnOk result ((message : List ℕ) × Accepts (S.accepts scheme.now) pk.now signature_box.now message allow_legacy
+    ensures accepted { OnOk result ((message : List ℕ) × Vouches (S.accepts scheme.now) pk.now signature_box.now message allow_legacy
         × Delivers output signature_box.now R.steady R.ahead R.behind R.faults data_reader.old data_reader.new O.taken out.old out.new message) }
     ensures said { OnOk result (Appends (W.taken status.old) (W.taken status.new) (said quiet signature_box.now)) }
     ensures quiet { quiet ≡ true → status.new ≡ status.old }
@@ -132,7 +132,7 @@ fn verify_kept<S: Scheme, R: Source, W: Sink>(
 ) -> Result<Vec<u8>>
     requires { is_prehashed signature_box.now.signature ≡ false }
     ensures accepted { IfOk result (λ v. ReadsWhole R.ahead R.behind R.faults data_reader.old data_reader.new v.items
-        × Accepts (S.accepts scheme.now) pk.now signature_box.now v.items allow_legacy) }
+        × Vouches (S.accepts scheme.now) pk.now signature_box.now v.items allow_legacy) }
     ensures said { OnOk result (Appends (W.taken status.old) (W.taken status.new) (said quiet signature_box.now)) }
     ensures quiet { quiet ≡ true → status.new ≡ status.old }
     ensures status_calm { OnOk result (W.sink_faults status.new ≡ W.sink_faults status.old) }
@@ -169,7 +169,7 @@ fn verify_hashed<S: Scheme, R: Source, W: Sink>(
 ) -> Result<[u8; 64]>
     requires { is_prehashed signature_box.now.signature ≡ true }
     ensures accepted { IfOk result (λ d. (message : List ℕ) × ReadsWhole R.ahead R.behind R.faults data_reader.old data_reader.new message
-        × Accepts (S.accepts scheme.now) pk.now signature_box.now message allow_legacy × (d ≡ blake2b_digest 64 message)) }
+        × Vouches (S.accepts scheme.now) pk.now signature_box.now message allow_legacy × (d ≡ blake2b_digest 64 message)) }
     ensures said { OnOk result (Appends (W.taken status.old) (W.taken status.new) (said quiet signature_box.now)) }
     ensures quiet { quiet ≡ true → status.new ≡ status.old }
     ensures status_calm { OnOk result (W.sink_faults status.new ≡ W.sink_faults status.old) }
@@ -219,7 +219,7 @@ fn judge_and_say<S: Scheme, W: Sink>(
     status: &mut W,
 ) -> Result<()>
     ensures accepted { OnOk result ((message : List ℕ) → judged_message.now ≡ judged signature_box.now message →
-        Accepts (S.accepts scheme.now) pk.now signature_box.now message allow_legacy) }
+        Vouches (S.accepts scheme.now) pk.now signature_box.now message allow_legacy) }
     ensures said { OnOk result (Appends (W.taken status.old) (W.taken status.new) (said quiet signature_box.now)) }
     ensures quiet { quiet ≡ true → status.new ≡ status.old }
     ensures status_calm { OnOk result (W.sink_faults status.new ≡ W.sink_faults status.old) }
@@ -253,7 +253,7 @@ fn judge<S: Scheme>(
     allow_legacy: bool,
 ) -> Result<()>
     ensures accepted { OnOk result ((message : List ℕ) → judged_message.now ≡ judged signature_box.now message →
-        Accepts (S.accepts scheme.now) pk.now signature_box.now message allow_legacy) }
+        Vouches (S.accepts scheme.now) pk.now signature_box.now message allow_legacy) }
     ensures refused { IfErr result (λ e. (e ≡ out_of_memory)
         ⊎ ((message : List ℕ) → judged_message.now ≡ judged signature_box.now message →
         Refuses (S.accepts scheme.now) pk.now signature_box.now message allow_legacy e)) }

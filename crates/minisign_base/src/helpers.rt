@@ -12,7 +12,7 @@ use crate::devices::sinks::Sink;
 use crate::devices::sources::Source;
 use crate::errors::Result;
 use crate::faults;
-use crate::prompt::Prompt;
+use crate::prompt::{LINE_BYTES, Prompt};
 use minisign_kdf::params::Params;
 use std::alloc::Global;
 use std::time::{Clock, SystemTime, UNIX_EPOCH};
@@ -60,12 +60,10 @@ pub fn get_password<R: Source, W: Sink>(
     let line = line_buffer(alloc)?;
     prompt.say(text)?;
     let password = prompt.read_password(line)?;
-    if password.is_empty() {
-        if let Err(fault) = prompt.say("<empty>\n") {
-            return Err(fault);
-        }
+    match prompt.mark_empty(&password) {
+        Ok(()) => Ok(password),
+        Err(fault) => Err(fault),
     }
-    Ok(password)
 }
 
 // Room for the longest line that is read: a password of 1024 bytes, a carriage return and a line feed.
@@ -73,7 +71,7 @@ fn line_buffer(alloc: Global) -> Result<Vec<u8>>
     ensures length { IfOk result (λ v. length v.items ≡ 1026) }
     ensures refused { IfErr result (λ e. e ≡ out_of_memory) }
 {
-    Ok(vec![in alloc; 0u8; 1026]?)
+    Ok(vec![in alloc; 0u8; LINE_BYTES]?)
 }
 
 /// The seconds since 1970, rounded down. Where the clock can't be read or is set before 1970, that is

@@ -5,12 +5,18 @@ ghost use Rattle.std.specs.Io.KnownBytes.{Appends, Consumes, IsAtEnd};
 ghost use Rattle.std.specs.Str.Lines.{strip_carriage_return};
 ghost use Rattle.minisign_base.specs.Devices.{Rose, AppendsFront, StaysOrHides};
 ghost use Rattle.minisign_base.specs.Faults.{reading_failed, writing_failed};
-ghost use Rattle.minisign_base.specs.Prompts.{HasReadLine, HasFailedInLine, password_of, accepted};
+ghost use Rattle.minisign_base.specs.Prompts.{HasReadLine, HasFailedInLine, password_of, accepted, written_after, empty_mark};
 
 use crate::devices::sinks::{Sink, put_and_flush};
 use crate::devices::sources::Source;
 use crate::errors::Result;
 use crate::faults;
+
+// The most bytes that are read for a line: a password of 1024 bytes, a carriage return and a line feed.
+pub(crate) const LINE_BYTES: usize = 1026;
+
+// The most bytes of a typed password.
+const PASSWORD_BYTES: usize = 1024;
 
 /// What a person types into, and what is shown: a reader and a writer, such as a terminal's two sides.
 #[derive(Debug, Drop)]
@@ -50,6 +56,25 @@ impl<R: Source, W: Sink> Prompt<R, W> {
         match put_and_flush(&mut self.writer, text.as_bytes()) {
             Ok(()) => Ok(()),
             Err(_) => Err(faults::writing_failed()),
+        }
+    }
+
+    // Where the password is empty, shows that.
+    pub(crate) fn mark_empty(&mut self, password: &str) -> Result<()>
+        ensures reader { self.new.reader ≡ self.old.reader }
+        ensures bytes { OnOk result (Appends (W.taken self.old.writer) (W.taken self.new.writer) (written_after (Ok password.now))) }
+        ensures calm { OnOk result (W.sink_faults self.new.writer ≡ W.sink_faults self.old.writer) }
+        ensures empty { OnErr result (password.now ≡ []) }
+        ensures fault { IfErr result (λ e. (e ≡ writing_failed)
+            × Rose (W.sink_faults self.old.writer) (W.sink_faults self.new.writer)) }
+        ensures front { OnErr result (AppendsFront (W.taken self.old.writer) (W.taken self.new.writer) empty_mark) }
+    {
+        if !password.is_empty() {
+            return Ok(());
+        }
+        match self.say("<empty>\n") {
+            Ok(()) => Ok(()),
+            Err(fault) => Err(fault),
         }
     }
 
@@ -140,7 +165,7 @@ fn accepted(line: Vec<u8>) -> Result<String>
     let Ok(password) = String::from_utf8(line) else {
         return Err(faults::not_utf8());
     };
-    if password.len() > 1024 {
+    if password.len() > PASSWORD_BYTES {
         return Err(faults::password_too_long());
     }
     Ok(password)

@@ -10,5 +10,6 @@ pub mod Derivation
 pub mod ParamsFacts
 pub mod Rows
 pub mod Parts
+pub mod Kept
 pub mod KeyFacts
 pub mod Facts

@@ -95,7 +95,7 @@ even_power k some =
     omega arith
 
 -- only the rows below n count
-mixed_with_same : (r n : ℕ) (v w : ℕ → List ℕ) (x : List ℕ) (t : ℕ) → 0 < n → ((j : ℕ) → j < n → v j ≡ w j) → mixed_with r n v x t ≡ mixed_with r n w x t
+pub mixed_with_same : (r n : ℕ) (v w : ℕ → List ℕ) (x : List ℕ) (t : ℕ) → 0 < n → ((j : ℕ) → j < n → v j ≡ w j) → mixed_with r n v x t ≡ mixed_with r n w x t
 unfolding mixed_with
 mixed_with_same r n v w x zero some same = refl
 mixed_with_same r n v w x (suc t) some same =

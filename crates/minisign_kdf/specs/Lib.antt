@@ -4,5 +4,6 @@ pub mod Hmac
 pub mod Pbkdf2
 pub mod Diagonal
 pub mod Scrypt
+pub mod Kept
 pub mod Params
 pub mod Faults

@@ -3,7 +3,7 @@ use Rattle.std.specs.Prelude.{◌≡◌, ℕ, ◌<◌, ◌⊎◌, false, List, l
 use Rattle.minisign_base.specs.Fault.{Fault}
 use Rattle.minisign_base.specs.Faults.{out_of_memory, reading_failed, writing_failed, record_too_short}
 use Rattle.minisign.specs.Records.{PublicKeyRecord, SignatureRecord, SignatureBoxRecord, ReadsPublicKey, ReadsSignature, IsKnownAlgorithm, IsBonesFault}
-use Rattle.minisign.specs.Acceptance.{Acceptance, Accepts, Refuses}
+use Rattle.minisign.specs.Acceptance.{Verifier, Vouches, Refuses}
 use Rattle.minisign.specs.Reading.{IsAhead}
 
 -- the two files hold this public key and this bare signature
@@ -23,14 +23,14 @@ abbrev pub bare_box : SignatureRecord → SignatureBoxRecord
 bare_box signature = record { signature = signature; comments = None }
 
 -- the two files hold a public key and a bare signature that vouches for the message under it, by its digest
-pub record VouchesRaw (accepts : Acceptance) (key_file signature_file message : List ℕ) : Type 0 where
+pub record VouchesRaw (accepts : Verifier) (key_file signature_file message : List ℕ) : Type 0 where
   pub key : PublicKeyRecord
   pub signature : SignatureRecord
   pub held : HoldsRaw key_file signature_file key signature
-  pub accepted : Accepts accepts key (bare_box signature) message false
+  pub accepted : Vouches accepts key (bare_box signature) message false
 
 -- the two files hold a public key and a bare signature that does not vouch for the message, and this is why
-pub record RefusesRaw (accepts : Acceptance) (key_file signature_file message : List ℕ) (e : Fault) : Type 0 where
+pub record RefusesRaw (accepts : Verifier) (key_file signature_file message : List ℕ) (e : Fault) : Type 0 where
   pub key : PublicKeyRecord
   pub signature : SignatureRecord
   pub held : HoldsRaw key_file signature_file key signature
@@ -39,7 +39,7 @@ pub record RefusesRaw (accepts : Acceptance) (key_file signature_file message : 
 -- why a run over two files and data ends with a fault: memory was wanting, or a source failed, or the
 -- files do not hold a key and a signature, or these vouch for the data and the status line cannot be
 -- written, or they do not vouch for it; a device that failed is one whose count of faults rose
-abbrev pub FailsRaw : Acceptance → Option (List ℕ) → Option (List ℕ) → Option (List ℕ) → Type 0 → Type 0 → Fault → Type 0
+abbrev pub FailsRaw : Verifier → Option (List ℕ) → Option (List ℕ) → Option (List ℕ) → Type 0 → Type 0 → Fault → Type 0
 FailsRaw accepts key_ahead signature_ahead data_ahead source_failed status_failed e =
     (e ≡ out_of_memory)
     ⊎ ((e ≡ reading_failed) × source_failed)

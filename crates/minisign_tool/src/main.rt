@@ -1,6 +1,8 @@
 //! The program `minisign_tool`. It signs and verifies under a toy scheme that is insecure, and says so.
 #![tactic(auto)]
 
+ghost use Rattle.std.specs.Prelude.{◌≡◌, ◌≤◌};
+
 mod arguments;
 mod report;
 #[cfg(test)]
@@ -40,7 +42,9 @@ fn main(rt: HostRuntime) -> ExitCode {
 }
 
 // Opens the files, the key first, and runs `verify-raw` over them and standard input.
-fn verify_raw_files<W: Sink>(rt: &HostRuntime, pk: &str, sig: &str, errors: &mut W) -> u8 {
+fn verify_raw_files<W: Sink>(rt: &HostRuntime, pk: &str, sig: &str, errors: &mut W) -> u8
+    ensures { result ≤ 1 }
+{
     // Where standard input is closed, the first file would get its number and be read as the data.
     if rt.stdin().as_fd().try_clone_to_owned().is_err() {
         return cannot_open(rt, errors);
@@ -62,7 +66,9 @@ fn verify_raw_files<W: Sink>(rt: &HostRuntime, pk: &str, sig: &str, errors: &mut
 }
 
 // Says that a file cannot be opened, and answers the exit status.
-fn cannot_open<W: Sink>(rt: &HostRuntime, errors: &mut W) -> u8 {
+fn cannot_open<W: Sink>(rt: &HostRuntime, errors: &mut W) -> u8
+    ensures { result ≡ 1 }
+{
     warn(errors);
     report(rt.alloc(), errors, &faults::reading_failed())
 }

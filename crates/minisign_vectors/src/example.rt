@@ -2,7 +2,7 @@
 
 ghost use Rattle.std.specs.Prelude.{◌≡◌, ℕ, List, None, false, ◌⊎◌, IfOk, IfErr};
 ghost use Rattle.minisign_base.specs.Faults.{out_of_memory, reading_failed, random_source_failed};
-ghost use Rattle.minisign.specs.Acceptance.{Accepts};
+ghost use Rattle.minisign.specs.Acceptance.{Vouches};
 ghost use Rattle.minisign.specs.Signing.{IsGenuine, IsSigned, comments_or_defaults};
 
 use minisign::{PublicKey, Result, SecretKey, SignatureBox, sign, verify};
@@ -28,7 +28,7 @@ pub fn sign_and_verify<S: Scheme, Z: RandomSource>(
 ) -> Result<SignatureBox>
     ensures signed { IfOk result (λ x. IsSigned (S.signature_of scheme.now) secret_key.now message.now (comments_or_defaults None None moment)
         (Z.random_ahead random.old) (Z.random_ahead random.new) x) }
-    ensures accepted { IfOk result (λ x. Accepts (S.accepts scheme.now) public_key.now x message.now false) }
+    ensures accepted { IfOk result (λ x. Vouches (S.accepts scheme.now) public_key.now x message.now false) }
     ensures genuine { (seed : List ℕ) → IsGenuine (S.public_of scheme.now) secret_key.now seed
         → public_key.now.key ≡ S.public_of scheme.now seed → public_key.now.keynum ≡ secret_key.now.keynum
         → IfErr result (λ e. (e ≡ out_of_memory) ⊎ (e ≡ reading_failed) ⊎ (e ≡ random_source_failed)) }

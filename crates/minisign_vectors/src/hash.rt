@@ -1,9 +1,10 @@
 //! Blake2b: vectors of RFC 7693 and values of Python's hashlib, and its sizes.
 
-ghost use Rattle.std.specs.Prelude.{◌≡◌, false};
+ghost use Rattle.std.specs.Prelude.{◌≡◌, ◌≤◌, false, length};
 ghost use Rattle.minisign_hash.specs.Fed.{has_finalized, output_length};
 
 use crate::keys_for_tests::hexadecimal;
+use crate::scalar_blake2b::scalar_digest;
 use minisign_hash::blake2b::Blake2b;
 use minisign_hash::constants::{
     BLAKE2B_BLOCKBYTES, BLAKE2B_KEYBYTES, BLAKE2B_OUTBYTES, BLAKE2B_PERSONALBYTES,
@@ -137,6 +138,54 @@ fn digests_around_the_ends_of_blocks(rt: HostRuntime) -> Result<(), Fail> {
         state.finalize(&mut again);
         assert_eq!(rt; again, whole, "finalized twice at {len}");
     }
+    Ok(())
+}
+
+// The digest of `message` in two updates, of which the first has `cut` bytes: as the first and as the
+// second call of `finalize` write it.
+fn digests_in_two_parts(message: &[u8], cut: usize) -> ([u8; 64], [u8; 64])
+    requires { cut ≤ length message.now }
+{
+    let (front, back) = message.split_at(cut);
+    let mut state = Blake2b::new(64);
+    state.update(front);
+    state.update(back);
+    let mut first = [0u8; 64];
+    state.finalize(&mut first);
+    let mut second = [0u8; 64];
+    state.finalize(&mut second);
+    (first, second)
+}
+
+// Every length from 0 to 385, whole and cut after each of these numbers of bytes, beside the scalar
+// body. The last value is hashlib's digest of the 386 digests in their order.
+#[test]
+fn lanes_beside_the_scalar_body(rt: HostRuntime) -> Result<(), Fail> {
+    let mut message = [0u8; 385];
+    for (i, byte) in message.iter_mut().enumerate() {
+        *byte = (i % 251) as u8;
+    }
+    let mut all = Blake2b::new(64);
+    for len in 0..386usize {
+        let message = &message[..len.min(385)];
+        let expected = scalar_digest(message);
+        for cut in [0usize, 1, 127, 128, 129, 255, 256, 257] {
+            let (first, second) = digests_in_two_parts(message, cut.min(message.len()));
+            assert_eq!(rt; first, expected, "{len} bytes cut after {cut}");
+            assert_eq!(rt;
+                second,
+                expected,
+                "{len} bytes cut after {cut}, finalized twice"
+            );
+        }
+        all.update(&expected);
+    }
+    let mut digest = [0u8; 64];
+    all.finalize(&mut digest);
+    assert_eq!(rt;
+        hexadecimal(rt.alloc(), &digest)?.as_str(),
+        "d9c2f8a767405c944ea2bd459966409f08e59af231d9aec9f938813a6845e98784f37b547af1d58b090d718744f118878ebe323e95e4df9d69ddf2e99e8ded18"
+    );
     Ok(())
 }
 

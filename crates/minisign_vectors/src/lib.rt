@@ -2,6 +2,7 @@
 //!
 //! Each expected value comes from outside: from a standard, from Python's hashlib, or worked out by hand
 //! from a definition. None is what a crate of this repository answered.
+
 #![tactic(auto)]
 
 #[cfg(test)]
@@ -26,13 +27,18 @@ mod limits;
 #[cfg(test)]
 mod lines;
 #[cfg(test)]
+mod plain_scrypt;
+#[cfg(test)]
 mod prompts;
 #[cfg(test)]
 mod records;
 #[cfg(test)]
+mod scalar_blake2b;
+#[cfg(test)]
 mod sealed_keys;
 #[cfg(test)]
 mod secret_keys;
+#[cfg(test)]
 mod seeking;
 #[cfg(test)]
 mod sign;

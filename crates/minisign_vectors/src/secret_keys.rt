@@ -15,6 +15,10 @@ const TEXT: &str =
 const ENCODED: &str =
     "RWQAAEIyAAAAAAAAAAAAAAAAAAAAAAAAAAAAAAAAAAAAAAAAAAAAAAAAAAAAAAAAAAAAAAAAAQIDBAUGBwgAAAAAAAAAAAAAAAAAAAAAAAAAAAAAAAAAAAAAAAAAAFpaWlpaWlpaWlpaWlpaWlpaWlpaWlpaWlpaWlpaWlpazoeDdHm2Hr/pRluKO3DYzP11U/WDPdZWSdZKEnx6ifg=";
 
+// The base64 of the first 157 bytes of that record, a text of as many characters.
+const ENCODED_SHORT: &str =
+    "RWQAAEIyAAAAAAAAAAAAAAAAAAAAAAAAAAAAAAAAAAAAAAAAAAAAAAAAAAAAAAAAAAAAAAAAAQIDBAUGBwgAAAAAAAAAAAAAAAAAAAAAAAAAAAAAAAAAAAAAAAAAAFpaWlpaWlpaWlpaWlpaWlpaWlpaWlpaWlpaWlpaWlpazoeDdHm2Hr/pRluKO3DYzP11U/WDPdZWSdZKEnx6iQ==";
+
 const NO_COMMENT: &str = "Io: Missing comment in secret key";
 
 const NO_KEY: &str = "Io: Missing encoded key in secret key";
@@ -112,6 +116,9 @@ fn odd_texts(rt: HostRuntime) -> std::result::Result<(), Fail> {
             "at {front:?} {behind:?}"
         );
     }
+    let text = format!(in alloc; "c\n{ENCODED_SHORT}\n")?;
+    let answer = unsealed(alloc, text.as_str());
+    assert_eq!(rt; outcome(alloc, &answer).as_str(), TOO_SHORT);
     Ok(())
 }
 

@@ -1,11 +1,13 @@
-//! Derives a key of 64 bytes with scrypt, so that a benchmark can time it: of the arguments
-//! `PASSWORD SALT N_LOG2 R P` it prints the key in hexadecimal.
+//! Derives a key of 64 bytes with scrypt, and times it for a benchmark: of the arguments
+//! `PASSWORD SALT N_LOG2 R P` it prints the key in hexadecimal, and on the error stream the time of the
+//! call in microseconds.
 
 #![tactic(auto)]
 
 use minisign_kdf::params::Params;
 use minisign_kdf::scrypt::scrypt;
 use std::process::ExitCode;
+use std::time::Instant;
 use std::{env, io};
 
 // What is derived from.
@@ -23,6 +25,7 @@ fn main(rt: HostRuntime) -> io::Result<ExitCode> {
         return Ok(ExitCode::from(2));
     };
     let mut key = [0u8; 64];
+    let begun = Instant::now(&rt)?;
     let derived = scrypt(
         rt.alloc(),
         request.password.as_bytes(),
@@ -30,10 +33,12 @@ fn main(rt: HostRuntime) -> io::Result<ExitCode> {
         &request.params,
         &mut key,
     );
+    let passed = Instant::now(&rt)?.duration_since(begun);
     if derived.is_err() {
         eprintln!(rt; "error: out of memory")?;
         return Ok(ExitCode::FAILURE);
     }
+    eprintln!(rt; "{}", passed.as_micros())?;
     for byte in key {
         print!(rt; "{byte:02x}")?;
     }

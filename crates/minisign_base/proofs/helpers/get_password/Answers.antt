@@ -1,6 +1,4 @@
-use Rattle.std.proofs.Common.{◌≡◌, [], Ok, string_bytes, inr, sym, ap, ◌∙◌, subst, arith}
-use Rattle.std.proofs.lemmas.Bool.{eqb-true}
-use Rattle.std.proofs.lemmas.List.{nil_from_length}
+use Rattle.std.proofs.Common.{◌≡◌, [], Ok, string_bytes, inr, sym, ap, ◌∙◌, subst}
 use Rattle.std.specs.Io.KnownBytes.{Appends}
 use Rattle.minisign_base.specs.Devices.{Rose}
 use Rattle.minisign_base.specs.Prompts.{HasReadLine}
@@ -10,11 +8,10 @@ use Rattle.minisign_base.proofs.helpers.get_password.Goals as goal
 pub returns-in-Err-clause-fault : goal.returns-in-Err-clause-fault
 returns-in-Err-clause-fault g c =
     let (bytes, read, answered) = c.in_ok-password.ensures.password in
-    let failed = c.say-then-is_empty.new.self in
+    let failed = c.mark_empty.new.self in
     let begun = subst (λ r. HasReadLine g.R.Source.ahead g.R.Source.left g.R.Source.faults r c.read_password.new.self.reader bytes) c.in_ok-say.ensures.reader read in
     let ended = subst (λ r. HasReadLine g.R.Source.ahead g.R.Source.left g.R.Source.faults c.args.prompt.now.reader r bytes) (sym c.in-Err.ensures.reader) begun in
-    let zero = eqb-true _ 0 (sym c.is_empty.ensures ∙ c.if-is_empty.true) in
-    let none : string_bytes c.in_ok-password.password ≡ [] = nil_from_length _ (omega (arith, zero)) in
+    let none : string_bytes c.in_ok-password.password ≡ [] = sym c.deref.ensures ∙ c.in-Err.ensures.empty in
     let said = subst (λ w. Appends (g.W.Sink.taken c.args.prompt.now.writer) (g.W.Sink.taken w) c.args.text.now) (sym c.in_ok-password.ensures.writer) c.in_ok-say.ensures.bytes in
     let calm = ap g.W.Sink.sink_faults c.in_ok-password.ensures.writer ∙ c.in_ok-say.ensures.calm in
     inr (inr (inr (inr (

@@ -7,8 +7,8 @@ use Rattle.minisign_base.proofs.prompt.accepted.Goals as goal
 pub returns-in_default : goal.returns-in_default
 returns-in_default c = record { outcome = accepted-other c.args.line.items c.in_default.ensures.succeeds ∙ sym (ap Err c.not_utf8.ensures) }
 
-pub returns-then-len-gt1024 : goal.returns-then-len-gt1024
-returns-then-len-gt1024 c =
+pub returns-then-len-gt-PASSWORD_BYTES : goal.returns-then-len-gt-PASSWORD_BYTES
+returns-then-len-gt-PASSWORD_BYTES c =
     let text = c.in-Ok.password in
     let same : c.args.line.items ≡ string_bytes text = sym (ap (λ v. v.items) c.in-Ok.ensures.ok) in
     record { outcome = ap accepted same ∙ accepted-long (string_bytes text) (IsUtf8-string_bytes text) (omega arith) ∙ sym (ap Err c.password_too_long.ensures) }
