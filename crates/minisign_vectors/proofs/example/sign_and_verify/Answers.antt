@@ -1,5 +1,6 @@
 use Rattle.std.proofs.Common.{inl, inr, ⊎_elim}
 use Rattle.std.proofs.lemmas.Bool.{true≢false}
+use Rattle.minisign.proofs.Alone.{no_copy_fails}
 use Rattle.minisign_vectors.proofs.Refusals.{never_refused, passed_up}
 use Rattle.minisign_vectors.proofs.example.sign_and_verify.Goals as goal
 
@@ -13,4 +14,4 @@ returns-in_err-verify-clause-genuine g c seed genuine key keynum =
     (λ down. never_refused _ c.args.public_key.now _ _ _ _ _ signed judged _ _ c.new-data_reader.ensures.ahead c.new-data_reader-2.ensures.ahead read.given reread.given (vouched seed genuine) key keynum down.refuses)
     (λ unsaid. true≢false unsaid.wanted)
     told))
-    c.in_err-verify.ensures.refused)
+    (no_copy_fails _ _ _ _ _ _ _ _ _ _ _ _ _ _ _ _ _ _ _ _ c.in_err-verify.ensures.refused))
