@@ -17,9 +17,9 @@ said quiet x = if quiet then [] else status_lines x
 abbrev pub rereads : Bool → SignatureBoxRecord → Bool
 rereads output x = output && is_prehashed x.signature
 
--- no other list with the digest of this message is met
-abbrev pub NoCollision : List ℕ → Type 0
-NoCollision message = (other : List ℕ) → blake2b_digest 64 other ≡ blake2b_digest 64 message → other ≡ message
+-- no collision is met: a copy that has the digest of the message is the message
+abbrev pub NoCollision : List ℕ → List ℕ → Type 0
+NoCollision copy message = blake2b_digest 64 copy ≡ blake2b_digest 64 message → copy ≡ message
 
 -- the data was read to its end without a fault, and gave this message; the mark stays, or was set before
 pub record FirstPass {R : Type 0} (again : Bool) (steady : R → Type 0) (ahead behind : R → Option (List ℕ)) (faults : R → ℕ) (old new : R) (message : List ℕ) : Type 0 where
@@ -43,7 +43,7 @@ pub record Copied {R O : Type 0} (steady : R → Type 0) (ahead : R → Option (
   pub judged_same : judged x copy ≡ judged x message
   pub steady_same : steady old → IsSome (ahead old) → copy ≡ message
   pub legacy_same : is_prehashed x.signature ≡ false → copy ≡ message
-  pub same : NoCollision message → copy ≡ message
+  pub same : NoCollision copy message → copy ≡ message
 
 -- all was read to the end without a fault, and gave this message, which the output holds where it is wanted
 pub record Delivers {R O : Type 0} (output : Bool) (x : SignatureBoxRecord) (steady : R → Type 0) (ahead behind : R → Option (List ℕ)) (faults : R → ℕ) (old new : R) (taken : O → Option (List ℕ)) (out_old out_new : O) (message : List ℕ) : Type 0 where

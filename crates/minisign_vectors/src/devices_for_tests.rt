@@ -1,6 +1,6 @@
 //! Devices that cut bytes as finely as they can, or fail after so many.
 
-ghost use Rattle.std.specs.Prelude.{⊤};
+ghost use Rattle.std.specs.Prelude.{⊤, Some, length};
 
 use minisign_base::devices::DeviceFault;
 use minisign_base::devices::sinks::{Sink, VecSink};
@@ -154,5 +154,51 @@ impl Sink for Narrow {
     fn flush(&mut self) -> Result<(), DeviceFault> {
         self.faults = self.faults.saturating_add(1);
         Err(DeviceFault)
+    }
+}
+
+/// The bytes of a slice, and those of another one once it went back.
+#[derive(Drop)]
+pub struct Changes<'a> {
+    ahead: &'a [u8],
+    second: &'a [u8],
+}
+
+impl<'a> Changes<'a> {
+    /// All of the first slice is ahead.
+    pub fn new(first: &'a [u8], second: &'a [u8]) -> Changes<'a> {
+        Changes {
+            ahead: first,
+            second,
+        }
+    }
+}
+
+impl<'a> Source for Changes<'a> {
+    ghost ahead = { λ s. Some s.ahead.now };
+
+    ghost left = { λ s. length s.ahead.now };
+
+    ghost faults = { λ _. 0 };
+
+    fn read(&mut self, buf: &mut [u8]) -> Result<usize, DeviceFault> {
+        let n = buf.len().min(self.ahead.len());
+        let (front, rest) = self.ahead.split_at(n);
+        buf[..n].copy_from_slice(front);
+        self.ahead = rest;
+        Ok(n)
+    }
+}
+
+impl<'a> Rereader for Changes<'a> {
+    ghost steady = { λ _. ⊥ };
+
+    fn mark(&mut self) -> Result<(), DeviceFault> {
+        Ok(())
+    }
+
+    fn back(&mut self) -> Result<(), DeviceFault> {
+        self.ahead = self.second;
+        Ok(())
     }
 }

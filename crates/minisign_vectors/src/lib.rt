@@ -27,6 +27,8 @@ mod limits;
 #[cfg(test)]
 mod lines;
 #[cfg(test)]
+mod output;
+#[cfg(test)]
 mod plain_scrypt;
 #[cfg(test)]
 mod prompts;
