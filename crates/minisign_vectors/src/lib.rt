@@ -54,6 +54,7 @@ mod table;
 mod toy;
 #[cfg(test)]
 mod two_signatures;
+pub mod updating;
 #[cfg(test)]
 mod upstream_texts;
 #[cfg(test)]

@@ -7,6 +7,7 @@ use crate::keys_for_tests::{
     public_record, secret_record, signature_record,
 };
 use crate::public_key_texts::KEY_TEXT;
+use crate::updating::check_update;
 use minisign::{
     PublicKey, Result, SecretKey, Signature, SignatureBones, SignatureBox, sign, verify_texts,
 };
@@ -327,4 +328,14 @@ fn verdicts_of_two_texts(rt: HostRuntime) -> std::result::Result<(), Fail> {
         assert!(rt; out.as_slice() == copied);
     }
     Ok(())
+}
+
+#[test]
+fn an_update_is_checked_by_its_texts(rt: HostRuntime) {
+    let alloc = rt.alloc();
+    let rows: [(&[u8], &str); 2] = [(b"abc", "accepted"), (b"abd", REFUSED)];
+    for (update, answer) in rows {
+        let told = check_update(alloc, &ToyScheme::new(), KEY_TEXT, TEXT, update);
+        assert_eq!(rt; outcome(alloc, &told).as_str(), answer);
+    }
 }
