@@ -22,3 +22,4 @@ pub mod Asking
 pub mod WrittenKeys
 pub mod SignatureTexts
 pub mod VouchedTexts
+pub mod SignedTexts

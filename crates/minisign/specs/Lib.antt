@@ -13,3 +13,4 @@ pub mod SecretKeyText
 pub mod Generation
 pub mod NewPassword
 pub mod Opening
+pub mod SigningTexts

@@ -24,6 +24,7 @@ pub mod signature;
 pub mod signature_bones;
 pub mod signature_box;
 pub mod signing;
+pub mod signing_texts;
 mod texts;
 pub mod verifying;
 pub mod verifying_texts;
