@@ -23,3 +23,4 @@ pub mod WrittenKeys
 pub mod SignatureTexts
 pub mod VouchedTexts
 pub mod SignedTexts
+pub mod DefaultComments

@@ -9,7 +9,7 @@ ghost use Rattle.minisign.specs.Reading.{IsAhead, ReadsWhole};
 ghost use Rattle.minisign.specs.Sealing.{no_kdf, checksum_refusal, is_encrypted};
 ghost use Rattle.minisign.specs.Signing.{comments_or_defaults};
 ghost use Rattle.minisign.specs.Opening.{RefusesKey};
-ghost use Rattle.minisign.specs.SigningTexts.{GivesKey, GivesKeyAsking, GivesNoneAsking, IsSignedText, OpenedSigningFails, ReadsBackVouched, giving_refusal};
+ghost use Rattle.minisign.specs.SigningTexts.{AreKept, GivesKey, GivesKeyAsking, GivesNoneAsking, IsSignedText, OpenedSigningFails, ReadsBackVouched, giving_refusal};
 
 use crate::constants::KDF_NONE;
 use crate::secret_key::SecretKey;
@@ -52,6 +52,9 @@ pub fn sign_texts<S: Scheme, P: Source, Q: Sink, R: Source, Z: RandomSource>(
         × IfNone password (GivesKeyAsking P.ahead P.left P.faults Q.taken Q.sink_faults prompt.old prompt.new sk_text.now sk)
         × ReadsBackVouched (S.accepts scheme.now) (S.public_of scheme.now) sk message
         (comments_or_defaults (option_map (λ s. s.now) trusted_comment.entry) (option_map (λ s. s.now) untrusted_comment.entry) moment) (string_bytes t)) }
+
+    // The comments by default are read back as they were written.
+    ensures defaults { AreKept (comments_or_defaults None None moment) }
 
     // The text of the box that the definition of signing makes.
     ensures signed { IfOk result (λ t. (sk : SecretKeyRecord) × (message : List ℕ)
