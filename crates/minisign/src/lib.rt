@@ -45,5 +45,6 @@ pub use signature::Signature;
 pub use signature_bones::SignatureBones;
 pub use signature_box::SignatureBox;
 pub use signing::sign;
+pub use signing_texts::sign_texts;
 pub use verifying::verify;
 pub use verifying_texts::verify_texts;

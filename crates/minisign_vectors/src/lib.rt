@@ -49,6 +49,8 @@ mod sign;
 #[cfg(test)]
 mod signature_texts;
 #[cfg(test)]
+mod signing_texts;
+#[cfg(test)]
 mod table;
 #[cfg(test)]
 mod toy;

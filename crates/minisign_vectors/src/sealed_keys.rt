@@ -14,7 +14,7 @@ use std::test::Fail;
 
 // Sealed with `password`; the memory limit is 1048576 and the operations limit 0, so that N is 1024 and
 // p is 1.
-const SEALED: &str =
+pub const SEALED: &str =
     "c\nRWRTY0IyICEiIyQlJicoKSorLC0uLzAxMjM0NTY3ODk6Ozw9Pj8AAAAAAAAAAAAAEAAAAAAANzLJ/MLV6VpKMIMxcHP/PKMk4Bi0eFdmecBNpsg4ynwt/HpMxIwJcRDauwXAlysg905AtUdJ1s3zc9686k8nFa2Pz7MgLfQOna+YbhXPDg/sopzDAu0uhPc67LTI7waUd6Z1TNToWRQ=\n";
 
 // The same with the empty password.

@@ -8,7 +8,7 @@ use std::alloc::Global;
 use std::test::Fail;
 
 // Key A's text: 259 bytes, of which 46 are the first line.
-const TEXT: &str =
+pub const TEXT: &str =
     "untrusted comment: rsign encrypted secret key\nRWQAAEIyAAAAAAAAAAAAAAAAAAAAAAAAAAAAAAAAAAAAAAAAAAAAAAAAAAAAAAAAAAAAAAAAAQIDBAUGBwgAAAAAAAAAAAAAAAAAAAAAAAAAAAAAAAAAAAAAAAAAAFpaWlpaWlpaWlpaWlpaWlpaWlpaWlpaWlpaWlpaWlpazoeDdHm2Hr/pRluKO3DYzP11U/WDPdZWSdZKEnx6ifg=\n";
 
 // The second line of that text.

@@ -19,7 +19,7 @@ use std::alloc::Global;
 use std::test::Fail;
 
 // The text over `abc` under key A, with the comments `c` and `t`: 230 bytes.
-const TEXT: &str =
+pub const TEXT: &str =
     "untrusted comment: c\nRUQBAgMEBQYHCAAAAAAAAAAAAAAAAAAAAAAAAAAAAAAAAAAAAAAAAAAAnV06XOjtbnryLxgygHtgJg6o/+bp8Qy3qGtn2FWlYag=\ntrusted comment: t\nAAAAAAAAAAAAAAAAAAAAAAAAAAAAAAAAAAAAAAAAAACzB2AGsrc0IKh1QmjaITp8VPKlvLOrVu3yMT2CD/878g==\n";
 
 // The second and the fourth line of that text.
