@@ -76,8 +76,11 @@ impl Sink for Brief {
 // Key A's record, not sealed, under this key derivation and these limits.
 fn limited_record(kdf: &[u8; 2], memory: u64, operations: u64) -> [u8; 158] {
     let mut record = secret_record(kdf, &CHECKSUM);
-    record[38..46].copy_from_slice(&operations.to_le_bytes());
-    record[46..54].copy_from_slice(&memory.to_le_bytes());
+    let (_, behind_salt) = record.split_at_mut(38);
+    let (limits, _) = behind_salt.split_at_mut(16);
+    let (operations_part, memory_part) = limits.split_at_mut(8);
+    operations_part.copy_from_slice(&operations.to_le_bytes());
+    memory_part.copy_from_slice(&memory.to_le_bytes());
     record
 }
 
