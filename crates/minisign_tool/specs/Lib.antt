@@ -1,2 +1,5 @@
 pub mod Report
+pub mod Sign
+pub mod TextFiles
+pub mod Verify
 pub mod VerifyRaw
