@@ -1,2 +1,3 @@
+pub mod Keygen
 pub mod Report
 pub mod VerifyRaw

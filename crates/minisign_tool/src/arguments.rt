@@ -10,6 +10,8 @@ use std::{env, io};
 /// A command and its files.
 #[derive(Drop)]
 pub enum Command {
+    /// Make a pair of keys, and write the text of each into a file.
+    Keygen { pk: String, sk: String },
     /// Verify standard input, with the files of a raw public key and a raw signature.
     VerifyRaw { pk: String, sig: String },
     /// The arguments are none of the table's.
@@ -29,12 +31,25 @@ pub fn read_arguments<R: Env + AllocGlobal>(rt: &R) -> Result<Command>
         Err(_) => return Ok(Command::Usage),
     };
     let _program = arguments.next();
-    let (Some(name), Some(pk), Some(sig)) = (arguments.next(), arguments.next(), arguments.next())
-    else {
+    let (Some(name), Some(first), Some(second)) = (
+        arguments.next(),
+        arguments.next(),
+        arguments.next(),
+    ) else {
         return Ok(Command::Usage);
     };
-    if name.as_str() != "verify-raw" || arguments.next().is_some() {
+    if arguments.next().is_some() {
         return Ok(Command::Usage);
     }
-    Ok(Command::VerifyRaw { pk, sig })
+    Ok(match name.as_str() {
+        "keygen" => Command::Keygen {
+            pk: first,
+            sk: second,
+        },
+        "verify-raw" => Command::VerifyRaw {
+            pk: first,
+            sig: second,
+        },
+        _ => Command::Usage,
+    })
 }
