@@ -5,6 +5,8 @@ ghost use Rattle.std.specs.Prelude.{◌≡◌, ◌≤◌};
 
 mod arguments;
 mod keygen;
+#[cfg(test)]
+mod keygen_tests;
 mod replacing;
 mod report;
 mod streams;
