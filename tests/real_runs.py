@@ -17,6 +17,7 @@ import sys
 import tempfile
 from dataclasses import replace
 
+from keygen_runs import keygen_cases
 from running import (
     CLOSED,
     FOLDER,
@@ -88,6 +89,8 @@ def usage_cases():
     rows = [
         ("no arguments", []),
         ("a command alone", ["verify-raw"]),
+        ("a pair without a second file", ["keygen", "new.pk"]),
+        ("a pair and a third file", ["keygen", "new.pk", "new.sk", "new"]),
         ("too few arguments", ["verify-raw", "key.pk"]),
         ("too many arguments", ["verify-raw", "key.pk", "abc.sig", "abc.sig"]),
         ("an empty argument too many", ["verify-raw", "key.pk", "abc.sig", ""]),
@@ -103,7 +106,6 @@ def usage_cases():
         ("a signature's name that is no UTF-8", ["verify-raw", "key.pk", b"abc\xc3.sig"]),
         ("an argument too many that is no UTF-8", ["verify-raw", "key.pk", "abc.sig", b"\x80"]),
         # Commands that are not there yet.
-        ("keygen", ["keygen", "new.pk", "new.sk"]),
         ("sign", ["sign", "key.sk", "abc", "abc.sig"]),
         ("verify", ["verify", "key.pk", "abc", "abc.sig"]),
         ("cat", ["cat", "key.pk", "abc", "abc.sig"]),
@@ -312,6 +314,7 @@ def memory_cases():
 
 CASES = {
     "usage": usage_cases,
+    "keygen": keygen_cases,
     "verify-raw": verify_raw_cases,
 }
 

@@ -1,3 +1,4 @@
+pub mod Keygen
 pub mod Report
 pub mod Sign
 pub mod TextFiles

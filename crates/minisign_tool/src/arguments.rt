@@ -10,6 +10,11 @@ use std::{env, io};
 /// A command and its files.
 #[derive(Drop)]
 pub enum Command {
+    /// Make a pair of keys, and write the text of each into a file.
+    Keygen {
+        pk: String,
+        sk: String,
+    },
     /// Sign a file with the text of a secret key, and write the text of the signature.
     Sign {
         sk: String,
@@ -54,6 +59,7 @@ pub fn read_arguments<R: Env + AllocGlobal>(rt: &R) -> Result<Command>
         return Ok(Command::Usage);
     };
     let command = match name.as_str() {
+        "keygen" => two_files(&mut arguments).map(|(pk, sk)| Command::Keygen { pk, sk }),
         "sign" => three_files(&mut arguments).map(|(sk, file, sig)| Command::Sign {
             sk,
             file,
