@@ -52,6 +52,23 @@ class UnopenedPipe:
 
 
 @dataclass(frozen=True)
+class FedPipe:
+    """A named pipe that the program has to open, and in which this data comes."""
+
+    data: bytes
+
+
+@dataclass(frozen=True)
+class ReadLate:
+    """A pipe as standard output that is read only once the program has made so many writes on the error
+    stream and the folder that it runs in was changed. So a program that writes more than a pipe takes cannot
+    be further than that."""
+
+    writes: int
+    change: object
+
+
+@dataclass(frozen=True)
 class Pieces:
     """A pipe in which the pieces come one by one, each once the one before it was taken."""
 
@@ -222,19 +239,26 @@ class NamedPipe:
     def __init__(self, path, kind):
         self.name = os.path.basename(path)
         self.path = path
-        self.has_to_open = isinstance(kind, OpenedPipe)
+        self.has_to_open = isinstance(kind, (OpenedPipe, FedPipe))
+        self.data = kind.data if isinstance(kind, FedPipe) else None
+        self.opened = False
         self.writer = None
         os.mkfifo(path)
 
     def poll(self):
         """Opens the pipe for writing where the program has it open for reading."""
-        if self.writer is None:
+        if not self.opened:
             try:
                 self.writer = os.open(self.path, os.O_WRONLY | os.O_NONBLOCK)
             except OSError:
                 return
+            self.opened = True
             if not self.has_to_open:
                 raise Failure(f"it opened {self.name}, which it had to leave closed")
+            if self.data is not None:
+                os.set_blocking(self.writer, True)
+                threading.Thread(target=feed, args=(self.writer, self.data), daemon=True).start()
+                self.writer = None
 
     def close(self):
         if self.writer is not None:
@@ -255,7 +279,7 @@ def wait(process, pipes):
             raise Failure(f"it had not ended after {SECONDS} seconds")
         time.sleep(0.001)
     for pipe in pipes:
-        if pipe.has_to_open and pipe.writer is None:
+        if pipe.has_to_open and not pipe.opened:
             raise Failure(f"it never opened {pipe.name}")
 
 
@@ -269,7 +293,9 @@ class Streams:
         self.terminal = Terminal(case.stdin) if isinstance(case.stdin, Typed) else None
         self.stdin = self.open_stdin(folder)
         self.written = tempfile.TemporaryFile()
-        self.stdout = open_full(case.stdout) or os.dup(self.stdin if self.terminal else self.written.fileno())
+        self.early = []
+        self.late = None
+        self.stdout = self.open_stdout(folder, case.stdout)
         # Of such a pair of sockets each write is read by itself.
         self.said, said = socket.socketpair(socket.AF_UNIX, socket.SOCK_SEQPACKET)
         self.stderr = open_full(case.stderr) or os.dup(said.fileno())
@@ -296,6 +322,25 @@ class Streams:
             return os.open(folder, os.O_RDONLY)
         return os.open(os.devnull, os.O_WRONLY if given == WRITE_ONLY else os.O_RDONLY)
 
+    def open_stdout(self, folder, kind):
+        if isinstance(kind, ReadLate):
+            reader, writer = os.pipe()
+            self.late = threading.Thread(target=self.read_late, args=(reader, kind, folder), daemon=True)
+            return writer
+        return open_full(kind) or os.dup(self.stdin if self.terminal else self.written.fileno())
+
+    def read_late(self, reader, kind, folder):
+        """Waits for the writes on the error stream, changes the folder, and reads the output to its end."""
+        with os.fdopen(reader, "rb") as output:
+            while len(self.early) < kind.writes:
+                text = self.said.recv(1 << 20)
+                if not text:
+                    break
+                self.early.append(text.decode(errors="backslashreplace"))
+            kind.change(folder)
+            shutil.copyfileobj(output, self.written)
+            self.written.flush()
+
     def close_in_child(self):
         for number in self.closed:
             os.close(number)
@@ -307,6 +352,8 @@ class Streams:
         self.stdin = self.stdout = self.stderr = None
         if self.terminal:
             self.terminal.serve()
+        if self.late:
+            self.late.start()
         if self.pipe is not None:
             threading.Thread(target=feed, args=(self.pipe, self.given), daemon=True).start()
             self.pipe = None
@@ -318,8 +365,10 @@ class Streams:
         return self.written.read()
 
     def writes(self):
-        """Each write on the error stream."""
-        writes = []
+        """Each write on the error stream, once the program has ended."""
+        if self.late:
+            self.late.join(SECONDS)
+        writes = list(self.early)
         while True:
             text = self.said.recv(1 << 20)
             if not text:
@@ -431,7 +480,7 @@ def make_files(folder, files):
             continue
         if kind in (FOLDER, LOCKED):
             os.mkdir(path, 0o555 if kind == LOCKED else 0o755)
-        elif isinstance(kind, (OpenedPipe, UnopenedPipe)):
+        elif isinstance(kind, (OpenedPipe, UnopenedPipe, FedPipe)):
             pipes.append(NamedPipe(path, kind))
         else:
             with open(path, "wb") as file:
