@@ -17,6 +17,7 @@ import sys
 import tempfile
 from dataclasses import replace
 
+from keygen_runs import keygen_cases
 from running import (
     CLOSED,
     FOLDER,
@@ -34,11 +35,13 @@ from running import (
     UnopenedPipe,
     Unreadable,
 )
+from sign_runs import sign_cases
+from verify_runs import cat_cases, verify_cases
 
 CRATE = os.path.join(os.path.dirname(os.path.realpath(__file__)), "..", "crates", "minisign_tool")
 
 WARNING = "warning: insecure toy scheme, for tests only\n"
-USAGE = "usage: minisign_tool keygen PK SK | sign SK FILE SIG | verify PK FILE SIG | verify-raw PK SIG\n"
+USAGE = "usage: minisign_tool keygen PK SK | sign SK FILE SIG | verify PK FILE SIG | verify-raw PK SIG | cat PK FILE SIG\n"
 VERIFIED = "Signature and comment signature verified\n"
 
 OUT_OF_MEMORY = "error: out of memory\n"
@@ -88,6 +91,8 @@ def usage_cases():
     rows = [
         ("no arguments", []),
         ("a command alone", ["verify-raw"]),
+        ("a pair without a second file", ["keygen", "new.pk"]),
+        ("a pair and a third file", ["keygen", "new.pk", "new.sk", "new"]),
         ("too few arguments", ["verify-raw", "key.pk"]),
         ("too many arguments", ["verify-raw", "key.pk", "abc.sig", "abc.sig"]),
         ("an empty argument too many", ["verify-raw", "key.pk", "abc.sig", ""]),
@@ -102,11 +107,12 @@ def usage_cases():
         ("a key's name that is no UTF-8", ["verify-raw", b"\xff.pk", "abc.sig"]),
         ("a signature's name that is no UTF-8", ["verify-raw", "key.pk", b"abc\xc3.sig"]),
         ("an argument too many that is no UTF-8", ["verify-raw", "key.pk", "abc.sig", b"\x80"]),
-        # Commands that are not there yet.
-        ("keygen", ["keygen", "new.pk", "new.sk"]),
-        ("sign", ["sign", "key.sk", "abc", "abc.sig"]),
-        ("verify", ["verify", "key.pk", "abc", "abc.sig"]),
-        ("cat", ["cat", "key.pk", "abc", "abc.sig"]),
+        ("two files to sign", ["sign", "key.pk", "abc.sig"]),
+        ("four files to sign", ["sign", "key.pk", "abc.sig", "new.sig", "new.sig"]),
+        ("two files to verify", ["verify", "key.pk", "abc.sig"]),
+        ("four files to verify", ["verify", "key.pk", "abc.sig", "abc.sig", "abc.sig"]),
+        ("two files to copy", ["cat", "key.pk", "abc.sig"]),
+        ("four files to copy", ["cat", "key.pk", "abc.sig", "abc.sig", "abc.sig"]),
     ]
     files = {"key.pk": KEY, "abc.sig": SIGNATURE, b"\xff.pk": KEY, b"abc\xc3.sig": SIGNATURE}
     cases = [Case(name, arguments, 2, [WARNING, USAGE], files=by_bytes(files), stdin=b"abc") for name, arguments in rows]
@@ -312,7 +318,11 @@ def memory_cases():
 
 CASES = {
     "usage": usage_cases,
+    "keygen": keygen_cases,
+    "sign": sign_cases,
+    "verify": verify_cases,
     "verify-raw": verify_raw_cases,
+    "cat": cat_cases,
 }
 
 

@@ -1,12 +1,14 @@
 """How the built program is run on real files, and how all that it says is compared with what it has to say."""
 
 import os
+import pty
 import shutil
 import signal
 import socket
 import stat
 import subprocess
 import tempfile
+import termios
 import threading
 import time
 from dataclasses import dataclass, field
@@ -16,6 +18,7 @@ NOBODY = 65534
 HERE = os.path.dirname(os.path.realpath(__file__))
 
 FOLDER = "a folder"
+LOCKED = "a folder in which nothing may be made"
 MISSING = "nothing"
 CLOSED = "a closed stream"
 WRITE_ONLY = "a stream that cannot be read"
@@ -31,6 +34,14 @@ class Unreadable:
 
 
 @dataclass(frozen=True)
+class WithMode:
+    """A file with these permission bits."""
+
+    data: bytes
+    mode: int
+
+
+@dataclass(frozen=True)
 class OpenedPipe:
     """A named pipe that the program has to open, and in which nothing ever comes."""
 
@@ -38,6 +49,23 @@ class OpenedPipe:
 @dataclass(frozen=True)
 class UnopenedPipe:
     """A named pipe that the program has to leave closed."""
+
+
+@dataclass(frozen=True)
+class FedPipe:
+    """A named pipe that the program has to open, and in which this data comes."""
+
+    data: bytes
+
+
+@dataclass(frozen=True)
+class ReadLate:
+    """A pipe as standard output that is read only once the program has made so many writes on the error
+    stream and the folder that it runs in was changed. So a program that writes more than a pipe takes cannot
+    be further than that."""
+
+    writes: int
+    change: object
 
 
 @dataclass(frozen=True)
@@ -55,6 +83,31 @@ class FromFile:
 
 
 @dataclass(frozen=True)
+class Typed:
+    """A terminal as standard input and output, at which a person types each piece once the program asks for
+    something, that is, once what it wrote ends with a colon and a space. With `shows` the terminal does with
+    letters and line feeds what terminals mostly do; else it shows what the program writes, byte by byte, and
+    not what is typed."""
+
+    pieces: tuple
+    shows: bool = False
+
+
+@dataclass(frozen=True)
+class OneOf:
+    """Lines on the error stream that may be these or those."""
+
+    choices: tuple
+
+
+@dataclass(frozen=True)
+class BeginningOf:
+    """A beginning of this output."""
+
+    whole: bytes
+
+
+@dataclass(frozen=True)
 class Case:
     """A run of the program: what it is given, and all that it has to answer."""
 
@@ -62,9 +115,9 @@ class Case:
     arguments: list
     status: int
     # The lines on the error stream; each has to be one write.
-    lines: list = field(default_factory=list)
+    lines: object = field(default_factory=list)
     # All that is written on the standard output.
-    output: bytes = b""
+    output: object = b""
     # The files of the folder that it runs in, by their names; they replace those of the command.
     files: dict = field(default_factory=dict)
     # Its streams: bytes come through a pipe.
@@ -73,6 +126,10 @@ class Case:
     stderr: object = None
     # Each of its requests for memory is refused in turn; with `all`, all behind it too.
     refusing: str = ""
+    # What looks at the folder that the run leaves, and raises a `Failure` where something is wrong there.
+    left: object = None
+    # The permission bits that files that are made do not get.
+    umask: int = 0o022
 
 
 class Failure(Exception):
@@ -97,8 +154,8 @@ class Runner:
 
     def run(self, case):
         """Makes the run, or all runs of a case where memory is refused, and raises a `Failure` or a `Skip`."""
-        if any(isinstance(it, Unreadable) for it in case.files.values()) and os.geteuid() == 0 and not self.nobody:
-            raise Skip("root may read every file, and cannot become nobody here")
+        if any(is_forbidding(it) for it in case.files.values()) and os.geteuid() == 0 and not self.nobody:
+            raise Skip("root may read and write every file, and cannot become nobody here")
         if not case.refusing:
             self.run_once(case)
             return
@@ -145,6 +202,8 @@ class Runner:
             try:
                 status = self.start(case, folder, streams, pipes, environment or {}, passed)
                 compare(case, status, streams)
+                if case.left:
+                    case.left(folder)
             finally:
                 streams.close()
 
@@ -160,6 +219,7 @@ class Runner:
             stderr=streams.stderr,
             preexec_fn=streams.close_in_child,
             pass_fds=passed,
+            umask=case.umask,
             **how,
         )
         try:
@@ -179,19 +239,26 @@ class NamedPipe:
     def __init__(self, path, kind):
         self.name = os.path.basename(path)
         self.path = path
-        self.has_to_open = isinstance(kind, OpenedPipe)
+        self.has_to_open = isinstance(kind, (OpenedPipe, FedPipe))
+        self.data = kind.data if isinstance(kind, FedPipe) else None
+        self.opened = False
         self.writer = None
         os.mkfifo(path)
 
     def poll(self):
         """Opens the pipe for writing where the program has it open for reading."""
-        if self.writer is None:
+        if not self.opened:
             try:
                 self.writer = os.open(self.path, os.O_WRONLY | os.O_NONBLOCK)
             except OSError:
                 return
+            self.opened = True
             if not self.has_to_open:
                 raise Failure(f"it opened {self.name}, which it had to leave closed")
+            if self.data is not None:
+                os.set_blocking(self.writer, True)
+                threading.Thread(target=feed, args=(self.writer, self.data), daemon=True).start()
+                self.writer = None
 
     def close(self):
         if self.writer is not None:
@@ -212,7 +279,7 @@ def wait(process, pipes):
             raise Failure(f"it had not ended after {SECONDS} seconds")
         time.sleep(0.001)
     for pipe in pipes:
-        if pipe.has_to_open and pipe.writer is None:
+        if pipe.has_to_open and not pipe.opened:
             raise Failure(f"it never opened {pipe.name}")
 
 
@@ -223,9 +290,12 @@ class Streams:
         self.given = case.stdin
         self.pipe = None
         self.closed = [number for number, kind in enumerate((case.stdin, case.stdout, case.stderr)) if kind == CLOSED]
+        self.terminal = Terminal(case.stdin) if isinstance(case.stdin, Typed) else None
         self.stdin = self.open_stdin(folder)
         self.written = tempfile.TemporaryFile()
-        self.stdout = open_full(case.stdout) or os.dup(self.written.fileno())
+        self.early = []
+        self.late = None
+        self.stdout = self.open_stdout(folder, case.stdout)
         # Of such a pair of sockets each write is read by itself.
         self.said, said = socket.socketpair(socket.AF_UNIX, socket.SOCK_SEQPACKET)
         self.stderr = open_full(case.stderr) or os.dup(said.fileno())
@@ -238,6 +308,8 @@ class Streams:
 
     def open_stdin(self, folder):
         given = self.given
+        if self.terminal:
+            return os.dup(self.terminal.side)
         if isinstance(given, (bytes, Pieces)):
             reader, self.pipe = os.pipe()
             return reader
@@ -250,6 +322,25 @@ class Streams:
             return os.open(folder, os.O_RDONLY)
         return os.open(os.devnull, os.O_WRONLY if given == WRITE_ONLY else os.O_RDONLY)
 
+    def open_stdout(self, folder, kind):
+        if isinstance(kind, ReadLate):
+            reader, writer = os.pipe()
+            self.late = threading.Thread(target=self.read_late, args=(reader, kind, folder), daemon=True)
+            return writer
+        return open_full(kind) or os.dup(self.stdin if self.terminal else self.written.fileno())
+
+    def read_late(self, reader, kind, folder):
+        """Waits for the writes on the error stream, changes the folder, and reads the output to its end."""
+        with os.fdopen(reader, "rb") as output:
+            while len(self.early) < kind.writes:
+                text = self.said.recv(1 << 20)
+                if not text:
+                    break
+                self.early.append(text.decode(errors="backslashreplace"))
+            kind.change(folder)
+            shutil.copyfileobj(output, self.written)
+            self.written.flush()
+
     def close_in_child(self):
         for number in self.closed:
             os.close(number)
@@ -259,17 +350,25 @@ class Streams:
         for stream in (self.stdin, self.stdout, self.stderr):
             os.close(stream)
         self.stdin = self.stdout = self.stderr = None
+        if self.terminal:
+            self.terminal.serve()
+        if self.late:
+            self.late.start()
         if self.pipe is not None:
             threading.Thread(target=feed, args=(self.pipe, self.given), daemon=True).start()
             self.pipe = None
 
     def output(self):
+        if self.terminal:
+            return self.terminal.output()
         self.written.seek(0)
         return self.written.read()
 
     def writes(self):
-        """Each write on the error stream."""
-        writes = []
+        """Each write on the error stream, once the program has ended."""
+        if self.late:
+            self.late.join(SECONDS)
+        writes = list(self.early)
         while True:
             text = self.said.recv(1 << 20)
             if not text:
@@ -280,8 +379,56 @@ class Streams:
         for stream in (self.stdin, self.stdout, self.stderr, self.pipe):
             if stream is not None:
                 os.close(stream)
+        if self.terminal:
+            self.terminal.close()
         self.written.close()
         self.said.close()
+
+
+class Terminal:
+    """A terminal with a person at it."""
+
+    def __init__(self, typed):
+        self.pieces = list(typed.pieces)
+        self.shown = []
+        self.person, self.side = pty.openpty()
+        if not typed.shows:
+            settings = termios.tcgetattr(self.side)
+            settings[1] &= ~termios.OPOST
+            settings[3] &= ~termios.ECHO
+            termios.tcsetattr(self.side, termios.TCSANOW, settings)
+        self.thread = threading.Thread(target=self.type, daemon=True)
+
+    def serve(self):
+        """Lets go of the program's side, and starts the person."""
+        os.close(self.side)
+        self.side = None
+        self.thread.start()
+
+    def type(self):
+        """Looks at what the terminal shows and types, until the program has ended."""
+        while True:
+            try:
+                shown = os.read(self.person, 4096)
+            except OSError:
+                return
+            if not shown:
+                return
+            self.shown.append(shown)
+            if self.pieces and b"".join(self.shown).endswith(b": "):
+                os.write(self.person, self.pieces.pop(0))
+
+    def output(self):
+        """All that the terminal showed, once the program has ended."""
+        self.thread.join(SECONDS)
+        return b"".join(self.shown)
+
+    def close(self):
+        if self.side is not None:
+            os.close(self.side)
+        if self.thread.ident is not None:
+            self.thread.join(SECONDS)
+        os.close(self.person)
 
 
 def open_full(kind):
@@ -315,9 +462,12 @@ def compare(case, status, streams):
     if status != case.status:
         ended = f"status {status}" if status >= 0 else signal.Signals(-status).name
         raise Failure(f"it ended with {ended} in place of status {case.status}, and said {writes}")
-    if writes != case.lines:
+    if writes not in (case.lines.choices if isinstance(case.lines, OneOf) else (case.lines,)):
         raise Failure(f"it said {writes} in place of {case.lines}")
-    if output != case.output:
+    if isinstance(case.output, BeginningOf):
+        if not case.output.whole.startswith(output):
+            raise Failure(f"it wrote {output[:200]}, which is no beginning of {case.output.whole[:200]}")
+    elif output != case.output:
         raise Failure(f"it wrote {output[:200]} in place of {case.output[:200]}")
 
 
@@ -328,16 +478,23 @@ def make_files(folder, files):
         path = os.path.join(folder, name)
         if kind == MISSING:
             continue
-        if kind == FOLDER:
-            os.mkdir(path)
-        elif isinstance(kind, (OpenedPipe, UnopenedPipe)):
+        if kind in (FOLDER, LOCKED):
+            os.mkdir(path, 0o555 if kind == LOCKED else 0o755)
+        elif isinstance(kind, (OpenedPipe, UnopenedPipe, FedPipe)):
             pipes.append(NamedPipe(path, kind))
         else:
             with open(path, "wb") as file:
-                file.write(kind.data if isinstance(kind, Unreadable) else kind)
+                file.write(kind if isinstance(kind, bytes) else kind.data)
             if isinstance(kind, Unreadable):
                 os.chmod(path, 0)
+            elif isinstance(kind, WithMode):
+                os.chmod(path, kind.mode)
     return pipes
+
+
+def is_forbidding(kind):
+    """Whether a file or folder lacks rights that root would have all the same."""
+    return kind == LOCKED or isinstance(kind, (Unreadable, WithMode))
 
 
 def runs_as_nobody(program):

@@ -1,6 +1,7 @@
 pub mod Records
 pub mod Texts
 pub mod Reading
+pub mod TextFiles
 pub mod Acceptance
 pub mod PublicKeyText
 pub mod SignatureText

@@ -7,8 +7,10 @@ ghost use Rattle.minisign.specs.SecretKeyText.{SecretKeyText};
 ghost use Rattle.minisign.specs.Sealing.{Opens, OpensWithin, checksum_refusal, kdf_refusal, password_refusal, scrypt_kdf, unbounded_refusal, unencrypted_refusal, unsealed, work_refusal};
 ghost use Rattle.minisign.specs.Opening.{RefusesKey, IsOpened, RefusesOpening, IsUnencryptedText, RefusesUnencrypted, HasSaid, HasAskedAndSaid, HasAskedAndNotSaid, IsOpenedAsking, IsToldRefusal, RefusesAsking, asking_text, deriving_text, done_text};
 ghost use Rattle.minisign_base.specs.Prompts.{HasAsked, IsAskingFault, HasNotSaid};
+ghost use Rattle.minisign.specs.TextFiles.{IsTextFileFault};
 
 use crate::constants::{KDF_ALG, KDF_NONE};
+use crate::reading::read_text_file;
 use crate::secret_key::SecretKey;
 use crate::secret_key_box::SecretKeyBox;
 use minisign_base::devices::sinks::Sink;
@@ -17,6 +19,7 @@ use minisign_base::helpers::get_password;
 use minisign_base::prompt::Prompt;
 use minisign_base::{Result, faults};
 use std::alloc::Global;
+use std::rt::Files;
 
 impl SecretKeyBox {
     /// The key, opened where it is sealed: `SecretKey::from_box`.
@@ -55,6 +58,36 @@ impl SecretKeyBox {
 }
 
 impl SecretKey {
+    /// Reads the secret key text that the file at `path` holds, and opens the key with the password, as
+    /// `from_box` does. The path is taken as it stands.
+    ///
+    /// These are refused, in this order: a file that cannot be opened or read, `reading_failed`; one that is
+    /// not UTF-8, `not_utf8`; and what `from_box` refuses. Want of memory may come at any time. Until the file
+    /// is read the prompt is left alone. Std's files tell no bytes, so of the text it is only said that there
+    /// is one.
+    pub fn from_file<F: Files, R: Source, W: Sink>(
+        files: &F,
+        alloc: Global,
+        path: &str,
+        password: Option<String>,
+        prompt: &mut Prompt<R, W>,
+    ) -> Result<SecretKey>
+        // A password that is handed in.
+        ensures handed_in { IfSome password (λ p. MatchResult result
+            (λ v. (text : List ℕ) × IsOpened text (string_bytes p) 4294967295 v)
+            (λ e. IsTextFileFault e ⊎ ((text : List ℕ) × RefusesOpening text (string_bytes p) 4294967295 e))) }
+        ensures untouched { IfSome password (λ _. prompt.new ≡ prompt.old) }
+
+        // A password that is asked for.
+        ensures asked { IfNone password (MatchResult result
+            (λ v. (text : List ℕ) × IsOpenedAsking R.ahead R.left R.faults W.taken W.sink_faults prompt.old prompt.new text 4294967295 v)
+            (λ e. (IsTextFileFault e × (prompt.new ≡ prompt.old))
+            ⊎ ((text : List ℕ) × RefusesAsking R.ahead R.left R.faults W.taken W.sink_faults prompt.old prompt.new text 4294967295 e))) }
+    {
+        let text = read_text_file(files, alloc, path)?;
+        SecretKey::from_box(alloc, SecretKeyBox::from(text), password, prompt)
+    }
+
     /// Reads a sealed key and opens it with the password: `from_box_within` with 4294967295, which no
     /// parallelization exceeds, so that `work_too_high` never comes.
     pub fn from_box<R: Source, W: Sink>(

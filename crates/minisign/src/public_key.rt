@@ -7,17 +7,20 @@ ghost use Rattle.minisign_base.specs.Faults.{out_of_memory, record_too_short};
 ghost use Rattle.minisign.specs.Texts.{IsRefused, IsDecided, base64_of, is_base64, base64_bytes};
 ghost use Rattle.std.specs.Str.{trim};
 ghost use Rattle.minisign.specs.PublicKeyText.{EncodesPublicKey, PublicKeyText, BarePublicKey, public_key_fault, bare_public_key_fault, public_key_text};
+ghost use Rattle.minisign.specs.TextFiles.{IsTextFileFault};
 ghost use Rattle.minisign.specs.Texts.{IsSecondLine};
 
 use crate::fields::split_field;
 use crate::keynum::KeynumPK;
 use crate::public_key_box::PublicKeyBox;
+use crate::reading::read_text_file;
 use crate::secret_key::SecretKey;
 use crate::texts::{decode, encode, next_line};
 use minisign_base::{Identifier, Result, faults};
 use minisign_hash::util::fixed_time_eq;
 use std::alloc::Global;
 use std::marker::Model;
+use std::rt::Files;
 
 // The length of a public key in base64.
 const ENCODED_BYTES: usize = 56;
@@ -76,6 +79,21 @@ impl PublicKey {
         ensures decided { IsDecided (PublicKeyText public_key_box) (public_key_fault public_key_box) }
     {
         read_text(alloc, public_key_box.as_str())
+    }
+
+    /// Reads the public key text that the file at `path` holds, as `from_box` does. The path is taken as it
+    /// stands.
+    ///
+    /// These are refused, in this order: a file that cannot be opened or read, `reading_failed`; one that is
+    /// not UTF-8, `not_utf8`; and what `from_box` refuses. Want of memory may come at any time. Std's files
+    /// tell no bytes, so of the text it is only said that there is one.
+    pub fn from_file<F: Files>(files: &F, alloc: Global, path: &str) -> Result<PublicKey>
+        ensures read { IfOk result (λ k. (text : List ℕ) × PublicKeyText text k) }
+        ensures refused { IfErr result (λ e. IsTextFileFault e
+            ⊎ ((text : List ℕ) × IsRefused (PublicKeyText text) (public_key_fault text) e)) }
+    {
+        let text = read_text_file(files, alloc, path)?;
+        PublicKey::from_box(alloc, PublicKeyBox::from(text))
     }
 
     /// Reads the bare base64 of a key, 56 bytes with nothing around them.

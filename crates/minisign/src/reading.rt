@@ -1,21 +1,49 @@
-//! Reading data to its end: hashed as it comes, or kept whole.
+//! Reading data to its end: hashed as it comes, kept whole, or taken as a text.
 
-ghost use Rattle.std.specs.Prelude.{◌≡◌, ℕ, ◌<◌, List, ◌++◌, false, length, vec_len, IfOk, IfErr, OnOk, OnErr};
+ghost use Rattle.std.specs.Prelude.{◌≡◌, ℕ, ◌<◌, List, ◌++◌, false, length, string_bytes, vec_len, IfOk, IfErr, OnOk, OnErr};
 ghost use Rattle.std.specs.Io.KnownBytes.{IsAtEnd};
 ghost use Rattle.minisign_hash.specs.Blake2b.{blake2b_digest};
 ghost use Rattle.minisign_hash.specs.Fed.{IsFed, has_finalized, output_length};
 ghost use Rattle.minisign_base.specs.Devices.{Rose, HasGiven};
 ghost use Rattle.minisign_base.specs.Faults.{out_of_memory};
 ghost use Rattle.minisign.specs.Reading.{IsAhead, IsReadFault, ReadsWhole};
+ghost use Rattle.minisign.specs.TextFiles.{IsTextFault, IsTextFileFault};
 
 use minisign_base::devices::DeviceFault;
-use minisign_base::devices::sources::Source;
+use minisign_base::devices::sources::{ReaderSource, Source};
 use minisign_base::{Result, faults};
 use minisign_hash::blake2b::Blake2b;
 use std::alloc::Global;
+use std::fs;
+use std::rt::Files;
 
 // How many bytes a read asks for.
 const PIECE_BYTES: usize = 65536;
+
+// The text that the file at this path holds. A file that cannot be opened is refused as one that cannot be
+// read.
+pub(crate) fn read_text_file<F: Files>(files: &F, alloc: Global, path: &str) -> Result<String>
+    ensures { IfErr result IsTextFileFault }
+{
+    match fs::open(files, path) {
+        Ok(file) => read_text(alloc, &mut ReaderSource::new(file)),
+        Err(_) => Err(faults::reading_failed()),
+    }
+}
+
+/// All that is ahead, as a text in memory. Refused are a failing source (`reading_failed`), bytes that are
+/// not UTF-8 (`not_utf8`), and want of memory, which may come at any time.
+pub fn read_text<S: Source>(alloc: Global, source: &mut S) -> Result<String>
+    ensures text { IfOk result (λ t. ReadsWhole S.ahead S.behind S.faults source.old source.new (string_bytes t)) }
+    ensures refused { IfErr result (IsTextFault S.ahead S.behind S.faults source.old source.new) }
+    ensures given { HasGiven (S.ahead source.old) (S.ahead source.new) }
+{
+    let bytes = read_to_end(alloc, source)?;
+    match String::from_utf8(bytes) {
+        Ok(text) => Ok(text),
+        Err(_) => Err(faults::not_utf8()),
+    }
+}
 
 /// All that is ahead, in memory. It is read in pieces of 64 KiB. Refused are a failing source, and want of
 /// memory, for the buffer or for what is kept; some bytes may have been read by then.

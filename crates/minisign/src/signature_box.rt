@@ -5,15 +5,18 @@ ghost use Rattle.std.specs.Str.{trim};
 ghost use Rattle.minisign_base.specs.Faults.{out_of_memory, record_too_short, signature_box_incomplete, signature_not_base64, trusted_comment_absent, trusted_comment_prefix, unsupported_signature_algorithm, untrusted_comment_prefix};
 ghost use Rattle.minisign.specs.Records.{CommentsRecord, SignatureBoxRecord, SignatureRecord, IsKnownAlgorithm};
 ghost use Rattle.minisign.specs.SignatureText.{EncodesSignature, HasFourLines, SignatureText, KeepsComments, is_known_algorithm, signature_fault, signature_text, trusted_comment_label};
+ghost use Rattle.minisign.specs.TextFiles.{IsTextFileFault};
 ghost use Rattle.minisign.specs.Texts.{IsBase64Of, IsDecided, IsRefused, base64_bytes, is_base64, untrusted_comment_label};
 
 use crate::constants::{SIGALG, SIGALG_PREHASHED};
+use crate::reading::read_text_file;
 use crate::signature::Signature;
 use crate::signature_bones::SignatureBones;
 use crate::texts::{decode, encode, next_line};
 use minisign_base::{Result, faults};
 use std::alloc::Global;
 use std::marker::Model;
+use std::rt::Files;
 
 /// A signature of an algorithm that is known, and the comments unless it was made from a bare signature.
 #[derive(Drop)]
@@ -97,6 +100,21 @@ impl SignatureBox {
             ⊎ IsRefused (SignatureText (string_bytes text)) (signature_fault (string_bytes text)) e) }
     {
         read_text(alloc, text.as_str())
+    }
+
+    /// Reads the signature text that the file at `path` holds, as `from_string` does. The path is taken as it
+    /// stands.
+    ///
+    /// These are refused, in this order: a file that cannot be opened or read, `reading_failed`; one that is
+    /// not UTF-8, `not_utf8`; and what `from_string` refuses. Want of memory may come at any time. Std's files
+    /// tell no bytes, so of the text it is only said that there is one.
+    pub fn from_file<F: Files>(files: &F, alloc: Global, path: &str) -> Result<SignatureBox>
+        ensures read { IfOk result (λ x. (text : List ℕ) × SignatureText text x) }
+        ensures refused { IfErr result (λ e. IsTextFileFault e
+            ⊎ ((text : List ℕ) × IsRefused (SignatureText text) (signature_fault text) e)) }
+    {
+        let text = read_text_file(files, alloc, path)?;
+        SignatureBox::from_string(alloc, text.as_str())
     }
 
     /// The text of the box, the four lines that `from_string` reads, each ended by a line feed. A box that

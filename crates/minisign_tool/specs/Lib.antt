@@ -1,2 +1,6 @@
+pub mod Keygen
 pub mod Report
+pub mod Sign
+pub mod TextFiles
+pub mod Verify
 pub mod VerifyRaw

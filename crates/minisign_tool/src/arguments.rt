@@ -10,8 +10,34 @@ use std::{env, io};
 /// A command and its files.
 #[derive(Drop)]
 pub enum Command {
+    /// Make a pair of keys, and write the text of each into a file.
+    Keygen {
+        pk: String,
+        sk: String,
+    },
+    /// Sign a file with the text of a secret key, and write the text of the signature.
+    Sign {
+        sk: String,
+        file: String,
+        sig: String,
+    },
+    /// Verify a file with the texts of a public key and a signature.
+    Verify {
+        pk: String,
+        file: String,
+        sig: String,
+    },
     /// Verify standard input, with the files of a raw public key and a raw signature.
-    VerifyRaw { pk: String, sig: String },
+    VerifyRaw {
+        pk: String,
+        sig: String,
+    },
+    /// Verify a file with the texts of a public key and a signature, and write it to standard output.
+    Cat {
+        pk: String,
+        file: String,
+        sig: String,
+    },
     /// The arguments are none of the table's.
     Usage,
 }
@@ -29,12 +55,50 @@ pub fn read_arguments<R: Env + AllocGlobal>(rt: &R) -> Result<Command>
         Err(_) => return Ok(Command::Usage),
     };
     let _program = arguments.next();
-    let (Some(name), Some(pk), Some(sig)) = (arguments.next(), arguments.next(), arguments.next())
-    else {
+    let Some(name) = arguments.next() else {
         return Ok(Command::Usage);
     };
-    if name.as_str() != "verify-raw" || arguments.next().is_some() {
-        return Ok(Command::Usage);
+    let command = match name.as_str() {
+        "keygen" => two_files(&mut arguments).map(|(pk, sk)| Command::Keygen { pk, sk }),
+        "sign" => three_files(&mut arguments).map(|(sk, file, sig)| Command::Sign {
+            sk,
+            file,
+            sig,
+        }),
+        "verify" => three_files(&mut arguments).map(|(pk, file, sig)| Command::Verify {
+            pk,
+            file,
+            sig,
+        }),
+        "verify-raw" => two_files(&mut arguments).map(|(pk, sig)| Command::VerifyRaw { pk, sig }),
+        "cat" => three_files(&mut arguments).map(|(pk, file, sig)| Command::Cat { pk, file, sig }),
+        _ => None,
+    };
+    Ok(command.unwrap_or(Command::Usage))
+}
+
+// The files of a command, where there are exactly two.
+fn two_files(arguments: &mut env::Args) -> Option<(String, String)> {
+    let (Some(first), Some(second)) = (arguments.next(), arguments.next()) else {
+        return None;
+    };
+    if arguments.next().is_some() {
+        return None;
     }
-    Ok(Command::VerifyRaw { pk, sig })
+    Some((first, second))
+}
+
+// The files of a command, where there are exactly three.
+fn three_files(arguments: &mut env::Args) -> Option<(String, String, String)> {
+    let (Some(first), Some(second), Some(third)) = (
+        arguments.next(),
+        arguments.next(),
+        arguments.next(),
+    ) else {
+        return None;
+    };
+    if arguments.next().is_some() {
+        return None;
+    }
+    Some((first, second, third))
 }

@@ -1,74 +1,57 @@
 //! The program `minisign_tool`. It signs and verifies under a toy scheme that is insecure, and says so.
 #![tactic(auto)]
 
-ghost use Rattle.std.specs.Prelude.{◌≡◌, ◌≤◌};
+ghost use Rattle.std.specs.Prelude.{◌≤◌};
 
 mod arguments;
+mod cat;
+mod files;
+mod keygen;
+#[cfg(test)]
+mod keygen_tests;
+mod replacing;
 mod report;
+mod sign;
+mod streams;
 #[cfg(test)]
 mod tests;
+mod text_files;
+mod verify;
 mod verify_raw;
 
 use arguments::{Command, read_arguments};
+use files::{
+    cannot_open, cat_files, keygen_files, refuse, sign_files, verify_files, verify_raw_files,
+};
 use minisign::base::devices::sinks::{Sink, WriterSink};
-use minisign::base::devices::sources::ReaderSource;
-use minisign::base::faults;
-use minisign::base::toy::ToyScheme;
-use report::{report, usage, warn};
-use std::fs;
-use std::os::fd::AsFd;
+use report::{usage, warn};
 use std::process::ExitCode;
-use verify_raw::run_verify_raw;
+use streams::hold_closed_streams;
 
 fn main(rt: HostRuntime) -> ExitCode {
     let mut errors = WriterSink::new(rt.stderr());
-    let status = match read_arguments(&rt) {
-        Ok(Command::VerifyRaw { pk, sig }) => verify_raw_files(
-            &rt,
-            pk.as_str(),
-            sig.as_str(),
-            &mut errors,
-        ),
-        Ok(Command::Usage) => {
-            warn(&mut errors);
-            usage(&mut errors)
-        }
-        Err(fault) => {
-            warn(&mut errors);
-            report(rt.alloc(), &mut errors, &fault)
-        }
+    // No file may get the number of a closed stream, into which a prompt or a fault's line would go.
+    let status = match hold_closed_streams(&rt) {
+        Ok(_held) => run(&rt, &mut errors),
+        Err(_) => cannot_open(&rt, &mut errors),
     };
     ExitCode::from(status)
 }
 
-// Opens the files, the key first, and runs `verify-raw` over them and standard input.
-fn verify_raw_files<W: Sink>(rt: &HostRuntime, pk: &str, sig: &str, errors: &mut W) -> u8
-    ensures { result ≤ 1 }
+// Runs the command that the arguments ask for, and answers the exit status.
+fn run<W: Sink>(rt: &HostRuntime, errors: &mut W) -> u8
+    ensures { result ≤ 2 }
 {
-    // Where standard input is closed, the first file would get its number and be read as the data.
-    if rt.stdin().as_fd().try_clone_to_owned().is_err() {
-        return cannot_open(rt, errors);
+    match read_arguments(rt) {
+        Ok(Command::Keygen { pk, sk }) => keygen_files(rt, &pk, &sk, errors),
+        Ok(Command::Sign { sk, file, sig }) => sign_files(rt, &sk, &file, &sig, errors),
+        Ok(Command::Verify { pk, file, sig }) => verify_files(rt, &pk, &file, &sig, errors),
+        Ok(Command::VerifyRaw { pk, sig }) => verify_raw_files(rt, &pk, &sig, errors),
+        Ok(Command::Cat { pk, file, sig }) => cat_files(rt, &pk, &file, &sig, errors),
+        Ok(Command::Usage) => {
+            warn(errors);
+            usage(errors)
+        }
+        Err(fault) => refuse(rt, errors, &fault),
     }
-    let Ok(pk_file) = fs::open(rt, pk) else {
-        return cannot_open(rt, errors);
-    };
-    let Ok(sig_file) = fs::open(rt, sig) else {
-        return cannot_open(rt, errors);
-    };
-    run_verify_raw(
-        rt.alloc(),
-        &ToyScheme::new(),
-        &mut ReaderSource::new(pk_file),
-        &mut ReaderSource::new(sig_file),
-        &mut ReaderSource::new(rt.stdin()),
-        errors,
-    )
-}
-
-// Says that a file cannot be opened, and answers the exit status.
-fn cannot_open<W: Sink>(rt: &HostRuntime, errors: &mut W) -> u8
-    ensures { result ≡ 1 }
-{
-    warn(errors);
-    report(rt.alloc(), errors, &faults::reading_failed())
 }

@@ -26,7 +26,7 @@ pub fn usage<W: Sink>(errors: &mut W) -> u8
 {
     let _ = put_all(
         errors,
-        b"usage: minisign_tool keygen PK SK | sign SK FILE SIG | verify PK FILE SIG | verify-raw PK SIG\n",
+        b"usage: minisign_tool keygen PK SK | sign SK FILE SIG | verify PK FILE SIG | verify-raw PK SIG | cat PK FILE SIG\n",
     );
     2
 }

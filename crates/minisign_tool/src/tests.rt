@@ -199,7 +199,7 @@ fn the_usage(rt: HostRuntime) -> Result<(), Fail> {
     assert_eq!(rt; usage(&mut errors), 2);
     assert!(rt;
         errors.as_slice()
-            == "usage: minisign_tool keygen PK SK | sign SK FILE SIG | verify PK FILE SIG | verify-raw PK SIG\n".as_bytes()
+            == "usage: minisign_tool keygen PK SK | sign SK FILE SIG | verify PK FILE SIG | verify-raw PK SIG | cat PK FILE SIG\n".as_bytes()
     );
     Ok(())
 }

@@ -1,0 +1,74 @@
+//! The command `keygen`: a sealed pair under a password that is typed twice, as two texts.
+
+ghost use Rattle.std.specs.Prelude.{◌≡◌, ◌≤◌, None, IfErr, OnOk};
+ghost use Rattle.minisign_base.specs.Fault.{Fault};
+ghost use Rattle.minisign.specs.Generation.{SealedTextsFail};
+ghost use Rattle.minisign_tool.specs.Keygen.{HasReported, MakesKeys};
+ghost use Rattle.minisign_tool.specs.Report.{HasSaid, warning_line};
+
+use crate::report::{report, warn};
+use minisign::base::devices::random_sources::RandomSource;
+use minisign::base::devices::sinks::Sink;
+use minisign::base::devices::sources::Source;
+use minisign::base::prompt::Prompt;
+use minisign::base::scheme::Scheme;
+use minisign::{KeyPair, Result};
+use std::alloc::Global;
+
+/// Makes a sealed pair of 72 random bytes, which are drawn first, under a password that the prompt asks for
+/// twice. Both texts are made before the first is written: the one of the public key goes to `pk_sink`, and
+/// then the one of the secret key, with the comment by default, to `sk_sink`. The warning, and then the
+/// line of a fault, go to `errors`.
+///
+/// Answers the exit status: 0 where both texts were written, else 1. Where no pair is made, or memory is
+/// wanting for its texts, both sinks are as they were; a sink that failed took a beginning of its text.
+pub fn run_keygen<S: Scheme, Z: RandomSource, R: Source, W: Sink, P: Sink, K: Sink, E: Sink>(
+    alloc: Global,
+    scheme: &S,
+    random: &mut Z,
+    prompt: &mut Prompt<R, W>,
+    pk_sink: &mut P,
+    sk_sink: &mut K,
+    errors: &mut E,
+) -> u8
+    ensures status { result ≤ 1 }
+    ensures made { result ≡ 0 → MakesKeys (S.public_of scheme.now) (Z.random_ahead random.old) (Z.random_ahead random.new)
+        R.ahead R.left R.faults W.taken W.sink_faults prompt.old prompt.new
+        P.taken P.sink_faults pk_sink.old pk_sink.new K.taken K.sink_faults sk_sink.old sk_sink.new }
+    ensures warned { result ≡ 0 → HasSaid E.taken E.sink_faults errors.old errors.new warning_line }
+    ensures refused { result ≡ 1 → (e : Fault) × HasReported E.taken E.sink_faults errors.old errors.new e
+        × SealedTextsFail (S.public_of scheme.now) Z.random_ahead Z.random_faults random.old random.new
+        R.ahead R.left R.faults W.taken W.sink_faults None prompt.old prompt.new
+        P.taken P.sink_faults pk_sink.old pk_sink.new K.taken K.sink_faults sk_sink.old sk_sink.new None e }
+{
+    warn(errors);
+    match make_keys(alloc, scheme, random, prompt, pk_sink, sk_sink) {
+        Ok(()) => 0,
+        Err(fault) => report(alloc, errors, &fault),
+    }
+}
+
+// Makes the pair and writes its texts.
+fn make_keys<S: Scheme, Z: RandomSource, R: Source, W: Sink, P: Sink, K: Sink>(
+    alloc: Global,
+    scheme: &S,
+    random: &mut Z,
+    prompt: &mut Prompt<R, W>,
+    pk_sink: &mut P,
+    sk_sink: &mut K,
+) -> Result<()>
+    ensures made { OnOk result (MakesKeys (S.public_of scheme.now) (Z.random_ahead random.old) (Z.random_ahead random.new)
+        R.ahead R.left R.faults W.taken W.sink_faults prompt.old prompt.new
+        P.taken P.sink_faults pk_sink.old pk_sink.new K.taken K.sink_faults sk_sink.old sk_sink.new) }
+    ensures refused { IfErr result (SealedTextsFail (S.public_of scheme.now) Z.random_ahead Z.random_faults random.old random.new
+        R.ahead R.left R.faults W.taken W.sink_faults None prompt.old prompt.new
+        P.taken P.sink_faults pk_sink.old pk_sink.new K.taken K.sink_faults sk_sink.old sk_sink.new None) }
+{
+    let (password, comment) = (None, None);
+    match KeyPair::generate_and_write_encrypted_keypair(
+        alloc, scheme, random, pk_sink, sk_sink, comment, password, prompt,
+    ) {
+        Ok(_) => Ok(()),
+        Err(fault) => Err(fault),
+    }
+}

@@ -1,0 +1,293 @@
+"""Runs of `verify` and `cat`, which take the same files: what they answer, and what `cat` copies."""
+
+import os
+from dataclasses import replace
+
+import toy
+from running import (
+    CLOSED,
+    FOLDER,
+    FULL,
+    MISSING,
+    NO_READER,
+    BeginningOf,
+    Case,
+    FedPipe,
+    OneOf,
+    OpenedPipe,
+    ReadLate,
+    UnopenedPipe,
+    Unreadable,
+)
+from toy import NOT_UTF8, OUT_OF_MEMORY, READING_FAILED, TOO_SHORT, WARNING, WRITING_FAILED
+
+VERIFIED = "Signature and comment signature verified\nTrusted comment: t\n"
+REFUSED = "error: Signature verification failed\n"
+COMMENT_REFUSED = "error: Comment signature verification failed\n"
+LEGACY = "error: Legacy signatures are not accepted\n"
+OTHER_KEYNUM = "error: Signature key id: 0807060504030201 is different from public key: E7620F1842B4E81F\n"
+NO_PUBLIC_KEY = "error: Missing comment in public key\n"
+NO_SIGNATURE = "error: Missing untrusted comment\n"
+GOING_BACK_FAILED = "error: going back failed\n"
+DATA_CHANGED = "error: Data changed between verification and output\n"
+
+PK, FILE, SIG = "key.pub", "data", "data.minisig"
+GOOD = {PK: toy.public_text(), FILE: b"abc", SIG: toy.signature_text(b"abc")}
+NO_TEXT = b"untrusted comment: \xff\n"
+
+
+def verify(name, status, *lines, files=None, arguments=(PK, FILE, SIG), **how):
+    """A case of `verify`, whose files are good where it says nothing else."""
+    return Case(name, ["verify", *arguments], status, list(lines), files={**GOOD, **(files or {})}, **how)
+
+
+def cat(name, status, *lines, output=b"", **how):
+    """A case of `cat`, with the files of `verify`."""
+    case = verify(name, status, *lines, output=output, **how)
+    return replace(case, arguments=["cat", *case.arguments[1:]])
+
+
+def as_cat(case):
+    """The same case of `cat`, which copies the data where it ends with success."""
+    data = case.files[FILE] if case.status == 0 else b""
+    return replace(case, arguments=["cat", *case.arguments[1:]], output=data)
+
+
+def verify_cases():
+    return [
+        *verdict_cases(),
+        *length_cases(),
+        *text_cases(),
+        *opening_cases(),
+        *reading_cases(),
+        *verify_pipe_cases(),
+        *verify_stream_cases(),
+        *memory_cases(verify),
+    ]
+
+
+def cat_cases():
+    same = [*verdict_cases(), *length_cases(), *text_cases(), *opening_cases(), *reading_cases()]
+    return [
+        *(as_cat(case) for case in same),
+        *cat_pipe_cases(),
+        *cat_stream_cases(),
+        *changed_cases(),
+        *memory_cases(cat),
+    ]
+
+
+def verdict_cases():
+    record = toy.signature_record(b"abc")
+    changed = record[:-1] + bytes([record[-1] ^ 1])
+    comment = toy.signature_of(record[10:] + b"t")
+    other_key = toy.public_text(keynum=toy.OTHER_KEYNUM)
+    return [
+        verify("a good signature", 0, WARNING, VERIFIED),
+        verify("other data", 1, WARNING, REFUSED, files={FILE: b"abd"}),
+        verify("no data", 1, WARNING, REFUSED, files={FILE: b""}),
+        verify("more data", 1, WARNING, REFUSED, files={FILE: b"abc\n"}),
+        verify("a changed signature", 1, WARNING, REFUSED, files={SIG: toy.signature_text(b"abc", record=changed)}),
+        verify("a changed trusted comment", 1, WARNING, COMMENT_REFUSED,
+               files={SIG: GOOD[SIG].replace(b"comment: t\n", b"comment: u\n")}),
+        verify("a changed comment signature", 1, WARNING, COMMENT_REFUSED,
+               files={SIG: toy.signature_text(b"abc", comment_signature=comment[:-1] + bytes([comment[-1] ^ 1]))}),
+        verify("a short comment signature", 1, WARNING, COMMENT_REFUSED,
+               files={SIG: toy.signature_text(b"abc", comment_signature=comment[:63])}),
+        verify("a longer comment signature", 0, WARNING, VERIFIED,
+               files={SIG: toy.signature_text(b"abc", comment_signature=comment + b"\xff")}),
+        verify("another untrusted comment", 0, WARNING, VERIFIED, files={SIG: toy.signature_text(b"abc", untrusted=b"u")}),
+        verify("another key", 1, WARNING, REFUSED, files={PK: toy.public_text(key=b"z" * 32)}),
+        verify("another identifier", 1, WARNING, OTHER_KEYNUM, files={PK: other_key}),
+        verify("another identifier before other data", 1, WARNING, OTHER_KEYNUM, files={PK: other_key, FILE: b"abd"}),
+        verify("a signature of the data itself", 1, WARNING, LEGACY,
+               files={SIG: toy.signature_text(b"abc", record=toy.signature_record(b"abc", algorithm=b"Ed"))}),
+        verify("a trusted comment of more than a byte a letter", 0, WARNING,
+               VERIFIED[:-2] + "\u00e4 \U0001f511\n",
+               files={SIG: toy.signature_text(b"abc", trusted="\u00e4 \U0001f511".encode())}),
+    ]
+
+
+def length_cases():
+    """Data of many lengths."""
+    lengths = [0, 1, 127, 128, 129, 65535, 65536, 65537, 131073, 5_000_000]
+    return [
+        verify(f"data of {length} bytes", 0, WARNING, VERIFIED,
+               files={FILE: toy.some_data(length), SIG: toy.signature_text(toy.some_data(length))})
+        for length in lengths
+    ]
+
+
+def text_cases():
+    """The texts: both are read whole and have to be UTF-8, the key's first, and then they are judged."""
+    windows = {name: GOOD[name].replace(b"\n", b"\r\n") for name in (PK, SIG)}
+    rows = [
+        ("an empty key", {PK: b""}, NO_PUBLIC_KEY),
+        ("an empty signature", {SIG: b""}, NO_SIGNATURE),
+        ("an empty key and an empty signature", {PK: b"", SIG: b""}, NO_PUBLIC_KEY),
+        ("a key of one line", {PK: b"c\n"}, "error: Missing encoded key in public key\n"),
+        ("a raw key", {PK: b"Ed" + toy.KEYNUM + toy.KEY}, "error: Missing encoded key in public key\n"),
+        ("a short record of a signature", {SIG: toy.signature_text(b"abc", record=toy.signature_record(b"abc")[:73])}, TOO_SHORT),
+        ("a key that is no UTF-8", {PK: NO_TEXT}, NOT_UTF8),
+        ("a signature that is no UTF-8", {SIG: NO_TEXT}, NOT_UTF8),
+        ("a key that ends inside a letter", {PK: GOOD[PK] + b"\xc3"}, NOT_UTF8),
+        ("a signature that ends inside a letter", {SIG: GOOD[SIG] + b"\xf0\x9f\x94"}, NOT_UTF8),
+        ("a signature that is no UTF-8 before an empty key", {PK: b"", SIG: NO_TEXT}, NOT_UTF8),
+        ("key and signature swapped", {PK: GOOD[SIG], SIG: GOOD[PK]},
+         "error: Base64 conversion failed - was an actual public key given?\n"),
+    ]
+    return [
+        *(verify(name, 1, WARNING, line, files=files) for name, files, line in rows),
+        verify("lines that end with carriage return and line feed", 0, WARNING, VERIFIED, files=windows),
+        verify("more lines", 0, WARNING, VERIFIED, files={PK: GOOD[PK] + b"more", SIG: GOOD[SIG] + b"more\n" * 20_000}),
+        verify("a last line that is not ended", 0, WARNING, VERIFIED, files={PK: GOOD[PK][:-1], SIG: GOOD[SIG][:-1]}),
+    ]
+
+
+def opening_cases():
+    """The files are opened in the order of the arguments, and nothing is read before all are open."""
+    locked = {name: Unreadable(data) for name, data in GOOD.items()}
+    rows = [
+        *((f"{name} is missing", {name: MISSING}) for name in GOOD),
+        *((f"{name} is unreadable", {name: locked[name]}) for name in GOOD),
+        ("all are missing", {name: MISSING for name in GOOD}),
+        ("a missing key before the data is opened", {PK: MISSING, FILE: UnopenedPipe(), SIG: UnopenedPipe()}),
+        ("missing data before the signature is opened", {FILE: MISSING, SIG: UnopenedPipe()}),
+        ("the key is opened before missing data", {PK: OpenedPipe(), FILE: MISSING}),
+        ("key and data are opened before a missing signature", {PK: OpenedPipe(), FILE: OpenedPipe(), SIG: MISSING}),
+        ("a missing signature before a key that is no UTF-8", {PK: NO_TEXT, SIG: MISSING}),
+        ("missing data before a key that is no UTF-8", {PK: NO_TEXT, FILE: MISSING}),
+    ]
+    return [verify(name, 1, WARNING, READING_FAILED, files=files) for name, files in rows]
+
+
+def reading_cases():
+    """The key is read first, then the signature, then both are judged, and then the data is read."""
+    other_key = toy.public_text(keynum=toy.OTHER_KEYNUM)
+    rows = [
+        ("a folder as key", {PK: FOLDER}, READING_FAILED),
+        ("a folder as data", {FILE: FOLDER}, READING_FAILED),
+        ("a folder as signature", {SIG: FOLDER}, READING_FAILED),
+        ("a folder as key before the signature is read", {PK: FOLDER, SIG: OpenedPipe()}, READING_FAILED),
+        ("a folder as key before a signature that is no UTF-8", {PK: FOLDER, SIG: NO_TEXT}, READING_FAILED),
+        ("a key that is no UTF-8 before the signature is read", {PK: NO_TEXT, SIG: OpenedPipe()}, NOT_UTF8),
+        ("a key that is no UTF-8 before a folder as signature", {PK: NO_TEXT, SIG: FOLDER}, NOT_UTF8),
+        ("a folder as signature before an empty key", {PK: b"", SIG: FOLDER}, READING_FAILED),
+        ("a key that is no UTF-8 before a folder as data", {PK: NO_TEXT, FILE: FOLDER}, NOT_UTF8),
+        ("an empty key before a folder as data", {PK: b"", FILE: FOLDER}, NO_PUBLIC_KEY),
+        ("an empty signature before a folder as data", {SIG: b"", FILE: FOLDER}, NO_SIGNATURE),
+        ("an empty signature before the data is read", {SIG: b"", FILE: OpenedPipe()}, NO_SIGNATURE),
+        ("a folder as data before another identifier", {PK: other_key, FILE: FOLDER}, READING_FAILED),
+    ]
+    return [verify(name, 1, WARNING, line, files=files) for name, files, line in rows]
+
+
+def verify_pipe_cases():
+    large = toy.some_data(300_000)
+    return [
+        verify("data from a pipe", 0, WARNING, VERIFIED, files={FILE: FedPipe(b"abc")}),
+        verify("large data from a pipe", 0, WARNING, VERIFIED, files={FILE: FedPipe(large), SIG: toy.signature_text(large)}),
+        verify("other data from a pipe", 1, WARNING, REFUSED, files={FILE: FedPipe(b"abd")}),
+        verify("texts from pipes", 0, WARNING, VERIFIED, files={PK: FedPipe(GOOD[PK]), SIG: FedPipe(GOOD[SIG])}),
+    ]
+
+
+def cat_pipe_cases():
+    other_key = toy.public_text(keynum=toy.OTHER_KEYNUM)
+    return [
+        cat("data from a pipe", 1, WARNING, GOING_BACK_FAILED, files={FILE: FedPipe(b"abc")}),
+        cat("data from a pipe before another identifier", 1, WARNING, GOING_BACK_FAILED,
+            files={PK: other_key, FILE: FedPipe(b"abc")}),
+        cat("an empty signature before data from a pipe", 1, WARNING, NO_SIGNATURE, files={SIG: b"", FILE: FedPipe(b"abc")}),
+        cat("texts from pipes", 0, WARNING, VERIFIED, files={PK: FedPipe(GOOD[PK]), SIG: FedPipe(GOOD[SIG])}, output=b"abc"),
+    ]
+
+
+def verify_stream_cases():
+    """Only a status line that cannot be written changes the exit status. No file gets the number of a closed
+    stream."""
+    cases = [
+        verify(f"a good signature, and closed {name}", 0, WARNING, VERIFIED, stdin=stdin, stdout=stdout)
+        for name, stdin, stdout in [("input", CLOSED, None), ("output", b"", CLOSED), ("input and output", CLOSED, CLOSED)]
+    ]
+    cases.append(verify("a good signature, and a full output", 0, WARNING, VERIFIED, stdout=FULL))
+    for errors in (CLOSED, FULL, NO_READER):
+        for stdin, stdout in [(b"", None), (CLOSED, None), (b"", CLOSED), (CLOSED, CLOSED)]:
+            cases += [
+                verify(f"a good signature, input {stdin}, output {stdout}, and for errors {errors}", 1,
+                       stdin=stdin, stdout=stdout, stderr=errors),
+                verify(f"missing data, input {stdin}, output {stdout}, and for errors {errors}", 1,
+                       stdin=stdin, stdout=stdout, stderr=errors, files={FILE: MISSING}),
+            ]
+    return cases
+
+
+def cat_stream_cases():
+    """An output that cannot be written is told after the status. Nothing is copied where the status cannot be
+    written."""
+    cases = [cat("a closed input", 0, WARNING, VERIFIED, output=b"abc", stdin=CLOSED)]
+    for stdout in (CLOSED, FULL):
+        for stdin in (b"", CLOSED):
+            cases += [
+                cat(f"input {stdin}, and as output {stdout}", 1, WARNING, VERIFIED, WRITING_FAILED, stdin=stdin, stdout=stdout),
+                cat(f"no data, input {stdin}, and as output {stdout}", 0, WARNING, VERIFIED, stdin=stdin, stdout=stdout,
+                    files={FILE: b"", SIG: toy.signature_text(b"")}),
+                cat(f"other data, input {stdin}, and as output {stdout}", 1, WARNING, REFUSED, stdin=stdin, stdout=stdout,
+                    files={FILE: b"abd"}),
+            ]
+    for errors in (CLOSED, FULL, NO_READER):
+        for stdin, stdout in [(b"", None), (CLOSED, None), (b"", CLOSED), (CLOSED, CLOSED)]:
+            cases.append(cat(f"input {stdin}, output {stdout}, and for errors {errors}", 1,
+                             stdin=stdin, stdout=stdout, stderr=errors))
+    return cases
+
+
+def changed_cases():
+    """Another process changes the data while it is copied: after the status was written, and before more than
+    some pieces could be copied, since nobody reads the output until then."""
+    data = toy.some_data(2_000_000)
+    last = data[:-1] + bytes([data[-1] ^ 1])
+    files = {FILE: data, SIG: toy.signature_text(data)}
+
+    def change(edit):
+        return ReadLate(2, lambda folder: edit(os.path.join(folder, FILE)))
+
+    def set_last(path):
+        with open(path, "r+b") as file:
+            file.seek(len(data) - 1)
+            file.write(last[-1:])
+
+    def append(path):
+        with open(path, "ab") as file:
+            file.write(b"more")
+
+    def replace_whole(path):
+        with open(path + ".new", "wb") as file:
+            file.write(last)
+        os.rename(path + ".new", path)
+
+    rows = [
+        ("its last byte is changed", set_last, last),
+        ("it is cut by a byte", lambda path: os.truncate(path, len(data) - 1), data[:-1]),
+        ("half of it is cut", lambda path: os.truncate(path, 1_000_000), data[:1_000_000]),
+        ("more is appended", append, data + b"more"),
+    ]
+    return [
+        *(cat(f"between the passes {name}", 1, WARNING, VERIFIED, DATA_CHANGED, files=files, output=output, stdout=change(edit))
+          for name, edit, output in rows),
+        cat("between the passes nothing is changed", 0, WARNING, VERIFIED, files=files, output=data, stdout=change(lambda path: None)),
+        cat("between the passes another file takes its name", 0, WARNING, VERIFIED, files=files, output=data, stdout=change(replace_whole)),
+        cat("between the passes its name is taken away", 0, WARNING, VERIFIED, files=files, output=data, stdout=change(os.unlink)),
+    ]
+
+
+def memory_cases(command):
+    """Want of memory at each request. Of a copy it is told behind the status."""
+    lines = OneOf(([WARNING, OUT_OF_MEMORY], [WARNING, VERIFIED, OUT_OF_MEMORY]) if command is cat else ([WARNING, OUT_OF_MEMORY],))
+    rows = [("a good signature", {}), ("other data", {FILE: b"abd"}), ("an empty key", {PK: b""})]
+    return [
+        replace(command(f"{name}, and {many} for memory refused", 1, files=files, refusing=refusing),
+                lines=lines, output=BeginningOf(b"abc"))
+        for name, files in rows
+        for refusing, many in (("one", "one request"), ("all", "each request from one on"))
+    ]
