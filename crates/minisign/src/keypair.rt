@@ -365,7 +365,7 @@ impl SecretKey {
         ensures refused { IfErr result (λ e. e ≡ out_of_memory) }
     {
         let mut sk = self.with_limits(salt);
-        sk.unseal(alloc, password, u32::MAX)?;
+        sk.unseal(alloc, password, u32::MAX, 1)?;
         Ok(sk)
     }
 

@@ -1,6 +1,6 @@
 //! The key of a text: opened with a password where it is sealed.
 
-ghost use Rattle.std.specs.Prelude.{◌≡◌, ◌⊎◌, ℕ, List, ◌++◌, None, Some, Ok, string_bytes, MatchResult, IfOk, IfErr, OnOk, IfSome, IfNone};
+ghost use Rattle.std.specs.Prelude.{◌≡◌, ◌≤◌, ◌⊎◌, ℕ, List, ◌++◌, None, Some, Ok, string_bytes, MatchResult, IfOk, IfErr, OnOk, IfSome, IfNone};
 ghost use Rattle.minisign_base.specs.Faults.{out_of_memory, writing_failed, wrong_password};
 ghost use Rattle.minisign.specs.Records.{SecretKeyRecord};
 ghost use Rattle.minisign.specs.SecretKeyText.{SecretKeyText};
@@ -89,7 +89,7 @@ impl SecretKey {
     }
 
     /// Reads a sealed key and opens it with the password: `from_box_within` with 4294967295, which no
-    /// parallelization exceeds, so that `work_too_high` never comes.
+    /// parallelization exceeds, so that `work_too_high` never comes; `from_box_keeping` with k 1.
     pub fn from_box<R: Source, W: Sink>(
         alloc: Global,
         sk_box: SecretKeyBox,
@@ -112,7 +112,39 @@ impl SecretKey {
             MatchResult result (λ v. Opens k (string_bytes p) × (v ≡ unsealed k (string_bytes p)))
             (λ e. (e ≡ out_of_memory) ⊎ (¬ (Opens k (string_bytes p)) × (unbounded_refusal k (string_bytes p) ≡ Some e)))) }
     {
-        SecretKey::from_box_within(alloc, sk_box, password, prompt, u32::MAX)
+        SecretKey::from_box_keeping(alloc, sk_box, password, prompt, 1)
+    }
+
+    /// Reads a sealed key and opens it with the password in a fraction of the memory: `from_box` with only
+    /// every k-th of scrypt's rows kept, for k from 1 on. The others are made again when they are named, so
+    /// that what is opened and what is refused is the same for every k, and the time grows with it. Memory
+    /// for the kept rows is asked for once, 128 * 8 bytes for each of N / k, rounded up.
+    pub fn from_box_keeping<R: Source, W: Sink>(
+        alloc: Global,
+        sk_box: SecretKeyBox,
+        password: Option<String>,
+        prompt: &mut Prompt<R, W>,
+        k: u64,
+    ) -> Result<SecretKey>
+        requires kept { 1 ≤ k }
+
+        // A password that is handed in.
+        ensures handed_in { IfSome password (λ p. MatchResult result (IsOpened sk_box (string_bytes p) 4294967295)
+            (λ e. (e ≡ out_of_memory) ⊎ RefusesOpening sk_box (string_bytes p) 4294967295 e)) }
+        ensures untouched { IfSome password (λ _. prompt.new ≡ prompt.old) }
+
+        // A password that is asked for.
+        ensures asked { IfNone password (MatchResult result
+            (IsOpenedAsking R.ahead R.left R.faults W.taken W.sink_faults prompt.old prompt.new sk_box 4294967295)
+            (RefusesAsking R.ahead R.left R.faults W.taken W.sink_faults prompt.old prompt.new sk_box 4294967295)) }
+
+        // In one piece: a sealed key that is read opens with the password that is handed in exactly where
+        // its limits are allowed and the stream restores its checksum.
+        ensures headline { IfSome password (λ p. (sealed : SecretKeyRecord) → SecretKeyText sk_box sealed → sealed.kdf ≡ scrypt_kdf →
+            MatchResult result (λ v. Opens sealed (string_bytes p) × (v ≡ unsealed sealed (string_bytes p)))
+            (λ e. (e ≡ out_of_memory) ⊎ (¬ (Opens sealed (string_bytes p)) × (unbounded_refusal sealed (string_bytes p) ≡ Some e)))) }
+    {
+        SecretKey::open_box(alloc, sk_box, password, prompt, u32::MAX, k)
     }
 
     /// Reads a sealed key and opens it with the password, within a bound on the work of a stranger's key:
@@ -153,12 +185,7 @@ impl SecretKey {
             MatchResult result (λ v. OpensWithin k (string_bytes p) max_p × (v ≡ unsealed k (string_bytes p)))
             (λ e. (e ≡ out_of_memory) ⊎ (¬ (OpensWithin k (string_bytes p) max_p) × (password_refusal k (string_bytes p) max_p ≡ Some e)))) }
     {
-        match password {
-            Some(password) => {
-                SecretKey::opened_from_text(alloc, sk_box.as_str(), password.as_bytes(), max_p)
-            }
-            None => SecretKey::asked_from_text(alloc, sk_box.as_str(), prompt, max_p),
-        }
+        SecretKey::open_box(alloc, sk_box, password, prompt, max_p, 1)
     }
 
     /// Reads a key that was never sealed. Its text is read as two lines: one of comment, and one that is the
@@ -172,6 +199,41 @@ impl SecretKey {
         ensures one_reading { IfOk result (λ v. (other : SecretKeyRecord) → SecretKeyText sk_box other → other ≡ v) }
     {
         SecretKey::unencrypted_from_text(alloc, sk_box.as_str())
+    }
+
+    // Reads a sealed key and opens it within a bound on the parallelization, with every k-th row kept.
+    fn open_box<R: Source, W: Sink>(
+        alloc: Global,
+        sk_box: SecretKeyBox,
+        password: Option<String>,
+        prompt: &mut Prompt<R, W>,
+        max_p: u32,
+        k: u64,
+    ) -> Result<SecretKey>
+        requires kept { 1 ≤ k }
+
+        // A password that is handed in.
+        ensures handed_in { IfSome password (λ p. MatchResult result (IsOpened sk_box (string_bytes p) max_p)
+            (λ e. (e ≡ out_of_memory) ⊎ RefusesOpening sk_box (string_bytes p) max_p e)) }
+        ensures untouched { IfSome password (λ _. prompt.new ≡ prompt.old) }
+
+        // A password that is asked for.
+        ensures asked { IfNone password (MatchResult result
+            (IsOpenedAsking R.ahead R.left R.faults W.taken W.sink_faults prompt.old prompt.new sk_box max_p)
+            (RefusesAsking R.ahead R.left R.faults W.taken W.sink_faults prompt.old prompt.new sk_box max_p)) }
+
+        // In one piece: a sealed key that is read opens with the password that is handed in exactly where
+        // its limits are allowed, p is within the bound and the stream restores its checksum.
+        ensures headline { IfSome password (λ p. (sealed : SecretKeyRecord) → SecretKeyText sk_box sealed → sealed.kdf ≡ scrypt_kdf →
+            MatchResult result (λ v. OpensWithin sealed (string_bytes p) max_p × (v ≡ unsealed sealed (string_bytes p)))
+            (λ e. (e ≡ out_of_memory) ⊎ (¬ (OpensWithin sealed (string_bytes p) max_p) × (password_refusal sealed (string_bytes p) max_p ≡ Some e)))) }
+    {
+        match password {
+            Some(password) => {
+                SecretKey::opened_from_text(alloc, sk_box.as_str(), password.as_bytes(), max_p, k)
+            }
+            None => SecretKey::asked_from_text(alloc, sk_box.as_str(), prompt, max_p, k),
+        }
     }
 
     // Reads the text of a key that was never sealed.
@@ -199,12 +261,19 @@ impl SecretKey {
     }
 
     // Reads the text of a sealed key, and opens it with a password that was handed in.
-    fn opened_from_text(alloc: Global, text: &str, password: &[u8], max_p: u32) -> Result<SecretKey>
+    fn opened_from_text(
+        alloc: Global,
+        text: &str,
+        password: &[u8],
+        max_p: u32,
+        k: u64,
+    ) -> Result<SecretKey>
+        requires { 1 ≤ k }
         ensures outcome { MatchResult result (IsOpened text.now password.now max_p)
             (λ e. (e ≡ out_of_memory) ⊎ RefusesOpening text.now password.now max_p e) }
     {
         let sk = SecretKey::sealed_from_text(alloc, text)?;
-        sk.open_with(alloc, password, max_p)
+        sk.open_with(alloc, password, max_p, k)
     }
 
     // Reads the text of a key that is sealed by scrypt.
@@ -237,12 +306,14 @@ impl SecretKey {
         text: &str,
         prompt: &mut Prompt<R, W>,
         max_p: u32,
+        k: u64,
     ) -> Result<SecretKey>
+        requires { 1 ≤ k }
         ensures opened { IfOk result (IsOpenedAsking R.ahead R.left R.faults W.taken W.sink_faults prompt.old prompt.new text.now max_p) }
         ensures refused { IfErr result (RefusesAsking R.ahead R.left R.faults W.taken W.sink_faults prompt.old prompt.new text.now max_p) }
     {
         let sk = SecretKey::sealed_from_text(alloc, text)?;
-        sk.open_asking(alloc, prompt, max_p)
+        sk.open_asking(alloc, prompt, max_p, k)
     }
 
     // Asks for a password, and opens a sealed key with it.
@@ -251,7 +322,9 @@ impl SecretKey {
         alloc: Global,
         prompt: &mut Prompt<R, W>,
         max_p: u32,
+        k: u64,
     ) -> Result<SecretKey>
+        requires { 1 ≤ k }
         ensures opened { IfOk result (λ v. (bytes : List ℕ) × (password : List ℕ) × (v ≡ unsealed self password)
             × (password_refusal self password max_p ≡ None)
             × HasAskedAndSaid R.ahead R.left R.faults W.taken W.sink_faults prompt.old prompt.new bytes password (deriving_text ++ done_text)) }
@@ -262,7 +335,7 @@ impl SecretKey {
             (HasAskedAndNotSaid R.ahead R.left R.faults W.taken W.sink_faults prompt.old prompt.new bytes password) self password max_p e)) }
     {
         let password = ask_password(alloc, prompt)?;
-        self.open_telling(alloc, password.as_bytes(), prompt, max_p)
+        self.open_telling(alloc, password.as_bytes(), prompt, max_p, k)
     }
 
     // Opens a sealed key, and says so before the derivation and behind it.
@@ -272,7 +345,9 @@ impl SecretKey {
         password: &[u8],
         prompt: &mut Prompt<R, W>,
         max_p: u32,
+        k: u64,
     ) -> Result<SecretKey>
+        requires { 1 ≤ k }
         ensures opened { IfOk result (λ v. (v ≡ unsealed self password.now) × (password_refusal self password.now max_p ≡ None)
             × HasSaid W.taken W.sink_faults prompt.old prompt.new (deriving_text ++ done_text)) }
         ensures refused { IfErr result (λ e. IsToldRefusal (HasSaid W.taken W.sink_faults prompt.old prompt.new)
@@ -280,7 +355,7 @@ impl SecretKey {
     {
         say_deriving(prompt)?;
         let mut sk = self;
-        sk.unseal(alloc, password, max_p)?;
+        sk.unseal(alloc, password, max_p, k)?;
         sk.finish_telling(prompt)?;
         Ok(sk)
     }
@@ -298,13 +373,14 @@ impl SecretKey {
     }
 
     // Opens a sealed key with a password that was handed in.
-    fn open_with(self, alloc: Global, password: &[u8], max_p: u32) -> Result<SecretKey>
+    fn open_with(self, alloc: Global, password: &[u8], max_p: u32, k: u64) -> Result<SecretKey>
+        requires { 1 ≤ k }
         ensures opened { IfOk result (λ v. (v ≡ unsealed self password.now) × (password_refusal self password.now max_p ≡ None)) }
         ensures refused { IfErr result (λ e. ((e ≡ out_of_memory) × (work_refusal self max_p ≡ None))
             ⊎ (password_refusal self password.now max_p ≡ Some e)) }
     {
         let mut sk = self;
-        sk.unseal(alloc, password, max_p)?;
+        sk.unseal(alloc, password, max_p, k)?;
         sk.check_restored()?;
         Ok(sk)
     }

@@ -1,6 +1,6 @@
 //! Sealing and opening: the last 104 bytes of a secret key are xored with a stream of scrypt.
 
-ghost use Rattle.std.specs.Prelude.{◌≡◌, ◌⊎◌, None, Some, Ok, Err, length, bit_xor, MatchResult, IfOk, IfErr, OnOk, OnErr};
+ghost use Rattle.std.specs.Prelude.{◌≡◌, ◌≤◌, ◌⊎◌, None, Some, Ok, Err, length, bit_xor, MatchResult, IfOk, IfErr, OnOk, OnErr};
 ghost use Rattle.std.specs.Simd.Lanes.{zip2};
 ghost use Rattle.minisign_base.specs.Faults.{out_of_memory};
 ghost use Rattle.minisign_base.specs.Limits.{sealing_limits};
@@ -9,7 +9,7 @@ ghost use Rattle.minisign.specs.Sealing.{key_limits, key_numbers, stream_of, uns
 use crate::secret_key::SecretKey;
 use minisign_base::helpers::{load_u64_le, raw_scrypt_params};
 use minisign_base::{Params, Result, faults};
-use minisign_kdf::scrypt::scrypt;
+use minisign_kdf::scrypt::scrypt_keeping;
 use std::alloc::Global;
 
 // The greatest memory limit of a key that is sealed or opened, in bytes.
@@ -21,9 +21,16 @@ const N_LOG2_MAX: u8 = 20;
 impl SecretKey {
     // Xors the last 104 bytes of the record with the stream under the password: opens a sealed key, and
     // seals an opened one. Limits that are not allowed are refused before anything is derived, and then
-    // a parallelization above `max_p`; neither takes memory.
+    // a parallelization above `max_p`; neither takes memory. Every k-th row of scrypt is kept.
     #[tactic(auto, using(crate::proofs::SealedParts::restored_key))]
-    pub(crate) fn unseal(&mut self, alloc: Global, password: &[u8], max_p: u32) -> Result<()>
+    pub(crate) fn unseal(
+        &mut self,
+        alloc: Global,
+        password: &[u8],
+        max_p: u32,
+        k: u64,
+    ) -> Result<()>
+        requires { 1 ≤ k }
         ensures unsealed { OnOk result (self.new ≡ unsealed self.old password.now) }
         ensures restores { OnOk result (unsealed self.new password.now ≡ self.old) }
         ensures allowed { OnOk result (work_refusal self.old max_p ≡ None) }
@@ -31,7 +38,7 @@ impl SecretKey {
             ⊎ (work_refusal self.old max_p ≡ Some e)) }
         ensures same { OnErr result (self.new ≡ self.old) }
     {
-        let stream = derive_stream(alloc, self, password, max_p)?;
+        let stream = derive_stream(alloc, self, password, max_p, k)?;
         self.xor_keynum(&stream);
         Ok(())
     }
@@ -61,7 +68,14 @@ fn xor_bytes(bytes: &mut [u8], stream: &[u8])
 
 // The stream under the password.
 #[tactic(auto, using(crate::proofs::SealingLimits::derived_stream))]
-fn derive_stream(alloc: Global, sk: &SecretKey, password: &[u8], max_p: u32) -> Result<[u8; 104]>
+fn derive_stream(
+    alloc: Global,
+    sk: &SecretKey,
+    password: &[u8],
+    max_p: u32,
+    k: u64,
+) -> Result<[u8; 104]>
+    requires { 1 ≤ k }
     ensures stream { IfOk result (λ s. s ≡ stream_of sk.now password.now) }
     ensures allowed { OnOk result (work_refusal sk.now max_p ≡ None) }
     ensures refused { IfErr result (λ e. ((e ≡ out_of_memory) × (work_refusal sk.now max_p ≡ None))
@@ -69,7 +83,7 @@ fn derive_stream(alloc: Global, sk: &SecretKey, password: &[u8], max_p: u32) -> 
 {
     let params = bounded_params(sk, max_p)?;
     let mut stream = [0u8; 104];
-    scrypt(alloc, password, &sk.kdf_salt, &params, &mut stream)?;
+    scrypt_keeping(alloc, password, &sk.kdf_salt, &params, k, &mut stream)?;
     Ok(stream)
 }
 

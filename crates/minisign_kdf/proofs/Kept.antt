@@ -1,11 +1,13 @@
 -- scryptROMix over the rows that are kept is the standard's.
 use Rattle.std.proofs.Common.{◌≡◌, ℕ, zero, suc, ◌+◌, ◌-◌, ◌*◌, ◌/◌, ◌%◌, ◌<◌, ◌≤◌, List, [], length, get_or, inl, inr, sym, ap, ◌∙◌, arith, add-zero, zero-add}
-use Rattle.std.proofs.Math.Nat.{div-lt_iff_lt-mul, lt-mul-div-succ, mul-div-le, mul-suc}
+use Rattle.std.proofs.Math.Nat.{div-lt_iff_lt-mul, mul_comm, mul-suc}
 use Rattle.std.proofs.lemmas.Bool.{cases_lt}
+use Rattle.std.proofs.lemmas.Grind.{div_ceil_times}
 use Rattle.std.proofs.lemmas.List.{get_or-map}
 use Rattle.std.proofs.lemmas.List.FromFn.{get_or-range_with_len, length-map-range_with_len, length-range_with_len}
+use Rattle.std.specs.Int.{div_ceil}
 use Rattle.std.specs.List.{range_with_len}
-use Rattle.minisign_kdf.specs.Kept.{kept_count, kept_rows, remade_row, rom_mix_from}
+use Rattle.minisign_kdf.specs.Kept.{kept_rows, remade_row, rom_mix_from}
 use Rattle.minisign_kdf.specs.Scrypt.{block_mix, mixed_with, rom_mix, row_at}
 use Rattle.minisign_kdf.proofs.Rows.{mixed_with_same}
 
@@ -18,54 +20,57 @@ row_at-add r b i (suc j) =
     ap (block_mix r) (row_at-add r b i j) ∙ ap (row_at r b) (sym e)
 
 -- the kept rows reach up to row n, and the last one lies before it
-count_covers : (n k : ℕ) → 1 ≤ k → n ≤ k * kept_count n k
+count_covers : (n k : ℕ) → 1 ≤ k → n ≤ k * div_ceil n k
 count_covers n k some =
-    let c : ℕ = kept_count n k in
-    let above : n + (k - 1) < k * (c + 1) = lt-mul-div-succ (n + (k - 1)) (omega arith) in
-    let next : k * (c + 1) ≡ k * c + k = grind arith in
-    omega arith
+    let turned : k * div_ceil n k ≡ div_ceil n k * k = mul_comm k (div_ceil n k) in
+    omega (arith, (div_ceil_times n k (omega arith)).0)
 
-some_kept : (n k : ℕ) → 1 ≤ k → 1 ≤ n → 0 < kept_count n k
-some_kept n k some rows = elim (cases_lt 0 (kept_count n k)) [
+pub some_kept : (n k : ℕ) → 1 ≤ k → 1 ≤ n → 0 < div_ceil n k
+some_kept n k some rows = elim (cases_lt 0 (div_ceil n k)) [
   | inl kept ↦ kept
   | inr none ↦
-      let zero_is : kept_count n k ≡ 0 = omega arith in
-      let above : n ≤ k * kept_count n k = count_covers n k some in
-      let nothing : k * kept_count n k ≡ k * 0 = ap (λ (m : ℕ). k * m) zero_is in
+      let zero_is : div_ceil n k ≡ 0 = omega arith in
+      let above : n ≤ k * div_ceil n k = count_covers n k some in
+      let nothing : k * div_ceil n k ≡ k * 0 = ap (λ (m : ℕ). k * m) zero_is in
       absurd (omega arith)
 ]
 
-last_before : (n k : ℕ) → 1 ≤ k → 1 ≤ n → k * (kept_count n k - 1) ≤ n
+pub last_before : (n k : ℕ) → 1 ≤ k → 1 ≤ n → k * (div_ceil n k - 1) < n
 last_before n k some rows =
-    let c : ℕ = kept_count n k in
-    let below : k * c ≤ n + (k - 1) = mul-div-le (n + (k - 1)) k in
-    let covers : n ≤ k * c = count_covers n k some in
+    let c : ℕ = div_ceil n k in
+    let turned : k * c ≡ c * k = mul_comm k c in
+    let below : c * k < n + k = (div_ceil_times n k (omega arith)).1 in
     let kept : 0 < c = some_kept n k some rows in
     let one : c ≡ suc (c - 1) = omega arith in
     let next : k * c ≡ k * (c - 1) + k = ap (λ (m : ℕ). k * m) one ∙ mul-suc k (c - 1) in
     omega arith
 
+-- row j is made from a row that is kept
+pub quotient_kept : (n k j : ℕ) → 1 ≤ k → j < n → j / k < div_ceil n k
+quotient_kept n k j some lt =
+    let c : ℕ = div_ceil n k in
+    let covers : n ≤ k * c = count_covers n k some in
+    let below : j < c * k = grind arith in
+    (div-lt_iff_lt-mul {k = k} {x = j} {y = c} (omega arith)).1 below
+
 -- the i-th kept row
-kept_row : (r n k : ℕ) (b : List ℕ) (i : ℕ) → i < kept_count n k → get_or (kept_rows r n k b) i [] ≡ row_at r b (k * i)
+kept_row : (r n k : ℕ) (b : List ℕ) (i : ℕ) → i < div_ceil n k → get_or (kept_rows r n k b) i [] ≡ row_at r b (k * i)
 unfolding kept_rows
 kept_row r n k b i lt =
-    let c : ℕ = kept_count n k in
+    let c : ℕ = div_ceil n k in
     let within : i < length (range_with_len 0 c) = omega (arith, length-range_with_len 0 c) in
     get_or-map (λ (j : ℕ). row_at r b (k * j)) (range_with_len 0 c) i 0 [] within
     ∙ ap (λ (j : ℕ). row_at r b (k * j)) (get_or-range_with_len 0 c i 0 lt ∙ zero-add i)
 
-length-kept_rows : (r n k : ℕ) (b : List ℕ) → length (kept_rows r n k b) ≡ kept_count n k
+length-kept_rows : (r n k : ℕ) (b : List ℕ) → length (kept_rows r n k b) ≡ div_ceil n k
 unfolding kept_rows
-length-kept_rows r n k b = length-map-range_with_len (λ (i : ℕ). row_at r b (k * i)) 0 (kept_count n k)
+length-kept_rows r n k b = length-map-range_with_len (λ (i : ℕ). row_at r b (k * i)) 0 (div_ceil n k)
 
 -- each row is made again
 remade : (r n k : ℕ) (b : List ℕ) → 1 ≤ k → (j : ℕ) → j < n → remade_row r k (kept_rows r n k b) j ≡ row_at r b j
 unfolding remade_row
 remade r n k b some j lt =
-    let c : ℕ = kept_count n k in
-    let covers : n ≤ k * c = count_covers n k some in
-    let below : j < c * k = grind arith in
-    let within : j / k < c = (div-lt_iff_lt-mul {k = k} {x = j} {y = c} (omega arith)).1 below in
+    let within : j / k < div_ceil n k = quotient_kept n k j some lt in
     let all : k * (j / k) + j % k ≡ j = omega arith in
     ap (λ (l : List ℕ). row_at r l (j % k)) (kept_row r n k b (j / k) within) ∙ row_at-add r b (k * (j / k)) (j % k) ∙ ap (row_at r b) all
 
@@ -73,11 +78,10 @@ remade r n k b some j lt =
 pub rom_mix_from-kept_rows : (r n k : ℕ) (b : List ℕ) → 1 ≤ k → 1 ≤ n → rom_mix_from r n k (kept_rows r n k b) ≡ rom_mix r n b
 unfolding rom_mix_from rom_mix
 rom_mix_from-kept_rows r n k b some rows =
-    let c : ℕ = kept_count n k in
+    let c : ℕ = div_ceil n k in
     let kept : List (List ℕ) = kept_rows r n k b in
-    let covers : n ≤ k * c = count_covers n k some in
     let last : length kept - 1 ≡ c - 1 = ap (λ (m : ℕ). m - 1) (length-kept_rows r n k b) in
-    let before : k * (c - 1) ≤ n = last_before n k some rows in
+    let before : k * (c - 1) < n = last_before n k some rows in
     let some_row : 0 < c = some_kept n k some rows in
     let within : c - 1 < c = omega arith in
     let up : k * (c - 1) + (n - k * (c - 1)) ≡ n = omega arith in

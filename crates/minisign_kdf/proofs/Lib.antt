@@ -11,5 +11,6 @@ pub mod ParamsFacts
 pub mod Rows
 pub mod Parts
 pub mod Kept
+pub mod Remade
 pub mod KeyFacts
 pub mod Facts

@@ -1,15 +1,25 @@
 -- scryptROMix (RFC 7914, section 5) of which only every k-th row is kept, and each other one is made again.
-use Rattle.std.specs.Prelude.{ℕ, ◌+◌, ◌-◌, ◌*◌, ◌/◌, ◌%◌, List, [], length, map, slice_index_or}
+use Rattle.std.specs.Prelude.{ℕ, ◌-◌, ◌*◌, ◌/◌, ◌%◌, List, [], length, map, slice_index_or}
+use Rattle.std.specs.Int.{div_ceil}
 use Rattle.std.specs.List.{range_with_len}
+use Rattle.minisign_kdf.specs.Blocks.{block}
+use Rattle.minisign_kdf.specs.Diagonal.{diagonal_bytes}
 use Rattle.minisign_kdf.specs.Scrypt.{mixed_with, row_at}
 
--- how many rows are kept of n: n divided by k, rounded up
-abbrev pub kept_count : ℕ → ℕ → ℕ
-kept_count n k = (n + (k - 1)) / k
+-- kept rows, with the block size r and n for N: the rows are bytes in the order of the RFC
+pub record KeptRows : Type 0 where
+  pub r : ℕ
+  pub n : ℕ
+  pub k : ℕ
+  pub rows : List (List ℕ)
 
--- the rows V_0, V_k, V_2k, .. with numbers below n
+-- the rows V_0, V_k, V_2k, .. with numbers below n: n divided by k, rounded up, are kept
 unfoldable pub kept_rows : ℕ → ℕ → ℕ → List ℕ → List (List ℕ)
-kept_rows r n k b = map (λ i. row_at r b (k * i)) (range_with_len 0 (kept_count n k))
+kept_rows r n k b = map (λ i. row_at r b (k * i)) (range_with_len 0 (div_ceil n k))
+
+-- as many rows as count says, of 2 * r blocks each, of words that stand in diagonal order block by block
+unfoldable pub rows_of : ℕ → ℕ → List ℕ → List (List ℕ)
+rows_of r count words = map (λ i. diagonal_bytes (block (32 * r) words i)) (range_with_len 0 count)
 
 -- row j, made by mixing the kept row j / k another j mod k times
 unfoldable pub remade_row : ℕ → ℕ → List (List ℕ) → ℕ → List ℕ

@@ -1,17 +1,48 @@
 //! scryptBlockMix (RFC 7914, section 4) on blocks whose words stand in diagonal order.
 
-ghost use Rattle.std.specs.Prelude.{◌≡◌, ◌+◌, ◌-◌, ◌*◌, ◌<◌, ◌≤◌, ◌^◌, length, bit_xor};
+ghost use Rattle.std.specs.Prelude.{◌≡◌, ◌+◌, ◌-◌, ◌*◌, ◌%◌, ◌≤◌, length, bit_xor};
 ghost use Rattle.std.specs.Simd.Lanes.{zip2};
 ghost use Rattle.minisign_kdf.specs.Diagonal.{block_words, diagonal_bytes, placed_words};
 ghost use Rattle.minisign_kdf.specs.Salsa20.{bytes_of, salsa20_8};
-ghost use Rattle.minisign_kdf.specs.Scrypt.{block_mix};
+ghost use Rattle.minisign_kdf.specs.Scrypt.{block_mix, row_at};
 
 use crate::salsa::{Block, salsa20_8, xor_of};
+
+// Mixes the blocks of `from` so many times into `into`. What `into` and `work` held is not read.
+pub(crate) fn mix_times(r: usize, times: usize, from: &[u32], into: &mut [u32], work: &mut [u32])
+    requires some { 1 ≤ r }
+    requires times { 1 ≤ times }
+    requires from_len { length from.now ≡ 32 * r }
+    requires into_len { length into.old ≡ 32 * r }
+    requires work_len { length work.old ≡ 32 * r }
+    ensures { diagonal_bytes into.new ≡ row_at r (diagonal_bytes from.now) times }
+{
+    begin_mixing(r, times, from, into, work);
+    'pairs: for _pair in 0..(times - 1) / 2 {
+        block_mix(r, into, work);
+        block_mix(r, work, into);
+    }
+}
+
+// Mixes the blocks once where `times` is odd, and else twice.
+fn begin_mixing(r: usize, times: usize, from: &[u32], into: &mut [u32], work: &mut [u32])
+    requires some { 1 ≤ r }
+    requires from_len { length from.now ≡ 32 * r }
+    requires into_len { length into.old ≡ 32 * r }
+    requires work_len { length work.old ≡ 32 * r }
+    ensures { diagonal_bytes into.new ≡ row_at r (diagonal_bytes from.now) (2 - times % 2) }
+{
+    if times % 2 == 1 {
+        block_mix(r, from, into);
+    } else {
+        block_mix(r, from, work);
+        block_mix(r, work, into);
+    }
+}
 
 // Mixes the 2 * r blocks of `from` into `into`: the even ones first, then the odd ones.
 pub(crate) fn block_mix(r: usize, from: &[u32], into: &mut [u32])
     requires some { 1 ≤ r }
-    requires small { r < 2 ^ 32 }
     requires from_len { length from.now ≡ 32 * r }
     requires into_len { length into.old ≡ 32 * r }
     ensures { diagonal_bytes into.new ≡ block_mix r (diagonal_bytes from.now) }
@@ -29,7 +60,6 @@ pub(crate) fn block_mix(r: usize, from: &[u32], into: &mut [u32])
 // The same of the words of `from`, each xored with that of `row`.
 pub(crate) fn xor_block_mix(r: usize, from: &[u32], row: &[u32], into: &mut [u32])
     requires some { 1 ≤ r }
-    requires small { r < 2 ^ 32 }
     requires from_len { length from.now ≡ 32 * r }
     requires row_len { length row.now ≡ 32 * r }
     requires into_len { length into.old ≡ 32 * r }

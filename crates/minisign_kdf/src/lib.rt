@@ -6,9 +6,10 @@
 
 mod block_mix;
 pub mod hmac;
+pub mod kept_rows;
 mod order;
 pub mod params;
 pub mod pbkdf2;
-mod rom_mix;
+pub mod rom_mix;
 mod salsa;
 pub mod scrypt;

@@ -1,115 +1,162 @@
-//! scryptROMix (RFC 7914, section 5) with every row kept, in one vector of words: the words of each block
-//! stand in diagonal order.
+//! scryptROMix (RFC 7914, section 5) over rows of which every k-th is kept, in one slice of words: the
+//! words of each block stand in diagonal order, and each other row is made again from the kept one before
+//! it.
 
-ghost use Rattle.std.specs.Prelude.{◌≡◌, ℕ, ◌+◌, ◌-◌, ◌*◌, ◌%◌, ◌^◌, ◌<◌, ◌≤◌, ◌++◌, length, vec_capacity, vec_len, bit_xor};
+ghost use Rattle.std.specs.Prelude.{◌≡◌, ℕ, ◌+◌, ◌-◌, ◌*◌, ◌/◌, ◌%◌, ◌^◌, ◌<◌, ◌≤◌, List, length, bit_xor};
+ghost use Rattle.std.specs.Int.{div_ceil};
 ghost use Rattle.std.specs.Simd.Lanes.{zip2};
 ghost use Rattle.minisign_kdf.specs.Blocks.{block};
 ghost use Rattle.minisign_kdf.specs.Diagonal.{diagonal_bytes};
-ghost use Rattle.minisign_kdf.specs.Scrypt.{block_mix, integerify, mixed_with, rom_mix, row_at};
+ghost use Rattle.minisign_kdf.specs.Kept.{kept_rows, remade_row, rom_mix_from, rows_of};
+ghost use Rattle.minisign_kdf.specs.Scrypt.{block_mix, integerify, rom_mix, row_at};
 
-use crate::block_mix::{block_mix, xor_block_mix};
+use crate::block_mix::{mix_times, xor_block_mix};
+use crate::kept_rows::{kept_count, row_count};
+use crate::order::store_part;
 use std::simd::u32x4;
 
-// scryptROMix of x, in place. What the rows and `work` held is not read.
-pub(crate) fn rom_mix(r: usize, n_log2: u8, rows: &mut Vec<u32>, x: &mut [u32], work: &mut [u32])
-    requires some { 1 ≤ r }
-    requires small { r < 2 ^ 32 }
+/// Writes scryptROMix (RFC 7914, section 5) with N = 2^`n_log2` over `rows`, of which every k-th is kept:
+/// the words of N / k rows, rounded up, laid out as `Rows::words` has them, but of any content. Row j is
+/// made by mixing the kept row j / k another j mod k times; over the rows that `Rows::fill` made of a
+/// block, this is scryptROMix of that block.
+///
+/// `out` has the length of a row, 128 * r bytes for some r from 1 on, `work` has at least 96 * r words,
+/// which is three rows, `n_log2` lies from 1 to 63, and k is at least 1. What `out` and `work` held is not
+/// read, and what `work` is left with is open. Takes no memory.
+pub fn mix_kept(rows: &[u32], n_log2: u8, k: u64, out: &mut [u8], work: &mut [u32])
     requires even { 1 ≤ n_log2 }
     requires cost { n_log2 < 64 }
-    requires room { 32 * r * 2 ^ n_log2 ≤ vec_capacity rows.old }
+    requires kept { 1 ≤ k }
+    requires some { 0 < length out.old }
+    requires whole { length out.old % 128 ≡ 0 }
+    requires rows_len { 4 * length rows.now ≡ length out.old * div_ceil (2 ^ n_log2) k }
+    requires work_len { 3 * length out.old ≤ 4 * length work.old }
+    ensures mixed { let r = length out.old / 128 in
+        out.new ≡ rom_mix_from r (2 ^ n_log2) k (rows_of r (div_ceil (2 ^ n_log2) k) rows.now) }
+    ensures standard { let r = length out.old / 128 in (b : List ℕ) →
+        rows_of r (div_ceil (2 ^ n_log2) k) rows.now ≡ kept_rows r (2 ^ n_log2) k b → out.new ≡ rom_mix r (2 ^ n_log2) b }
+{
+    let len = out.len() / 4;
+    let (x, rest) = work.split_at_mut(len);
+    let (mixed, rest) = rest.split_at_mut(len);
+    let (row, _) = rest.split_at_mut(len);
+    mix_with_rows(len / 32, n_log2, k, rows, x, mixed, row);
+    store_part(x, out);
+}
+
+// scryptROMix over the kept rows, into x. What x, `work` and `row` held is not read.
+fn mix_with_rows(
+    r: usize,
+    n_log2: u8,
+    k: u64,
+    rows: &[u32],
+    x: &mut [u32],
+    work: &mut [u32],
+    row: &mut [u32],
+)
+    requires some { 1 ≤ r }
+    requires even { 1 ≤ n_log2 }
+    requires cost { n_log2 < 64 }
+    requires kept { 1 ≤ k }
+    requires rows_len { length rows.now ≡ 32 * r * div_ceil (2 ^ n_log2) k }
     requires x_len { length x.old ≡ 32 * r }
     requires work_len { length work.old ≡ 32 * r }
-    ensures mixed { diagonal_bytes x.new ≡ rom_mix r (2 ^ n_log2) (diagonal_bytes x.old) }
-    ensures room { vec_capacity rows.old ≤ vec_capacity rows.new }
+    requires row_len { length row.old ≡ 32 * r }
+    ensures { diagonal_bytes x.new ≡ rom_mix_from r (2 ^ n_log2) k (rows_of r (div_ceil (2 ^ n_log2) k) rows.now) }
 {
-    fill_rows(r, row_count(n_log2), rows, x);
-    mix_with_rows(r, n_log2, rows, x, work);
-}
-
-// N, which is how many rows there are.
-pub(crate) fn row_count(n_log2: u8) -> usize
-    requires { n_log2 < 64 }
-    ensures { result ≡ 2 ^ n_log2 }
-{
-    1usize << n_log2
-}
-
-// Makes the rows: x, and each further one by mixing the one before it. What the rows held is not read,
-// and x is left with the last row.
-fn fill_rows(r: usize, n: usize, rows: &mut Vec<u32>, x: &mut [u32])
-    requires some { 1 ≤ r }
-    requires small { r < 2 ^ 32 }
-    requires count { 1 ≤ n }
-    requires room { 32 * r * n ≤ vec_capacity rows.old }
-    requires x_len { length x.old ≡ 32 * r }
-    ensures rows_len { vec_len rows.new ≡ 32 * r * n }
-    ensures rows { (i : ℕ) → i < n → diagonal_bytes (block (32 * r) rows.new.items i) ≡ row_at r (diagonal_bytes x.old) i }
-    ensures room { vec_capacity rows.old ≤ vec_capacity rows.new }
-{
-    let len = 32 * r;
-    rows.clear();
-    push_row(rows, x);
-    'rows: for i in 1..n {
-        block_mix(r, &rows[len * (i - 1)..], x);
-        push_row(rows, x);
+    mix_last_row(r, n_log2, k, rows, x, work);
+    'turns: for _turn in 0..row_count(n_log2) / 2 {
+        mix_with_row(r, n_log2, k, rows, x, row, work);
+        mix_with_row(r, n_log2, k, rows, work, row, x);
     }
 }
 
-// Appends a row for which there is room.
-#[inline(always)]
-fn push_row(rows: &mut Vec<u32>, row: &[u32])
-    requires { vec_len rows.old + length row.now ≤ vec_capacity rows.old }
-    ensures items { rows.new.items ≡ rows.old.items ++ row.now }
-    ensures len { vec_len rows.new ≡ vec_len rows.old + length row.now }
-    ensures room { vec_capacity rows.old ≤ vec_capacity rows.new }
-{
-    let _ = rows.extend_from_slice(row);
-}
-
-// Makes x by mixing the last row, and mixes it as many times as there are rows, each time with the row
-// that it names, from x into `work` and back in turn. What x and `work` held is not read.
-fn mix_with_rows(r: usize, n_log2: u8, rows: &[u32], x: &mut [u32], work: &mut [u32])
+// Mixes the last kept row up to row N, into x. What x and `work` held is not read.
+fn mix_last_row(r: usize, n_log2: u8, k: u64, rows: &[u32], x: &mut [u32], work: &mut [u32])
     requires some { 1 ≤ r }
-    requires small { r < 2 ^ 32 }
-    requires even { 1 ≤ n_log2 }
     requires cost { n_log2 < 64 }
-    requires rows_len { length rows.now ≡ 32 * r * 2 ^ n_log2 }
+    requires kept { 1 ≤ k }
+    requires rows_len { length rows.now ≡ 32 * r * div_ceil (2 ^ n_log2) k }
     requires x_len { length x.old ≡ 32 * r }
     requires work_len { length work.old ≡ 32 * r }
-    ensures { diagonal_bytes x.new ≡ mixed_with r (2 ^ n_log2) (λ j. diagonal_bytes (block (32 * r) rows.now j))
-        (block_mix r (diagonal_bytes (block (32 * r) rows.now (2 ^ n_log2 - 1)))) (2 ^ n_log2) }
+    ensures { let last = div_ceil (2 ^ n_log2) k - 1 in
+        diagonal_bytes x.new ≡ row_at r (diagonal_bytes (block (32 * r) rows.now last)) (2 ^ n_log2 - k * last) }
 {
-    let n = row_count(n_log2);
-    block_mix(r, &rows[32 * r * (n - 1)..], x);
-    'turns: for _turn in 0..n / 2 {
-        mix_with_row(r, n_log2, rows, x, work);
-        mix_with_row(r, n_log2, rows, work, x);
-    }
+    let last = kept_count(n_log2, k) - 1;
+    let times = row_count(n_log2) - k as usize * last;
+    mix_times(r, times, &rows[32 * r * last..], x, work);
 }
 
-// Mixes x with the row that it names. What `out` held is not read.
+// Mixes x with the row that it names. What `row` and `out` held is not read.
 #[inline(always)]
-fn mix_with_row(r: usize, n_log2: u8, rows: &[u32], x: &[u32], out: &mut [u32])
+fn mix_with_row(
+    r: usize,
+    n_log2: u8,
+    k: u64,
+    rows: &[u32],
+    x: &[u32],
+    row: &mut [u32],
+    out: &mut [u32],
+)
     requires some { 1 ≤ r }
-    requires small { r < 2 ^ 32 }
     requires cost { n_log2 < 64 }
-    requires rows_len { length rows.now ≡ 32 * r * 2 ^ n_log2 }
+    requires kept { 1 ≤ k }
+    requires rows_len { length rows.now ≡ 32 * r * div_ceil (2 ^ n_log2) k }
     requires x_len { length x.now ≡ 32 * r }
+    requires row_len { length row.old ≡ 32 * r }
     requires out_len { length out.old ≡ 32 * r }
     ensures { let b = diagonal_bytes x.now in
-        diagonal_bytes out.new ≡ block_mix r (zip2 bit_xor b (diagonal_bytes (block (32 * r) rows.now (integerify r b % 2 ^ n_log2)))) }
+        diagonal_bytes out.new ≡ block_mix r (zip2 bit_xor b (remade_row r k (rows_of r (div_ceil (2 ^ n_log2) k) rows.now) (integerify r b % 2 ^ n_log2))) }
+{
+    let j = integerify(r, x) as usize % row_count(n_log2);
+    let kept = kept_row(r, n_log2, k, rows, j);
+    mix_with_remade(r, kept, j % k as usize, x, row, out);
+}
+
+// The kept row that row j is made of.
+#[inline(always)]
+fn kept_row(r: usize, n_log2: u8, k: u64, rows: &[u32], j: usize) -> &[u32]
+    requires some { 1 ≤ r }
+    requires kept { 1 ≤ k }
+    requires j { j < 2 ^ n_log2 }
+    requires rows_len { length rows.now ≡ 32 * r * div_ceil (2 ^ n_log2) k }
+    ensures row { result.now ≡ block (32 * r) rows.now (j / k) }
+    ensures len { length result.now ≡ 32 * r }
 {
     let len = 32 * r;
-    let at = len * (integerify(r, x) as usize % row_count(n_log2));
-    let row = &rows[at..at + len];
-    touch_row(r, row, out);
-    xor_block_mix(r, x, row, out);
+    let at = len * (j / k as usize);
+    &rows[at..at + len]
+}
+
+// Mixes x with the row that is made by mixing `kept` so many times.
+#[inline(always)]
+fn mix_with_remade(
+    r: usize,
+    kept: &[u32],
+    times: usize,
+    x: &[u32],
+    row: &mut [u32],
+    out: &mut [u32],
+)
+    requires some { 1 ≤ r }
+    requires kept_len { length kept.now ≡ 32 * r }
+    requires x_len { length x.now ≡ 32 * r }
+    requires row_len { length row.old ≡ 32 * r }
+    requires out_len { length out.old ≡ 32 * r }
+    ensures { diagonal_bytes out.new ≡ block_mix r (zip2 bit_xor (diagonal_bytes x.now) (row_at r (diagonal_bytes kept.now) times)) }
+{
+    touch_row(r, kept, out);
+    if times == 0 {
+        xor_block_mix(r, x, kept, out);
+    } else {
+        mix_times(r, times, kept, row, out);
+        xor_block_mix(r, x, row, out);
+    }
 }
 
 // The low 64 bits of the last block, whose first two words stand at the places 0 and 13.
 fn integerify(r: usize, x: &[u32]) -> u64
     requires some { 1 ≤ r }
-    requires small { r < 2 ^ 32 }
     requires x_len { length x.now ≡ 32 * r }
     ensures { result ≡ integerify r (diagonal_bytes x.now) % 2 ^ 64 }
 {
@@ -121,7 +168,6 @@ fn integerify(r: usize, x: &[u32]) -> u64
 // memory once and not block by block. What is read goes into `out`, which is written over afterwards.
 fn touch_row(r: usize, row: &[u32], out: &mut [u32])
     requires some { 1 ≤ r }
-    requires small { r < 2 ^ 32 }
     requires row_len { length row.now ≡ 32 * r }
     requires out_len { length out.old ≡ 32 * r }
     ensures { length out.new ≡ length row.now }

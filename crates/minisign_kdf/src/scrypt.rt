@@ -1,14 +1,15 @@
 //! scrypt (RFC 7914, section 6).
 
-ghost use Rattle.std.specs.Prelude.{◌≡◌, ◌+◌, ◌*◌, ◌^◌, ◌<◌, ◌≤◌, IfErr, IfOk, IsTrue, Some, codes, OnErr, OnOk, if◌then◌else◌, is_ok, length, vec_capacity, vec_len};
+ghost use Rattle.std.specs.Prelude.{◌≡◌, ◌+◌, ◌*◌, ◌/◌, ◌%◌, ◌^◌, ◌<◌, ◌≤◌, IfErr, IfOk, IsTrue, Some, codes, OnErr, OnOk, if◌then◌else◌, is_ok, length, vec_capacity, vec_len};
+ghost use Rattle.std.specs.Int.{div_ceil};
 ghost use Rattle.minisign_kdf.specs.Blocks.{block, joined};
 ghost use Rattle.minisign_kdf.specs.Pbkdf2.{longest_key};
 ghost use Rattle.minisign_kdf.specs.Scrypt.{is_key_length, rom_mix, scrypt};
 
-use crate::order::{load_part, store_part};
+use crate::kept_rows::{keep_rows, kept_count, room_for_rows, zeros};
 use crate::params::Params;
 use crate::pbkdf2::pbkdf2_once;
-use crate::rom_mix::{rom_mix, row_count};
+use crate::rom_mix::mix_kept;
 use std::alloc::{AllocError, Global};
 use std::fmt;
 
@@ -69,11 +70,12 @@ impl From<InvalidOutputLen> for KdfError {
     }
 }
 
-/// Derives a key that fills `out` from a password and a salt, by scrypt (RFC 7914, section 6).
+/// Derives a key that fills `out` from a password and a salt, by scrypt (RFC 7914, section 6):
+/// `scrypt_keeping` with every row kept, which is the fastest.
 ///
 /// `InvalidOutputLen` is answered exactly where `out` is empty or longer than 137438953440 bytes, before
 /// any memory is asked for; `OutOfMemory` where a growth was refused: 128 * r * N bytes for the rows, in
-/// one request, then 128 * r * (p + 2) bytes, all before any mixing. A refusal leaves `out` as it was.
+/// one request, then 128 * r * (p + 3) bytes, all before any mixing. A refusal leaves `out` as it was.
 ///
 /// ```
 /// let params = Params::new(15, 8, 1)?;
@@ -92,16 +94,51 @@ pub fn scrypt(
     ensures fault { IfErr result (λ e. e ≡ (if is_key_length (length out.old) then KdfError.OutOfMemory else KdfError.InvalidOutputLen)) }
     ensures unchanged { OnErr result (out.new ≡ out.old) }
 {
+    scrypt_keeping(alloc, password, salt, params, 1, out)?;
+    Ok(())
+}
+
+/// Derives the same key with every k-th row of a part kept, for k from 1 on, and makes the others again
+/// when they are named: memory for time. Answers how many rows are kept for each part, N / k, rounded up.
+///
+/// `InvalidOutputLen` is answered exactly where `out` is empty or longer than 137438953440 bytes, before
+/// any memory is asked for; `OutOfMemory` where a growth was refused: 128 * r bytes for each kept row, in
+/// one request, then 128 * r * (p + 3) bytes, all before any mixing. A refusal leaves `out` as it was.
+///
+/// For each of the p parts scryptBlockMix is called 2 * N times, as with every row kept, and besides for
+/// each of N rows that are named (k - 1) / 2 times on average, less where k is no divisor of N.
+///
+/// ```
+/// // 2 MiB of rows in place of 32.
+/// let params = Params::new(15, 8, 1)?;
+/// let mut key = [0u8; 32];
+/// let kept = scrypt_keeping(alloc, b"password", b"salt", &params, 16, &mut key)?;
+/// ```
+pub fn scrypt_keeping(
+    alloc: Global,
+    password: &[u8],
+    salt: &[u8],
+    params: &Params,
+    k: u64,
+    out: &mut [u8],
+) -> Result<u64, KdfError>
+    requires kept { 1 ≤ k }
+    ensures fits { OnOk result (IsTrue (is_key_length (length out.old))) }
+    ensures derived { OnOk result (out.new ≡ scrypt password.now salt.now (2 ^ params.now.n_log2) params.now.r params.now.p (length out.old)) }
+    ensures count { IfOk result (λ n. n ≡ div_ceil (2 ^ params.now.n_log2) k) }
+    ensures fault { IfErr result (λ e. e ≡ (if is_key_length (length out.old) then KdfError.OutOfMemory else KdfError.InvalidOutputLen)) }
+    ensures unchanged { OnErr result (out.new ≡ out.old) }
+{
     check_len(out.len())?;
     let r = params.r() as usize;
     let p = params.p() as usize;
-    let mut rows = Vec::with_capacity(alloc, 32 * r * row_count(params.n_log2()))?;
-    let mut work = words(alloc, 64 * r)?;
+    let mut rows = room_for_rows(alloc, r, params.n_log2(), k)?;
+    let mut work = zeros(alloc, 96 * r)?;
     let mut parts = bytes(alloc, 128 * r * p)?;
     derive(
-        password, salt, params, &mut parts, &mut rows, &mut work, out,
+        password, salt, params, k, &mut parts, &mut rows, &mut work, out,
     );
-    Ok(())
+    Ok(kept_count(params.n_log2(), k) as u64)
 }
 
 // Refuses a length that no derived key has.
@@ -112,13 +149,6 @@ fn check_len(len: usize) -> Result<(), InvalidOutputLen>
         return Err(InvalidOutputLen);
     }
     Ok(())
-}
-
-// A buffer of so many words.
-fn words(alloc: Global, len: usize) -> Result<Vec<u32>, AllocError>
-    ensures { IfOk result (λ v. vec_len v ≡ len) }
-{
-    vec![in alloc; 0u32; len]
 }
 
 // A buffer of so many bytes.
@@ -133,21 +163,23 @@ fn derive(
     password: &[u8],
     salt: &[u8],
     params: &Params,
+    k: u64,
     parts: &mut [u8],
     rows: &mut Vec<u32>,
     work: &mut [u32],
     out: &mut [u8],
 )
+    requires kept { 1 ≤ k }
     requires parts_len { length parts.old ≡ 128 * params.now.r * params.now.p }
-    requires room { 32 * params.now.r * 2 ^ params.now.n_log2 ≤ vec_capacity rows.old }
-    requires work_len { length work.old ≡ 64 * params.now.r }
+    requires room { 32 * params.now.r * div_ceil (2 ^ params.now.n_log2) k ≤ vec_capacity rows.old }
+    requires work_len { length work.old ≡ 96 * params.now.r }
     requires out_len { length out.old ≤ longest_key }
     ensures { out.new ≡ scrypt password.now salt.now (2 ^ params.now.n_log2) params.now.r params.now.p (length out.old) }
 {
     let r = params.r() as usize;
     let p = params.p() as usize;
     pbkdf2_once(password, salt, parts);
-    mix_parts(r, params.n_log2(), p, parts, rows, work);
+    mix_parts(r, params.n_log2(), k, p, parts, rows, work);
     pbkdf2_once(password, parts, out);
 }
 
@@ -155,26 +187,39 @@ fn derive(
 fn mix_parts(
     r: usize,
     n_log2: u8,
+    k: u64,
     p: usize,
     parts: &mut [u8],
     rows: &mut Vec<u32>,
     work: &mut [u32],
 )
     requires some { 1 ≤ r }
-    requires small { r < 2 ^ 32 }
     requires even { 1 ≤ n_log2 }
     requires cost { n_log2 < 64 }
+    requires kept { 1 ≤ k }
     requires parts_len { length parts.old ≡ 128 * r * p }
-    requires room { 32 * r * 2 ^ n_log2 ≤ vec_capacity rows.old }
-    requires work_len { length work.old ≡ 64 * r }
+    requires room { 32 * r * div_ceil (2 ^ n_log2) k ≤ vec_capacity rows.old }
+    requires work_len { length work.old ≡ 96 * r }
     ensures { parts.new ≡ joined (λ i. rom_mix r (2 ^ n_log2) (block (128 * r) parts.old i)) p }
 {
     let len = 128 * r;
-    let (x, work) = work.split_at_mut(32 * r);
     'parts: for i in 0..p {
-        let part = &mut parts[len * i..len * i + len];
-        load_part(part, x);
-        rom_mix(r, n_log2, rows, x, work);
-        store_part(x, part);
+        rom_mix(n_log2, k, &mut parts[len * i..len * i + len], rows, work);
     }
+}
+
+// scryptROMix of a part, in place. What the rows and `work` held is not read.
+fn rom_mix(n_log2: u8, k: u64, part: &mut [u8], rows: &mut Vec<u32>, work: &mut [u32])
+    requires some { 0 < length part.old }
+    requires whole { length part.old % 128 ≡ 0 }
+    requires even { 1 ≤ n_log2 }
+    requires cost { n_log2 < 64 }
+    requires kept { 1 ≤ k }
+    requires room { 32 * (length part.old / 128) * div_ceil (2 ^ n_log2) k ≤ vec_capacity rows.old }
+    requires work_len { 3 * length part.old ≤ 4 * length work.old }
+    ensures mixed { part.new ≡ rom_mix (length part.old / 128) (2 ^ n_log2) part.old }
+    ensures room { vec_capacity rows.old ≤ vec_capacity rows.new }
+{
+    keep_rows(part, n_log2, k, rows, work);
+    mix_kept(rows, n_log2, k, part, work);
 }

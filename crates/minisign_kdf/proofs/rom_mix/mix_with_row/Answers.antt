@@ -1,8 +1,9 @@
-use Rattle.std.proofs.Common.{ℕ, ◌*◌, ◌%◌, ap, arith}
-use Rattle.minisign_kdf.proofs.Rows.{mixed_with_row}
+use Rattle.std.proofs.Common.{◌≡◌, ℕ, ◌%◌, ◌^◌, ap}
+use Rattle.minisign_kdf.proofs.Remade.{mixed_with_remade}
 use Rattle.minisign_kdf.proofs.rom_mix.mix_with_row.Goals as goal
 
 pub returns : goal.returns
 returns c =
-    mixed_with_row c.args.r c.args.n_log2 _ _ c.integerify.result c.args.rows.now c.args.x.now _ c.requires.cost c.requires.rows_len c.requires.x_len c.integerify.ensures
-    (ap (λ (m : ℕ). 32 * c.args.r * (c.integerify.result % m)) c.row_count.ensures) (omega arith) c.xor_block_mix.ensures
+    let named : c.integerify.result % c.row_count.result ≡ c.integerify.result % 2 ^ c.args.n_log2 = ap (λ (m : ℕ). c.integerify.result % m) c.row_count.ensures in
+    mixed_with_remade c.args.r c.args.n_log2 c.args.k c.integerify.result _ c.args.rows.now c.kept_row-kept.result.now c.args.x.now _ c.requires.kept c.requires.cost c.integerify.ensures named
+    c.kept_row-kept.ensures.row c.mix_with_remade.ensures

@@ -1,4 +1,4 @@
-use Rattle.std.proofs.Common.{ℕ, ◌+◌, ◌*◌, ◌^◌, ◌≤◌, drop, ap, ◌∙◌, arith, length-drop}
+use Rattle.std.proofs.Common.{◌≡◌, ℕ, ◌+◌, ◌-◌, ◌*◌, ◌/◌, ◌^◌, ◌≤◌, List, length, take, drop, ap, ◌∙◌, arith, length-drop}
 use Rattle.std.proofs.lemmas.List.{length-take-le}
 use Rattle.minisign_kdf.specs.Scrypt.{rom_mix}
 use Rattle.minisign_kdf.proofs.Blocks.{row_before}
@@ -10,12 +10,20 @@ parts-init c = (changed_none _ _ _, omega arith)
 
 pub parts-preserved : goal.parts-preserved
 parts-preserved c =
-    let len : ℕ = 128 * c.args.r in
-    let room : len * c.parts.i + len ≤ len * c.args.p = row_before len c.args.p c.parts.i (omega arith) in
+    let r : ℕ = c.args.r in
+    let n : ℕ = 2 ^ c.args.n_log2 in
+    let len : ℕ = 128 * r in
+    let i : ℕ = c.parts.i in
+    let width : len * i + len - len * i ≡ len = omega arith in
+    let room : len * i + len ≤ len * c.args.p = row_before len c.args.p i (omega arith) in
+    let this : List ℕ = take (len * i + len - len * i) (drop (len * i) c.parts.parts) in
+    let size : length this ≡ len =
+    length-take-le (len * i + len - len * i) (drop (len * i) c.parts.parts) (omega (arith, length-drop (len * i) c.parts.parts)) ∙ width in
+    let block_size : length this / 128 ≡ r = omega arith in
     let (changed, kept) = c.parts.invariant in (
-      changed_next (rom_mix c.args.r (2 ^ c.args.n_log2)) len c.parts.i _ c.args.parts.now c.parts.parts c.store_part.new.bytes changed (omega arith) (omega arith)
-          (c.store_part.auto.bytes ∙ length-take-le _ (drop (len * c.parts.i) c.parts.parts) (omega (arith, length-drop (len * c.parts.i) c.parts.parts)) ∙ omega arith)
-          (c.store_part.ensures ∙ c.rom_mix.ensures.mixed ∙ ap (rom_mix c.args.r (2 ^ c.args.n_log2)) c.load_part.ensures),
+      changed_next (rom_mix r n) len i (len * i + len - len * i) c.args.parts.now c.parts.parts c.rom_mix.new.part changed width (omega arith)
+          (c.rom_mix.auto.part ∙ size)
+          (c.rom_mix.ensures.mixed ∙ ap (λ (m : ℕ). rom_mix m n this) block_size),
       omega arith,
     )
 

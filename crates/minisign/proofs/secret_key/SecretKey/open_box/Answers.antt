@@ -1,6 +1,6 @@
 use Rattle.std.proofs.Common.{string_bytes}
 use Rattle.minisign.proofs.Openings.{opening_headline}
-use Rattle.minisign.proofs.secret_key.SecretKey.from_box_within.Goals as goal
+use Rattle.minisign.proofs.secret_key.SecretKey.open_box.Goals as goal
 
 pub returns-in-Some-clause-headline : goal.returns-in-Some-clause-headline
 returns-in-Some-clause-headline g c =

@@ -2,11 +2,11 @@ use Rattle.std.proofs.Common.{◌≡◌, ℕ, ◌*◌, ◌<◌, ◌≤◌, vec_c
 use Rattle.minisign_kdf.specs.Blocks.{block}
 use Rattle.minisign_kdf.specs.Diagonal.{diagonal_bytes}
 use Rattle.minisign_kdf.specs.Scrypt.{row_at}
-use Rattle.minisign_kdf.proofs.rom_mix.fill_rows.Given as goal
+use Rattle.minisign_kdf.proofs.kept_rows.fill_rows.Given as goal
 
 abbrev pub invariant-rows : goal.invariant-rows
 invariant-rows l = record {
   len : vec_len l.rows ≡ 32 * l.r * l.i;
-  rows : (k : ℕ) → k < l.i → diagonal_bytes (block (32 * l.r) l.rows.items k) ≡ row_at l.r (diagonal_bytes l.fn.x) k;
+  rows : (j : ℕ) → j < l.i → diagonal_bytes (block (32 * l.r) l.rows.items j) ≡ row_at l.r (diagonal_bytes l.fn.x) (l.k * j);
   room : vec_capacity l.fn.rows ≤ vec_capacity l.rows;
 }

@@ -1,0 +1,176 @@
+//! The rows of scryptROMix (RFC 7914, section 5) of which every k-th is kept, in one vector of words: the
+//! words of each block stand in diagonal order.
+
+ghost use Rattle.std.specs.Prelude.{◌≡◌, ℕ, ◌+◌, ◌*◌, ◌%◌, ◌/◌, ◌^◌, ◌<◌, ◌≤◌, ◌++◌, IfErr, IfOk, length, vec_capacity, vec_len};
+ghost use Rattle.std.specs.Int.{div_ceil};
+ghost use Rattle.minisign_kdf.specs.Blocks.{block};
+ghost use Rattle.minisign_kdf.specs.Diagonal.{diagonal_bytes};
+ghost use Rattle.minisign_kdf.specs.Kept.{KeptRows, kept_rows, rows_of};
+ghost use Rattle.minisign_kdf.specs.Scrypt.{row_at};
+
+use crate::block_mix::mix_times;
+use crate::order::load_part;
+use crate::scrypt::KdfError;
+use std::alloc::{AllocError, Global};
+use std::marker::Model;
+
+/// Every k-th row of scryptROMix (RFC 7914, section 5) of one block, the rows V_0, V_k, V_2k, .. with
+/// numbers below N. A contract sees them as bytes in the RFC's order, with r, N and k.
+#[derive(Drop)]
+pub struct Rows {
+    words: Vec<u32>,
+    r: usize,
+    n_log2: u8,
+    k: u64,
+}
+
+impl Model for Rows {
+    ghost Value = { KeptRows };
+
+    ghost view = { λ s. record { r = s.r; n = 2 ^ s.n_log2; k = s.k; rows = rows_of s.r (div_ceil (2 ^ s.n_log2) s.k) s.words.items } };
+
+    ghost invariant = { λ s. (s.n_log2 < 64) × (1 ≤ s.k) × (vec_len s.words ≡ 32 * s.r * div_ceil (2 ^ s.n_log2) s.k) };
+}
+
+impl Rows {
+    /// Makes the rows of a block of 128 * r bytes, for r from 1 on, with N = 2^`n_log2`, and keeps every
+    /// k-th: V_0 is the block, and each further row is the one before it mixed by scryptBlockMix. `n_log2`
+    /// lies from 1 to 63, and k is at least 1. Nothing is mixed further than to the last kept row.
+    ///
+    /// `OutOfMemory` is answered where a growth was refused: 128 * r bytes for each of the N / k rows,
+    /// rounded up, in one request, and then 256 * r bytes, before any mixing.
+    pub fn fill(alloc: Global, block: &[u8], n_log2: u8, k: u64) -> Result<Rows, KdfError>
+        requires some { 0 < length block.now }
+        requires whole { length block.now % 128 ≡ 0 }
+        requires even { 1 ≤ n_log2 }
+        requires cost { n_log2 < 64 }
+        requires kept { 1 ≤ k }
+        ensures rows { let r = length block.now / 128 in
+            IfOk result (λ v. v ≡ record { r = r; n = 2 ^ n_log2; k = k; rows = kept_rows r (2 ^ n_log2) k block.now }) }
+        ensures fault { IfErr result (λ e. e ≡ KdfError.OutOfMemory) }
+    {
+        let r = block.len() / 128;
+        let mut words = room_for_rows(alloc, r, n_log2, k)?;
+        let mut work = zeros(alloc, 64 * r)?;
+        keep_rows(block, n_log2, k, &mut words, &mut work);
+        Ok(Rows {
+            words,
+            r,
+            n_log2,
+            k,
+        })
+    }
+
+    /// How many rows are kept: N divided by k, rounded up. Takes no memory.
+    pub fn len(&self) -> u64
+        ensures count { result ≡ div_ceil self.now.n self.now.k }
+        ensures rows { result ≡ length self.now.rows }
+    {
+        kept_count(self.n_log2, self.k) as u64
+    }
+
+    /// The words of the kept rows, 32 * r of each, read low byte first. Those of each block of sixteen
+    /// stand in diagonal order: place q holds word 5 * q mod 16. Takes no memory.
+    pub fn words(&self) -> &[u32]
+        ensures rows { rows_of self.now.r (div_ceil self.now.n self.now.k) result.now ≡ self.now.rows }
+        ensures len { length result.now ≡ 32 * self.now.r * div_ceil self.now.n self.now.k }
+    {
+        &self.words
+    }
+}
+
+// Room for the kept rows, asked for at once.
+pub(crate) fn room_for_rows(
+    alloc: Global,
+    r: usize,
+    n_log2: u8,
+    k: u64,
+) -> Result<Vec<u32>, KdfError>
+    requires small { 32 * r < 2 ^ 64 }
+    requires cost { n_log2 < 64 }
+    requires kept { 1 ≤ k }
+    ensures room { IfOk result (λ v. 32 * r * div_ceil (2 ^ n_log2) k ≤ vec_capacity v) }
+    ensures fault { IfErr result (λ e. e ≡ KdfError.OutOfMemory) }
+{
+    let Some(len) = (32 * r).checked_mul(kept_count(n_log2, k)) else {
+        return Err(KdfError::OutOfMemory);
+    };
+    Ok(Vec::with_capacity(alloc, len)?)
+}
+
+// A buffer of so many words.
+pub(crate) fn zeros(alloc: Global, len: usize) -> Result<Vec<u32>, AllocError>
+    ensures { IfOk result (λ v. vec_len v ≡ len) }
+{
+    vec![in alloc; 0u32; len]
+}
+
+// Makes the kept rows of a block. What the rows and `work` held is not read.
+pub(crate) fn keep_rows(block: &[u8], n_log2: u8, k: u64, rows: &mut Vec<u32>, work: &mut [u32])
+    requires some { 0 < length block.now }
+    requires whole { length block.now % 128 ≡ 0 }
+    requires cost { n_log2 < 64 }
+    requires kept { 1 ≤ k }
+    requires room { 32 * (length block.now / 128) * div_ceil (2 ^ n_log2) k ≤ vec_capacity rows.old }
+    requires work_len { 2 * length block.now ≤ 4 * length work.old }
+    ensures len { vec_len rows.new ≡ 32 * (length block.now / 128) * div_ceil (2 ^ n_log2) k }
+    ensures rows { let r = length block.now / 128 in
+        rows_of r (div_ceil (2 ^ n_log2) k) rows.new.items ≡ kept_rows r (2 ^ n_log2) k block.now }
+    ensures room { vec_capacity rows.old ≤ vec_capacity rows.new }
+{
+    let len = block.len() / 4;
+    let (x, rest) = work.split_at_mut(len);
+    let (spare, _) = rest.split_at_mut(len);
+    load_part(block, x);
+    fill_rows(len / 32, kept_count(n_log2, k), k as usize, rows, x, spare);
+}
+
+// How many rows are kept.
+pub(crate) fn kept_count(n_log2: u8, k: u64) -> usize
+    requires cost { n_log2 < 64 }
+    requires kept { 1 ≤ k }
+    ensures { result ≡ div_ceil (2 ^ n_log2) k }
+{
+    row_count(n_log2).div_ceil(k as usize)
+}
+
+// N, which is how many rows there are.
+pub(crate) fn row_count(n_log2: u8) -> usize
+    requires { n_log2 < 64 }
+    ensures { result ≡ 2 ^ n_log2 }
+{
+    1usize << n_log2
+}
+
+// Makes so many kept rows: x, and each further one by mixing the one before it k times. What the rows and
+// `work` held is not read, and x is left with the last row.
+fn fill_rows(r: usize, count: usize, k: usize, rows: &mut Vec<u32>, x: &mut [u32], work: &mut [u32])
+    requires some { 1 ≤ r }
+    requires count { 1 ≤ count }
+    requires kept { 1 ≤ k }
+    requires room { 32 * r * count ≤ vec_capacity rows.old }
+    requires x_len { length x.old ≡ 32 * r }
+    requires work_len { length work.old ≡ 32 * r }
+    ensures len { vec_len rows.new ≡ 32 * r * count }
+    ensures rows { (i : ℕ) → i < count → diagonal_bytes (block (32 * r) rows.new.items i) ≡ row_at r (diagonal_bytes x.old) (k * i) }
+    ensures room { vec_capacity rows.old ≤ vec_capacity rows.new }
+{
+    let len = 32 * r;
+    rows.clear();
+    push_row(rows, x);
+    'rows: for i in 1..count {
+        mix_times(r, k, &rows[len * (i - 1)..], x, work);
+        push_row(rows, x);
+    }
+}
+
+// Appends a row for which there is room.
+#[inline(always)]
+fn push_row(rows: &mut Vec<u32>, row: &[u32])
+    requires { vec_len rows.old + length row.now ≤ vec_capacity rows.old }
+    ensures items { rows.new.items ≡ rows.old.items ++ row.now }
+    ensures len { vec_len rows.new ≡ vec_len rows.old + length row.now }
+    ensures room { vec_capacity rows.old ≤ vec_capacity rows.new }
+{
+    let _ = rows.extend_from_slice(row);
+}
