@@ -1,10 +1,12 @@
 -- The second pass over marked data, as a caller of the whole sees it.
-use Rattle.std.proofs.Common.{◌≡◌, ℕ, List, ◌≢◌, Option, None, Some, IfSome, ◌⊎◌, inl, inr, ⊎_elim, sym, subst, ◌∙◌}
+use Rattle.std.proofs.Common.{◌≡◌, ℕ, Bool, List, ◌≢◌, Option, None, Some, IfSome, ◌⊎◌, inl, inr, ⊎_elim, sym, subst, ◌∙◌}
 use Rattle.minisign_hash.specs.Blake2b.{blake2b_digest}
 use Rattle.minisign_base.specs.Devices.{Rose}
 use Rattle.minisign_base.specs.Fault.{Fault}
 use Rattle.minisign.specs.Reading.{IsAhead, IsReturned, IsReadFault}
-use Rattle.minisign.specs.Verifying.{SecondPass, CopyingFails}
+use Rattle.minisign.specs.Records.{PublicKeyRecord, SignatureBoxRecord}
+use Rattle.minisign.specs.Acceptance.{Verifier}
+use Rattle.minisign.specs.Verifying.{SecondPass, CopyingFails, FirstPass, IsNotSaid, SayingFails}
 
 -- what is ahead after going back to where this was ahead
 what_was_marked : (first behind returned : Option (List ℕ)) (second : List ℕ) → behind ≡ first → IfSome behind (λ xs. returned ≡ Some xs) → IsAhead returned second
@@ -43,3 +45,16 @@ copying_fails Pass Seen faults old mid new taken out_faults out_old out_new dige
           copied))
           ended,
     ))
+
+-- after a first pass no verdict was said of the digest that it gave
+pub saying_fails : {R W O : Type 0} (accepts : Verifier) (pk : PublicKeyRecord) (x : SignatureBoxRecord) (legacy quiet again : Bool)
+    (steady : R → Type 0) (ahead behind : R → Option (List ℕ)) (faults : R → ℕ) (old mid new : R)
+    (status_faults : W → ℕ) (status_old status_new : W) (out_old out_new : O) (message digest : List ℕ) (e : Fault)
+    → FirstPass again steady ahead behind faults old mid message → digest ≡ blake2b_digest 64 message
+    → IsNotSaid accepts pk x legacy quiet digest mid new status_faults status_old status_new out_old out_new e
+    → SayingFails accepts pk x legacy quiet faults old new status_faults status_old status_new (FirstPass again steady ahead behind faults old new) e
+saying_fails accepts pk x legacy quiet again steady ahead behind faults old mid new status_faults status_old status_new out_old out_new message digest e pass same unsaid =
+    ⊎_elim
+    (λ memory. inl (record { failed = inl memory.0; unsaid = memory.1 }))
+    (λ why. inr (message, subst (λ now. FirstPass again steady ahead behind faults old now message) (sym unsaid.unread) pass, why message same))
+    unsaid.why

@@ -4,7 +4,7 @@ use Rattle.std.specs.Io.KnownBytes.{Appends, IsAtEnd}
 use Rattle.minisign_hash.specs.Blake2b.{blake2b_digest}
 use Rattle.minisign_base.specs.Devices.{Rose, StaysOrHides, AppendsFront}
 use Rattle.minisign_base.specs.Fault.{Fault}
-use Rattle.minisign_base.specs.Faults.{writing_failed, going_back_failed, data_changed}
+use Rattle.minisign_base.specs.Faults.{out_of_memory, writing_failed, going_back_failed, data_changed}
 use Rattle.minisign.specs.Records.{PublicKeyRecord, SignatureBoxRecord, is_prehashed}
 use Rattle.minisign.specs.Acceptance.{Verifier, Vouches, Refuses, judged, status_lines}
 use Rattle.minisign.specs.Reading.{IsAhead, ReadsWhole, IsReadFault}
@@ -88,6 +88,16 @@ SayingFails accepts pk x legacy quiet faults old new status_faults status_old st
     ⊎ ((message : List ℕ) × Read message
     × (TurnsDown accepts pk x message legacy status_old status_new e
     ⊎ StatusFails accepts pk x message legacy quiet status_faults status_old status_new e))
+
+-- no verdict was said of a digest: memory was wanting, or the box is turned down or the status fails for
+-- each message that has this digest; nothing was read or copied meanwhile
+pub record IsNotSaid {R W O : Type 0} (accepts : Verifier) (pk : PublicKeyRecord) (x : SignatureBoxRecord) (legacy quiet : Bool) (digest : List ℕ)
+    (old new : R) (status_faults : W → ℕ) (status_old status_new : W) (out_old out_new : O) (e : Fault) : Type 0 where
+  pub unread : new ≡ old
+  pub uncopied : out_new ≡ out_old
+  pub why : ((e ≡ out_of_memory) × (status_new ≡ status_old))
+      ⊎ ((message : List ℕ) → digest ≡ blake2b_digest 64 message → TurnsDown accepts pk x message legacy status_old status_new e
+      ⊎ StatusFails accepts pk x message legacy quiet status_faults status_old status_new e)
 
 -- the output failed: its count of faults rose
 pub record OutputFails {O : Type 0} (faults : O → ℕ) (out_old out_new : O) (e : Fault) : Type 0 where
