@@ -1,7 +1,7 @@
 -- The second pass over marked data, as a caller of the whole sees it.
 use Rattle.std.proofs.Common.{◌≡◌, ℕ, Bool, List, ◌≢◌, Option, None, Some, IfSome, ◌⊎◌, inl, inr, ⊎_elim, sym, subst, ◌∙◌}
 use Rattle.minisign_hash.specs.Blake2b.{blake2b_digest}
-use Rattle.minisign_base.specs.Devices.{Rose}
+use Rattle.minisign_base.specs.Devices.{Rose, HasGiven}
 use Rattle.minisign_base.specs.Fault.{Fault}
 use Rattle.minisign.specs.Reading.{IsAhead, IsReturned, IsReadFault}
 use Rattle.minisign.specs.Records.{PublicKeyRecord, SignatureBoxRecord}
@@ -16,13 +16,22 @@ what_was_marked (Some xs) behind returned second marked same given =
     let back : returned ≡ Some xs = subst (λ known. IfSome known (λ ys. returned ≡ Some ys)) marked same in
     sym (subst (λ known. IsAhead known second) back given)
 
+-- what was given since is of what was ahead at first
+given_again : (first behind returned now : Option (List ℕ)) → behind ≡ first → IfSome behind (λ xs. returned ≡ Some xs) → HasGiven returned now → HasGiven first now
+given_again None behind returned None marked same given = tt
+given_again None behind returned (Some ys) marked same given = tt
+given_again (Some xs) behind returned now marked same given =
+    let back : returned ≡ Some xs = subst (λ known. IfSome known (λ ys. returned ≡ Some ys)) marked same in
+    subst (λ known. HasGiven known now) back given
+
 -- a source that was marked at first, and gone back to
-pub second_pass : {R : Type 0} (steady : R → Type 0) (ahead behind : R → Option (List ℕ)) (old mid : R) → (steady old → behind mid ≡ ahead old)
-    → (second : List ℕ) → IsReturned ahead behind mid second → SecondPass steady ahead old second
-second_pass steady ahead behind old mid marked second pass = record {
+pub second_pass : {R : Type 0} (steady : R → Type 0) (ahead behind : R → Option (List ℕ)) (old mid new : R) → (steady old → behind mid ≡ ahead old)
+    → (second : List ℕ) → IsReturned ahead behind mid new second → SecondPass steady ahead old new second
+second_pass steady ahead behind old mid new marked second pass = record {
   returned = pass.returned;
   given = pass.given;
   same = λ held. what_was_marked (ahead old) (behind mid) (ahead pass.returned) second (marked held) pass.same pass.given;
+  left = λ held. given_again (ahead old) (behind mid) (ahead pass.returned) (ahead new) (marked held) pass.same pass.left;
 }
 
 -- a read fault, counted from an earlier time

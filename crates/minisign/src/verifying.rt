@@ -208,7 +208,7 @@ fn say_and_copy<S: Scheme, R: Rereader, W: Sink, O: Sink>(
     requires { is_prehashed signature_box.now.signature ≡ true }
     ensures accepted { OnOk result ((message : List ℕ) → digest.now ≡ blake2b_digest 64 message →
         Vouches (S.accepts scheme.now) pk.now signature_box.now message allow_legacy) }
-    ensures copied { OnOk result ((second : List ℕ) × IsReturned R.ahead R.behind data_reader.old second
+    ensures copied { OnOk result ((second : List ℕ) × IsReturned R.ahead R.behind data_reader.old data_reader.new second
         × Appends (O.taken out.old) (O.taken out.new) second × (blake2b_digest 64 second ≡ digest.now)) }
     ensures end { OnOk result (IsAtEnd (R.ahead data_reader.new)) }
     ensures calm { OnOk result (R.faults data_reader.new ≡ R.faults data_reader.old) }
@@ -221,7 +221,7 @@ fn say_and_copy<S: Scheme, R: Rereader, W: Sink, O: Sink>(
         W.sink_faults status.old status.new out.old out.new e
         ⊎ (((message : List ℕ) → digest.now ≡ blake2b_digest 64 message → Vouches (S.accepts scheme.now) pk.now signature_box.now message allow_legacy)
         × Appends (W.taken status.old) (W.taken status.new) (said quiet signature_box.now)
-        × CopyingFails (IsReturned R.ahead R.behind data_reader.old) R.faults data_reader.old data_reader.new
+        × CopyingFails (IsReturned R.ahead R.behind data_reader.old data_reader.new) R.faults data_reader.old data_reader.new
         O.taken O.sink_faults out.old out.new digest.now e)) }
     ensures said_front { OnErr result (AppendsFront (W.taken status.old) (W.taken status.new) (said quiet signature_box.now)) }
 {

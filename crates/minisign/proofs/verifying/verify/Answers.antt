@@ -1,6 +1,7 @@
 use Rattle.std.proofs.Common.{◌≡◌, inl, inr, ⊎_elim, true, ◌∙◌, refl, sym, subst, arith}
 use Rattle.std.proofs.lemmas.Bool.{true≢false}
 use Rattle.std.proofs.lemmas.Result.{IfErr-weaker}
+use Rattle.minisign_base.specs.Devices.{HasGiven}
 use Rattle.minisign.specs.Records.{is_prehashed}
 use Rattle.minisign.specs.Verifying.{FirstPass, SayingFails, rereads}
 use Rattle.minisign.proofs.Beginnings.{on_err_of}
@@ -21,6 +22,7 @@ returns-clause-refused g c =
     IfErr-weaker c.say_and_copy.result _ _ (λ e. ⊎_elim
     (λ unsaid. inl (
       unsaid.uncopied,
+      subst (λ now. HasGiven (g.R.Source.ahead c.args.data_reader.now) (g.R.Source.ahead now)) (sym unsaid.unread) c.prehash_marked.ensures.given,
       inr (subst (λ b. SayingFails (g.S.Scheme.accepts c.args.scheme.now) c.args.pk.now c.args.signature_box.now c.args.allow_legacy c.args.quiet g.R.Source.faults c.args.data_reader.now c.say_and_copy.new.data_reader
           g.W.Sink.sink_faults c.args.status.now c.say_and_copy.new.status (FirstPass b g.R.Rereader.steady g.R.Source.ahead g.R.Source.behind g.R.Source.faults c.args.data_reader.now c.say_and_copy.new.data_reader) e) (sym again)
           (saying_fails _ _ _ _ _ true g.R.Rereader.steady g.R.Source.ahead g.R.Source.behind g.R.Source.faults _ _ _ _ _ _ _ _ message _ e pass digest unsaid)),
@@ -32,7 +34,8 @@ returns-clause-refused g c =
       wanted = wanted;
       said_all = told;
       kept = λ kept. absurd (true≢false (sym prehashed ∙ kept));
+      kept_end = λ kept. absurd (true≢false (sym prehashed ∙ kept));
       again = λ _. copying_fails _ _ (g.R.Source.faults) _ c.prehash_marked.new.data_reader _ _ _ _ _ _ _ e
-          (second_pass g.R.Rereader.steady g.R.Source.ahead g.R.Source.behind _ c.prehash_marked.new.data_reader (pass.marked refl))
+          (second_pass g.R.Rereader.steady g.R.Source.ahead g.R.Source.behind _ c.prehash_marked.new.data_reader c.say_and_copy.new.data_reader (pass.marked refl))
           pass.calm digest failed;
     }))) c.say_and_copy.ensures.refused
