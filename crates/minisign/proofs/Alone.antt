@@ -27,7 +27,7 @@ pub no_copy_fails : {R W O : Type 0} (accepts : Verifier) (pk : PublicKeyRecord)
     → VerifyingFails accepts pk x legacy quiet false steady ahead behind faults old new status_taken status_faults status_old status_new taken out_faults out_old out_new e
     → SayingFails accepts pk x legacy quiet faults old new status_faults status_old status_new (ReadsWhole ahead behind faults old new) e
 no_copy_fails accepts pk x legacy quiet steady ahead behind faults old new status_taken status_faults status_old status_new taken out_faults out_old out_new e = ⊎_elim
-    (λ (uncopied, cases). ⊎_elim
+    (λ (uncopied, given, cases). ⊎_elim
     (λ mark. absurd (true≢false (sym mark.wanted)))
     (λ saying. ⊎_elim inl (λ (message, read, told). inr (message, one_pass steady ahead behind faults old new message read, told)) saying)
     cases)

@@ -14,3 +14,9 @@ given_behind old mid None a all given = tt
 given_behind None mid (Some ys) a all given = tt
 given_behind (Some xs) None (Some ys) a all given = absurd all
 given_behind (Some xs) (Some ms) (Some ys) a all (front, more) = (a ++ front, all ∙ ap (λ (l : List ℕ). a ++ l) more ∙ sym (append_assoc a front ys))
+
+-- what was given was at the front
+pub consumed : (old now : Option (List ℕ)) (a : List ℕ) → Consumes old now a → HasGiven old now
+consumed old None a all = tt
+consumed None (Some ys) a all = tt
+consumed (Some xs) (Some ys) a all = (a, all)

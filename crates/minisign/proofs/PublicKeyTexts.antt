@@ -73,7 +73,7 @@ encodes_key text base64 long = record {
   reads = key_in_front (base64_bytes text) (leb-true 42 _ long);
 }
 
-tested : (holds : Bool) (others : Option Fault) (e : Fault) → cond holds others (Some e) ≡ None → (holds ≡ true) × (others ≡ None)
+pub tested : (holds : Bool) (others : Option Fault) (e : Fault) → cond holds others (Some e) ≡ None → (holds ≡ true) × (others ≡ None)
 tested true others e h = (refl, h)
 tested false others e h = cc h
 

@@ -1,15 +1,17 @@
 -- What the two lines of a text say of the secret key that it reads as.
-use Rattle.std.proofs.Common.{◌≡◌, ℕ, ◌<◌, ◌≤◌, ◌⊎◌, true, false, List, ◌∷◌, length, nat_le, Result, Ok, Err, MatchResult, IfOk, refl, ap, ◌∙◌, inr, arith}
-use Rattle.std.proofs.lemmas.Bool.{lt-ltb, lt-leb}
-use Rattle.std.proofs.lemmas.List.{length-append}
+use Rattle.std.proofs.Common.{◌≡◌, ℕ, ◌+◌, ◌-◌, ◌<◌, ◌≤◌, ◌⊎◌, true, false, List, [], ◌∷◌, ◌++◌, length, take, drop, nat_le, Result, Ok, Err, MatchResult, IfOk, refl, sym, ap, ◌∙◌, inr, arith}
+use Rattle.std.specs.declared.option.Option.TheVariants.{None}
+use Rattle.std.proofs.lemmas.Bool.{lt-ltb, lt-leb, le-leb, leb-true}
+use Rattle.std.proofs.lemmas.List.{length-append, length-take-le, length-drop, take-append-drop}
 use Rattle.std.specs.Str.Lines.{lines}
 use Rattle.minisign_base.specs.Fault.{Fault}
 use Rattle.minisign_base.specs.Faults.{out_of_memory, secret_key_not_base64, record_too_short}
 use Rattle.minisign.specs.Records.{SecretKeyRecord, ReadsSecretKey}
 use Rattle.minisign.specs.SecretKeyText.{SecretKeyText, secret_key_fault}
-use Rattle.minisign.specs.Texts.{IsBase64Of, IsRefused, base64_bytes, has_line, is_base64, line_at}
-use Rattle.minisign.proofs.Base64Texts.{bytes_read, is_read, one_decoding}
-use Rattle.minisign.proofs.RecordFields.{one_secret_key}
+use Rattle.minisign.specs.Texts.{IsBase64Of, IsDecided, IsRefused, base64_bytes, has_line, is_base64, line_at}
+use Rattle.minisign.proofs.Base64Texts.{bytes_read, is_read, one_decoding, reads}
+use Rattle.minisign.proofs.PublicKeyTexts.{tested}
+use Rattle.minisign.proofs.RecordFields.{joined_fields, one_secret_key}
 
 -- a stored secret key has 158 bytes
 stored_length : (bytes : List ℕ) (k : SecretKeyRecord) → ReadsSecretKey bytes k → 158 ≤ length bytes
@@ -75,3 +77,100 @@ pub only_key : (text : List ℕ) (r : Result SecretKeyRecord Fault) (Q : Fault �
     → IfOk r (λ k. (other : SecretKeyRecord) → SecretKeyText text other → other ≡ k)
 only_key text (Ok k) Q read = λ other again. one_key_text text k other read again
 only_key text (Err e) Q refused = tt
+
+-- three fields at the front of bytes
+three_fields : (bytes : List ℕ) (a b c : ℕ) → bytes ≡ take a bytes ++ take b (drop a bytes) ++ take c (drop b (drop a bytes)) ++ drop c (drop b (drop a bytes))
+three_fields bytes a b c =
+    joined_fields bytes _ _ _ _ _ _ (sym (take-append-drop a bytes)) (sym (take-append-drop b (drop a bytes))) (sym (take-append-drop c (drop b (drop a bytes))))
+
+-- the bytes behind three fields
+behind : ℕ → ℕ → ℕ → List ℕ → List ℕ
+behind a b c bytes = drop c (drop b (drop a bytes))
+
+-- the key at the front of bytes
+key_in : List ℕ → SecretKeyRecord
+key_in bytes =
+    let limits = behind 2 2 2 bytes in
+    let sealed = behind 32 8 8 limits in
+    record {
+      algorithm = take 2 bytes;
+      kdf = take 2 (drop 2 bytes);
+      checksum_algorithm = take 2 (drop 2 (drop 2 bytes));
+      salt = take 32 limits;
+      operations_limit = take 8 (drop 32 limits);
+      memory_limit = take 8 (drop 8 (drop 32 limits));
+      keynum = take 8 sealed;
+      secret = take 64 (drop 8 sealed);
+      checksum = take 32 (drop 64 (drop 8 sealed));
+    }
+
+-- the lengths of three fields at the front of bytes that have them
+field_lengths : (bytes : List ℕ) (a b c : ℕ) → a + b + c ≤ length bytes
+    → (length (take a bytes) ≡ a) × (length (take b (drop a bytes)) ≡ b) × (length (take c (drop b (drop a bytes))) ≡ c)
+field_lengths bytes a b c long = (
+  length-take-le a bytes (omega arith),
+  length-take-le b (drop a bytes) (omega (arith, length-drop a bytes)),
+  length-take-le c (drop b (drop a bytes)) (omega (arith, length-drop a bytes, length-drop b (drop a bytes))),
+)
+
+length-behind : (bytes : List ℕ) (a b c : ℕ) → length (behind a b c bytes) ≡ length bytes - (a + b + c)
+unfolding behind
+length-behind bytes a b c = omega (arith, length-drop a bytes, length-drop b (drop a bytes), length-drop c (drop b (drop a bytes)))
+
+-- bytes that are many enough begin with a key
+key_in_front : (bytes : List ℕ) → 158 ≤ length bytes → ReadsSecretKey bytes (key_in bytes)
+unfolding key_in behind
+key_in_front bytes long =
+    let limits : List ℕ = behind 2 2 2 bytes in
+    let sealed : List ℕ = behind 32 8 8 limits in
+    let many_limits : 152 ≤ length limits = omega (arith, length-behind bytes 2 2 2) in
+    let many_sealed : 104 ≤ length sealed = omega (arith, length-behind limits 32 8 8) in
+    let first = field_lengths bytes 2 2 2 (omega arith) in
+    let second = field_lengths limits 32 8 8 (omega arith) in
+    let third = field_lengths sealed 8 64 32 (omega arith) in
+    record {
+      algorithm_length = first.0;
+      kdf_length = first.1;
+      checksum_algorithm_length = first.2;
+      salt_length = second.0;
+      operations_limit_length = second.1;
+      memory_limit_length = second.2;
+      keynum_length = third.0;
+      secret_length = third.1;
+      checksum_length = third.2;
+      front = (behind 8 64 32 sealed, joined_fields bytes _ _ _ limits sealed _ (three_fields bytes 2 2 2) (three_fields limits 32 8 8) (three_fields sealed 8 64 32));
+    }
+
+-- no case fails where a key is read
+no_fault : (text : List ℕ) (ls : List (List ℕ)) (k : SecretKeyRecord) → lines text ≡ ls → SecretKeyText text k → secret_key_fault text ≡ None
+no_fault text [] k e h = let no = rw e at h.second_line in cc no
+no_fault text (a ∷ []) k e h = let no = rw e at h.second_line in cc no
+no_fault text (a ∷ b ∷ later) k e h =
+    let second = second_line text a b later e in
+    let base64 : is_base64 (line_at 1 text) ≡ true = is_read (line_at 1 text) h.bytes h.encoded in
+    let decoded : base64_bytes (line_at 1 text) ≡ h.bytes = bytes_read (line_at 1 text) h.bytes h.encoded in
+    let long : nat_le 158 (length h.bytes) ≡ true = le-leb 158 (length h.bytes) (stored_length h.bytes k h.stored) in
+    rw (second.some, second.more, base64, decoded, long) refl
+
+read_where_none_fails : (text : List ℕ) (ls : List (List ℕ)) → lines text ≡ ls → secret_key_fault text ≡ None → (k : SecretKeyRecord) × SecretKeyText text k
+read_where_none_fails text [] e h = let no = rw e at h in cc no
+read_where_none_fails text (a ∷ []) e h = let no = rw e at h in cc no
+read_where_none_fails text (a ∷ b ∷ later) e h =
+    let second = second_line text a b later e in
+    let base64_test = tested _ _ _ (rw (second.some, second.more) at h) in
+    let record_test = tested _ _ _ base64_test.1 in (
+      key_in (base64_bytes (line_at 1 text)),
+      record {
+        bytes = base64_bytes (line_at 1 text);
+        second_line = second.more;
+        encoded = reads (line_at 1 text) base64_test.0;
+        stored = key_in_front (base64_bytes (line_at 1 text)) (leb-true 158 _ record_test.0);
+      },
+    )
+
+-- no case fails exactly where a text reads as a key, and it reads as one at most
+pub decided : (text : List ℕ) → IsDecided (SecretKeyText text) (secret_key_fault text)
+decided text = record {
+  none_fails = (read_where_none_fails text (lines text) refl, λ read. no_fault text (lines text) read.0 refl read.1);
+  one_value = λ k l read again. one_key_text text l k again read;
+}

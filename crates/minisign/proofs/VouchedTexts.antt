@@ -78,7 +78,7 @@ module _ {R W O : Type 0} (accepts : Verifier) (pk sig : List ℕ) (legacy quiet
     unsaid e memory (inr (m, pass, inr failed)) = absurd (status_calm failed.rose)
 
     uncopied : (e : Fault) (m : List ℕ) → e ≢ out_of_memory → output ≡ true → IsAhead (ahead old) m
-        → CopyingFails (SecondPass steady ahead old) faults old new taken out_faults out_old out_new (blake2b_digest 64 m) e → ⊥
+        → CopyingFails (SecondPass steady ahead old new) faults old new taken out_faults out_old out_new (blake2b_digest 64 m) e → ⊥
     uncopied e m memory wanted given (inl failed) = calm failed.rose
     uncopied e m memory wanted given (inr (second, pass, inl broken)) = elim broken.failed [
       | inl fault ↦ no_read_fault e memory fault
@@ -97,8 +97,8 @@ module _ {R W O : Type 0} (accepts : Verifier) (pk sig : List ℕ) (legacy quiet
     fails : (e : Fault) → e ≢ out_of_memory
         → VerifyingFails accepts key box legacy quiet output steady ahead behind faults old new status_taken status_faults status_old status_new taken out_faults out_old out_new e
         → IsTurnedDown accepts pk sig message legacy e
-    fails e memory (inl (same, inl mark)) = absurd (calm mark.rose)
-    fails e memory (inl (same, inr saying)) = unsaid e memory saying
+    fails e memory (inl (same, given, inl mark)) = absurd (calm mark.rose)
+    fails e memory (inl (same, given, inr saying)) = unsaid e memory saying
     fails e memory (inr h) = absurd (refused_output e (is_prehashed box.signature) refl memory h)
 
     -- the verdict where both texts are read

@@ -1,7 +1,7 @@
 -- What comes of reading to the end.
 use Rattle.std.specs.Prelude.{◌≡◌, ℕ, ◌⊎◌, List, Option, Some, IfSome}
 use Rattle.std.specs.Io.KnownBytes.{IsAtEnd}
-use Rattle.minisign_base.specs.Devices.{Rose}
+use Rattle.minisign_base.specs.Devices.{Rose, HasGiven}
 use Rattle.minisign_base.specs.Fault.{Fault}
 use Rattle.minisign_base.specs.Faults.{out_of_memory, reading_failed}
 
@@ -25,8 +25,10 @@ pub record ReadingFails {R : Type 0} (faults : R → ℕ) (old new : R) (e : Fau
 abbrev pub IsReadFault : {R : Type 0} → (R → ℕ) → R → R → Fault → Type 0
 IsReadFault faults old new e = (e ≡ out_of_memory) ⊎ ReadingFails faults old new e
 
--- the mark was gone back to, and this was ahead then: what the mark promised, where that is known
-pub record IsReturned {R : Type 0} (ahead behind : R → Option (List ℕ)) (old : R) (second : List ℕ) : Type 0 where
+-- the mark was gone back to, and this was ahead then: what the mark promised, where that is known; some bytes
+-- at its front were given since
+pub record IsReturned {R : Type 0} (ahead behind : R → Option (List ℕ)) (old new : R) (second : List ℕ) : Type 0 where
   pub returned : R
   pub given : IsAhead (ahead returned) second
   pub same : IfSome (behind old) (λ xs. ahead returned ≡ Some xs)
+  pub left : HasGiven (ahead returned) (ahead new)

@@ -2,9 +2,9 @@
 use Rattle.std.specs.Prelude.{◌≡◌, ◌≢◌, ℕ, Bool, true, false, if◌then◌else◌, ◌⊎◌, ◌&&◌, List, [], Option, IfSome, IsSome}
 use Rattle.std.specs.Io.KnownBytes.{Appends, IsAtEnd}
 use Rattle.minisign_hash.specs.Blake2b.{blake2b_digest}
-use Rattle.minisign_base.specs.Devices.{Rose, StaysOrHides, AppendsFront}
+use Rattle.minisign_base.specs.Devices.{Rose, StaysOrHides, HasGiven, AppendsFront}
 use Rattle.minisign_base.specs.Fault.{Fault}
-use Rattle.minisign_base.specs.Faults.{writing_failed, going_back_failed, data_changed}
+use Rattle.minisign_base.specs.Faults.{out_of_memory, writing_failed, going_back_failed, data_changed}
 use Rattle.minisign.specs.Records.{PublicKeyRecord, SignatureBoxRecord, is_prehashed}
 use Rattle.minisign.specs.Acceptance.{Verifier, Vouches, Refuses, judged, status_lines}
 use Rattle.minisign.specs.Reading.{IsAhead, ReadsWhole, IsReadFault}
@@ -29,11 +29,13 @@ pub record FirstPass {R : Type 0} (again : Bool) (steady : R → Type 0) (ahead 
   pub mark : again ≡ false → behind new ≡ behind old
   pub marked : again ≡ true → steady old → behind new ≡ ahead old
 
--- the place was gone back to, and this was ahead then: over a steady source what was ahead at first
-pub record SecondPass {R : Type 0} (steady : R → Type 0) (ahead : R → Option (List ℕ)) (old : R) (second : List ℕ) : Type 0 where
+-- the place was gone back to, and this was ahead then: over a steady source what was ahead at first, of which
+-- some bytes at the front were given since
+pub record SecondPass {R : Type 0} (steady : R → Type 0) (ahead : R → Option (List ℕ)) (old new : R) (second : List ℕ) : Type 0 where
   pub returned : R
   pub given : IsAhead (ahead returned) second
   pub same : steady old → IfSome (ahead old) (λ xs. second ≡ xs)
+  pub left : steady old → HasGiven (ahead old) (ahead new)
 
 -- the output holds a copy of the message: what is judged of the two is the same, and they are the same over
 -- a steady source that tells its bytes, where the message itself is signed, and where no collision is met
@@ -89,6 +91,16 @@ SayingFails accepts pk x legacy quiet faults old new status_faults status_old st
     × (TurnsDown accepts pk x message legacy status_old status_new e
     ⊎ StatusFails accepts pk x message legacy quiet status_faults status_old status_new e))
 
+-- no verdict was said of a digest: memory was wanting, or the box is turned down or the status fails for
+-- each message that has this digest; nothing was read or copied meanwhile
+pub record IsNotSaid {R W O : Type 0} (accepts : Verifier) (pk : PublicKeyRecord) (x : SignatureBoxRecord) (legacy quiet : Bool) (digest : List ℕ)
+    (old new : R) (status_faults : W → ℕ) (status_old status_new : W) (out_old out_new : O) (e : Fault) : Type 0 where
+  pub unread : new ≡ old
+  pub uncopied : out_new ≡ out_old
+  pub why : ((e ≡ out_of_memory) × (status_new ≡ status_old))
+      ⊎ ((message : List ℕ) → digest ≡ blake2b_digest 64 message → TurnsDown accepts pk x message legacy status_old status_new e
+      ⊎ StatusFails accepts pk x message legacy quiet status_faults status_old status_new e)
+
 -- the output failed: its count of faults rose
 pub record OutputFails {O : Type 0} (faults : O → ℕ) (out_old out_new : O) (e : Fault) : Type 0 where
   pub fault : e ≡ writing_failed
@@ -143,16 +155,17 @@ pub record OutputRefused {R W O : Type 0} (accepts : Verifier) (pk : PublicKeyRe
   pub wanted : output ≡ true
   pub said_all : Appends (status_taken status_old) (status_taken status_new) (said quiet x)
   pub kept : is_prehashed x.signature ≡ false → KeptFails taken out_faults out_old out_new message e
-  pub again : is_prehashed x.signature ≡ true → CopyingFails (SecondPass steady ahead old) faults old new taken out_faults out_old out_new (blake2b_digest 64 message) e
+  pub kept_end : is_prehashed x.signature ≡ false → IsAtEnd (ahead new)
+  pub again : is_prehashed x.signature ≡ true → CopyingFails (SecondPass steady ahead old new) faults old new taken out_faults out_old out_new (blake2b_digest 64 message) e
 
--- verifying fails: nothing is copied where the place cannot be marked or no verdict is said, and else the
--- copying fails
+-- verifying fails: nothing is copied where the place cannot be marked or no verdict is said, and the source
+-- lost some bytes at its front at most; else the copying fails
 abbrev pub VerifyingFails : {R W O : Type 0} → Verifier → PublicKeyRecord → SignatureBoxRecord → Bool → Bool → Bool
     → (R → Type 0) → (R → Option (List ℕ)) → (R → Option (List ℕ)) → (R → ℕ) → R → R
     → (W → Option (List ℕ)) → (W → ℕ) → W → W → (O → Option (List ℕ)) → (O → ℕ) → O → O → Fault → Type 0
 VerifyingFails accepts pk x legacy quiet output steady ahead behind faults old new
     status_taken status_faults status_old status_new taken out_faults out_old out_new e =
-    ((out_new ≡ out_old)
+    ((out_new ≡ out_old) × HasGiven (ahead old) (ahead new)
     × (MarkFails (rereads output x) ahead faults old new status_old status_new e
     ⊎ SayingFails accepts pk x legacy quiet faults old new status_faults status_old status_new
     (FirstPass (rereads output x) steady ahead behind faults old new) e))

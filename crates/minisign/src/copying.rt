@@ -34,12 +34,12 @@ pub(crate) fn copy_again<R: Rereader, O: Sink>(
     data_reader: &mut R,
     out: &mut O,
 ) -> Result<()>
-    ensures copied { OnOk result ((second : List ℕ) × IsReturned R.ahead R.behind data_reader.old second
+    ensures copied { OnOk result ((second : List ℕ) × IsReturned R.ahead R.behind data_reader.old data_reader.new second
         × Appends (O.taken out.old) (O.taken out.new) second × (blake2b_digest 64 second ≡ digest.now)) }
     ensures end { OnOk result (IsAtEnd (R.ahead data_reader.new)) }
     ensures calm { OnOk result (R.faults data_reader.new ≡ R.faults data_reader.old) }
     ensures out_calm { OnOk result (O.sink_faults out.new ≡ O.sink_faults out.old) }
-    ensures refused { IfErr result (CopyingFails (IsReturned R.ahead R.behind data_reader.old) R.faults data_reader.old data_reader.new
+    ensures refused { IfErr result (CopyingFails (IsReturned R.ahead R.behind data_reader.old data_reader.new) R.faults data_reader.old data_reader.new
         O.taken O.sink_faults out.old out.new digest.now) }
 {
     go_back(data_reader)?;
@@ -58,6 +58,7 @@ fn copy_hashed<S: Source, O: Sink>(alloc: Global, source: &mut S, out: &mut O) -
     ensures refused { IfErr result (λ e. IsReadFault S.faults source.old source.new e ⊎ OutputFails O.sink_faults out.old out.new e) }
     ensures front { OnErr result ((message : List ℕ) × IsAhead (S.ahead source.old) message
         × AppendsFront (O.taken out.old) (O.taken out.new) message) }
+    ensures given { HasGiven (S.ahead source.old) (S.ahead source.new) }
 {
     let mut buf = piece_buffer(alloc)?;
     let mut hasher = Blake2b::new(64);
@@ -84,6 +85,7 @@ fn copy_pieces<S: Source, O: Sink>(
     ensures refused { IfErr result (λ e. IsReadFault S.faults source.old source.new e ⊎ OutputFails O.sink_faults out.old out.new e) }
     ensures front { OnErr result ((message : List ℕ) × IsAhead (S.ahead source.old) message
         × AppendsFront (O.taken out.old) (O.taken out.new) message) }
+    ensures given { HasGiven (S.ahead source.old) (S.ahead source.new) }
 {
     'pieces: loop {
         match source.read(buf) {

@@ -3,7 +3,8 @@
 ghost use Rattle.std.specs.Prelude.{◌≡◌, ◌≤◌, ◌⊎◌, ℕ, List, ◌++◌, None, Some, Ok, string_bytes, MatchResult, IfOk, IfErr, OnOk, IfSome, IfNone};
 ghost use Rattle.minisign_base.specs.Faults.{out_of_memory, writing_failed, wrong_password};
 ghost use Rattle.minisign.specs.Records.{SecretKeyRecord};
-ghost use Rattle.minisign.specs.SecretKeyText.{SecretKeyText};
+ghost use Rattle.minisign.specs.SecretKeyText.{SecretKeyText, secret_key_fault};
+ghost use Rattle.minisign.specs.Texts.{IsDecided};
 ghost use Rattle.minisign.specs.Sealing.{Opens, OpensWithin, checksum_refusal, kdf_refusal, password_refusal, scrypt_kdf, unbounded_refusal, unencrypted_refusal, unsealed, work_refusal};
 ghost use Rattle.minisign.specs.Opening.{RefusesKey, IsOpened, RefusesOpening, IsUnencryptedText, RefusesUnencrypted, HasSaid, HasAskedAndSaid, HasAskedAndNotSaid, IsOpenedAsking, IsToldRefusal, RefusesAsking, asking_text, deriving_text, done_text};
 ghost use Rattle.minisign_base.specs.Prompts.{HasAsked, IsAskingFault, HasNotSaid};
@@ -197,6 +198,9 @@ impl SecretKey {
     pub fn from_unencrypted_box(alloc: Global, sk_box: SecretKeyBox) -> Result<SecretKey>
         ensures outcome { MatchResult result (IsUnencryptedText sk_box) (λ e. (e ≡ out_of_memory) ⊎ RefusesUnencrypted sk_box e) }
         ensures one_reading { IfOk result (λ v. (other : SecretKeyRecord) → SecretKeyText sk_box other → other ≡ v) }
+
+        // Whether a text reads as a key, sealed or not, and as which.
+        ensures decided { IsDecided (SecretKeyText sk_box) (secret_key_fault sk_box) }
     {
         SecretKey::unencrypted_from_text(alloc, sk_box.as_str())
     }

@@ -143,7 +143,7 @@ fn trusted_or_default(alloc: Global, comment: Option<&str>, moment: u64) -> Resu
     ensures refused { IfErr result (λ e. e ≡ out_of_memory) }
 {
     match comment {
-        Some(comment) => Ok(String::from_str(alloc, comment)?),
+        Some(trusted) => Ok(String::from_str(alloc, trusted)?),
         None => Ok(format!(in alloc; "timestamp:{moment}")?),
     }
 }
@@ -155,7 +155,7 @@ fn untrusted_or_default(alloc: Global, comment: Option<&str>) -> Result<String>
     ensures refused { IfErr result (λ e. e ≡ out_of_memory) }
 {
     match comment {
-        Some(comment) => Ok(String::from_str(alloc, comment)?),
+        Some(untrusted) => Ok(String::from_str(alloc, untrusted)?),
         None => Ok(String::from_str(alloc, DEFAULT_COMMENT)?),
     }
 }

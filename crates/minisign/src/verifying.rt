@@ -1,14 +1,14 @@
 //! Whether a signature box vouches for data under a public key.
 
 ghost use Rattle.std.specs.Prelude.{◌≡◌, ℕ, List, true, false, ◌⊎◌, IfOk, IfErr, OnOk, OnErr};
-ghost use Rattle.std.specs.Io.KnownBytes.{Appends};
+ghost use Rattle.std.specs.Io.KnownBytes.{Appends, IsAtEnd};
 ghost use Rattle.minisign_hash.specs.Blake2b.{blake2b_digest};
 ghost use Rattle.minisign_base.specs.Devices.{Rose, StaysOrHides, HasGiven, AppendsFront};
 ghost use Rattle.minisign_base.specs.Faults.{out_of_memory, writing_failed, going_back_failed};
-ghost use Rattle.minisign.specs.Reading.{ReadsWhole};
+ghost use Rattle.minisign.specs.Reading.{IsReadFault, IsReturned, ReadsWhole};
 ghost use Rattle.minisign.specs.Records.{PublicKeyRecord, SignatureBoxRecord, is_prehashed};
 ghost use Rattle.minisign.specs.Acceptance.{Vouches, Refuses, SameWhereVouched, judged, first_refusal, status_lines};
-ghost use Rattle.minisign.specs.Verifying.{Delivers, TurnsDown, StatusFails, SayingFails, VerifyingFails, rereads, said};
+ghost use Rattle.minisign.specs.Verifying.{CopyingFails, Delivers, FirstPass, IsNotSaid, TurnsDown, StatusFails, SayingFails, VerifyingFails, rereads, said};
 
 use crate::comment_signature::accepts_comments;
 use crate::copying::{copy_again, put_out};
@@ -93,7 +93,7 @@ pub fn verify<S: Scheme, R: Rereader, W: Sink, O: Sink>(
         return Ok(());
     }
     if !output {
-        verify_hashed(
+        return verify_hashed(
             alloc,
             scheme,
             pk,
@@ -102,21 +102,21 @@ pub fn verify<S: Scheme, R: Rereader, W: Sink, O: Sink>(
             quiet,
             allow_legacy,
             status,
-        )?;
-        return Ok(());
+        );
     }
-    mark_place(data_reader)?;
-    let digest = verify_hashed(
+    let digest = prehash_marked(alloc, data_reader)?;
+    say_and_copy(
         alloc,
         scheme,
         pk,
         signature_box,
+        &digest,
         data_reader,
         quiet,
         allow_legacy,
         status,
-    )?;
-    copy_again(alloc, &digest, data_reader, out)
+        out,
+    )
 }
 
 // Keeps the data in memory, judges it and says so: answers the data.
@@ -156,7 +156,7 @@ fn verify_kept<S: Scheme, R: Source, W: Sink>(
     Ok(message)
 }
 
-// Hashes the data, judges the digest and says so: answers the digest.
+// Hashes the data, judges the digest and says so.
 fn verify_hashed<S: Scheme, R: Source, W: Sink>(
     alloc: Global,
     scheme: &S,
@@ -166,10 +166,10 @@ fn verify_hashed<S: Scheme, R: Source, W: Sink>(
     quiet: bool,
     allow_legacy: bool,
     status: &mut W,
-) -> Result<[u8; 64]>
+) -> Result<()>
     requires { is_prehashed signature_box.now.signature ≡ true }
-    ensures accepted { IfOk result (λ d. (message : List ℕ) × ReadsWhole R.ahead R.behind R.faults data_reader.old data_reader.new message
-        × Vouches (S.accepts scheme.now) pk.now signature_box.now message allow_legacy × (d ≡ blake2b_digest 64 message)) }
+    ensures accepted { OnOk result ((message : List ℕ) × ReadsWhole R.ahead R.behind R.faults data_reader.old data_reader.new message
+        × Vouches (S.accepts scheme.now) pk.now signature_box.now message allow_legacy) }
     ensures said { OnOk result (Appends (W.taken status.old) (W.taken status.new) (said quiet signature_box.now)) }
     ensures quiet { quiet ≡ true → status.new ≡ status.old }
     ensures status_calm { OnOk result (W.sink_faults status.new ≡ W.sink_faults status.old) }
@@ -189,8 +189,66 @@ fn verify_hashed<S: Scheme, R: Source, W: Sink>(
         quiet,
         allow_legacy,
         status,
+    )
+}
+
+// Judges the digest of marked data, says so, and copies the data again.
+fn say_and_copy<S: Scheme, R: Rereader, W: Sink, O: Sink>(
+    alloc: Global,
+    scheme: &S,
+    pk: &PublicKey,
+    signature_box: &SignatureBox,
+    digest: &[u8; 64],
+    data_reader: &mut R,
+    quiet: bool,
+    allow_legacy: bool,
+    status: &mut W,
+    out: &mut O,
+) -> Result<()>
+    requires { is_prehashed signature_box.now.signature ≡ true }
+    ensures accepted { OnOk result ((message : List ℕ) → digest.now ≡ blake2b_digest 64 message →
+        Vouches (S.accepts scheme.now) pk.now signature_box.now message allow_legacy) }
+    ensures copied { OnOk result ((second : List ℕ) × IsReturned R.ahead R.behind data_reader.old data_reader.new second
+        × Appends (O.taken out.old) (O.taken out.new) second × (blake2b_digest 64 second ≡ digest.now)) }
+    ensures end { OnOk result (IsAtEnd (R.ahead data_reader.new)) }
+    ensures calm { OnOk result (R.faults data_reader.new ≡ R.faults data_reader.old) }
+    ensures said { OnOk result (Appends (W.taken status.old) (W.taken status.new) (said quiet signature_box.now)) }
+    ensures quiet { quiet ≡ true → status.new ≡ status.old }
+    ensures status_calm { OnOk result (W.sink_faults status.new ≡ W.sink_faults status.old) }
+    ensures out_calm { OnOk result (O.sink_faults out.new ≡ O.sink_faults out.old) }
+    ensures refused { IfErr result (λ e.
+        IsNotSaid (S.accepts scheme.now) pk.now signature_box.now allow_legacy quiet digest.now data_reader.old data_reader.new
+        W.sink_faults status.old status.new out.old out.new e
+        ⊎ (((message : List ℕ) → digest.now ≡ blake2b_digest 64 message → Vouches (S.accepts scheme.now) pk.now signature_box.now message allow_legacy)
+        × Appends (W.taken status.old) (W.taken status.new) (said quiet signature_box.now)
+        × CopyingFails (IsReturned R.ahead R.behind data_reader.old data_reader.new) R.faults data_reader.old data_reader.new
+        O.taken O.sink_faults out.old out.new digest.now e)) }
+    ensures said_front { OnErr result (AppendsFront (W.taken status.old) (W.taken status.new) (said quiet signature_box.now)) }
+{
+    judge_and_say(
+        alloc,
+        scheme,
+        pk,
+        signature_box,
+        digest,
+        quiet,
+        allow_legacy,
+        status,
     )?;
-    Ok(digest)
+    copy_again(alloc, digest, data_reader, out)
+}
+
+// Remembers the place, and hashes the data from there on.
+fn prehash_marked<R: Rereader>(alloc: Global, data_reader: &mut R) -> Result<[u8; 64]>
+    ensures digest { IfOk result (λ d. (message : List ℕ)
+        × FirstPass true R.steady R.ahead R.behind R.faults data_reader.old data_reader.new message × (d ≡ blake2b_digest 64 message)) }
+    ensures refused { IfErr result (λ e. ((e ≡ going_back_failed) × Rose (R.faults data_reader.old) (R.faults data_reader.new)
+        × StaysOrHides (R.ahead data_reader.old) (R.ahead data_reader.new))
+        ⊎ IsReadFault R.faults data_reader.old data_reader.new e) }
+    ensures given { HasGiven (R.ahead data_reader.old) (R.ahead data_reader.new) }
+{
+    mark_place(data_reader)?;
+    prehash(alloc, data_reader)
 }
 
 // Remembers the place.

@@ -13,6 +13,8 @@ mod devices;
 mod devices_for_tests;
 pub mod example;
 #[cfg(test)]
+mod failing_devices;
+#[cfg(test)]
 mod faults;
 #[cfg(test)]
 mod generation;
@@ -28,6 +30,8 @@ mod limits;
 mod lines;
 #[cfg(test)]
 mod output;
+#[cfg(test)]
+mod pairs_in_use;
 #[cfg(test)]
 mod plain_scrypt;
 #[cfg(test)]
@@ -55,6 +59,8 @@ mod signature_texts;
 mod signing_texts;
 #[cfg(test)]
 mod table;
+#[cfg(test)]
+mod texts_vouching;
 #[cfg(test)]
 mod toy;
 #[cfg(test)]

@@ -18,7 +18,7 @@ pub const SEALED: &str =
     "c\nRWRTY0IyICEiIyQlJicoKSorLC0uLzAxMjM0NTY3ODk6Ozw9Pj8AAAAAAAAAAAAAEAAAAAAANzLJ/MLV6VpKMIMxcHP/PKMk4Bi0eFdmecBNpsg4ynwt/HpMxIwJcRDauwXAlysg905AtUdJ1s3zc9686k8nFa2Pz7MgLfQOna+YbhXPDg/sopzDAu0uhPc67LTI7waUd6Z1TNToWRQ=\n";
 
 // The same with the empty password.
-const SEALED_WITH_NOTHING: &str =
+pub const SEALED_WITH_NOTHING: &str =
     "c\nRWRTY0IyICEiIyQlJicoKSorLC0uLzAxMjM0NTY3ODk6Ozw9Pj8AAAAAAAAAAAAAEAAAAAAA1DkFeSFrLVKcwd/U0CI9mSavW9NxS4F4EQL92MDkC8uWs0JuRQz6LvKq8SxCaEzQ9atdFcGf+AzNzb5P/9sKQMB2AMmAjhrMMVLg/zh9xJgdEhLMHykwaQZcV4+yRqrbnzM9EwHWjT8=\n";
 
 // Sealed with `password`; both limits are 0, so that N is 2 and p is 512.

@@ -13,7 +13,7 @@ returns-clause-refused g c =
     let taken = all_kept (g.O.Sink.taken c.args.out.now) (g.O.Sink.taken c.copy_hashed.new.out) (g.O.Sink.taken c.flush.new.out) second all c.flush.ensures.bytes in
     IfErr-weaker c.flush.result _ _ (λ e failed. inr (
       second,
-      record { returned = c.go_back.new.data_reader; given = read.given; same = c.in_ok-go_back.ensures.returned },
+      record { returned = c.go_back.new.data_reader; given = read.given; same = c.in_ok-go_back.ensures.returned; left = c.copy_hashed.ensures.given },
       inr (inr (record {
         all = taken;
         unchanged = same;

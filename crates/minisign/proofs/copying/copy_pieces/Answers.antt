@@ -1,7 +1,7 @@
 use Rattle.std.proofs.Common.{◌∙◌, append_assoc}
 use Rattle.std.proofs.KnownBytes.{Appends-trans, Consumes-trans}
 use Rattle.minisign_base.proofs.DeviceFacts.{AppendsFront-after}
-use Rattle.minisign.proofs.Beginnings.{on_err_of}
+use Rattle.minisign.proofs.Beginnings.{consumed, on_err_of}
 use Rattle.minisign.proofs.Copies.{front_of_ahead, front_of_all, keeps_same}
 use Rattle.minisign.proofs.copying.copy_pieces.Goals as goal
 
@@ -28,6 +28,11 @@ returns-in_err-put_bytes-in-Ok-clause-front g c =
     on_err_of _ _ (front_of_ahead _ (g.S.Source.ahead c.read.new.self) _ _ _
     (Consumes-trans _ _ _ _ _ given c.in-Ok.ensures.bytes)
     (AppendsFront-after _ _ _ _ _ taken c.in_err-put_bytes-in-Ok.ensures.front))
+
+pub returns-in_err-put_bytes-in-Ok-clause-given : goal.returns-in_err-put_bytes-in-Ok-clause-given
+returns-in_err-put_bytes-in-Ok-clause-given g c =
+    let (done, given, taken, fed) = c.pieces.invariant.given in
+    consumed _ _ _ (Consumes-trans _ _ _ _ _ given c.in-Ok.ensures.bytes)
 
 pub returns-in-Err-clause-front : goal.returns-in-Err-clause-front
 returns-in-Err-clause-front g c =
