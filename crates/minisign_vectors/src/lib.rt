@@ -71,4 +71,6 @@ mod upstream_texts;
 #[cfg(test)]
 mod verify;
 #[cfg(test)]
+mod wanting_memory;
+#[cfg(test)]
 mod words;

@@ -22,7 +22,7 @@ pub const SEALED_WITH_NOTHING: &str =
     "c\nRWRTY0IyICEiIyQlJicoKSorLC0uLzAxMjM0NTY3ODk6Ozw9Pj8AAAAAAAAAAAAAEAAAAAAA1DkFeSFrLVKcwd/U0CI9mSavW9NxS4F4EQL92MDkC8uWs0JuRQz6LvKq8SxCaEzQ9atdFcGf+AzNzb5P/9sKQMB2AMmAjhrMMVLg/zh9xJgdEhLMHykwaQZcV4+yRqrbnzM9EwHWjT8=\n";
 
 // Sealed with `password`; both limits are 0, so that N is 2 and p is 512.
-const SEALED_IN_PARTS: &str =
+pub const SEALED_IN_PARTS: &str =
     "c\nRWRTY0IyICEiIyQlJicoKSorLC0uLzAxMjM0NTY3ODk6Ozw9Pj8AAAAAAAAAAAAAAAAAAAAAQo236SCgrBSG4EwXgeg2lvgLt21MOomOsd3SmNm6QYGWXNILSCOh5uSeLsb+9viBPrXdcGAxfzeaClvL8ZmVRPRQbHIQovhVE1FzIFNILJyiyJ1BBb38hRMEEUq9fsZI7QfCz7v4zr8=\n";
 
 // Sealed with `password`; the memory limit is 33554432 and the operations limit 1048576, so that N is
