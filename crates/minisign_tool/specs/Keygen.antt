@@ -1,15 +1,12 @@
--- What `keygen` makes, and what it says where it ends otherwise.
-use Rattle.std.specs.Prelude.{ℕ, ◌⊎◌, List, Option, None}
+-- What `keygen` makes.
+use Rattle.std.specs.Prelude.{ℕ, List, Option, None}
 use Rattle.minisign_base.specs.declared.prompt.Prompt.{Prompt}
-use Rattle.minisign_base.specs.Fault.{Fault}
-use Rattle.minisign_base.specs.Faults.{out_of_memory}
 use Rattle.minisign.specs.Generation.{IsGenuinePair, IsSealedPair, OpensOnlyTo, TakesPart}
 use Rattle.minisign.specs.NewPassword.{HasTyped}
 use Rattle.minisign.specs.PublicKeyText.{public_key_text}
 use Rattle.minisign.specs.Records.{PublicKeyRecord, SecretKeyRecord}
 use Rattle.minisign.specs.Sealing.{unsealed}
 use Rattle.minisign.specs.SecretKeyText.{secret_key_text}
-use Rattle.minisign_tool.specs.Report.{HasSaid, fault_line, warning_line}
 
 -- a pair was made of the random bytes that were drawn, under a password that was typed twice; one sink took
 -- the text of its public key, the other that of its secret key with the comment by default, and this text
@@ -28,9 +25,3 @@ pub record MakesKeys {R W P K : Type 0} (public_of : List ℕ → List ℕ) (ran
   pub secret : TakesPart sk_taken sk_faults sk_old sk_new (secret_key_text None sk)
   pub opens : OpensOnlyTo (secret_key_text None sk) password (unsealed sk password)
   pub belongs : IsGenuinePair public_of pk (unsealed sk password)
-
--- the warning was shown, and then the fault, or, where memory was wanting for its line, that
-pub record HasReported {E : Type 0} (taken_of : E → Option (List ℕ)) (faults_of : E → ℕ) (old new : E) (e : Fault) : Type 0 where
-  pub between : E
-  pub warned : HasSaid taken_of faults_of old between warning_line
-  pub told : HasSaid taken_of faults_of between new (fault_line e) ⊎ HasSaid taken_of faults_of between new (fault_line out_of_memory)

@@ -3,8 +3,8 @@
 ghost use Rattle.std.specs.Prelude.{◌≡◌, ◌≤◌, None, IfErr, OnOk};
 ghost use Rattle.minisign_base.specs.Fault.{Fault};
 ghost use Rattle.minisign.specs.Generation.{SealedTextsFail};
-ghost use Rattle.minisign_tool.specs.Keygen.{HasReported, MakesKeys};
-ghost use Rattle.minisign_tool.specs.Report.{HasSaid, warning_line};
+ghost use Rattle.minisign_tool.specs.Keygen.{MakesKeys};
+ghost use Rattle.minisign_tool.specs.Report.{HasSaid, ShowsFault, warning_line};
 
 use crate::report::{report, warn};
 use minisign::base::devices::random_sources::RandomSource;
@@ -36,7 +36,8 @@ pub fn run_keygen<S: Scheme, Z: RandomSource, R: Source, W: Sink, P: Sink, K: Si
         R.ahead R.left R.faults W.taken W.sink_faults prompt.old prompt.new
         P.taken P.sink_faults pk_sink.old pk_sink.new K.taken K.sink_faults sk_sink.old sk_sink.new }
     ensures warned { result ≡ 0 → HasSaid E.taken E.sink_faults errors.old errors.new warning_line }
-    ensures refused { result ≡ 1 → (e : Fault) × HasReported E.taken E.sink_faults errors.old errors.new e
+    ensures refused { result ≡ 1 → (e : Fault) × (warned : E) × HasSaid E.taken E.sink_faults errors.old warned warning_line
+        × ShowsFault E.taken E.sink_faults warned errors.new e
         × SealedTextsFail (S.public_of scheme.now) Z.random_ahead Z.random_faults random.old random.new
         R.ahead R.left R.faults W.taken W.sink_faults None prompt.old prompt.new
         P.taken P.sink_faults pk_sink.old pk_sink.new K.taken K.sink_faults sk_sink.old sk_sink.new None e }

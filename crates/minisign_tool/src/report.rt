@@ -1,9 +1,9 @@
 //! What the program says on the error stream, each line in one write. A line that cannot be written there
 //! changes no exit status.
 
-ghost use Rattle.std.specs.Prelude.{◌≡◌, ◌⊎◌};
+ghost use Rattle.std.specs.Prelude.{◌≡◌};
 ghost use Rattle.minisign_base.specs.Faults.{out_of_memory};
-ghost use Rattle.minisign_tool.specs.Report.{HasSaid, fault_line, usage_line, warning_line};
+ghost use Rattle.minisign_tool.specs.Report.{HasSaid, ShowsFault, fault_line, usage_line, warning_line};
 
 use minisign::base::PError;
 use minisign::base::devices::sinks::{Sink, put_all};
@@ -35,8 +35,7 @@ pub fn usage<W: Sink>(errors: &mut W) -> u8
 /// in its place.
 pub fn report<W: Sink>(alloc: Global, errors: &mut W, fault: &PError) -> u8
     ensures status { result ≡ 1 }
-    ensures said { HasSaid W.taken W.sink_faults errors.old errors.new (fault_line fault.now)
-        ⊎ HasSaid W.taken W.sink_faults errors.old errors.new (fault_line out_of_memory) }
+    ensures said { ShowsFault W.taken W.sink_faults errors.old errors.new fault.now }
 {
     match format!(in alloc; "error: {fault}\n") {
         Ok(line) => {
