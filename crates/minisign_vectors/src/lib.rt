@@ -21,6 +21,8 @@ mod generation;
 #[cfg(test)]
 mod hash;
 #[cfg(test)]
+mod kept_rows;
+#[cfg(test)]
 mod key_derivation;
 #[cfg(test)]
 mod keys_for_tests;
@@ -28,6 +30,8 @@ mod keys_for_tests;
 mod limits;
 #[cfg(test)]
 mod lines;
+#[cfg(test)]
+mod opening_in_less_memory;
 #[cfg(test)]
 mod output;
 #[cfg(test)]

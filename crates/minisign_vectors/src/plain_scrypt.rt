@@ -46,8 +46,8 @@ fn agrees(alloc: Global, n_log2: u8, r: u32, p: u32) -> Result<bool, Fail>
     Ok(key == plain)
 }
 
-// scrypt with N 2^n_log2.
-fn plain_scrypt(
+/// scrypt with N 2^`n_log2`, for `n_log2` below 8 and r and p below 16.
+pub fn plain_scrypt(
     alloc: Global,
     password: &[u8],
     salt: &[u8],
@@ -69,6 +69,17 @@ fn plain_scrypt(
     mix_parts(r, n_log2, p, &mut parts, &mut rows, &mut work);
     pbkdf2_once(password, &parts, out);
     Ok(())
+}
+
+/// scryptROMix of a part with r 1 and N 2^`n_log2`, for `n_log2` below 8.
+pub fn plain_rom_mix(alloc: Global, n_log2: u8, part: &[u8; 128]) -> Result<[u8; 128], AllocError>
+    requires n_log2 { n_log2 < 8 }
+{
+    let mut rows = words(alloc, 32 * row_count(n_log2))?;
+    let mut work = words(alloc, 64)?;
+    let mut mixed = *part;
+    rom_mix(1, n_log2, &mut mixed, &mut rows, &mut work);
+    Ok(mixed)
 }
 
 // A buffer of so many words.

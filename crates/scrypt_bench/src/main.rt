@@ -1,11 +1,13 @@
 //! Derives a key of 64 bytes with scrypt, and times it for a benchmark: of the arguments
-//! `PASSWORD SALT N_LOG2 R P` it prints the key in hexadecimal, and on the error stream the time of the
-//! call in microseconds.
+//! `PASSWORD SALT N_LOG2 R P K` it prints the key in hexadecimal, and on the error stream the time of the
+//! call in microseconds. Every k-th row is kept; where K is left out, every row.
 
 #![tactic(auto)]
 
+ghost use Rattle.std.specs.Prelude.{◌≤◌};
+
 use minisign_kdf::params::Params;
-use minisign_kdf::scrypt::scrypt;
+use minisign_kdf::scrypt::scrypt_keeping;
 use std::process::ExitCode;
 use std::time::Instant;
 use std::{env, io};
@@ -16,21 +18,24 @@ struct Request {
     password: String,
     salt: String,
     params: Params,
+    k: u64,
+    ghost some_kept: { 1 ≤ k },
 }
 
 fn main(rt: HostRuntime) -> io::Result<ExitCode> {
     let mut arguments = env::args(&rt)?;
     let Some(request) = read_request(&mut arguments) else {
-        eprintln!(rt; "usage: scrypt_bench PASSWORD SALT N_LOG2 R P")?;
+        eprintln!(rt; "usage: scrypt_bench PASSWORD SALT N_LOG2 R P [K]")?;
         return Ok(ExitCode::from(2));
     };
     let mut key = [0u8; 64];
     let begun = Instant::now(&rt)?;
-    let derived = scrypt(
+    let derived = scrypt_keeping(
         rt.alloc(),
         request.password.as_bytes(),
         request.salt.as_bytes(),
         &request.params,
+        request.k,
         &mut key,
     );
     let passed = Instant::now(&rt)?.duration_since(begun);
@@ -55,11 +60,24 @@ fn read_request(arguments: &mut env::Args) -> Option<Request> {
     let r = next_number(arguments)?;
     let p = next_number(arguments)?;
     let params = Params::new(n_log2, r, p).ok()?;
+    let k = read_kept(arguments)?;
+    if k == 0 {
+        return None;
+    }
     Some(Request {
         password,
         salt,
         params,
+        k,
     })
+}
+
+// How many rows there are for each that is kept: the last argument, and 1 where it is left out.
+fn read_kept(arguments: &mut env::Args) -> Option<u64> {
+    match arguments.next() {
+        Some(argument) => argument.parse::<u64>().ok(),
+        None => Some(1),
+    }
 }
 
 // The next argument as a number.

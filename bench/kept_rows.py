@@ -1,0 +1,143 @@
+#!/usr/bin/python3
+"""Measures scrypt with every k-th row kept, and draws its time and memory as docs/kept_rows.png.
+
+Needs: Debian's package python3-matplotlib (`apt-get install python3-matplotlib`; the system's python3 sees
+it, so start this file with that one), 1.1 GB of memory, and the program `scrypt_bench`, built by
+`rt run -- password NaCl 10 8 16` in crates/scrypt_bench (which proves it, and leaves it in that crate's
+folder out). All derive 64 bytes with r 8 and p 1, each in a process of its own and in turn; the keys are
+compared with those of hashlib. `kept_rows.py 15 3` takes 15 rounds at N 2^15 and 3 at N 2^20, as it does
+without arguments. The time is the least processor time of the whole process, its own and the system's for
+it, beside the least time of the call by the clock; the memory is the greatest resident memory.
+"""
+
+import hashlib
+import math
+import os
+import sys
+
+import matplotlib
+
+matplotlib.use("Agg")
+from matplotlib import pyplot
+
+from timing import processor_timed
+
+HERE = os.path.dirname(os.path.abspath(__file__))
+BENCH = os.path.join(HERE, "..", "crates", "scrypt_bench", "out", "scrypt_bench")
+PICTURE = os.path.join(HERE, "..", "docs", "kept_rows.png")
+PASSWORD, SALT = "pleaseletmein", "SodiumChloride"
+KEPT = (1, 2, 4, 8, 16, 64)
+ROW = 1024
+MIB = 2**20
+
+
+class Least:
+    """The best of several runs with one N and one k."""
+
+    def __init__(self):
+        self.processor = self.clock = math.inf
+        self.memory = 0.0
+
+    def take(self, processor, clock, memory):
+        self.processor = min(self.processor, processor)
+        self.clock = min(self.clock, clock)
+        self.memory = max(self.memory, memory)
+
+
+def derive(n_log2, k):
+    """Derives by scrypt_bench, and answers both times in seconds, the memory in MiB and the key."""
+    processor, memory, output = processor_timed([BENCH, PASSWORD, SALT, str(n_log2), "8", "1", str(k)])
+    microseconds, key = output.split()
+    return processor, int(microseconds) / 1e6, memory, key
+
+
+def expected_key(n_log2):
+    """The key of Python's hashlib."""
+    key = hashlib.scrypt(
+        PASSWORD.encode(), salt=SALT.encode(), n=1 << n_log2, r=8, p=1, dklen=64, maxmem=2**31 - 1
+    )
+    return key.hex()
+
+
+def measure(n_log2, rounds):
+    """The best runs for each k."""
+    best = {k: Least() for k in KEPT}
+    expected = expected_key(n_log2)
+    for _ in range(rounds):
+        for k in KEPT:
+            processor, clock, memory, key = derive(n_log2, k)
+            if key != expected:
+                raise SystemExit(f"the key at N 2^{n_log2} and k {k} is another one")
+            best[k].take(processor, clock, memory)
+    return best
+
+
+def rows_memory(n_log2, k):
+    """The memory of the kept rows in MiB."""
+    return -(-(1 << n_log2) // k) * ROW / MIB
+
+
+def mixing_time(n_log2, best):
+    """The seconds of one more mixing of a row, from the two greatest k."""
+    low, high = KEPT[-2:]
+    return (best[high].processor - best[low].processor) / ((high - low) / 2 * (1 << n_log2))
+
+
+def most_time(n_log2, best, k):
+    """The time with every row kept, and (k - 1) / 2 mixings more for each of N rows that are named."""
+    return best[1].processor + mixing_time(n_log2, best) * (k - 1) / 2 * (1 << n_log2)
+
+
+def show(n_log2, best, rest):
+    """Prints the table of one N, and stops where the memory is more than the rows and 1 MiB beside `rest`,
+    what a run has that keeps one row."""
+    print(f"N 2^{n_log2}, r 8, p 1; one more mixing of a row takes {mixing_time(n_log2, best) * 1e6:.2f} us")
+    for k in KEPT:
+        run, rows = best[k], rows_memory(n_log2, k)
+        print(
+            f"k {k:3}  {run.processor:7.3f} s, {run.processor / best[1].processor:5.2f} times k 1, at most "
+            f"{most_time(n_log2, best, k) / best[1].processor:5.2f}  by the clock {run.clock:7.3f} s, "
+            f"{run.clock / best[1].clock:5.2f}  {run.memory:7.1f} MiB, the rows {rows:7.1f} MiB"
+        )
+        if run.memory > rows + rest + 1:
+            raise SystemExit(f"at k {k} there is more memory than the rows and 1 MiB")
+
+
+def draw(results):
+    """Draws the times and the memory against k."""
+    figure, (times, memory) = pyplot.subplots(1, 2, figsize=(11, 4.6), layout="constrained")
+    for (n_log2, best), colour, mark in zip(results.items(), ("tab:blue", "tab:orange"), "os"):
+        name = f"N $2^{{{n_log2}}}$"
+        ratios = [best[k].processor / best[1].processor for k in KEPT]
+        most = [most_time(n_log2, best, k) / best[1].processor for k in KEPT]
+        times.plot(KEPT, ratios, color=colour, marker=mark, label=f"{name}, k 1: {best[1].processor:.2f} s")
+        times.plot(KEPT, most, color=colour, linestyle=":", label=f"{name}, k 1 and the mixings added")
+        memory.plot(KEPT, [best[k].memory for k in KEPT], color=colour, marker=mark, label=f"{name}, measured")
+        rows = [rows_memory(n_log2, k) for k in KEPT]
+        memory.plot(KEPT, rows, color=colour, linestyle=":", label=f"{name}, the kept rows")
+    times.set(title="Processor time", ylabel="times that of k 1", yticks=(1, 2, 4, 8, 16))
+    memory.set(title="Greatest memory", ylabel="MiB", yticks=(1, 4, 16, 64, 256, 1024))
+    for axes in (times, memory):
+        axes.set_xscale("log", base=2)
+        axes.set_yscale("log", base=2)
+        axes.set_xticks(KEPT, [str(k) for k in KEPT])
+        axes.set_xlabel("k: every k-th row is kept")
+        axes.yaxis.set_major_formatter("{x:g}")
+        axes.grid(True, alpha=0.4)
+        axes.legend()
+    figure.savefig(PICTURE, dpi=120, metadata={"Software": None})
+    pyplot.close(figure)
+
+
+def main():
+    rounds = [int(argument) for argument in sys.argv[1:]] or [15, 3]
+    rest = derive(10, 1 << 10)[2]
+    print(f"a run that keeps one row has {rest:.1f} MiB")
+    results = {n_log2: measure(n_log2, count) for n_log2, count in zip((15, 20), rounds)}
+    for n_log2, best in results.items():
+        show(n_log2, best, rest)
+    draw(results)
+
+
+if __name__ == "__main__":
+    main()
