@@ -15,6 +15,8 @@ pub mod example;
 #[cfg(test)]
 mod faults;
 #[cfg(test)]
+mod files;
+#[cfg(test)]
 mod generation;
 #[cfg(test)]
 mod hash;
