@@ -13,6 +13,8 @@ mod devices;
 mod devices_for_tests;
 pub mod example;
 #[cfg(test)]
+mod failing_generation;
+#[cfg(test)]
 mod faults;
 #[cfg(test)]
 mod files;
