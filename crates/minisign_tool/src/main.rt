@@ -1,8 +1,7 @@
 //! The program `minisign_tool`. It signs and verifies under a toy scheme that is insecure, and says so.
 #![tactic(auto)]
 
-ghost use Rattle.std.specs.Prelude.{◌≡◌, ◌≤◌, IfErr};
-ghost use Rattle.minisign_base.specs.Faults.{writing_failed};
+ghost use Rattle.std.specs.Prelude.{◌≡◌, ◌≤◌};
 
 mod arguments;
 mod keygen;
@@ -90,9 +89,13 @@ fn keygen_files<W: Sink>(rt: &HostRuntime, pk: &str, sk: &str, errors: &mut W) -
 
 // Replaces the file of the public key, and then that of the secret one, which only its owner may read where
 // it is new.
-fn replace_both(rt: &HostRuntime, pk: &str, pk_text: &[u8], sk: &str, sk_text: &[u8]) -> Result<()>
-    ensures { IfErr result (λ e. e ≡ writing_failed) }
-{
+fn replace_both(
+    rt: &HostRuntime,
+    pk: &str,
+    pk_text: &[u8],
+    sk: &str,
+    sk_text: &[u8],
+) -> Result<()> {
     replace_file(rt, pk, FOR_ALL, pk_text)?;
     replace_file(rt, sk, FOR_THE_OWNER, sk_text)
 }
