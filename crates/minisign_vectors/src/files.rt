@@ -19,8 +19,9 @@ const OPENING: &str =
     "Password: <empty>\nDeriving a key from the password and decrypting the secret key... done\n";
 
 // Names of what gives no text, and the fault.
-const NO_TEXTS: [(&str, &str); 4] = [
+const NO_TEXTS: [(&str, &str); 5] = [
     ("missing", UNREADABLE),
+    ("empty/inside", UNREADABLE),
     (".", UNREADABLE),
     ("ff", NOT_UTF8),
     ("long", NOT_UTF8),
@@ -73,6 +74,11 @@ fn public_keys_are_read_from_files(rt: HostRuntime) -> Result<(), Fail> {
         let answer = PublicKey::from_file(&rt, alloc, path_of(&rt, &folder, name)?.as_str());
         assert_eq!(rt; outcome(alloc, &answer).as_str(), expected, "at {name}");
     }
+    let nothing = PublicKey::from_file(&rt, alloc, "/dev/null");
+    assert_eq!(rt;
+        outcome(alloc, &nothing).as_str(),
+        "Io: Missing comment in public key"
+    );
     for (name, expected) in [
         ("empty", "Io: Missing comment in public key"),
         (
@@ -101,6 +107,11 @@ fn signatures_are_read_from_files(rt: HostRuntime) -> Result<(), Fail> {
         let answer = SignatureBox::from_file(&rt, alloc, path_of(&rt, &folder, name)?.as_str());
         assert_eq!(rt; outcome(alloc, &answer).as_str(), expected, "at {name}");
     }
+    let nothing = SignatureBox::from_file(&rt, alloc, "/dev/null");
+    assert_eq!(rt;
+        outcome(alloc, &nothing).as_str(),
+        "Io: Missing untrusted comment"
+    );
     for (name, expected) in [
         ("empty", "Io: Missing untrusted comment"),
         ("key.pk", "Io: Missing trusted comment"),
@@ -137,6 +148,12 @@ fn secret_keys_are_read_from_files(rt: HostRuntime) -> Result<(), Fail> {
         assert_eq!(rt; outcome(alloc, &answer).as_str(), expected, "at {name}");
         assert!(rt; prompt.writer.as_slice().is_empty(), "at {name}");
     }
+    let mut prompt = Prompt::new(SliceSource::new(b"\n"), VecSink::new(alloc));
+    let nothing = SecretKey::from_file(&rt, alloc, "/dev/null", None, &mut prompt);
+    assert_eq!(rt;
+        outcome(alloc, &nothing).as_str(),
+        "Io: Missing comment in secret key"
+    );
     for (name, expected) in [
         ("empty", "Io: Missing comment in secret key"),
         ("key.pk", "Io: failed to fill whole buffer"),
