@@ -3,6 +3,10 @@
 import os
 import subprocess
 import time
+from dataclasses import dataclass
+
+# The program, as `rt run` or the gate leaves it.
+TOOL = os.path.join(os.path.dirname(os.path.realpath(__file__)), "..", "crates", "minisign_tool", "out", "minisign_tool")
 
 
 def greatest_memory(process):
@@ -15,35 +19,56 @@ def greatest_memory(process):
     return int(lines[0].split()[1]) / 1024 if lines else 0.0
 
 
-def measured(command, stdin_path=None):
-    """Runs a command, and answers its seconds by the clock, its seconds of processor time (its own and
-    the system's for it), its greatest resident memory in MiB and its output."""
+@dataclass(frozen=True)
+class Run:
+    """A run that has ended."""
+
+    # By the clock.
+    seconds: float
+    # Of the processor, the run's own and the system's for it.
+    processor_seconds: float
+    # The greatest resident memory in MiB.
+    memory: float
+    status: int
+    output: str
+
+
+def run(command, stdin_path=None, stdout_path=None, folder=None):
+    """Runs a command in a folder. Its output is what it wrote on the error stream and, where that has no
+    path of its own, on the standard output."""
     memory, ended = 0.0, 0
-    with open(stdin_path or os.devnull, "rb") as stdin:
+    with open(stdin_path or os.devnull, "rb") as stdin, open(stdout_path or os.devnull, "wb") as stdout:
+        taken = {"stdout": stdout, "stderr": subprocess.PIPE} if stdout_path else {"stdout": subprocess.PIPE, "stderr": subprocess.STDOUT}
         begun = time.perf_counter()
-        process = subprocess.Popen(command, stdin=stdin, stdout=subprocess.PIPE, stderr=subprocess.STDOUT)
+        process = subprocess.Popen(command, stdin=stdin, cwd=folder, **taken)
         while not ended:
             memory = max(memory, greatest_memory(process))
-            time.sleep(0.005)
+            time.sleep(0.002)
             ended, status, usage = os.wait4(process.pid, os.WNOHANG)
         seconds = time.perf_counter() - begun
         process.returncode = os.waitstatus_to_exitcode(status)
-        output = process.stdout.read().decode(errors="replace")
-    if process.returncode != 0:
-        raise SystemExit(f"{command[0]} ended with {process.returncode}: {output}")
-    return seconds, usage.ru_utime + usage.ru_stime, memory, output
+        output = (process.stderr or process.stdout).read().decode(errors="replace")
+    return Run(seconds, usage.ru_utime + usage.ru_stime, memory, process.returncode, output)
+
+
+def measured(command, stdin_path=None, stdout_path=None):
+    """The same of a command that has to succeed."""
+    ended = run(command, stdin_path, stdout_path)
+    if ended.status != 0:
+        raise SystemExit(f"{command[0]} ended with {ended.status}: {ended.output}")
+    return ended
 
 
 def timed(command, stdin_path=None):
     """Runs a command, and answers its seconds, its greatest resident memory in MiB and its output."""
-    seconds, _, memory, output = measured(command, stdin_path)
-    return seconds, memory, output
+    ended = measured(command, stdin_path)
+    return ended.seconds, ended.memory, ended.output
 
 
-def processor_timed(command, stdin_path=None):
+def processor_timed(command, stdin_path=None, stdout_path=None):
     """The same with its seconds of processor time, which other programs on the machine disturb less."""
-    _, seconds, memory, output = measured(command, stdin_path)
-    return seconds, memory, output
+    ended = measured(command, stdin_path, stdout_path)
+    return ended.processor_seconds, ended.memory, ended.output
 
 
 def compare(runs, rounds=3):

@@ -137,6 +137,7 @@ impl SignatureBox {
     pub fn into_string(self, alloc: Global) -> Result<String>
         ensures text { MatchOption self.comments (result ≡ Err signature_box_incomplete)
             (λ c. MatchResult result (λ t. string_bytes t ≡ signature_text self.signature c) (λ e. e ≡ out_of_memory)) }
+        ensures reads_back { IfSome self.comments KeepsComments → IfOk result (λ t. SignatureText (string_bytes t) self) }
     {
         self.to_string(alloc)
     }

@@ -7,8 +7,7 @@ use crate::keys_for_tests::{
     CHECKSUM, IDENTIFIER, PUBLIC_BYTES, is_record, is_text, outcome, public_record, secret_record,
 };
 use minisign::{
-    KeyPair, PublicKey, PublicKeyBox, Result, SecretKey, SecretKeyBox, SignatureBones,
-    SignatureBox, sign, verify,
+    KeyPair, PublicKey, Result, SecretKey, SecretKeyBox, SignatureBones, SignatureBox, sign, verify,
 };
 use minisign_base::devices::DeviceFault;
 use minisign_base::devices::random_sources::FixedRandom;
@@ -31,8 +30,8 @@ const SEALED_UNDER_P: &str =
 const SEALED_UNDER_NOTHING: &str =
     "RWRTY0IyKCkqKywtLi8wMTIzNDU2Nzg5Ojs8PT4/QEFCQ0RFRkcAABAAAAAAAAAAAAIAAAAAIoT8yd+PcQfH6lwE1U7O9qfndmpt7swxBoez0bsWiknOfDOOpFGbhjh5qsz72GDfpXvgyyaj1ApsXB8h6ndwyMLnkT37fS678tPzO+d7NuqTnl9nkchMiqeXIS9wInpMPH1nK9B1duY=";
 
-// The text of the public key.
-const PUBLIC_TEXT: &str =
+/// The text of the public key.
+pub const PUBLIC_TEXT: &str =
     "untrusted comment: minisign public key: 2726252423222120\nRWQgISIjJCUmJ1pbWFleX1xdUlNQUVZXVFVKS0hJTk9MTUJDQEFGR0RF\n";
 
 const PURPOSE: &str = "Please enter a password to protect the secret key.\n";
@@ -506,50 +505,5 @@ fn unsealed_pairs_sign_and_are_read_again(rt: HostRuntime) -> std::result::Resul
             );
         }
     }
-    Ok(())
-}
-
-// The texts of a sealed pair are read again, and what its key signs is accepted.
-#[test]
-fn a_pair_goes_through_its_texts(rt: HostRuntime) -> std::result::Result<(), Fail> {
-    let alloc = rt.alloc();
-    let mut pk_sink = VecSink::new(alloc);
-    let mut sk_sink = VecSink::new(alloc);
-    KeyPair::generate_and_write_encrypted_keypair(
-        alloc,
-        &ToyScheme::new(),
-        &mut FixedRandom::new(&counted()),
-        &mut pk_sink,
-        &mut sk_sink,
-        None,
-        handed(alloc, "key password")?,
-        &mut silent(alloc),
-    )?;
-    let public = String::from_utf8(pk_sink.into_vec())?;
-    let secret = String::from_utf8(sk_sink.into_vec())?;
-    let sk = opened(alloc, secret.as_str(), "key password")?;
-    let pk = PublicKeyBox::from_string(alloc, public.as_str())?.into_public_key(alloc)?;
-    let signature_box = sign(
-        alloc,
-        &ToyScheme::new(),
-        None,
-        &sk,
-        &mut SliceSource::new(b"lorem ipsum"),
-        None,
-        None,
-        &mut FixedRandom::new(&[0; 128]),
-        0,
-    )?;
-    assert!(rt;
-        is_text(
-            &signature_box.untrusted_comment(alloc),
-            "signature from rsign secret key"
-        )
-    );
-    assert!(rt; is_text(&signature_box.trusted_comment(alloc), "timestamp:0"));
-    assert_eq!(rt;
-        verified(alloc, &pk, &signature_box, b"lorem ipsum").as_str(),
-        "accepted"
-    );
     Ok(())
 }

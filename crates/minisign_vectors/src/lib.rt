@@ -37,6 +37,9 @@ mod public_key_texts;
 #[cfg(test)]
 mod records;
 #[cfg(test)]
+mod releases;
+pub mod releasing;
+#[cfg(test)]
 mod scalar_blake2b;
 #[cfg(test)]
 mod sealed_keys;

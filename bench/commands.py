@@ -1,6 +1,9 @@
 #!/usr/bin/env python3
-"""Times `minisign_tool verify-raw` over a file of 1 GB on standard input, in processor time, beside
+"""Times the commands of `minisign_tool` that read data, over a file of 1 GB, in processor time, beside
 `openssl dgst -blake2b512`, `minisign -V` (where it is installed) and `b2sum` of the same file.
+
+`verify-raw` gets the file on standard input, `verify`, `cat` and `sign` by name; `cat` writes to nowhere,
+and `sign` has a sealed key whose password comes through standard input.
 
 Needs: Python 3.9 or later, coreutils' b2sum, openssl, and the program, built by `rt run -- x` in
 crates/minisign_tool (which proves it, and leaves it in that crate's folder out). Other builds of the
@@ -14,12 +17,11 @@ import shutil
 import sys
 import tempfile
 
-from timing import compare, processor_timed
+import toy
+from timing import TOOL, compare, processor_timed
 
 SIZE = 1_000_000_000
-TOOL = os.path.join(os.path.dirname(__file__), "..", "crates", "minisign_tool", "out", "minisign_tool")
-KEYNUM = bytes(range(1, 9))
-TOY_KEY = bytes([0x5A]) * 32
+PASSWORD = b"password"
 
 
 def write_input(path):
@@ -30,23 +32,36 @@ def write_input(path):
             data.write(block)
 
 
-def toy_signature(digest):
-    """The toy scheme's signature of a message of 64 bytes, with a first half of zeros."""
-    folded = bytes(a ^ b for a, b in zip(digest[:32], digest[32:]))
-    return bytes(32) + bytes(a ^ b for a, b in zip(TOY_KEY, folded))
+def write_files(folder, digest):
+    """Writes the keys and signatures of data with this digest, and answers their paths by name."""
+    contents = {
+        "raw.pk": toy.PUBLIC_RECORD,
+        "raw.sig": toy.signature_record(digest),
+        "key.pk": toy.public_text(),
+        "key.sk": toy.secret_text(PASSWORD),
+        "key.sig": toy.signature_text(digest),
+        "password": PASSWORD + b"\n",
+        "made.sig": b"",
+    }
+    paths = {name: os.path.join(folder, name) for name in contents}
+    for name, content in contents.items():
+        with open(paths[name], "wb") as file:
+            file.write(content)
+    return paths
 
 
-def tool_runs(folder, data, digest):
-    """Writes the key and the signature, and answers the runs of each build of the program."""
-    pk, sig = os.path.join(folder, "pk"), os.path.join(folder, "sig")
-    with open(pk, "wb") as file:
-        file.write(b"Ed" + KEYNUM + TOY_KEY)
-    with open(sig, "wb") as file:
-        file.write(b"ED" + KEYNUM + toy_signature(digest))
-    return [
-        (f"{os.path.basename(tool)} verify-raw", lambda tool=tool: processor_timed([tool, "verify-raw", pk, sig], data))
-        for tool in [TOOL, *sys.argv[1:]]
+def tool_runs(tool, files, data):
+    """The runs of a build of the program: what each is called, its arguments and its standard input."""
+    pk, sig = files["key.pk"], files["key.sig"]
+    commands = [
+        (["verify-raw", files["raw.pk"], files["raw.sig"]], data),
+        (["verify", pk, data, sig], None),
+        (["cat", pk, data, sig], None),
+        (["sign", files["key.sk"], data, files["made.sig"]], files["password"]),
     ]
+    for arguments, stdin in commands:
+        name = f"{os.path.basename(tool)} {arguments[0]}"
+        yield name, lambda it=arguments, stdin=stdin: processor_timed([tool, *it], stdin, os.devnull)
 
 
 def minisign_runs(folder, data):
@@ -68,13 +83,16 @@ def main():
         openssl = ["openssl", "dgst", "-blake2b512", data]
         if processor_timed(openssl)[2].split()[-1] != digest:
             raise SystemExit("b2sum and openssl differ")
+        files = write_files(folder, bytes.fromhex(digest))
         compare(
-            tool_runs(folder, data, bytes.fromhex(digest))
+            [run for tool in [TOOL, *sys.argv[1:]] for run in tool_runs(tool, files, data)]
             + [("openssl dgst -blake2b512", lambda: processor_timed(openssl))]
             + minisign_runs(folder, data)
             + [("b2sum", lambda: processor_timed(["b2sum"], data))],
             rounds=5,
         )
+        # What was made is the signature of the same data.
+        processor_timed([TOOL, "verify", files["key.pk"], data, files["made.sig"]])
 
 
 if __name__ == "__main__":
