@@ -104,30 +104,34 @@ def has_mode(folder, name, mode):
         raise Failure(f"{name} has the mode {found:o} in place of {mode:o}")
 
 
-def record_of(text, comment, length):
-    """The record in a text of two lines with this comment."""
-    first, second, rest = text.split(b"\n")
-    if first != b"untrusted comment: " + comment or rest:
+def record_of(text, length):
+    """The comment and the record in a text of two lines."""
+    label = b"untrusted comment: "
+    try:
+        first, second, rest = text.split(b"\n")
+        record = base64.b64decode(second, validate=True)
+    except ValueError as error:
+        raise Failure(f"a text is {text!r}") from error
+    if not first.startswith(label) or rest or len(record) != length or base64.b64encode(record) != second:
         raise Failure(f"a text is {text!r}")
-    record = base64.b64decode(second, validate=True)
-    if len(record) != length or base64.b64encode(record) != second:
-        raise Failure(f"a record is {record!r}")
-    return record
+    return first[len(label):], record
 
 
 def public_record(text):
     """The record of a public key, whose identifier its comment names."""
-    record = base64.b64decode(text.split(b"\n")[1])
+    comment, record = record_of(text, 42)
     shown = b"%016X" % int.from_bytes(record[2:10], "little")
-    if record_of(text, b"minisign public key: " + shown, 42)[:2] != b"Ed":
-        raise Failure(f"a public key has the algorithm {record[:2]!r}")
+    if comment != b"minisign public key: " + shown or record[:2] != b"Ed":
+        raise Failure(f"a public key's text is {text!r}")
     return record
 
 
 def check_pair(password, public_text, secret_text):
     """Opens the secret key, and compares both keys with what a pair of the toy scheme has to be."""
     public = public_record(public_text)
-    sealed = record_of(secret_text, b"rsign encrypted secret key", 158)
+    comment, sealed = record_of(secret_text, 158)
+    if comment != b"rsign encrypted secret key":
+        raise Failure(f"a secret key's text is {secret_text!r}")
     if sealed[:6] != b"EdScB2" or sealed[38:54] != bytes.fromhex("00001000000000000000000200000000"):
         raise Failure(f"a secret key begins with {sealed[:54].hex()}")
     stream = hashlib.scrypt(password, salt=sealed[6:38], n=1 << 15, r=8, p=1, dklen=104, maxmem=1 << 26)

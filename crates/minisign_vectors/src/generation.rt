@@ -26,8 +26,9 @@ const SEALED_LINE: &str =
 const SEALED_UNDER_P: &str =
     "RWRTY0IyKCkqKywtLi8wMTIzNDU2Nzg5Ojs8PT4/QEFCQ0RFRkcAABAAAAAAAAAAAAIAAAAAXsrUPdVfRwB5KzWs1gxMpeWRV1NwSl+wvS3yfJHSuB4R/Pz7fjWZ0NuIvbOTYzc06tcjZcma8YW35LizX+hn4HmrLBaZfd3HwOv+fYOu+VKlFvoXb5KyfQcAcM++/0OlXTsF5mCWdJA=";
 
-// Sealed under the empty password.
-const SEALED_UNDER_NOTHING: &str =
+/// The second line of the text of the secret key of random bytes that count up from 0, sealed under the empty
+/// password.
+pub const SEALED_UNDER_NOTHING: &str =
     "RWRTY0IyKCkqKywtLi8wMTIzNDU2Nzg5Ojs8PT4/QEFCQ0RFRkcAABAAAAAAAAAAAAIAAAAAIoT8yd+PcQfH6lwE1U7O9qfndmpt7swxBoez0bsWiknOfDOOpFGbhjh5qsz72GDfpXvgyyaj1ApsXB8h6ndwyMLnkT37fS678tPzO+d7NuqTnl9nkchMiqeXIS9wInpMPH1nK9B1duY=";
 
 /// The text of the public key.
@@ -125,8 +126,8 @@ fn silent(alloc: Global) -> Prompt<SliceSource<'static>, VecSink> {
     Prompt::new(SliceSource::new(b""), VecSink::new(alloc))
 }
 
-// The pair of random bytes that count up from 0, not sealed.
-fn counted_pair() -> Result<KeyPair> {
+/// The pair of random bytes that count up from 0, not sealed.
+pub fn counted_pair() -> Result<KeyPair> {
     KeyPair::generate_unencrypted_keypair(&ToyScheme::new(), &mut FixedRandom::new(&counted()))
 }
 

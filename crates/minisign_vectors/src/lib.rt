@@ -13,7 +13,11 @@ mod devices;
 mod devices_for_tests;
 pub mod example;
 #[cfg(test)]
+mod failing_generation;
+#[cfg(test)]
 mod faults;
+#[cfg(test)]
+mod files;
 #[cfg(test)]
 mod generation;
 #[cfg(test)]

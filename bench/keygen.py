@@ -1,0 +1,47 @@
+#!/usr/bin/env python3
+"""Times `minisign_tool keygen` beside the one derivation that it does, by Python's hashlib and by `scrypt_bench`.
+
+Needs Python 3.9 or later whose hashlib has scrypt (OpenSSL's), and the programs `minisign_tool`, built by
+`rt run` in crates/minisign_tool, and `scrypt_bench`, built by `rt run -- password NaCl 15 8 1` in
+crates/scrypt_bench. All derive with N 2^15, r 8 and p 1, each in a process of its own and in turn. The least
+processor time counts, of `hashlib.scrypt` that of the call alone.
+"""
+
+import os
+import sys
+import tempfile
+
+from timing import compare, processor_timed
+
+CRATES = os.path.join(os.path.dirname(os.path.realpath(__file__)), "..", "crates")
+TOOL = os.path.join(CRATES, "minisign_tool", "out", "minisign_tool")
+DERIVATION = os.path.join(CRATES, "scrypt_bench", "out", "scrypt_bench")
+HASHLIB = """
+import hashlib, time
+begun = time.process_time()
+hashlib.scrypt(b"p", salt=bytes(32), n=1 << 15, r=8, p=1, dklen=104, maxmem=1 << 26)
+print(time.process_time() - begun)
+"""
+
+
+def of_hashlib():
+    """Derives by Python, and answers the seconds of the call, the process's memory and nothing."""
+    _, memory, output = processor_timed([sys.executable, "-S", "-c", HASHLIB])
+    return float(output), memory, ""
+
+
+def main():
+    with tempfile.TemporaryDirectory() as folder:
+        typed, pk, sk = (os.path.join(folder, name) for name in ("typed", "key.pk", "key.sk"))
+        with open(typed, "w") as file:
+            file.write("p\np\n")
+        runs = [
+            ("minisign_tool keygen", lambda: processor_timed([TOOL, "keygen", pk, sk], typed)),
+            ("hashlib.scrypt (OpenSSL)", of_hashlib),
+            ("scrypt_bench", lambda: processor_timed([DERIVATION, "p", "salt", "15", "8", "1"])),
+        ]
+        compare(runs, rounds=25)
+
+
+if __name__ == "__main__":
+    main()

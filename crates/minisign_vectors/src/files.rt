@@ -1,0 +1,152 @@
+//! Keys and signatures read from files: what each `from_file` answers.
+
+use crate::generation::{SEALED_UNDER_NOTHING, counted_pair};
+use crate::keys_for_tests::{IDENTIFIER, PUBLIC_BYTES, is_record, is_text, outcome, public_record};
+use crate::public_key_texts::KEY_TEXT;
+use crate::signature_texts::TEXT;
+use minisign::{PublicKey, SecretKey, SignatureBox};
+use minisign_base::devices::sinks::VecSink;
+use minisign_base::devices::sources::SliceSource;
+use minisign_base::prompt::Prompt;
+use std::test::Fail;
+use std::{env, fs, process};
+
+const UNREADABLE: &str = "Io: reading failed";
+
+const NOT_UTF8: &str = "Io: stream did not contain valid UTF-8";
+
+const OPENING: &str =
+    "Password: <empty>\nDeriving a key from the password and decrypting the secret key... done\n";
+
+// Names of what gives no text, and the fault.
+const NO_TEXTS: [(&str, &str); 4] = [
+    ("missing", UNREADABLE),
+    (".", UNREADABLE),
+    ("ff", NOT_UTF8),
+    ("long", NOT_UTF8),
+];
+
+// A new folder that holds the three texts, an empty file, a file of the byte `ff`, and one that is UTF-8 but
+// for its last byte, behind more than is read at once.
+fn make_folder(rt: &HostRuntime, test: &str) -> Result<String, Fail> {
+    let alloc = rt.alloc();
+    let id = process::id(rt.process());
+    let parent = env::temp_dir(rt)?;
+    let folder = format!(in alloc; "{}/minisign_{test}_{id}", parent.as_str())?;
+    if fs::exists(rt, folder.as_str())? {
+        fs::remove_dir_all(rt, folder.as_str())?;
+    }
+    fs::create_dir(rt, folder.as_str())?;
+    let sealed = format!(in alloc; "untrusted comment: c\n{SEALED_UNDER_NOTHING}\n")?;
+    let mut long = KEY_TEXT.as_bytes().to_vec(alloc)?;
+    long.extend_from_slice(&vec![in alloc; b'x'; 70000]?)?;
+    long.push(0xff)?;
+    for (name, bytes) in [
+        ("key.pk", KEY_TEXT.as_bytes()),
+        ("key.sk", sealed.as_bytes()),
+        ("abc.sig", TEXT.as_bytes()),
+        ("empty", b"".as_slice()),
+        ("ff", b"\xff".as_slice()),
+        ("long", long.as_slice()),
+    ] {
+        fs::write(rt, path_of(rt, &folder, name)?.as_str(), bytes)?;
+    }
+    Ok(folder)
+}
+
+fn path_of(rt: &HostRuntime, folder: &str, name: &str) -> Result<String, Fail> {
+    Ok(format!(in rt.alloc(); "{folder}/{name}")?)
+}
+
+#[test]
+fn public_keys_are_read_from_files(rt: HostRuntime) -> Result<(), Fail> {
+    let alloc = rt.alloc();
+    let folder = make_folder(&rt, "public_keys")?;
+    let pk = PublicKey::from_file(&rt, alloc, path_of(&rt, &folder, "key.pk")?.as_str())?;
+    assert!(rt;
+        is_record(
+            &pk.to_bytes(alloc),
+            &public_record(&IDENTIFIER, &PUBLIC_BYTES)
+        )
+    );
+    for (name, expected) in NO_TEXTS {
+        let answer = PublicKey::from_file(&rt, alloc, path_of(&rt, &folder, name)?.as_str());
+        assert_eq!(rt; outcome(alloc, &answer).as_str(), expected, "at {name}");
+    }
+    for (name, expected) in [
+        ("empty", "Io: Missing comment in public key"),
+        (
+            "abc.sig",
+            "Io: Base64 conversion failed - was an actual public key given?",
+        ),
+    ] {
+        let answer = PublicKey::from_file(&rt, alloc, path_of(&rt, &folder, name)?.as_str());
+        assert_eq!(rt; outcome(alloc, &answer).as_str(), expected, "at {name}");
+    }
+    fs::remove_dir_all(&rt, folder.as_str())?;
+    Ok(())
+}
+
+#[test]
+fn signatures_are_read_from_files(rt: HostRuntime) -> Result<(), Fail> {
+    let alloc = rt.alloc();
+    let folder = make_folder(&rt, "signatures")?;
+    let signature_box = SignatureBox::from_file(
+        &rt,
+        alloc,
+        path_of(&rt, &folder, "abc.sig")?.as_str(),
+    )?;
+    assert!(rt; is_text(&signature_box.to_string(alloc), TEXT));
+    for (name, expected) in NO_TEXTS {
+        let answer = SignatureBox::from_file(&rt, alloc, path_of(&rt, &folder, name)?.as_str());
+        assert_eq!(rt; outcome(alloc, &answer).as_str(), expected, "at {name}");
+    }
+    for (name, expected) in [
+        ("empty", "Io: Missing untrusted comment"),
+        ("key.pk", "Io: Missing trusted comment"),
+    ] {
+        let answer = SignatureBox::from_file(&rt, alloc, path_of(&rt, &folder, name)?.as_str());
+        assert_eq!(rt; outcome(alloc, &answer).as_str(), expected, "at {name}");
+    }
+    fs::remove_dir_all(&rt, folder.as_str())?;
+    Ok(())
+}
+
+// With the password handed in and typed. Nothing is asked for a file that gives no key.
+#[test]
+fn secret_keys_are_read_from_files(rt: HostRuntime) -> Result<(), Fail> {
+    let alloc = rt.alloc();
+    let folder = make_folder(&rt, "secret_keys")?;
+    let made = counted_pair()?.sk;
+    for (is_handed_in, shown) in [(true, ""), (false, OPENING)] {
+        let password = if is_handed_in {
+            Some(String::new(alloc))
+        } else {
+            None
+        };
+        let mut prompt = Prompt::new(SliceSource::new(b"\n"), VecSink::new(alloc));
+        let path = path_of(&rt, &folder, "key.sk")?;
+        let sk = SecretKey::from_file(&rt, alloc, path.as_str(), password, &mut prompt)?;
+        assert!(rt; sk == made && !sk.is_encrypted());
+        assert_eq!(rt; prompt.writer.as_slice(), shown.as_bytes());
+    }
+    for (name, expected) in NO_TEXTS {
+        let mut prompt = Prompt::new(SliceSource::new(b"\n"), VecSink::new(alloc));
+        let path = path_of(&rt, &folder, name)?;
+        let answer = SecretKey::from_file(&rt, alloc, path.as_str(), None, &mut prompt);
+        assert_eq!(rt; outcome(alloc, &answer).as_str(), expected, "at {name}");
+        assert!(rt; prompt.writer.as_slice().is_empty(), "at {name}");
+    }
+    for (name, expected) in [
+        ("empty", "Io: Missing comment in secret key"),
+        ("key.pk", "Io: failed to fill whole buffer"),
+    ] {
+        let mut prompt = Prompt::new(SliceSource::new(b"\n"), VecSink::new(alloc));
+        let path = path_of(&rt, &folder, name)?;
+        let answer = SecretKey::from_file(&rt, alloc, path.as_str(), None, &mut prompt);
+        assert_eq!(rt; outcome(alloc, &answer).as_str(), expected, "at {name}");
+        assert!(rt; prompt.writer.as_slice().is_empty(), "at {name}");
+    }
+    fs::remove_dir_all(&rt, folder.as_str())?;
+    Ok(())
+}
