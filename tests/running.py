@@ -130,6 +130,8 @@ class Case:
     left: object = None
     # The permission bits that files that are made do not get.
     umask: int = 0o022
+    # Cases that run after it in the folder that it leaves.
+    then: tuple = ()
 
 
 class Failure(Exception):
@@ -193,19 +195,27 @@ class Runner:
 
     def run_once(self, case, environment=None, passed=()):
         with tempfile.TemporaryDirectory(dir=self.room) as folder:
-            pipes = make_files(folder, case.files)
-            if self.nobody:
-                for at, _, names in os.walk(folder):
-                    for path in [at, *(os.path.join(at, name) for name in names)]:
-                        os.chown(path, NOBODY, NOBODY)
-            streams = Streams(folder, case)
-            try:
-                status = self.start(case, folder, streams, pipes, environment or {}, passed)
-                compare(case, status, streams)
-                if case.left:
-                    case.left(folder)
-            finally:
-                streams.close()
+            for number, step in enumerate((case, *case.then)):
+                try:
+                    self.run_in(folder, step, environment, passed)
+                except Failure as error:
+                    raise Failure(f"at step {number}: {error}") if case.then else error
+
+    def run_in(self, folder, case, environment, passed):
+        """Makes the files and the run in a folder, and compares all that it answers."""
+        pipes = make_files(folder, case.files)
+        if self.nobody:
+            for at, _, names in os.walk(folder):
+                for path in [at, *(os.path.join(at, name) for name in names)]:
+                    os.chown(path, NOBODY, NOBODY)
+        streams = Streams(folder, case)
+        try:
+            status = self.start(case, folder, streams, pipes, environment or {}, passed)
+            compare(case, status, streams)
+            if case.left:
+                case.left(folder)
+        finally:
+            streams.close()
 
     def start(self, case, folder, streams, pipes, environment, passed):
         """Starts the program, serves it until it has ended, and answers its exit status."""

@@ -6,6 +6,7 @@ import time
 from dataclasses import replace
 
 import toy
+from keygen_runs import MADE, PK
 from running import (
     CLOSED,
     FOLDER,
@@ -36,6 +37,8 @@ NO_SECRET_KEY = "error: Missing comment in secret key\n"
 NO_ENCODED_KEY = "error: Missing encoded key in secret key\n"
 END_OF_INPUT = "error: unexpected end of input\n"
 TOO_LONG = "error: passphrase can't exceed 1024 bytes length\n"
+
+VERIFIED_BARE = "Signature and comment signature verified\n"
 
 ASKED = b"Password: "
 DERIVING = b"Deriving a key from the password and decrypting the secret key... "
@@ -98,12 +101,16 @@ class Left:
 
 def check_signature(data, text):
     """Compares a text with what signing the data has to give: random bytes, the moment and all else."""
-    first, second, third, fourth, rest = text.split(b"\n")
+    try:
+        first, second, third, fourth, rest = text.split(b"\n")
+        record, comment_signature = base64.b64decode(second, validate=True), base64.b64decode(fourth, validate=True)
+        label, moment = third.rsplit(b":", 1)
+        seconds = int(moment)
+    except ValueError as error:
+        raise Failure(f"a signature is {text!r}") from error
     if first != b"untrusted comment: signature from rsign secret key" or rest:
         raise Failure(f"a signature is {text!r}")
-    record, comment_signature = base64.b64decode(second, validate=True), base64.b64decode(fourth, validate=True)
-    label, moment = third.rsplit(b":", 1)
-    if label != b"trusted comment: timestamp" or abs(int(moment) - time.time()) > 60 or moment != b"%d" % int(moment):
+    if label != b"trusted comment: timestamp" or abs(seconds - time.time()) > 60 or moment != b"%d" % seconds:
         raise Failure(f"a trusted comment is {third!r}")
     if len(record) != 74 or record[:10] != b"ED" + toy.KEYNUM:
         raise Failure(f"a record is {record!r}")
@@ -138,6 +145,7 @@ def sign_cases():
         *signature_file_cases(),
         *stream_cases(),
         *memory_cases(),
+        *whole_way_cases(),
     ]
 
 
@@ -301,3 +309,26 @@ def memory_cases():
         for name, case in rows
         for refusing, many in (("one", "one request"), ("all", "each request from one on"))
     ]
+
+
+def whole_way_cases():
+    """A pair is made, a file is signed with its secret key, and whoever has the public one verifies it and copies
+    it out; where the file, the signature or the key is another one, it is refused."""
+    now = int(time.time())
+    # The signature is made some time after this table.
+    verified = [f"{VERIFIED_BARE}Trusted comment: timestamp:{now + passed}\n" for passed in range(600)]
+    good = OneOf(tuple([WARNING, line] for line in verified))
+    changed = [WARNING, "error: Signature verification failed\n"]
+    steps = [
+        Case("", ["sign", SK, FILE, SIG], 0, [WARNING], files={FILE: b"abc"}, stdin=b"p\n", output=OPENED),
+        Case("", ["verify", PK, FILE, SIG], 0, good),
+        Case("", ["cat", PK, FILE, SIG], 0, good, output=b"abc"),
+        Case("", ["verify", PK, FILE, SIG], 1, changed, files={FILE: b"abd"}),
+        Case("", ["cat", PK, FILE, SIG], 1, changed),
+        Case("", ["sign", SK, FILE, SIG], 1, [WARNING, WRONG_PASSWORD], stdin=b"q\n", output=OPENED),
+        Case("", ["sign", SK, FILE, SIG], 0, [WARNING], stdin=b"p\n", output=OPENED),
+        Case("", ["cat", PK, FILE, SIG], 0, good, output=b"abd"),
+    ]
+    made = Case("a pair is made, and a file is signed, verified and copied", ["keygen", PK, SK], 0, [WARNING],
+                stdin=b"p\np\n", output=MADE)
+    return [replace(made, then=tuple(steps))]

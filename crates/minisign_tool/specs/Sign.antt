@@ -1,6 +1,5 @@
 -- How a run that signs with a text file ends.
 use Rattle.std.specs.Prelude.{◌≡◌, ℕ, ◌⊎◌, None, List, Option}
-use Rattle.std.specs.Io.KnownBytes.{Appends}
 use Rattle.minisign_base.specs.declared.prompt.Prompt.{Prompt}
 use Rattle.minisign_base.specs.Devices.{Rose, AppendsFront}
 use Rattle.minisign_base.specs.Fault.{Fault}

@@ -2,6 +2,8 @@
 //! and the standard streams, and answers the exit status. A fault of opening is shown here.
 
 ghost use Rattle.std.specs.Prelude.{◌≡◌, ◌≤◌};
+ghost use Rattle.minisign_base.specs.Faults.{reading_failed};
+ghost use Rattle.minisign_tool.specs.Report.{HasSaid, ShowsFault, warning_line};
 
 use crate::cat::run_cat;
 use crate::keygen::run_keygen;
@@ -176,14 +178,18 @@ pub fn cat_files<W: Sink>(rt: &HostRuntime, pk: &str, file: &str, sig: &str, err
 
 /// Says that a file cannot be opened, and answers the exit status.
 pub fn cannot_open<W: Sink>(rt: &HostRuntime, errors: &mut W) -> u8
-    ensures { result ≡ 1 }
+    ensures status { result ≡ 1 }
+    ensures said { (warned : W) × HasSaid W.taken W.sink_faults errors.old warned warning_line
+        × ShowsFault W.taken W.sink_faults warned errors.new reading_failed }
 {
     refuse(rt, errors, &faults::reading_failed())
 }
 
 /// Warns and shows a fault that came before a command's body, and answers the exit status.
 pub fn refuse<W: Sink>(rt: &HostRuntime, errors: &mut W, fault: &PError) -> u8
-    ensures { result ≡ 1 }
+    ensures status { result ≡ 1 }
+    ensures said { (warned : W) × HasSaid W.taken W.sink_faults errors.old warned warning_line
+        × ShowsFault W.taken W.sink_faults warned errors.new fault.now }
 {
     warn(errors);
     report(rt.alloc(), errors, fault)

@@ -16,6 +16,8 @@ mod streams;
 #[cfg(test)]
 mod tests;
 mod text_files;
+#[cfg(test)]
+mod text_tests;
 mod verify;
 mod verify_raw;
 

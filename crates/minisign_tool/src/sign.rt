@@ -3,6 +3,7 @@
 
 ghost use Rattle.std.specs.Prelude.{◌≡◌, ℕ, ◌≤◌, List, ◌⊎◌, string_bytes, IfOk, IfErr, OnOk};
 ghost use Rattle.std.specs.Io.KnownBytes.{Appends};
+ghost use Rattle.minisign_base.specs.Devices.{HasGiven};
 ghost use Rattle.minisign_base.specs.Fault.{Fault};
 ghost use Rattle.minisign.specs.Records.{SecretKeyRecord};
 ghost use Rattle.minisign.specs.Reading.{IsAhead, ReadsWhole};
@@ -80,6 +81,8 @@ pub fn run_sign<
         × SignsText (S.signature_of scheme.now) A.ahead A.left A.faults B.taken B.sink_faults prompt.old prompt.new
         R.ahead R.behind R.faults data_reader.old data_reader.new Z.random_ahead random.old random.new sk_text moment text
         × WriteFails G.taken G.sink_faults signature.old signature.new text e)) }
+    ensures given { HasGiven (R.ahead data_reader.old) (R.ahead data_reader.new) }
+    ensures drawn { HasGiven (Z.random_ahead random.old) (Z.random_ahead random.new) }
 {
     warn(errors);
     match sign_file(
@@ -129,6 +132,8 @@ fn sign_file<S: Scheme, K: Source, R: Source, G: Sink, Z: RandomSource, A: Sourc
         × SignsText (S.signature_of scheme.now) A.ahead A.left A.faults B.taken B.sink_faults prompt.old prompt.new
         R.ahead R.behind R.faults data_reader.old data_reader.new Z.random_ahead random.old random.new sk_text moment text
         × WriteFails G.taken G.sink_faults signature.old signature.new text e)) }
+    ensures given { HasGiven (R.ahead data_reader.old) (R.ahead data_reader.new) }
+    ensures drawn { HasGiven (Z.random_ahead random.old) (Z.random_ahead random.new) }
 {
     let sk_text = match read_text(alloc, sk_file) {
         Ok(sk_text) => sk_text,
@@ -162,6 +167,8 @@ pub fn sign_data<S: Scheme, R: Source, Z: RandomSource, A: Source, B: Sink>(
         R.ahead R.behind R.faults data_reader.old data_reader.new Z.random_ahead random.old random.new sk_text.now moment (string_bytes t)) }
     ensures refused { IfErr result (SignFails A.ahead A.left A.faults B.taken B.sink_faults prompt.old prompt.new
         R.ahead R.behind R.faults data_reader.old data_reader.new Z.random_faults random.old random.new sk_text.now) }
+    ensures given { HasGiven (R.ahead data_reader.old) (R.ahead data_reader.new) }
+    ensures drawn { HasGiven (Z.random_ahead random.old) (Z.random_ahead random.new) }
 {
     let (password, trusted_comment, untrusted_comment) = (None, None, None);
     match sign_texts(

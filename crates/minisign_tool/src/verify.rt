@@ -2,6 +2,7 @@
 
 ghost use Rattle.std.specs.Prelude.{◌≡◌, ℕ, ◌≤◌, List, false, ◌⊎◌, OnOk, OnErr, IfErr};
 ghost use Rattle.std.specs.Io.KnownBytes.{Appends};
+ghost use Rattle.minisign_base.specs.Devices.{HasGiven};
 ghost use Rattle.minisign_base.specs.Fault.{Fault};
 ghost use Rattle.minisign.specs.Acceptance.{status_lines};
 ghost use Rattle.minisign.specs.Headline.{TextsVouchFor};
@@ -48,6 +49,7 @@ pub fn run_verify<S: Scheme, P: Source, R: Rereader, Q: Source, W: Sink>(
         Q.ahead Q.behind Q.faults sig_file.old sig_file.new pk_text sig_text
         × VerifyFails (S.accepts scheme.now) pk_text sig_text R.ahead R.behind R.faults data_reader.old data_reader.new W.sink_faults warned told e
         × SaysFront W.taken warned told pk_text sig_text)) }
+    ensures given { HasGiven (R.ahead data_reader.old) (R.ahead data_reader.new) }
 {
     warn(errors);
     match read_and_verify(alloc, scheme, pk_file, data_reader, sig_file, errors) {
@@ -77,6 +79,7 @@ fn read_and_verify<S: Scheme, P: Source, R: Rereader, Q: Source, W: Sink>(
         Q.ahead Q.behind Q.faults sig_file.old sig_file.new pk_text sig_text
         × VerifyFails (S.accepts scheme.now) pk_text sig_text R.ahead R.behind R.faults data_reader.old data_reader.new W.sink_faults errors.old errors.new e
         × SaysFront W.taken errors.old errors.new pk_text sig_text)) }
+    ensures given { HasGiven (R.ahead data_reader.old) (R.ahead data_reader.new) }
 {
     let (pk_text, sig_text) = read_both_texts(alloc, pk_file, sig_file)?;
     match verify_data(alloc, scheme, &pk_text, &sig_text, data_reader, errors) {
@@ -104,6 +107,7 @@ pub fn verify_data<S: Scheme, R: Rereader, W: Sink>(
     ensures refused { IfErr result (VerifyFails (S.accepts scheme.now) pk_text.now sig_text.now
         R.ahead R.behind R.faults data_reader.old data_reader.new W.sink_faults errors.old errors.new) }
     ensures front { OnErr result (SaysFront W.taken errors.old errors.new pk_text.now sig_text.now) }
+    ensures given { HasGiven (R.ahead data_reader.old) (R.ahead data_reader.new) }
 {
     let (quiet, output, allow_legacy) = (false, false, false);
     let mut nowhere = VecSink::new(alloc);
