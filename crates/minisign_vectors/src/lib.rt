@@ -14,6 +14,7 @@ mod devices_for_tests;
 pub mod example;
 #[cfg(test)]
 mod failing_devices;
+#[cfg(test)]
 mod failing_generation;
 #[cfg(test)]
 mod faults;
