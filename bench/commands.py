@@ -17,8 +17,7 @@ import shutil
 import sys
 import tempfile
 
-import toy
-from timing import TOOL, compare, processor_timed
+from timing import TOOL, compare, processor_timed, toy
 
 SIZE = 1_000_000_000
 PASSWORD = b"password"
@@ -34,12 +33,13 @@ def write_input(path):
 
 def write_files(folder, digest):
     """Writes the keys and signatures of data with this digest, and answers their paths by name."""
+    signature = b"ED" + toy.KEYNUM + toy.signature_of(digest)
     contents = {
-        "raw.pk": toy.PUBLIC_RECORD,
-        "raw.sig": toy.signature_record(digest),
+        "raw.pk": b"Ed" + toy.KEYNUM + toy.KEY,
+        "raw.sig": signature,
         "key.pk": toy.public_text(),
-        "key.sk": toy.secret_text(PASSWORD),
-        "key.sig": toy.signature_text(digest),
+        "key.sk": toy.sealed_text(PASSWORD),
+        "key.sig": toy.signature_text(None, record=signature),
         "password": PASSWORD + b"\n",
         "made.sig": b"",
     }

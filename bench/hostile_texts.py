@@ -7,12 +7,10 @@ the length of the text, or where a text of twice the length takes much more than
 Needs: Python 3.9 or later, and the program, built by `rt run -- x` in crates/minisign_tool.
 """
 
-import hashlib
 import os
 import tempfile
 
-import toy
-from timing import TOOL, run
+from timing import TOOL, run, toy
 
 LENGTHS = [length * 2**20 for length in (8, 16, 32)]
 ROUNDS = 3
@@ -20,7 +18,6 @@ ROUNDS = 3
 MOST_MEMORY, LEAST_ROOM = 4.0, 4.0
 MOST_GROWTH, LEAST_SECONDS = 3.0, 0.02
 DATA = b"abc"
-WARNING = "warning: insecure toy scheme, for tests only\n"
 
 # One line, and no other.
 ONE_LINE = {
@@ -33,7 +30,6 @@ NO_SIGNATURE = "error: Missing signature\n"
 NO_SECRET_KEY = "error: Missing encoded key in secret key\n"
 NOT_56_LETTERS = "error: Base64 conversion failed - was an actual public key given?\n"
 NO_COMMENT_LINE = "error: Untrusted comment must start with: untrusted comment: \n"
-TOO_SHORT = "error: failed to fill whole buffer\n"
 COMMENT_REFUSED = "error: Comment signature verification failed\n"
 VERIFIED = "Signature and comment signature verified\nTrusted comment: t\n"
 SIGNED = ""
@@ -66,7 +62,7 @@ def public_texts():
 
 def signature_texts():
     """Names of signature texts, how they are made, and what `verify` says."""
-    good = toy.signature_text(hashlib.blake2b(DATA).digest())
+    good = toy.signature_text(DATA)
     yield from ((name, repeated(letter), NO_SIGNATURE) for name, letter in ONE_LINE.items())
     yield "only line feeds", repeated(b"\n"), NO_COMMENT_LINE
     yield "a long third line of spaces", longer(good, 3, b" "), VERIFIED
@@ -77,18 +73,17 @@ def signature_texts():
 
 
 def long_comment_signature(length):
-    """A good text with a comment signature of so many bytes more, of which the first 64 count."""
-    lines = toy.signature_text(hashlib.blake2b(DATA).digest()).splitlines(keepends=True)
-    comment_signature = toy.signature(toy.signature_record(hashlib.blake2b(DATA).digest())[10:] + b"t")
-    lines[3] = toy.line(comment_signature + bytes(length * 3 // 4))
-    return b"".join(lines)
+    """A good text with a comment signature of so many letters more, of which the first 64 bytes count."""
+    signature = toy.signature_record(DATA)
+    comment_signature = toy.signature_of(signature[10:] + b"t") + bytes(length * 3 // 4)
+    return toy.signature_text(DATA, comment_signature=comment_signature)
 
 
 def secret_texts():
     """Names of secret key texts, how they are made, and what `sign` says."""
     good = toy.secret_text()
     yield from ((name, repeated(letter), NO_SECRET_KEY) for name, letter in ONE_LINE.items())
-    yield "only line feeds", repeated(b"\n"), TOO_SHORT
+    yield "only line feeds", repeated(b"\n"), toy.TOO_SHORT
     yield "a long second line", long_secret_key, SIGNED
     yield "a long fourth line", longer(good, 4), SIGNED
 
@@ -96,7 +91,7 @@ def secret_texts():
 def long_secret_key(length):
     """A good text with a record of so many bytes more, of which the first 158 count."""
     comment, key = toy.secret_text().splitlines(keepends=True)
-    return comment + key.rstrip(b"=\n") + b"A" * (length - length % 4) + b"\n"
+    return comment + key.rstrip(b"=\n") + b"A" * (length - length % 4 + 1) + b"\n"
 
 
 def runs():
@@ -113,7 +108,7 @@ def least(folder, arguments, said):
     """The least processor time of some runs and their greatest memory, where the answer is the right one."""
     ended = [run([TOOL, *arguments], folder=folder) for _ in range(ROUNDS)]
     for it in ended:
-        if (it.status, it.output) != (int(said.startswith("error")), WARNING + said):
+        if (it.status, it.output) != (int(said.startswith("error")), toy.WARNING + said):
             raise SystemExit(f"{arguments[0]} ended with {it.status} and said {it.output[:200]!r}")
     return min(it.processor_seconds for it in ended), max(it.memory for it in ended)
 
@@ -121,7 +116,7 @@ def least(folder, arguments, said):
 def main():
     good = {
         "key": toy.public_text(),
-        "signature": toy.signature_text(hashlib.blake2b(DATA).digest()),
+        "signature": toy.signature_text(DATA),
         "secret": toy.secret_text(),
         "data": DATA,
     }

@@ -2,11 +2,17 @@
 
 import os
 import subprocess
+import sys
 import time
 from dataclasses import dataclass
 
+HERE = os.path.dirname(os.path.realpath(__file__))
+# The texts of the toy scheme are those of the tests.
+sys.path.insert(0, os.path.join(HERE, "..", "tests"))
+import toy
+
 # The program, as `rt run` or the gate leaves it.
-TOOL = os.path.join(os.path.dirname(os.path.realpath(__file__)), "..", "crates", "minisign_tool", "out", "minisign_tool")
+TOOL = os.path.join(HERE, "..", "crates", "minisign_tool", "out", "minisign_tool")
 
 
 def greatest_memory(process):

@@ -1,0 +1,225 @@
+"""The runs of `verify-raw`."""
+
+import os
+from dataclasses import replace
+
+import toy
+from running import (
+    CLOSED,
+    FOLDER,
+    FULL,
+    MISSING,
+    NO_READER,
+    WRITE_ONLY,
+    Case,
+    FromFile,
+    OpenedPipe,
+    Pieces,
+    UnopenedPipe,
+    Unreadable,
+)
+from toy import OUT_OF_MEMORY, READING_FAILED, TOO_SHORT, WARNING
+
+VERIFIED = "Signature and comment signature verified\n"
+UNSUPPORTED = "error: Unsupported signature algorithm\n"
+LEGACY = "error: Legacy signatures are not accepted\n"
+REFUSED = "error: Signature verification failed\n"
+OTHER_KEYNUM = "error: Signature key id: 0807060504030201 is different from public key: E7620F1842B4E81F\n"
+
+KEY = b"Ed" + toy.KEYNUM + toy.KEY
+# The signature of `abc` under that key by its digest, with a first half of zeros.
+SIGNATURE = b"ED" + toy.KEYNUM + bytes(32) + bytes.fromhex("9d5d3a5ce8ed6e7af22f1832807b60260ea8ffe6e9f10cb7a86b67d855a561a8")
+# The public key under another identifier.
+OTHER_KEY = b"Ed" + toy.OTHER_KEYNUM + toy.KEY
+
+
+def by_bytes(files):
+    """Files by names that the system takes, of which some are no UTF-8."""
+    return {os.fsdecode(name): data for name, data in files.items()}
+
+
+def verify_raw(name, status, *lines, files=None, arguments=("key.pk", "abc.sig"), stdin=b"abc", **how):
+    """A case of `verify-raw`, whose files are a good key and a good signature of `abc` where it names no others."""
+    files = {"key.pk": KEY, "abc.sig": SIGNATURE, **(files or {})}
+    return Case(name, ["verify-raw", *arguments], status, list(lines), files=files, stdin=stdin, **how)
+
+
+def verify_raw_cases():
+    return [
+        verify_raw("the first run", 0, WARNING, VERIFIED),
+        *verdict_cases(),
+        *record_cases(),
+        *opening_cases(),
+        *reading_cases(),
+        *name_cases(),
+        *input_cases(),
+        *stream_cases(),
+        *memory_cases(),
+    ]
+
+
+def verdict_cases():
+    changed = SIGNATURE[:-1] + b"\xa9"
+    legacy = b"Ed" + toy.KEYNUM + toy.signature_of(b"abc")
+    return [
+        verify_raw("other data", 1, WARNING, REFUSED, stdin=b"abd"),
+        verify_raw("no data", 1, WARNING, REFUSED, stdin=b""),
+        verify_raw("more data", 1, WARNING, REFUSED, stdin=b"abc\n"),
+        verify_raw("a changed signature", 1, WARNING, REFUSED, files={"abc.sig": changed}),
+        verify_raw("another public key", 1, WARNING, REFUSED, files={"key.pk": KEY[:-1] + b"z"}),
+        verify_raw("another identifier", 1, WARNING, OTHER_KEYNUM, files={"key.pk": OTHER_KEY}),
+        verify_raw("another identifier before a changed signature", 1, WARNING, OTHER_KEYNUM,
+                   files={"key.pk": OTHER_KEY, "abc.sig": changed}),
+        verify_raw("a signature of the data itself", 1, WARNING, LEGACY, files={"abc.sig": legacy}),
+        verify_raw("another identifier before a signature of the data itself", 1, WARNING, OTHER_KEYNUM,
+                   files={"key.pk": OTHER_KEY, "abc.sig": legacy}),
+        verify_raw("another algorithm of the key", 0, WARNING, VERIFIED, files={"key.pk": b"xx" + KEY[2:]}),
+    ]
+
+
+def record_cases():
+    unknown = b"Ex" + SIGNATURE[2:]
+    return [
+        verify_raw("a short key", 1, WARNING, TOO_SHORT, files={"key.pk": KEY[:41]}),
+        verify_raw("an empty key", 1, WARNING, TOO_SHORT, files={"key.pk": b""}),
+        verify_raw("a longer key", 0, WARNING, VERIFIED, files={"key.pk": KEY + b"\xff"}),
+        verify_raw("a short signature", 1, WARNING, TOO_SHORT, files={"abc.sig": SIGNATURE[:73]}),
+        verify_raw("an empty signature", 1, WARNING, TOO_SHORT, files={"abc.sig": b""}),
+        verify_raw("a longer signature", 0, WARNING, VERIFIED, files={"abc.sig": SIGNATURE + b"\xff"}),
+        verify_raw("a far longer signature", 0, WARNING, VERIFIED, files={"abc.sig": SIGNATURE + bytes(200_000)}),
+        verify_raw("an unknown algorithm", 1, WARNING, UNSUPPORTED, files={"abc.sig": unknown}),
+        verify_raw("a short key before an unknown algorithm", 1, WARNING, TOO_SHORT,
+                   files={"key.pk": KEY[:41], "abc.sig": unknown}),
+        verify_raw("a short signature of an unknown algorithm", 1, WARNING, TOO_SHORT, files={"abc.sig": unknown[:73]}),
+        verify_raw("an unknown algorithm before another identifier", 1, WARNING, UNSUPPORTED,
+                   files={"key.pk": OTHER_KEY, "abc.sig": unknown}),
+        verify_raw("key and signature swapped", 1, WARNING, TOO_SHORT, arguments=("abc.sig", "key.pk")),
+    ]
+
+
+def opening_cases():
+    """The key is opened first, then the signature, and nothing is read before both are open."""
+    unreadable_key, unreadable_signature = Unreadable(KEY), Unreadable(SIGNATURE)
+    rows = [
+        ("a missing key", MISSING, SIGNATURE),
+        ("a missing signature", KEY, MISSING),
+        ("a missing key and a missing signature", MISSING, MISSING),
+        ("an unreadable key", unreadable_key, SIGNATURE),
+        ("an unreadable signature", KEY, unreadable_signature),
+        ("an unreadable key and an unreadable signature", unreadable_key, unreadable_signature),
+        ("a missing key and an unreadable signature", MISSING, unreadable_signature),
+        ("an unreadable key and a missing signature", unreadable_key, MISSING),
+        ("a missing signature before a short key", KEY[:41], MISSING),
+        ("a missing key before a short signature", MISSING, SIGNATURE[:73]),
+        ("a missing key before the signature is opened", MISSING, UnopenedPipe()),
+        ("an unreadable key before the signature is opened", unreadable_key, UnopenedPipe()),
+        ("the key is opened before a missing signature", OpenedPipe(), MISSING),
+        ("the key is opened before an unreadable signature", OpenedPipe(), unreadable_signature),
+    ]
+    return [
+        verify_raw(name, 1, WARNING, READING_FAILED, files={"key.pk": key, "abc.sig": signature})
+        for name, key, signature in rows
+    ]
+
+
+def reading_cases():
+    """The key is read first, then the signature, then both are tested, and then the data is read."""
+    rows = [
+        ("a folder as key", FOLDER, SIGNATURE, READING_FAILED),
+        ("a folder as signature", KEY, FOLDER, READING_FAILED),
+        ("folders as key and signature", FOLDER, FOLDER, READING_FAILED),
+        ("a folder as key before the signature is read", FOLDER, OpenedPipe(), READING_FAILED),
+        ("a folder as key and a missing signature", FOLDER, MISSING, READING_FAILED),
+        ("a missing key and a folder as signature", MISSING, FOLDER, READING_FAILED),
+        ("a folder as signature before a short key", KEY[:41], FOLDER, READING_FAILED),
+        ("a folder as key before a short signature", FOLDER, SIGNATURE[:73], READING_FAILED),
+    ]
+    cases = [
+        verify_raw(name, 1, WARNING, line, files={"key.pk": key, "abc.sig": signature})
+        for name, key, signature, line in rows
+    ]
+    return [
+        *cases,
+        verify_raw("a folder as data", 1, WARNING, READING_FAILED, stdin=FOLDER),
+        verify_raw("a folder as data before another identifier", 1, WARNING, READING_FAILED,
+                   files={"key.pk": OTHER_KEY}, stdin=FOLDER),
+        verify_raw("a folder as data before a signature of the data itself", 1, WARNING, READING_FAILED,
+                   files={"abc.sig": b"Ed" + SIGNATURE[2:]}, stdin=FOLDER),
+        verify_raw("a short key before a folder as data", 1, WARNING, TOO_SHORT, files={"key.pk": KEY[:41]}, stdin=FOLDER),
+        verify_raw("a short signature before a folder as data", 1, WARNING, TOO_SHORT,
+                   files={"abc.sig": SIGNATURE[:73]}, stdin=FOLDER),
+        verify_raw("an unknown algorithm before a folder as data", 1, WARNING, UNSUPPORTED,
+                   files={"abc.sig": b"Ex" + SIGNATURE[2:]}, stdin=FOLDER),
+        verify_raw("data that cannot be read", 1, WARNING, READING_FAILED, stdin=WRITE_ONLY),
+    ]
+
+
+def name_cases():
+    """Names of files are taken as they stand."""
+    names = [" key ", "-", "--help", "sch\u00fcssel \U0001f511", "two\nlines", "./key", "a\\b", "$HOME", "k" * 255]
+    cases = [
+        verify_raw(f"a file of the name {name[:20]!r}", 0, WARNING, VERIFIED,
+                   files={name: KEY, "key": b""} if "/" not in name else {"key": KEY}, arguments=(name, "abc.sig"))
+        for name in names
+    ]
+    return [
+        *cases,
+        verify_raw("an empty name of the key", 1, WARNING, READING_FAILED, arguments=("", "abc.sig")),
+        verify_raw("an empty name of the signature", 1, WARNING, READING_FAILED, arguments=("key.pk", "")),
+        verify_raw("a name that is too long", 1, WARNING, READING_FAILED, arguments=("k" * 256, "abc.sig")),
+        verify_raw("a path that is too long", 1, WARNING, READING_FAILED, arguments=("./" * 10_000 + "key.pk", "abc.sig")),
+        verify_raw("one file as key and signature", 1, WARNING, TOO_SHORT, arguments=("key.pk", "key.pk")),
+    ]
+
+
+def input_cases():
+    """Data of many lengths, and however it comes."""
+    lengths = [0, 1, 127, 128, 129, 256, 257, 65535, 65536, 65537, 131072, 131073]
+    cases = [
+        verify_raw(f"data of {length} bytes", 0, WARNING, VERIFIED,
+                   files={"abc.sig": toy.signature_record(toy.some_data(length))}, stdin=toy.some_data(length))
+        for length in lengths
+    ]
+    large = toy.some_data(32_000_000)
+    pieces = (toy.some_data(1), toy.some_data(70_000), toy.some_data(128), toy.some_data(3))
+    return [
+        *cases,
+        verify_raw("data byte by byte", 0, WARNING, VERIFIED, stdin=Pieces((b"a", b"b", b"c"))),
+        verify_raw("data in pieces", 0, WARNING, VERIFIED,
+                   files={"abc.sig": toy.signature_record(b"".join(pieces))}, stdin=Pieces(pieces)),
+        verify_raw("data from a file", 0, WARNING, VERIFIED, stdin=FromFile(b"abc")),
+        verify_raw("no data from a file", 1, WARNING, REFUSED, stdin=FromFile(b"")),
+        verify_raw("large data", 0, WARNING, VERIFIED, files={"abc.sig": toy.signature_record(large)}, stdin=large),
+        verify_raw("large data from a file", 0, WARNING, VERIFIED, files={"abc.sig": toy.signature_record(large)}, stdin=FromFile(large)),
+        verify_raw("large data and a byte more", 1, WARNING, REFUSED, files={"abc.sig": toy.signature_record(large)}, stdin=large + b"\0"),
+    ]
+
+
+def stream_cases():
+    """Streams that are closed or full. Only a status line that cannot be written changes the exit status."""
+    cases = []
+    for kind in (CLOSED, FULL, NO_READER):
+        cases += [
+            verify_raw(f"good data, and for errors {kind}", 1, stderr=kind),
+            verify_raw(f"other data, and for errors {kind}", 1, stdin=b"abd", stderr=kind),
+            verify_raw(f"a missing key, and for errors {kind}", 1, files={"key.pk": MISSING}, stderr=kind),
+        ]
+    return [
+        *cases,
+        verify_raw("good data, and a closed output", 0, WARNING, VERIFIED, stdout=CLOSED),
+        verify_raw("good data, and a full output", 0, WARNING, VERIFIED, stdout=FULL),
+        verify_raw("a closed input", 1, WARNING, READING_FAILED, stdin=CLOSED),
+    ]
+
+
+def memory_cases():
+    """Want of memory at each request, first while the arguments are read."""
+    good = verify_raw("", 1, WARNING, OUT_OF_MEMORY)
+    other = verify_raw("", 1, WARNING, OUT_OF_MEMORY, stdin=b"abd")
+    arguments = Case("", [], 1, [WARNING, OUT_OF_MEMORY])
+    rows = [("good data", good), ("other data", other), ("no arguments", arguments)]
+    return [
+        replace(case, name=f"{name}, and {many} for memory refused", refusing=refusing)
+        for name, case in rows
+        for refusing, many in (("one", "one request"), ("all", "each request from one on"))
+    ]
