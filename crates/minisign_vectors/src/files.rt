@@ -8,6 +8,9 @@ use minisign::{PublicKey, SecretKey, SignatureBox};
 use minisign_base::devices::sinks::VecSink;
 use minisign_base::devices::sources::SliceSource;
 use minisign_base::prompt::Prompt;
+use std::fs::OpenOptions;
+use std::io::Write;
+use std::os::unix::fs::OpenOptionsExt;
 use std::test::Fail;
 use std::{env, fs, process};
 
@@ -163,6 +166,32 @@ fn secret_keys_are_read_from_files(rt: HostRuntime) -> Result<(), Fail> {
         let answer = SecretKey::from_file(&rt, alloc, path.as_str(), None, &mut prompt);
         assert_eq!(rt; outcome(alloc, &answer).as_str(), expected, "at {name}");
         assert!(rt; prompt.writer.as_slice().is_empty(), "at {name}");
+    }
+    fs::remove_dir_all(&rt, folder.as_str())?;
+    Ok(())
+}
+
+// Whoever may read every file, as root may, sees nothing of this.
+#[test]
+fn files_without_rights_are_unreadable(rt: HostRuntime) -> Result<(), Fail> {
+    let alloc = rt.alloc();
+    let folder = make_folder(&rt, "rights")?;
+    let path = path_of(&rt, &folder, "closed")?;
+    let mut made = OpenOptions::new()
+        .write(true)
+        .create(true)
+        .mode(0o200)
+        .open(&rt, path.as_str())?;
+    made.write_all(KEY_TEXT.as_bytes())?;
+    if fs::open(&rt, path.as_str()).is_err() {
+        let pk = PublicKey::from_file(&rt, alloc, path.as_str());
+        assert_eq!(rt; outcome(alloc, &pk).as_str(), UNREADABLE);
+        let signature_box = SignatureBox::from_file(&rt, alloc, path.as_str());
+        assert_eq!(rt; outcome(alloc, &signature_box).as_str(), UNREADABLE);
+        let mut prompt = Prompt::new(SliceSource::new(b"\n"), VecSink::new(alloc));
+        let sk = SecretKey::from_file(&rt, alloc, path.as_str(), None, &mut prompt);
+        assert_eq!(rt; outcome(alloc, &sk).as_str(), UNREADABLE);
+        assert!(rt; prompt.writer.as_slice().is_empty());
     }
     fs::remove_dir_all(&rt, folder.as_str())?;
     Ok(())
