@@ -1,5 +1,5 @@
 -- What verifying says where nothing is copied out.
-use Rattle.std.proofs.Common.{◌≡◌, ℕ, Bool, true, false, List, Option, ◌⊎◌, inl, inr, ⊎_elim, refl, sym}
+use Rattle.std.proofs.Common.{ℕ, Bool, false, List, Option, inl, inr, ⊎_elim, refl, sym}
 use Rattle.std.proofs.lemmas.Bool.{true≢false}
 use Rattle.minisign_base.specs.Fault.{Fault}
 use Rattle.minisign.specs.Records.{PublicKeyRecord, SignatureBoxRecord}

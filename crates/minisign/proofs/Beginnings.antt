@@ -1,5 +1,5 @@
 -- What follows after a refusal, and after one draw and then another.
-use Rattle.std.proofs.Common.{◌≡◌, ℕ, List, ◌++◌, Option, None, Some, Result, Ok, Err, OnErr, append_assoc, ap, sym, ◌∙◌}
+use Rattle.std.proofs.Common.{ℕ, List, ◌++◌, Option, None, Some, Result, Ok, Err, OnErr, append_assoc, ap, sym, ◌∙◌}
 use Rattle.std.specs.Io.KnownBytes.{Consumes}
 use Rattle.minisign_base.specs.Devices.{HasGiven}
 

@@ -1,5 +1,5 @@
 -- The second pass over marked data, as a caller of the whole sees it.
-use Rattle.std.proofs.Common.{◌≡◌, ℕ, Bool, List, ◌≢◌, Option, None, Some, IfSome, ◌⊎◌, inl, inr, ⊎_elim, sym, subst, ◌∙◌}
+use Rattle.std.proofs.Common.{◌≡◌, ℕ, Bool, List, ◌≢◌, Option, None, Some, IfSome, inl, inr, ⊎_elim, sym, subst, ◌∙◌}
 use Rattle.minisign_hash.specs.Blake2b.{blake2b_digest}
 use Rattle.minisign_base.specs.Devices.{Rose, HasGiven}
 use Rattle.minisign_base.specs.Fault.{Fault}

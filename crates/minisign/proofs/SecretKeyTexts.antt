@@ -1,7 +1,7 @@
 -- What the two lines of a text say of the secret key that it reads as.
 use Rattle.std.proofs.Common.{◌≡◌, ℕ, ◌+◌, ◌-◌, ◌<◌, ◌≤◌, ◌⊎◌, true, false, List, [], ◌∷◌, ◌++◌, length, take, drop, nat_le, Result, Ok, Err, MatchResult, IfOk, refl, sym, ap, ◌∙◌, inr, arith}
 use Rattle.std.specs.declared.option.Option.TheVariants.{None}
-use Rattle.std.proofs.lemmas.Bool.{lt-ltb, lt-leb, le-leb, leb-true}
+use Rattle.std.proofs.lemmas.Bool.{lt-leb, le-leb, leb-true}
 use Rattle.std.proofs.lemmas.List.{length-append, length-take-le, length-drop, take-append-drop}
 use Rattle.std.specs.Str.Lines.{lines}
 use Rattle.minisign_base.specs.Fault.{Fault}

@@ -1,21 +1,18 @@
 -- Texts of signatures: the first case that fails is none exactly where a box is read, and it is the only
 -- one.
-use Rattle.std.proofs.Common.{◌≡◌, ◌≢◌, ℕ, ◌+◌, ◌-◌, ◌<◌, ◌≤◌, Bool, true, false, ◌||◌, IsTrue, List, [], ◌∷◌, ◌++◌, length, take, drop, codes, slice_index_or, refl, sym, ap, subst, ◌∙◌, arith, inl, inr, ◌⊎◌, is_some, slice_get}
-use Rattle.std.specs.declared.option.Option.{Option}
+use Rattle.std.proofs.Common.{◌≡◌, ◌≢◌, ℕ, ◌<◌, ◌≤◌, Bool, true, false, ◌||◌, List, [], ◌∷◌, ◌++◌, length, take, drop, codes, slice_index_or, refl, sym, ap, subst, ◌∙◌, arith, inl, inr, ◌⊎◌, is_some, slice_get}
 use Rattle.std.specs.declared.option.Option.TheVariants.{None, Some}
 use Rattle.std.specs.List.{starts_with}
-use Rattle.std.specs.Str.{trim, bytes_eq}
+use Rattle.std.specs.Str.{trim}
 use Rattle.std.specs.Str.Lines.{lines}
-use Rattle.std.proofs.Math.Bool.{cond}
 use Rattle.std.proofs.Math.Dec.{eqb, leb, lit<}
 use Rattle.std.proofs.lemmas.Bool.{le-leb, leb-true, lt-leb}
 use Rattle.std.proofs.lemmas.Bool.Decides.{Decides-eqb}
 use Rattle.std.proofs.lemmas.List.{append_assoc, append_cancel_left, length-take-le, length-drop, take-append-drop}
 use Rattle.std.proofs.lemmas.Slice.Eq.{starts_is, bytes_eq-Decides}
-use Rattle.minisign_base.specs.Fault.{Fault}
 use Rattle.minisign_base.specs.Faults.{missing_untrusted_comment, missing_signature, missing_trusted_comment, missing_global_signature, untrusted_comment_prefix, signature_not_base64, record_too_short, trusted_comment_prefix, unsupported_signature_algorithm}
 use Rattle.minisign.specs.Records.{CommentsRecord, SignatureRecord, SignatureBoxRecord, ReadsSignature, IsKnownAlgorithm, signature_bytes, legacy_algorithm, prehashed_algorithm}
-use Rattle.minisign.specs.Texts.{IsBase64Of, IsDecided, base64_of, base64_bytes, is_base64, has_line, line_at, untrusted_comment_label}
+use Rattle.minisign.specs.Texts.{IsBase64Of, IsDecided, base64_of, base64_bytes, is_base64, line_at, untrusted_comment_label}
 use Rattle.minisign.specs.SignatureText.{EncodesSignature, SignatureText, HasFourLines, KeepsComments, signature_text, is_known_algorithm, signature_tests, signature_fault, trusted_comment_label}
 use Rattle.minisign.proofs.Base64Texts.{bytes_read, is_read, reads, one_decoding}
 use Rattle.base64.specs.GeneralPurpose.{IsBytes}

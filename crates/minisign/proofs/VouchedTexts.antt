@@ -1,7 +1,7 @@
 -- Verifying with texts succeeds exactly where they vouch for the message, where no device fails.
-use Rattle.std.proofs.Common.{◌≡◌, ◌≢◌, ℕ, Bool, true, false, List, ◌⊎◌, inl, inr, sym, ap, subst, ◌∙◌, refl, IfErr, IfOk, OnOk, IfSome, MatchResult}
+use Rattle.std.proofs.Common.{◌≡◌, ◌≢◌, ℕ, Bool, true, false, List, inl, inr, sym, ap, subst, ◌∙◌, refl, IfErr, OnOk, IfSome}
 use Rattle.std.specs.declared.option.Option.{Option}
-use Rattle.std.specs.declared.option.Option.TheVariants.{None, Some}
+use Rattle.std.specs.declared.option.Option.TheVariants.{Some}
 use Rattle.std.specs.declared.result.Result.{Result}
 use Rattle.std.specs.declared.result.Result.TheVariants.{Ok, Err}
 use Rattle.minisign_hash.specs.Blake2b.{blake2b_digest}
@@ -13,7 +13,7 @@ use Rattle.minisign.specs.Acceptance.{Verifier, Vouches, Refuses, first_refusal}
 use Rattle.minisign.specs.Reading.{IsAhead, IsReadFault}
 use Rattle.minisign.specs.Verifying.{VerifyingFails, SayingFails, CopyingFails, OutputRefused, FirstPass, SecondPass, rereads}
 use Rattle.minisign.specs.VerifyingTexts.{ReadTexts, TextsFail, VerifyingTextsFails}
-use Rattle.minisign.specs.Headline.{TextsVouchFor, IsTurnedDown, IsVerdict}
+use Rattle.minisign.specs.Headline.{IsTurnedDown, IsVerdict}
 use Rattle.minisign.proofs.PublicKeyTexts as key_texts
 use Rattle.minisign.proofs.SignatureTexts as signature_texts
 

@@ -1,6 +1,6 @@
 -- The text of a secret key: a line of comment, and a line that is the base64 of the key's record, with
 -- nothing before or behind it. What follows these two lines does not matter.
-use Rattle.std.specs.Prelude.{◌≡◌, ℕ, IsTrue, nat_le, List, [], ◌∷◌, ◌++◌, length, Option, Some, codes}
+use Rattle.std.specs.Prelude.{ℕ, IsTrue, nat_le, List, [], ◌∷◌, ◌++◌, length, Option, codes}
 use Rattle.std.specs.Option.{unwrap_or}
 use Rattle.minisign_base.specs.Fault.{Fault}
 use Rattle.minisign_base.specs.Faults.{missing_secret_key_comment, missing_encoded_secret_key, secret_key_not_base64, record_too_short}

@@ -11,7 +11,7 @@ use Rattle.minisign.specs.Sealing.{no_kdf, checksum_refusal, opening_refusal}
 use Rattle.minisign.specs.SecretKeyText.{SecretKeyText, secret_key_fault}
 use Rattle.minisign.specs.SignatureText.{SignatureText, KeepsComments, signature_text}
 use Rattle.minisign.specs.Signing.{ChosenComments, DataFails, DrawFails, IsGenuine, IsSigned, Signer}
-use Rattle.minisign.specs.Opening.{IsOpened, IsOpenedAsking, IsUnencryptedText, RefusesAsking, RefusesKey}
+use Rattle.minisign.specs.Opening.{IsOpened, IsOpenedAsking, IsUnencryptedText, RefusesAsking}
 
 -- the text gives this key under a password that is known: it was never sealed, or it opens
 abbrev pub GivesKey : List ℕ → List ℕ → SecretKeyRecord → Type 0

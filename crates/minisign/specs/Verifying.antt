@@ -7,7 +7,7 @@ use Rattle.minisign_base.specs.Fault.{Fault}
 use Rattle.minisign_base.specs.Faults.{out_of_memory, writing_failed, going_back_failed, data_changed}
 use Rattle.minisign.specs.Records.{PublicKeyRecord, SignatureBoxRecord, is_prehashed}
 use Rattle.minisign.specs.Acceptance.{Verifier, Vouches, Refuses, judged, status_lines}
-use Rattle.minisign.specs.Reading.{IsAhead, ReadsWhole, IsReadFault}
+use Rattle.minisign.specs.Reading.{IsAhead, IsReadFault}
 
 -- what is to be said of a box that was accepted
 abbrev pub said : Bool → SignatureBoxRecord → List ℕ

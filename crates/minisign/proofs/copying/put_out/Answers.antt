@@ -1,7 +1,7 @@
 use Rattle.std.proofs.lemmas.Result.{IfErr-weaker}
 use Rattle.std.proofs.Common.{subst}
 use Rattle.minisign_base.specs.Devices.{Rose}
-use Rattle.minisign.proofs.Copies.{all_kept, front_of_all}
+use Rattle.minisign.proofs.Copies.{front_of_all}
 use Rattle.minisign.proofs.copying.put_out.Goals as goal
 
 pub returns-clause-refused : goal.returns-clause-refused

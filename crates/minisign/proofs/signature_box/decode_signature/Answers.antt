@@ -1,4 +1,4 @@
-use Rattle.std.proofs.Common.{◌≡◌, List, ℕ, subst, inr, IfSome}
+use Rattle.std.proofs.Common.{List, ℕ, subst, inr, IfSome}
 use Rattle.std.proofs.lemmas.Result.{err_from_is_err_and}
 use Rattle.minisign.specs.Texts.{IsBase64Of}
 use Rattle.minisign.proofs.Base64Texts.{short_of}

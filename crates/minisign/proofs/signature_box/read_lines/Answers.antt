@@ -1,9 +1,8 @@
-use Rattle.std.proofs.Common.{◌≡◌, List, ℕ, ◌<◌, false, true, length, subst, sym, ap, ◌∙◌, inl, inr, ⊎_elim}
+use Rattle.std.proofs.Common.{List, ℕ, ◌<◌, length, subst, sym, ap, ◌∙◌, inl, inr, ⊎_elim}
 use Rattle.std.proofs.lemmas.Result.{err_from_is_err_and}
-use Rattle.std.specs.Str.{trim}
 use Rattle.minisign.specs.Records.{SignatureRecord, IsKnownAlgorithm}
 use Rattle.minisign.specs.Texts.{is_base64, base64_bytes, untrusted_comment_label}
-use Rattle.minisign.specs.SignatureText.{EncodesSignature, trusted_comment_label, is_known_algorithm}
+use Rattle.minisign.specs.SignatureText.{EncodesSignature, trusted_comment_label}
 use Rattle.minisign.proofs.SignatureTexts as texts
 use Rattle.minisign.proofs.signature_box.read_lines.Goals as goal
 

@@ -1,4 +1,4 @@
-use Rattle.std.proofs.Common.{◌≡◌, List, ℕ, Some, ◌∙◌, ap, sym, subst}
+use Rattle.std.proofs.Common.{List, ℕ, Some, ◌∙◌, ap, sym, subst}
 use Rattle.minisign.specs.Records.{CommentsRecord, SignatureRecord, SignatureBoxRecord, ReadsSignature, signature_bytes}
 use Rattle.minisign.specs.Texts.{IsBase64Of, base64_of}
 use Rattle.minisign.specs.SignatureText.{SignatureText, EncodesSignature}

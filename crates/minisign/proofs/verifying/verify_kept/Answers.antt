@@ -1,5 +1,4 @@
-use Rattle.std.proofs.Common.{◌≡◌, List, ℕ, sym, ◌∙◌, arith}
-use Rattle.std.proofs.lemmas.Grind.{common_steps}
+use Rattle.std.proofs.Common.{◌≡◌, List, ℕ}
 use Rattle.minisign.specs.Acceptance.{judged}
 use Rattle.minisign.proofs.verifying.verify_kept.Goals as goal
 

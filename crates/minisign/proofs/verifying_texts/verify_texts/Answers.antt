@@ -1,4 +1,4 @@
-use Rattle.std.proofs.Common.{◌≡◌, ◌∙◌, ap, Err}
+use Rattle.std.proofs.Common.{◌∙◌, ap, Err}
 use Rattle.std.proofs.lemmas.Result.{err_from_is_err_and, on_ok_weaker}
 use Rattle.minisign.proofs.VouchedTexts.{text_verdict, fails_with, read_verdict}
 use Rattle.minisign.proofs.verifying_texts.verify_texts.Goals as goal

@@ -1,4 +1,4 @@
-use Rattle.std.proofs.Common.{Option, ap, sym, ◌∙◌, inl, inr}
+use Rattle.std.proofs.Common.{Option, ap, sym, ◌∙◌, inl}
 use Rattle.std.specs.Option.{option_or}
 use Rattle.minisign_base.specs.Fault.{Fault}
 use Rattle.minisign_base.specs.Faults.{wrong_password}

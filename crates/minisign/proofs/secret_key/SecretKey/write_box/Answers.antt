@@ -1,4 +1,4 @@
-use Rattle.std.proofs.Common.{◌∙◌, refl, sym, subst, rules}
+use Rattle.std.proofs.Common.{◌∙◌, refl, subst, rules}
 use Rattle.base64.specs.GeneralPurpose.{IsBytes}
 use Rattle.minisign.specs.Records.{SecretKeyRecord, ReadsSecretKey, secret_key_bytes}
 use Rattle.minisign.specs.SecretKeyText.{secret_key_text}
