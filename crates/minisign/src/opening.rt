@@ -90,7 +90,7 @@ impl SecretKey {
     }
 
     /// Reads a sealed key and opens it with the password: `from_box_within` with 4294967295, which no
-    /// parallelization exceeds, so that `work_too_high` never comes; `from_box_keeping` with k 1.
+    /// parallelization exceeds, so that `work_too_high` never comes.
     pub fn from_box<R: Source, W: Sink>(
         alloc: Global,
         sk_box: SecretKeyBox,
@@ -113,7 +113,7 @@ impl SecretKey {
             MatchResult result (λ v. Opens k (string_bytes p) × (v ≡ unsealed k (string_bytes p)))
             (λ e. (e ≡ out_of_memory) ⊎ (¬ (Opens k (string_bytes p)) × (unbounded_refusal k (string_bytes p) ≡ Some e)))) }
     {
-        SecretKey::from_box_keeping(alloc, sk_box, password, prompt, 1)
+        SecretKey::from_box_within(alloc, sk_box, password, prompt, u32::MAX)
     }
 
     /// Reads a sealed key and opens it with the password in a fraction of the memory: `from_box` with only

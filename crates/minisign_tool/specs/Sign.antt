@@ -13,8 +13,8 @@ use Rattle.minisign.specs.SigningTexts.{GivesKeyAsking, GivesNoneAsking, IsSigne
 
 -- where the key is genuine, the text reads as a box that every public key of the same seed and identifier
 -- vouches with
-abbrev pub VouchedWhereGenuine : Verifier → (List ℕ → List ℕ) → SecretKeyRecord → List ℕ → List ℕ → Type 0
-VouchedWhereGenuine accepts public_of sk message text =
+abbrev pub ReadsBackWhereGenuine : Verifier → (List ℕ → List ℕ) → SecretKeyRecord → List ℕ → List ℕ → Type 0
+ReadsBackWhereGenuine accepts public_of sk message text =
     (seed : List ℕ) → IsGenuine public_of sk seed
     → (x : SignatureBoxRecord) × SignatureText text x × VouchesUnderEachKey accepts (public_of seed) sk.keynum message x
 

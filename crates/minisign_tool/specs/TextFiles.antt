@@ -11,9 +11,9 @@ pub record ReadsBoth {P Q : Type 0} (first_ahead first_behind : P → Option (Li
   pub second : ReadsWhole second_ahead second_behind second_faults second_old second_new second_text
 
 -- one of two files did not give a text; the second is left alone where it is the first
-abbrev pub BothFail : {P Q : Type 0} → (P → Option (List ℕ)) → (P → Option (List ℕ)) → (P → ℕ) → P → P
+abbrev pub EitherFails : {P Q : Type 0} → (P → Option (List ℕ)) → (P → Option (List ℕ)) → (P → ℕ) → P → P
     → (Q → Option (List ℕ)) → (Q → Option (List ℕ)) → (Q → ℕ) → Q → Q → Fault → Type 0
-BothFail first_ahead first_behind first_faults first_old first_new second_ahead second_behind second_faults second_old second_new e =
+EitherFails first_ahead first_behind first_faults first_old first_new second_ahead second_behind second_faults second_old second_new e =
     (IsTextFault first_ahead first_behind first_faults first_old first_new e × (second_new ≡ second_old))
     ⊎ ((first_text : List ℕ) × ReadsWhole first_ahead first_behind first_faults first_old first_new first_text
     × IsTextFault second_ahead second_behind second_faults second_old second_new e)

@@ -9,7 +9,7 @@ ghost use Rattle.minisign.specs.Reading.{IsAhead};
 ghost use Rattle.minisign.specs.Verifying.{Copied};
 ghost use Rattle.minisign.specs.VerifyingTexts.{VerifyingTextsFails};
 ghost use Rattle.minisign_tool.specs.Report.{HasSaid, SaysAfterWarning, ShowsFault, warning_line};
-ghost use Rattle.minisign_tool.specs.TextFiles.{BothFail, ReadsBoth};
+ghost use Rattle.minisign_tool.specs.TextFiles.{EitherFails, ReadsBoth};
 ghost use Rattle.minisign_tool.specs.Verify.{SaysFront};
 
 use crate::report::{report, warn};
@@ -46,7 +46,7 @@ pub fn run_cat<S: Scheme, P: Source, R: Rereader, Q: Source, O: Sink, W: Sink>(
     // data read or copied, or verifying with the texts failed.
     ensures refused { result ≡ 1 → (e : Fault) × (warned told : W) × HasSaid W.taken W.sink_faults errors.old warned warning_line
         × ShowsFault W.taken W.sink_faults told errors.new e
-        × ((BothFail P.ahead P.behind P.faults pk_file.old pk_file.new Q.ahead Q.behind Q.faults sig_file.old sig_file.new e
+        × ((EitherFails P.ahead P.behind P.faults pk_file.old pk_file.new Q.ahead Q.behind Q.faults sig_file.old sig_file.new e
         × (data_reader.new ≡ data_reader.old) × (out.new ≡ out.old) × (told ≡ warned))
         ⊎ ((pk_text sig_text : List ℕ) × ReadsBoth P.ahead P.behind P.faults pk_file.old pk_file.new
         Q.ahead Q.behind Q.faults sig_file.old sig_file.new pk_text sig_text
@@ -79,7 +79,7 @@ fn read_and_copy<S: Scheme, P: Source, R: Rereader, Q: Source, O: Sink, W: Sink>
     ensures calm { OnOk result (W.sink_faults errors.new ≡ W.sink_faults errors.old) }
     ensures out_calm { OnOk result (O.sink_faults out.new ≡ O.sink_faults out.old) }
     ensures refused { IfErr result (λ e.
-        (BothFail P.ahead P.behind P.faults pk_file.old pk_file.new Q.ahead Q.behind Q.faults sig_file.old sig_file.new e
+        (EitherFails P.ahead P.behind P.faults pk_file.old pk_file.new Q.ahead Q.behind Q.faults sig_file.old sig_file.new e
         × (data_reader.new ≡ data_reader.old) × (out.new ≡ out.old) × (errors.new ≡ errors.old))
         ⊎ ((pk_text sig_text : List ℕ) × ReadsBoth P.ahead P.behind P.faults pk_file.old pk_file.new
         Q.ahead Q.behind Q.faults sig_file.old sig_file.new pk_text sig_text

@@ -10,7 +10,7 @@ ghost use Rattle.minisign.specs.Reading.{IsAhead, ReadsWhole};
 ghost use Rattle.minisign.specs.SigningTexts.{GivesKeyAsking};
 ghost use Rattle.minisign.specs.TextFiles.{IsTextFault};
 ghost use Rattle.minisign_tool.specs.Report.{HasSaid, ShowsFault, warning_line};
-ghost use Rattle.minisign_tool.specs.Sign.{SignFails, SignsText, VouchedWhereGenuine, WriteFails};
+ghost use Rattle.minisign_tool.specs.Sign.{SignFails, SignsText, ReadsBackWhereGenuine, WriteFails};
 
 use crate::report::{report, warn};
 use minisign::base::devices::random_sources::RandomSource;
@@ -56,7 +56,7 @@ pub fn run_sign<
     ensures headline { result ≡ 0 → (sk_text text message : List ℕ) × (sk : SecretKeyRecord) × IsAhead (K.ahead sk_file.old) sk_text
         × IsAhead (R.ahead data_reader.old) message
         × GivesKeyAsking A.ahead A.left A.faults B.taken B.sink_faults prompt.old prompt.new sk_text sk
-        × VouchedWhereGenuine (S.accepts scheme.now) (S.public_of scheme.now) sk message text
+        × ReadsBackWhereGenuine (S.accepts scheme.now) (S.public_of scheme.now) sk message text
         × Appends (G.taken signature.old) (G.taken signature.new) text }
 
     // The text of the box that the definition of signing makes was written, and nothing failed.
@@ -114,7 +114,7 @@ fn sign_file<S: Scheme, K: Source, R: Source, G: Sink, Z: RandomSource, A: Sourc
     ensures headline { OnOk result ((sk_text text message : List ℕ) × (sk : SecretKeyRecord) × IsAhead (K.ahead sk_file.old) sk_text
         × IsAhead (R.ahead data_reader.old) message
         × GivesKeyAsking A.ahead A.left A.faults B.taken B.sink_faults prompt.old prompt.new sk_text sk
-        × VouchedWhereGenuine (S.accepts scheme.now) (S.public_of scheme.now) sk message text
+        × ReadsBackWhereGenuine (S.accepts scheme.now) (S.public_of scheme.now) sk message text
         × Appends (G.taken signature.old) (G.taken signature.new) text) }
     ensures signed { OnOk result ((sk_text text : List ℕ) × ReadsWhole K.ahead K.behind K.faults sk_file.old sk_file.new sk_text
         × SignsText (S.signature_of scheme.now) A.ahead A.left A.faults B.taken B.sink_faults prompt.old prompt.new
@@ -162,7 +162,7 @@ pub fn sign_data<S: Scheme, R: Source, Z: RandomSource, A: Source, B: Sink>(
 ) -> Result<String>
     ensures headline { IfOk result (λ t. (message : List ℕ) × (sk : SecretKeyRecord) × IsAhead (R.ahead data_reader.old) message
         × GivesKeyAsking A.ahead A.left A.faults B.taken B.sink_faults prompt.old prompt.new sk_text.now sk
-        × VouchedWhereGenuine (S.accepts scheme.now) (S.public_of scheme.now) sk message (string_bytes t)) }
+        × ReadsBackWhereGenuine (S.accepts scheme.now) (S.public_of scheme.now) sk message (string_bytes t)) }
     ensures signed { IfOk result (λ t. SignsText (S.signature_of scheme.now) A.ahead A.left A.faults B.taken B.sink_faults prompt.old prompt.new
         R.ahead R.behind R.faults data_reader.old data_reader.new Z.random_ahead random.old random.new sk_text.now moment (string_bytes t)) }
     ensures refused { IfErr result (SignFails A.ahead A.left A.faults B.taken B.sink_faults prompt.old prompt.new

@@ -1,7 +1,7 @@
 //! Texts of keys and signatures, read from files.
 
 ghost use Rattle.std.specs.Prelude.{string_bytes, IfOk, IfErr};
-ghost use Rattle.minisign_tool.specs.TextFiles.{BothFail, ReadsBoth};
+ghost use Rattle.minisign_tool.specs.TextFiles.{EitherFails, ReadsBoth};
 
 use minisign::Result;
 use minisign::base::devices::sources::Source;
@@ -17,7 +17,7 @@ pub fn read_both_texts<P: Source, Q: Source>(
 ) -> Result<(String, String)>
     ensures texts { IfOk result (λ both. ReadsBoth P.ahead P.behind P.faults first.old first.new
         Q.ahead Q.behind Q.faults second.old second.new (string_bytes both.0) (string_bytes both.1)) }
-    ensures refused { IfErr result (BothFail P.ahead P.behind P.faults first.old first.new
+    ensures refused { IfErr result (EitherFails P.ahead P.behind P.faults first.old first.new
         Q.ahead Q.behind Q.faults second.old second.new) }
 {
     let first_text = read_text(alloc, first)?;

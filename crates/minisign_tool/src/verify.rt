@@ -8,7 +8,7 @@ ghost use Rattle.minisign.specs.Acceptance.{status_lines};
 ghost use Rattle.minisign.specs.Headline.{TextsVouchFor};
 ghost use Rattle.minisign.specs.Reading.{IsAhead};
 ghost use Rattle.minisign_tool.specs.Report.{HasSaid, SaysAfterWarning, ShowsFault, warning_line};
-ghost use Rattle.minisign_tool.specs.TextFiles.{BothFail, ReadsBoth};
+ghost use Rattle.minisign_tool.specs.TextFiles.{EitherFails, ReadsBoth};
 ghost use Rattle.minisign_tool.specs.Verify.{SaysFront, VerifyFails};
 
 use crate::report::{report, warn};
@@ -43,7 +43,7 @@ pub fn run_verify<S: Scheme, P: Source, R: Rereader, Q: Source, W: Sink>(
     // data read, or verifying with the texts failed.
     ensures refused { result ≡ 1 → (e : Fault) × (warned told : W) × HasSaid W.taken W.sink_faults errors.old warned warning_line
         × ShowsFault W.taken W.sink_faults told errors.new e
-        × ((BothFail P.ahead P.behind P.faults pk_file.old pk_file.new Q.ahead Q.behind Q.faults sig_file.old sig_file.new e
+        × ((EitherFails P.ahead P.behind P.faults pk_file.old pk_file.new Q.ahead Q.behind Q.faults sig_file.old sig_file.new e
         × (data_reader.new ≡ data_reader.old) × (told ≡ warned))
         ⊎ ((pk_text sig_text : List ℕ) × ReadsBoth P.ahead P.behind P.faults pk_file.old pk_file.new
         Q.ahead Q.behind Q.faults sig_file.old sig_file.new pk_text sig_text
@@ -73,7 +73,7 @@ fn read_and_verify<S: Scheme, P: Source, R: Rereader, Q: Source, W: Sink>(
         × Appends (W.taken errors.old) (W.taken errors.new) (status_lines vouched.box))) }
     ensures calm { OnOk result (W.sink_faults errors.new ≡ W.sink_faults errors.old) }
     ensures refused { IfErr result (λ e.
-        (BothFail P.ahead P.behind P.faults pk_file.old pk_file.new Q.ahead Q.behind Q.faults sig_file.old sig_file.new e
+        (EitherFails P.ahead P.behind P.faults pk_file.old pk_file.new Q.ahead Q.behind Q.faults sig_file.old sig_file.new e
         × (data_reader.new ≡ data_reader.old) × (errors.new ≡ errors.old))
         ⊎ ((pk_text sig_text : List ℕ) × ReadsBoth P.ahead P.behind P.faults pk_file.old pk_file.new
         Q.ahead Q.behind Q.faults sig_file.old sig_file.new pk_text sig_text

@@ -13,5 +13,5 @@ pub record ArePairTexts (public_of : List ℕ → List ℕ) (password pk_text sk
   pub pair : IsGenuinePair public_of pk sk
 
 -- memory was wanting, or a device failed; no text and no signature was refused
-abbrev pub IsOutside : Fault → Type 0
-IsOutside e = (e ≡ out_of_memory) ⊎ (e ≡ random_source_failed) ⊎ (e ≡ reading_failed)
+abbrev pub IsMemoryOrDeviceFault : Fault → Type 0
+IsMemoryOrDeviceFault e = (e ≡ out_of_memory) ⊎ (e ≡ random_source_failed) ⊎ (e ≡ reading_failed)

@@ -8,7 +8,7 @@ ghost use Rattle.minisign.specs.Acceptance.{Vouches};
 ghost use Rattle.minisign.specs.Generation.{IsGenuinePair, OpensOnlyTo};
 ghost use Rattle.minisign.specs.Headline.{TextsVouchFor};
 ghost use Rattle.minisign.specs.SignatureText.{SignatureText};
-ghost use Rattle.minisign_vectors.specs.Releasing.{ArePairTexts, IsOutside};
+ghost use Rattle.minisign_vectors.specs.Releasing.{ArePairTexts, IsMemoryOrDeviceFault};
 
 use minisign::{
     KeyPair, PublicKeyBox, Result, SecretKey, SecretKeyBox, SignatureBox, sign, verify,
@@ -51,7 +51,7 @@ pub fn sign_release<S: Scheme, Z: RandomSource>(
     moment: u64,
 ) -> Result<Release>
     ensures vouches { IfOk result (λ r. TextsVouchFor (S.accepts scheme.now) (string_bytes r.pk_text) (string_bytes r.sig_text) update.now false) }
-    ensures refused { IfErr result IsOutside }
+    ensures refused { IfErr result IsMemoryOrDeviceFault }
 {
     let KeyTexts { pk_text, sk_text } = make_keys(alloc, scheme, password, random)?;
     let sk = open_key(alloc, sk_text.as_str(), password)?;
@@ -69,7 +69,7 @@ pub fn make_keys<S: Scheme, Z: RandomSource>(
 ) -> Result<KeyTexts>
     ensures made { IfOk result (λ t. (pk : PublicKeyRecord) × (sk : SecretKeyRecord)
         × ArePairTexts (S.public_of scheme.now) password.now (string_bytes t.pk_text) (string_bytes t.sk_text) pk sk) }
-    ensures refused { IfErr result IsOutside }
+    ensures refused { IfErr result IsMemoryOrDeviceFault }
 {
     let handed_in = Some(String::from_str(alloc, password)?);
     let mut unasked = Prompt::new(SliceSource::new(b""), VecSink::new(alloc));
@@ -100,7 +100,7 @@ pub fn sign_update<S: Scheme, Z: RandomSource>(
     moment: u64,
 ) -> Result<String>
     ensures { (pk : PublicKeyRecord) → IsGenuinePair (S.public_of scheme.now) pk sk.now
-        → MatchResult result (λ t. (x : SignatureBoxRecord) × SignatureText (string_bytes t) x × Vouches (S.accepts scheme.now) pk x update.now false) IsOutside }
+        → MatchResult result (λ t. (x : SignatureBoxRecord) × SignatureText (string_bytes t) x × Vouches (S.accepts scheme.now) pk x update.now false) IsMemoryOrDeviceFault }
 {
     let mut data_reader = SliceSource::new(update);
     let signature_box = sign(
@@ -126,7 +126,7 @@ pub fn verify_update<S: Scheme>(
     update: &[u8],
 ) -> Result<()>
     ensures vouches { IfOk result (λ _. TextsVouchFor (S.accepts scheme.now) pk_text.now sig_text.now update.now false) }
-    ensures refused { TextsVouchFor (S.accepts scheme.now) pk_text.now sig_text.now update.now false → IfErr result IsOutside }
+    ensures refused { TextsVouchFor (S.accepts scheme.now) pk_text.now sig_text.now update.now false → IfErr result IsMemoryOrDeviceFault }
 {
     let pk = PublicKeyBox::from_string(alloc, pk_text)?.into_public_key(alloc)?;
     let signature_box = SignatureBox::from_string(alloc, sig_text)?;
