@@ -1,26 +1,27 @@
 #!/usr/bin/env python3
 """Times the commands of `minisign_tool` that read data, over a file of 1 GB, in processor time, beside
-`openssl dgst -blake2b512`, `minisign -V` (where it is installed) and `b2sum` of the same file.
+`openssl dgst -blake2b512`, `minisign -V` and `b2sum` of the same file.
 
 `verify-raw` gets the file on standard input, `verify`, `cat` and `sign` by name; `cat` writes to nowhere,
-and `sign` has a sealed key whose password comes through standard input.
+and `sign` has a sealed key whose password comes through standard input. A legacy signature over the same
+file, which `verify` has to refuse, shows that its data is not kept.
 
-Needs: Python 3.9 or later, coreutils' b2sum, openssl, and the program, built by `rt run -- x` in
-crates/minisign_tool (which proves it, and leaves it in that crate's folder out). Other builds of the
+Needs: Python 3.9 or later, coreutils' b2sum, openssl and minisign, which it installs as root on Debian, and
+the program, built by `rt run -- x` in crates/minisign_tool (which proves it, and leaves it in that crate's folder out). Other builds of the
 program, as one by `rt run --cpu=x86-64-v3 -- x`, are given as arguments, under names of their own. It
 makes its own input in a temporary folder that it removes; the disk needs 1 GB of room.
 """
 
 import os
 import random
-import shutil
 import sys
 import tempfile
 
-from timing import TOOL, compare, processor_timed, toy
+from timing import TOOL, compare, installed, needs, processor_timed, run, toy
 
 SIZE = 1_000_000_000
 PASSWORD = b"password"
+LEGACY = "error: Legacy signatures are not accepted\n"
 
 
 def write_input(path):
@@ -34,12 +35,14 @@ def write_input(path):
 def write_files(folder, digest):
     """Writes the keys and signatures of data with this digest, and answers their paths by name."""
     signature = b"ED" + toy.KEYNUM + toy.signature_of(digest)
+    legacy = b"Ed" + toy.KEYNUM + bytes(64)
     contents = {
         "raw.pk": b"Ed" + toy.KEYNUM + toy.KEY,
         "raw.sig": signature,
         "key.pk": toy.public_text(),
         "key.sk": toy.sealed_text(PASSWORD),
         "key.sig": toy.signature_text(None, record=signature),
+        "legacy.sig": toy.signature_text(None, record=legacy),
         "password": PASSWORD + b"\n",
         "made.sig": b"",
     }
@@ -62,13 +65,21 @@ def tool_runs(tool, files, data):
     for arguments, stdin in commands:
         name = f"{os.path.basename(tool)} {arguments[0]}"
         yield name, lambda it=arguments, stdin=stdin: processor_timed([tool, *it], stdin, os.devnull)
+    refused = [tool, "verify", pk, data, files["legacy.sig"]]
+    yield f"{os.path.basename(tool)} verify (legacy)", lambda: refused_timed(refused, LEGACY)
+
+
+def refused_timed(command, fault):
+    """Runs a command that has to end with this fault, and answers its processor time, memory and output."""
+    ended = run(command)
+    if ended.status != 1 or not ended.output.endswith(fault):
+        raise SystemExit(f"{command[0]} ended with {ended.status}: {ended.output}")
+    return ended.processor_seconds, ended.memory, ended.output
 
 
 def minisign_runs(folder, data):
-    """Signs the file with a new key, and answers the run of `minisign -V`, where it is installed."""
-    minisign = shutil.which("minisign")
-    if minisign is None:
-        return []
+    """Signs the file with a new key, and answers the run of `minisign -V`."""
+    minisign = installed(needs.minisign)
     pk, sk, sig = (os.path.join(folder, name) for name in ("minisign.pub", "minisign.key", "minisig"))
     processor_timed([minisign, "-G", "-W", "-p", pk, "-s", sk])
     processor_timed([minisign, "-S", "-s", sk, "-m", data, "-x", sig])
@@ -76,6 +87,7 @@ def minisign_runs(folder, data):
 
 
 def main():
+    installed(needs.program, "openssl", "openssl")
     with tempfile.TemporaryDirectory() as folder:
         data = os.path.join(folder, "data")
         write_input(data)

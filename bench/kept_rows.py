@@ -1,8 +1,8 @@
-#!/usr/bin/python3
+#!/usr/bin/env python3
 """Measures scrypt with every k-th row kept, and draws its time and memory as docs/kept_rows.png.
 
-Needs: Debian's package python3-matplotlib (`apt-get install python3-matplotlib`; the system's python3 sees
-it, so start this file with that one), 1.1 GB of memory, and the program `scrypt_bench`, built by
+Needs: Python 3.9 or later with matplotlib (else it goes on with the system's python3 and Debian's package
+python3-matplotlib, which it installs as root), 1.1 GB of memory, and the program `scrypt_bench`, built by
 `rt run -- password NaCl 10 8 16` in crates/scrypt_bench (which proves it, and leaves it in that crate's
 folder out). All derive 64 bytes with r 8 and p 1, each in a process of its own and in turn; the keys are
 compared with those of hashlib. `kept_rows.py 15 3` takes 15 rounds at N 2^15 and 3 at N 2^20, as it does
@@ -11,19 +11,32 @@ it, beside the least time of the call by the clock; the memory is the greatest r
 """
 
 import hashlib
+import importlib.util
 import math
 import os
+import subprocess
 import sys
+
+from timing import HERE, SCRYPT, installed, needs, processor_timed
+
+SYSTEM = "/usr/bin/python3"
+
+
+def with_matplotlib():
+    """The system's Python, where it has matplotlib."""
+    ran = subprocess.run([SYSTEM, "-c", "import matplotlib"], stderr=subprocess.DEVNULL) if os.path.exists(SYSTEM) else None
+    return SYSTEM if ran is not None and ran.returncode == 0 else None
+
+
+if importlib.util.find_spec("matplotlib") is None:
+    python = installed(needs.need, with_matplotlib, "matplotlib", "python3-matplotlib")
+    os.execv(python, [python, *sys.argv])
 
 import matplotlib
 
 matplotlib.use("Agg")
 from matplotlib import pyplot
 
-from timing import processor_timed
-
-HERE = os.path.dirname(os.path.abspath(__file__))
-BENCH = os.path.join(HERE, "..", "crates", "scrypt_bench", "out", "scrypt_bench")
 PICTURE = os.path.join(HERE, "..", "docs", "kept_rows.png")
 PASSWORD, SALT = "pleaseletmein", "SodiumChloride"
 KEPT = (1, 2, 4, 8, 16, 64)
@@ -45,8 +58,8 @@ class Least:
 
 
 def derive(n_log2, k):
-    """Derives by scrypt_bench, and answers both times in seconds, the memory in MiB and the key."""
-    processor, memory, output = processor_timed([BENCH, PASSWORD, SALT, str(n_log2), "8", "1", str(k)])
+    """Derives by scrypt_bench, and returns both times in seconds, the memory in MiB and the key."""
+    processor, memory, output = processor_timed([SCRYPT, PASSWORD, SALT, str(n_log2), "8", "1", str(k)])
     microseconds, key = output.split()
     return processor, int(microseconds) / 1e6, memory, key
 

@@ -11,11 +11,8 @@ import os
 import sys
 import tempfile
 
-from timing import compare, processor_timed
+from timing import SCRYPT, TOOL, compare, processor_timed
 
-CRATES = os.path.join(os.path.dirname(os.path.realpath(__file__)), "..", "crates")
-TOOL = os.path.join(CRATES, "minisign_tool", "out", "minisign_tool")
-DERIVATION = os.path.join(CRATES, "scrypt_bench", "out", "scrypt_bench")
 HASHLIB = """
 import hashlib, time
 begun = time.process_time()
@@ -38,7 +35,7 @@ def main():
         runs = [
             ("minisign_tool keygen", lambda: processor_timed([TOOL, "keygen", pk, sk], typed)),
             ("hashlib.scrypt (OpenSSL)", of_hashlib),
-            ("scrypt_bench", lambda: processor_timed([DERIVATION, "p", "salt", "15", "8", "1"])),
+            ("scrypt_bench", lambda: processor_timed([SCRYPT, "p", "salt", "15", "8", "1"])),
         ]
         compare(runs, rounds=25)
 

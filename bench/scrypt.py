@@ -1,22 +1,19 @@
 #!/usr/bin/env python3
-"""Times `minisign_kdf`'s scrypt beside OpenSSL's, and libsodium's and libscrypt-kdf's where they are installed.
+"""Times `minisign_kdf`'s scrypt beside OpenSSL's, libsodium's and libscrypt-kdf's.
 
 Needs: Python 3.9 or later whose hashlib has scrypt (OpenSSL's), 1.1 GB of memory, and the program
 `scrypt_bench`, built by `rt run -- password NaCl 10 8 16` in crates/scrypt_bench (which proves it, and
-leaves it in that crate's folder out); for the other two the packages libsodium23 and libscrypt-kdf1. All
-derive 64 bytes with r 8 and p 1, each in a process of its own and in turn; the keys are compared. Of each
-the call alone is timed, and the least time counts. On a machine that does other work at the same time take
+leaves it in that crate's folder out); for the other two the packages libsodium23 and libscrypt-kdf1, which it
+installs as root on Debian. All derive 64 bytes with r 8 and p 1, each in a process of its own and in turn; the
+keys are compared. Of each the call alone is timed, and the least time counts. On a machine that does other work at the same time take
 `scrypt.py cpu`: it takes the processor time, of ours that of the whole process.
 """
 
 import ctypes.util
-import os
-import resource
 import sys
 
-from timing import compare, timed
+from timing import SCRYPT, compare, installed, needs, processor_timed, timed
 
-BENCH = os.path.join(os.path.dirname(__file__), "..", "crates", "scrypt_bench", "out", "scrypt_bench")
 PASSWORD, SALT = "pleaseletmein", "SodiumChloride"
 CPU = sys.argv[1:] == ["cpu"]
 CLOCK = "process_time" if CPU else "perf_counter"
@@ -51,18 +48,11 @@ call = of_library(ctypes.CDLL(sys.argv[4]).crypto_scrypt)
 """
 
 
-def processor_time():
-    """The processor time of the processes that have ended."""
-    used = resource.getrusage(resource.RUSAGE_CHILDREN)
-    return used.ru_utime + used.ru_stime
-
-
 def ours(n_log2):
     """Derives by scrypt_bench, and answers the seconds of the call, the process's memory and the key."""
-    before = processor_time()
-    _, memory, output = timed([BENCH, PASSWORD, SALT, n_log2, "8", "1"])
+    seconds, memory, output = processor_timed([SCRYPT, PASSWORD, SALT, n_log2, "8", "1"])
     microseconds, key = output.split()
-    return processor_time() - before if CPU else int(microseconds) / 1e6, memory, key
+    return seconds if CPU else int(microseconds) / 1e6, memory, key
 
 
 def theirs(script, library, n_log2):
@@ -75,12 +65,12 @@ def theirs(script, library, n_log2):
 
 def main():
     others = [("OpenSSL (hashlib.scrypt)", OPENSSL, "")]
-    for name, package, script in (("libscrypt-kdf", "scrypt-kdf", LIBSCRYPT), ("libsodium", "sodium", LIBSODIUM)):
-        library = ctypes.util.find_library(package)
-        if library:
-            others.insert(0, (name, script, library))
-        else:
-            print(f"{name} is not installed")
+    for name, short, package, script in (
+        ("libscrypt-kdf", "scrypt-kdf", "libscrypt-kdf1", LIBSCRYPT),
+        ("libsodium", "sodium", "libsodium23", LIBSODIUM),
+    ):
+        library = installed(needs.need, lambda short=short: ctypes.util.find_library(short), name, package)
+        others.insert(0, (name, script, library))
     for n_log2, rounds in (("15", 25), ("20", 5)):
         runs = [("minisign_kdf", lambda: ours(n_log2))]
         for name, script, library in others:

@@ -1,4 +1,5 @@
-"""What the benchmarks share: a timed run of a command, and the table that they print."""
+"""What the benchmarks share: the programs, what has to be installed, a timed run of a command, and the table that
+they print."""
 
 import os
 import subprocess
@@ -7,12 +8,27 @@ import time
 from dataclasses import dataclass
 
 HERE = os.path.dirname(os.path.realpath(__file__))
-# The texts of the toy scheme are those of the tests.
+# The texts of the toy scheme, and what finds or installs what a script needs, are those of the tests.
 sys.path.insert(0, os.path.join(HERE, "..", "tests"))
+import needs
 import toy
 
-# The program, as `rt run` or the gate leaves it.
-TOOL = os.path.join(HERE, "..", "crates", "minisign_tool", "out", "minisign_tool")
+
+def program(name):
+    """The path of a program of a crate, as `rt run` or the gate leaves it."""
+    return os.path.join(HERE, "..", "crates", name, "out", name)
+
+
+TOOL = program("minisign_tool")
+SCRYPT = program("scrypt_bench")
+
+
+def installed(find, *arguments):
+    """What a function of `needs` finds or installs; the script ends where it can do neither."""
+    try:
+        return find(*arguments)
+    except needs.Missing as why:
+        raise SystemExit(f"FAILED: {why}") from why
 
 
 def greatest_memory(process):
@@ -66,7 +82,7 @@ def measured(command, stdin_path=None, stdout_path=None):
 
 
 def timed(command, stdin_path=None):
-    """Runs a command, and answers its seconds, its greatest resident memory in MiB and its output."""
+    """Runs a command, and returns its seconds, its greatest resident memory in MiB and its output."""
     ended = measured(command, stdin_path)
     return ended.seconds, ended.memory, ended.output
 

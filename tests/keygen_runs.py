@@ -16,9 +16,11 @@ from running import (
     Case,
     Failure,
     FromFile,
+    Link,
     NO_READER,
     OneOf,
     Pieces,
+    SecondName,
     Typed,
     WithMode,
 )
@@ -63,26 +65,64 @@ class Pair:
         check_pair(self.password, read(folder, PK), read(folder, SK))
 
 
-class Left:
-    """Looks at the folder that a run leaves: these files and folders alone, by what they hold, and, where it
-    `made` one, a whole public key."""
+class Linked:
+    """Looks at the folder that a run leaves: a pair behind links, which stay, with these modes."""
 
-    def __init__(self, files, made=None):
-        self.files = files
-        self.made = made
+    def __init__(self, links, public, secret, public_mode, secret_mode):
+        self.links = links
+        self.public = public
+        self.secret = secret
+        self.modes = {public: public_mode, secret: secret_mode}
 
     def __call__(self, folder):
-        names, wanted = set(os.listdir(folder)), set(self.files) | {self.made} - {None}
+        for name, target in self.links.items():
+            if not os.path.islink(os.path.join(folder, name)) or os.readlink(os.path.join(folder, name)) != target:
+                raise Failure(f"the link {name} is gone")
+        for name, mode in self.modes.items():
+            has_mode(folder, name, mode)
+        check_pair(b"p", read(folder, self.public), read(folder, self.secret))
+        names = {os.path.join(at, name) for at, _, files in os.walk(folder) for name in files}
+        wanted = {os.path.join(folder, name) for name in (*self.links, self.public, self.secret)}
         if names != wanted:
-            raise Failure(f"it left the files {sorted(names)} in place of {sorted(wanted)}")
+            raise Failure(f"it left the files {sorted(names)}")
+
+
+class OneFile:
+    """Looks at the folder that a run leaves: a secret key for its owner alone in this file, and these links to
+    it."""
+
+    def __init__(self, name, links=(), mode=0o600):
+        self.name = name
+        self.links = links
+        self.mode = mode
+
+    def __call__(self, folder):
+        names = set(os.listdir(folder))
+        if names != {self.name, *self.links}:
+            raise Failure(f"it left the files {sorted(names)}")
+        for name in self.links:
+            if not os.path.islink(os.path.join(folder, name)):
+                raise Failure(f"{name} is no link any more")
+        has_mode(folder, self.name, self.mode)
+        record_of(read(folder, self.name), 158)
+
+
+class Left:
+    """Looks at the folder that a run leaves: these files and folders alone, by what they hold."""
+
+    def __init__(self, files):
+        self.files = files
+
+    def __call__(self, folder):
+        names = set(os.listdir(folder))
+        if names != set(self.files):
+            raise Failure(f"it left the files {sorted(names)} in place of {sorted(self.files)}")
         for name, data in self.files.items():
             if data in (FOLDER, LOCKED):
                 if os.listdir(os.path.join(folder, name)):
                     raise Failure(f"it left something in the folder {name}")
             elif read(folder, name) != data:
                 raise Failure(f"{name} holds {read(folder, name)[:200]} in place of {data[:200]}")
-        if self.made:
-            public_record(read(folder, self.made))
 
 
 NOTHING = Left({})
@@ -164,6 +204,8 @@ def keygen_cases():
         *refused_cases(),
         *terminal_cases(),
         *file_cases(),
+        *link_cases(),
+        *one_file_cases(),
         *unwritten_cases(),
         *stream_cases(),
         *memory_cases(),
@@ -255,28 +297,86 @@ def file_cases():
     ]
 
 
-def unwritten_cases():
-    """Files that cannot be written. The public one is written before the secret one is touched."""
+def link_cases():
+    """Links are followed and stay; what they lead to is replaced, and keeps its mode, or gets that of new files."""
+    older = WithMode(b"older", 0o640)
+    kept = {"kept": FOLDER}
+    links = {PK: "kept/public", SK: "kept/secret"}
+    chain = {PK: "first", "first": "./second", "second": "kept/public", SK: "kept/secret"}
     rows = [
-        ("no room for the public key", (FULL_DEVICE, SK), {}, {}, None),
-        ("no room for the public key, and a secret file that exists", (FULL_DEVICE, SK), {SK: b"older"}, {SK: b"older"}, None),
-        ("no room for the secret key", (PK, FULL_DEVICE), {}, {}, PK),
-        ("no room for the secret key, and a public file that exists", (PK, FULL_DEVICE), {PK: b"older" * 99}, {}, PK),
-        ("a folder as public key", (PK, SK), {PK: FOLDER, SK: b"older"}, {PK: FOLDER, SK: b"older"}, None),
-        ("a folder as secret key", (PK, SK), {SK: FOLDER}, {SK: FOLDER}, PK),
-        ("a missing folder of the public key", ("none/key", SK), {}, {}, None),
-        ("a missing folder of the secret key", (PK, "none/key"), {}, {}, PK),
-        ("a locked folder of the public key", ("locked/key", SK), {"locked": LOCKED}, {"locked": LOCKED}, None),
-        ("a locked folder of the secret key", (PK, "locked/key"), {"locked": LOCKED}, {"locked": LOCKED}, PK),
-        ("a public file that may not be written", (PK, SK), {PK: WithMode(b"older", 0o444)}, {PK: b"older"}, None),
-        ("a secret file that may not be written", (PK, SK), {SK: WithMode(b"older", 0o400)}, {SK: b"older"}, PK),
-        ("an empty name of the public key", ("", SK), {}, {}, None),
-        ("an empty name of the secret key", (PK, ""), {}, {}, PK),
-        ("a name of the public key that is too long", ("k" * 256, SK), {}, {}, None),
+        ("links to files", links, {**kept, "kept/public": older, "kept/secret": older}, 0o640, 0o640),
+        ("links that lead nowhere", links, kept, 0o644, 0o600),
+        ("links to links", chain, {**kept, "kept/public": older}, 0o640, 0o600),
+        ("a link to a link in another folder", {PK: "kept/link", "kept/link": "public", SK: "kept/secret"}, kept, 0o644, 0o600),
     ]
     return [
-        keygen(name, 1, WARNING, WRITING_FAILED, arguments=arguments, files=files, left=Left(kept, public))
-        for name, arguments, files, kept, public in rows
+        *(made(name, files={**files, **{link: Link(target) for link, target in these.items()}},
+               left=Linked(these, "kept/public", "kept/secret", public_mode, secret_mode))
+          for name, these, files, public_mode, secret_mode in rows),
+        keygen("a link to itself as secret key", 1, WARNING, WRITING_FAILED, files={PK: b"older", SK: Link(SK)}, left=KeptPublic()),
+        keygen("a link into a missing folder as secret key", 1, WARNING, WRITING_FAILED, files={PK: b"older", SK: Link("none/key")},
+               left=KeptPublic()),
+    ]
+
+
+class KeptPublic:
+    """Looks at the folder that a run leaves: the older public file, and a link."""
+
+    def __call__(self, folder):
+        if set(os.listdir(folder)) != {PK, SK} or read(folder, PK) != b"older":
+            raise Failure(f"it left the files {sorted(os.listdir(folder))}")
+
+
+def one_file_cases():
+    """Both paths lead to one file: that is the secret key's in the end, which only its owner may read, whatever the
+    older file's mode. Two names of one file get a file each."""
+    older = WithMode(b"older", 0o644)
+    rows = [
+        ("one path twice", (SK, SK), {}, OneFile(SK)),
+        ("one path twice, and a file that exists", (SK, SK), {SK: older}, OneFile(SK)),
+        ("one path in two ways", (SK, "./" + SK), {}, OneFile(SK)),
+        ("one path in two ways, and a file that exists", (SK, "./" + SK), {SK: older}, OneFile(SK)),
+        ("the secret key a link to the public one", (PK, SK), {PK: older, SK: Link(PK)}, OneFile(PK, [SK])),
+        ("the secret key a link to where the public one is made", (PK, SK), {SK: Link(PK)}, OneFile(PK, [SK])),
+        ("the public key a link to the secret one", (PK, SK), {SK: older, PK: Link(SK)}, OneFile(SK, [PK])),
+        ("the public key a link to where the secret one is made", (PK, SK), {PK: Link(SK)}, OneFile(SK, [PK])),
+        ("both links to one path", (PK, SK), {PK: Link("key"), SK: Link("./key")}, OneFile("key", [PK, SK])),
+        ("both links to one file", (PK, SK), {"key": older, PK: Link("key"), SK: Link("./key")}, OneFile("key", [PK, SK])),
+    ]
+    cases = []
+    for umask in (0o000, 0o022, 0o077):
+        cases += [made(f"{name}, and a mask of {umask:o}", arguments=arguments, files=files, left=left, umask=umask)
+                  for name, arguments, files, left in rows]
+        cases += [
+            made(f"two names of one file, and a mask of {umask:o}", files={PK: older, SK: SecondName(PK)}, umask=umask,
+                 left=Pair(b"p", 0o644, 0o600)),
+            made(f"new files, and a mask of {umask:o}", umask=umask, left=Pair(b"p", 0o666 & ~umask, 0o600)),
+        ]
+    return cases
+
+
+def unwritten_cases():
+    """Files that cannot be written. Nothing is replaced before both new files are whole."""
+    rows = [
+        ("no room for the public key", (FULL_DEVICE, SK), {}, {}),
+        ("no room for the public key, and a secret file that exists", (FULL_DEVICE, SK), {SK: b"older"}, {SK: b"older"}),
+        ("no room for the secret key", (PK, FULL_DEVICE), {}, {}),
+        ("no room for the secret key, and a public file that exists", (PK, FULL_DEVICE), {PK: b"older" * 99}, {PK: b"older" * 99}),
+        ("a folder as public key", (PK, SK), {PK: FOLDER, SK: b"older"}, {PK: FOLDER, SK: b"older"}),
+        ("a folder as secret key", (PK, SK), {SK: FOLDER}, {SK: FOLDER}),
+        ("a missing folder of the public key", ("none/key", SK), {}, {}),
+        ("a missing folder of the secret key", (PK, "none/key"), {}, {}),
+        ("a locked folder of the public key", ("locked/key", SK), {"locked": LOCKED}, {"locked": LOCKED}),
+        ("a locked folder of the secret key", (PK, "locked/key"), {"locked": LOCKED}, {"locked": LOCKED}),
+        ("a public file that may not be written", (PK, SK), {PK: WithMode(b"older", 0o444)}, {PK: b"older"}),
+        ("a secret file that may not be written", (PK, SK), {SK: WithMode(b"older", 0o400)}, {SK: b"older"}),
+        ("an empty name of the public key", ("", SK), {}, {}),
+        ("an empty name of the secret key", (PK, ""), {}, {}),
+        ("a name of the public key that is too long", ("k" * 256, SK), {}, {}),
+    ]
+    return [
+        keygen(name, 1, WARNING, WRITING_FAILED, arguments=arguments, files=files, left=Left(kept))
+        for name, arguments, files, kept in rows
     ]
 
 
@@ -302,7 +402,7 @@ def stream_cases():
             keygen(f"two passwords that differ, and for errors {errors}", 1, typed=b"a\nb\n", output=TWICE,
                    files=older, left=same, stderr=errors),
             keygen(f"no room for the secret key, and for errors {errors}", 1, arguments=(PK, FULL_DEVICE),
-                   files={PK: b"older" * 99}, left=Left({}, PK), stderr=errors),
+                   files={PK: b"older" * 99}, left=Left({PK: b"older" * 99}), stderr=errors),
         ]
     return cases
 

@@ -7,7 +7,7 @@ Without arguments it runs the program that `rt ci` or `rt run` left in the folde
 `crates/minisign_tool`, as each compiler built it, and builds it by `rt run` where there is none. It
 prints a line for each case that failed or was skipped; the last line is `N passed, M failed`.
 
-Needs Python 3.9 or later. The cases where memory is wanting are skipped where there is no C compiler.
+Needs Python 3.9 or later and a C compiler, which it installs where it may.
 """
 
 import os
@@ -15,6 +15,7 @@ import subprocess
 import sys
 import tempfile
 
+import needs
 from keygen_runs import keygen_cases
 from running import CLOSED, Case, FULL, Failure, Runner, Skip
 from sign_runs import sign_cases
@@ -88,7 +89,7 @@ def run_all(program):
                     passed += 1
                 except Skip as why:
                     print(f"skipped: {name}: {why}")
-                except Failure as why:
+                except (Failure, needs.Missing) as why:
                     failed += 1
                     print(f"FAILED: {name}: {why}")
     return passed, failed

@@ -13,6 +13,8 @@ import threading
 import time
 from dataclasses import dataclass, field
 
+import needs
+
 SECONDS = 30
 NOBODY = 65534
 HERE = os.path.dirname(os.path.realpath(__file__))
@@ -39,6 +41,20 @@ class WithMode:
 
     data: bytes
     mode: int
+
+
+@dataclass(frozen=True)
+class Link:
+    """A symbolic link to this path."""
+
+    target: str
+
+
+@dataclass(frozen=True)
+class SecondName:
+    """A second name of a file that was made before it, a hard link."""
+
+    first: str
 
 
 @dataclass(frozen=True)
@@ -80,6 +96,14 @@ class FromFile:
     """A file as the standard input."""
 
     data: bytes
+
+
+@dataclass(frozen=True)
+class IntoFile:
+    """A file of the folder as standard output, opened with these flags."""
+
+    name: str
+    flags: int
 
 
 @dataclass(frozen=True)
@@ -207,7 +231,7 @@ class Runner:
         if self.nobody:
             for at, _, names in os.walk(folder):
                 for path in [at, *(os.path.join(at, name) for name in names)]:
-                    os.chown(path, NOBODY, NOBODY)
+                    os.lchown(path, NOBODY, NOBODY)
         streams = Streams(folder, case)
         try:
             status = self.start(case, folder, streams, pipes, environment or {}, passed)
@@ -337,6 +361,8 @@ class Streams:
             reader, writer = os.pipe()
             self.late = threading.Thread(target=self.read_late, args=(reader, kind, folder), daemon=True)
             return writer
+        if isinstance(kind, IntoFile):
+            return os.open(os.path.join(folder, kind.name), kind.flags)
         return open_full(kind) or os.dup(self.stdin if self.terminal else self.written.fileno())
 
     def read_late(self, reader, kind, folder):
@@ -492,6 +518,10 @@ def make_files(folder, files):
             os.mkdir(path, 0o555 if kind == LOCKED else 0o755)
         elif isinstance(kind, (OpenedPipe, UnopenedPipe, FedPipe)):
             pipes.append(NamedPipe(path, kind))
+        elif isinstance(kind, Link):
+            os.symlink(kind.target, path)
+        elif isinstance(kind, SecondName):
+            os.link(os.path.join(folder, kind.first), path)
         else:
             with open(path, "wb") as file:
                 file.write(kind if isinstance(kind, bytes) else kind.data)
@@ -519,15 +549,12 @@ def runs_as_nobody(program):
     return True
 
 
-def build_preload(room):
-    """Compiles what refuses memory, and answers its path."""
-    compiler = shutil.which("gcc") or shutil.which("cc")
-    if compiler is None:
-        raise Skip("there is no C compiler here to build what refuses memory")
-    made = os.path.join(room, "refuse_memory.so")
-    source = os.path.join(HERE, "refuse_memory.c")
-    ran = subprocess.run([compiler, "-shared", "-fPIC", "-O1", "-o", made, source, "-ldl"], stderr=subprocess.PIPE)
+def build_preload(room, name="refuse_memory"):
+    """Compiles a library that is preloaded into the program, and answers its path."""
+    made = os.path.join(room, name + ".so")
+    source = os.path.join(HERE, name + ".c")
+    ran = subprocess.run([needs.c_compiler(), "-shared", "-fPIC", "-O1", "-o", made, source, "-ldl"], stderr=subprocess.PIPE)
     if ran.returncode:
-        raise Skip(f"what refuses memory was not compiled: {ran.stderr.decode(errors='replace')[-300:]}")
+        raise needs.Missing(f"{name}.c was not compiled: {ran.stderr.decode(errors='replace')[-300:]}")
     os.chmod(made, 0o755)
     return made

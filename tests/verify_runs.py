@@ -12,10 +12,14 @@ from running import (
     NO_READER,
     BeginningOf,
     Case,
+    Failure,
     FedPipe,
+    IntoFile,
+    Link,
     OneOf,
     OpenedPipe,
     ReadLate,
+    SecondName,
     UnopenedPipe,
     Unreadable,
 )
@@ -29,6 +33,7 @@ OTHER_KEYNUM = "error: Signature key id: 0807060504030201 is different from publ
 NO_PUBLIC_KEY = "error: Missing comment in public key\n"
 NO_SIGNATURE = "error: Missing untrusted comment\n"
 GOING_BACK_FAILED = "error: going back failed\n"
+INPUT_IS_OUTPUT = "error: input file is output file\n"
 DATA_CHANGED = "error: Data changed between verification and output\n"
 
 PK, FILE, SIG = "key.pub", "data", "data.minisig"
@@ -72,6 +77,7 @@ def cat_cases():
         *(as_cat(case) for case in same),
         *cat_pipe_cases(),
         *cat_stream_cases(),
+        *own_output_cases(),
         *changed_cases(),
         *memory_cases(cat),
     ]
@@ -240,6 +246,44 @@ def cat_stream_cases():
             cases.append(cat(f"input {stdin}, output {stdout}, and for errors {errors}", 1,
                              stdin=stdin, stdout=stdout, stderr=errors))
     return cases
+
+
+def own_output_cases():
+    """Data from the file that standard output leads into is refused before anything is read or written, and after
+    all files were opened. Another file takes the copy."""
+    append, over = os.O_WRONLY | os.O_APPEND, os.O_RDWR
+    rows = [
+        ("appended to", IntoFile(FILE, append), {}, b"abc"),
+        ("written over", IntoFile(FILE, over), {}, b"abc"),
+        ("cut to nothing before", IntoFile(FILE, append | os.O_TRUNC), {}, b""),
+        ("written by a second name", IntoFile("other", append), {"other": SecondName(FILE)}, b"abc"),
+        ("written through a link", IntoFile("other", append), {"other": Link(FILE)}, b"abc"),
+        ("appended to before an empty key", IntoFile(FILE, append), {PK: b""}, b"abc"),
+    ]
+    return [
+        *(cat(f"its own data {name}", 1, WARNING, INPUT_IS_OUTPUT, files=files, stdout=stdout, left=Holds(FILE, data))
+          for name, stdout, files, data in rows),
+        cat("a missing signature before its own data appended to", 1, WARNING, READING_FAILED, files={SIG: MISSING},
+            stdout=IntoFile(FILE, append), left=Holds(FILE, b"abc")),
+        cat("data of a link appended to", 1, WARNING, INPUT_IS_OUTPUT, files={"other": Link(FILE)}, arguments=(PK, "other", SIG),
+            stdout=IntoFile(FILE, append), left=Holds(FILE, b"abc")),
+        cat("another file appended to", 0, WARNING, VERIFIED, files={"other": b"abc"}, stdout=IntoFile("other", append),
+            left=Holds("other", b"abcabc")),
+    ]
+
+
+class Holds:
+    """Looks at the folder that a run leaves: what one of its files holds."""
+
+    def __init__(self, name, data):
+        self.name = name
+        self.data = data
+
+    def __call__(self, folder):
+        with open(os.path.join(folder, self.name), "rb") as file:
+            held = file.read()
+        if held != self.data:
+            raise Failure(f"{self.name} holds {held[:200]} in place of {self.data}")
 
 
 def changed_cases():

@@ -4,8 +4,7 @@ use Rattle.std.specs.Fmt.{decimal}
 use Rattle.std.specs.Str.Parse.{AllDigits}
 use Rattle.std.proofs.lemmas.Fmt.{decimal_is_IsNumeral}
 use Rattle.std.proofs.lemmas.Str.Parse.{digit_from_value}
-use Rattle.minisign.specs.Signing.{comments_or_defaults, default_trusted_comment, default_untrusted_comment}
-use Rattle.minisign.specs.SigningTexts.{AreKept}
+use Rattle.minisign.specs.Signing.{AreKept, comments_or_defaults, default_trusted_comment, default_untrusted_comment}
 use Rattle.minisign.proofs.Letters.{AllGraphic, all_append, trim_graphic}
 use Rattle.minisign.proofs.WrittenLines.{shown_codes, shown_graphic, shown_one_line}
 

@@ -1,13 +1,15 @@
 -- What the keys that are generated are good for.
-use Rattle.std.proofs.Common.{◌≡◌, ◌⊎◌, ℕ, ◌≤◌, true, false, not, List, Option, None, Some, Ok, inl, inr, refl, sym, ap, ◌∙◌, arith}
+use Rattle.std.proofs.Common.{◌≡◌, ◌⊎◌, ℕ, true, false, not, List, Option, None, Some, Ok, inl, inr, refl, sym, ap, ◌∙◌, arith}
 use Rattle.std.specs.Int.{w64, to_le_bytes}
 use Rattle.std.specs.Str.{bytes_eq}
 use Rattle.std.proofs.lemmas.Slice.Eq.{bytes_eq-Decides}
 use Rattle.minisign_base.specs.Fault.{Fault}
+use Rattle.minisign_base.specs.Passages.{RandomPassage}
 use Rattle.minisign_base.specs.Faults.{out_of_memory}
-use Rattle.minisign_base.specs.Limits.{Numbers, cost_log2, limits}
+use Rattle.minisign_kdf.specs.Params.{Numbers}
+use Rattle.minisign_base.specs.Limits.{cost_log2, limits}
 use Rattle.minisign.specs.Records.{PublicKeyRecord, SecretKeyRecord}
-use Rattle.minisign.specs.Sealing.{IsUnencrypted, Opens, checksum_of, is_encrypted, key_limits, key_numbers, scrypt_kdf, unsealed, work_refusal, xored}
+use Rattle.minisign.specs.Sealing.{IsUnencrypted, IsWithin, Opens, checksum_of, is_encrypted, key_limits, key_numbers, key_xor, scrypt_kdf, work_refusal, xored_key}
 use Rattle.minisign.specs.SecretKeyText.{SecretKeyText}
 use Rattle.minisign.specs.Generation.{AreSeedAndKeynum, IsGenuinePair, IsSealedOf, IsSealedPair, OpensOnlyTo, OpensToPair, opened_key, public_key_of, sealed_key, sealing_memory, sealing_operations, secret_of, unsealed_key}
 use Rattle.minisign.proofs.SecretKeyTexts.{one_key_text}
@@ -44,15 +46,15 @@ default_limits : (k : SecretKeyRecord) → k.operations_limit ≡ to_le_bytes w6
 unfolding key_limits limits cost_log2
 default_limits k operations memory = rw (operations, memory) refl
 
-default_work : (k : SecretKeyRecord) (max_p : ℕ) → k.operations_limit ≡ to_le_bytes w64 sealing_operations → k.memory_limit ≡ to_le_bytes w64 sealing_memory
-    → 1 ≤ max_p → work_refusal k max_p ≡ None
-default_work k max_p operations memory one = within_bound k _ max_p (default_limits k operations memory) one
+default_work : (k : SecretKeyRecord) (bound : Option ℕ) → k.operations_limit ≡ to_le_bytes w64 sealing_operations → k.memory_limit ≡ to_le_bytes w64 sealing_memory
+    → IsWithin bound 1 → work_refusal k bound ≡ None
+default_work k bound operations memory one = within_bound k _ bound (default_limits k operations memory) one
 
 -- where these limits stand, only memory is wanting
-pub only_memory : (k : SecretKeyRecord) (max_p : ℕ) (e : Fault) → k.operations_limit ≡ to_le_bytes w64 sealing_operations → k.memory_limit ≡ to_le_bytes w64 sealing_memory
-    → 1 ≤ max_p → ((e ≡ out_of_memory) × (work_refusal k max_p ≡ None)) ⊎ (work_refusal k max_p ≡ Some e) → e ≡ out_of_memory
-only_memory k max_p e operations memory one (inl (is, allowed)) = is
-only_memory k max_p e operations memory one (inr refused) = let allowed = default_work k max_p operations memory one in absurd (cc)
+pub only_memory : (k : SecretKeyRecord) (bound : Option ℕ) (e : Fault) → k.operations_limit ≡ to_le_bytes w64 sealing_operations → k.memory_limit ≡ to_le_bytes w64 sealing_memory
+    → IsWithin bound 1 → ((e ≡ out_of_memory) × (work_refusal k bound ≡ None)) ⊎ (work_refusal k bound ≡ Some e) → e ≡ out_of_memory
+only_memory k bound e operations memory one (inl (is, allowed)) = is
+only_memory k bound e operations memory one (inr refused) = let allowed = default_work k bound operations memory one in absurd (cc)
 
 no_mismatch : (xs : List ℕ) → not (bytes_eq xs xs) ≡ false
 no_mismatch xs = let same : bytes_eq xs xs ≡ true = (bytes_eq-Decides xs xs).1 refl in rw same refl
@@ -79,42 +81,49 @@ opened_pair public_of seed keynum salt pk sk lengths public secret = record {
 
 -- what sealing leaves as it is
 sealed_kdf : (keynum secret salt password : List ℕ) → (sealed_key keynum secret salt password).kdf ≡ scrypt_kdf
-unfolding xored opened_key
+unfolding key_xor opened_key
 sealed_kdf keynum secret salt password = refl
 
 sealed_limits : (keynum secret salt password : List ℕ)
     → ((sealed_key keynum secret salt password).operations_limit ≡ to_le_bytes w64 sealing_operations) × ((sealed_key keynum secret salt password).memory_limit ≡ to_le_bytes w64 sealing_memory)
-unfolding xored opened_key
+unfolding key_xor opened_key
 sealed_limits keynum secret salt password = (refl, refl)
 
 opened_checksum : (keynum secret salt : List ℕ) → (opened_key keynum secret salt).checksum ≡ checksum_of (opened_key keynum secret salt)
 unfolding opened_key unsealed_key
 opened_checksum keynum secret salt = refl
 
--- a text that reads as a key which opens, with the limits by default, opens to that key alone
-opened_text : (sk : SecretKeyRecord) (password text : List ℕ) → Opens sk password → (key_numbers sk).p ≡ 1 → SecretKeyText text sk
-    → OpensOnlyTo text password (unsealed sk password)
+-- a key that opens, with the limits by default, opens within each bound
+opens_within : (sk : SecretKeyRecord) (password : List ℕ) (bound : Option ℕ) → Opens sk password None → (key_numbers sk).p ≡ 1 → IsWithin bound 1 → Opens sk password bound
+opens_within sk password None opens one least = opens
+opens_within sk password (Some max_p) opens one least =
+    record { kdf = opens.kdf; allowed = opens.allowed; bounded = omega (arith, one, least); restored = opens.restored }
+
+-- a text that reads as such a key opens to that key alone
+opened_text : (sk : SecretKeyRecord) (password text : List ℕ) → Opens sk password None → (key_numbers sk).p ≡ 1 → SecretKeyText text sk
+    → OpensOnlyTo text password (xored_key sk password)
 opened_text sk password text opens one read = record {
-  opens = λ max_p least. record { sealed = sk; read = read; opens = record { opens = opens; bounded = omega (arith, one, least) }; key = refl };
-  only = λ max_p other is. is.key ∙ ap (λ (k : SecretKeyRecord). unsealed k password) (one_key_text text sk is.sealed read is.read);
+  opens = λ bound least. record { sealed = sk; read = read; opens = opens_within sk password bound opens one least; key = refl };
+  only = λ bound other is. is.key ∙ ap (λ (k : SecretKeyRecord). xored_key k password) (one_key_text text sk is.sealed read is.read);
 }
 
 -- a sealed pair opens under its password
-pub sealed_pair : (public_of : List ℕ → List ℕ) (password : List ℕ) (ahead left : Option (List ℕ)) (pk : PublicKeyRecord) (sk : SecretKeyRecord)
-    → IsSealedPair public_of password ahead left pk sk → OpensToPair public_of password pk sk
-sealed_pair public_of password ahead left pk sk pair =
+pub sealed_pair : {Z : Type 0} (public_of : List ℕ → List ℕ) (password : List ℕ) (z : RandomPassage Z) (pk : PublicKeyRecord) (sk : SecretKeyRecord)
+    → IsSealedPair public_of password z pk sk → OpensToPair public_of password pk sk
+sealed_pair public_of password z pk sk pair =
     let sealed : IsSealedOf public_of pair.seed pair.keynum pair.salt password pk sk = pair.sealed in
     let secret : List ℕ = secret_of public_of pair.seed in
     let limits = sealed_limits pair.keynum secret pair.salt password in
     let allowed : key_limits sk ≡ Ok (record { n_log2 = 15; r = 8; p = 1 }) = default_limits sk (ap (λ k. k.operations_limit) sealed.secret ∙ limits.0) (ap (λ k. k.memory_limit) sealed.secret ∙ limits.1) in
     let numbers = allowed_numbers sk _ allowed in
-    let opens : Opens sk password = record {
+    let opens : Opens sk password None = record {
       kdf = ap (λ k. k.kdf) sealed.secret ∙ sealed_kdf pair.keynum secret pair.salt password;
       allowed = allowed ∙ ap (λ (v : Numbers). Ok v) (sym numbers);
+      bounded = tt;
       restored = ap (λ k. k.checksum) sealed.opened ∙ opened_checksum pair.keynum secret pair.salt ∙ sym (ap checksum_of sealed.opened);
     } in
     record {
       opens = opens;
-      pair = opened_pair public_of pair.seed pair.keynum pair.salt pk (unsealed sk password) pair.lengths sealed.public sealed.opened;
+      pair = opened_pair public_of pair.seed pair.keynum pair.salt pk (xored_key sk password) pair.lengths sealed.public sealed.opened;
       texts = λ text read. opened_text sk password text opens (ap (λ (v : Numbers). v.p) numbers) read;
     }

@@ -2,10 +2,8 @@ pub mod Xor
 pub mod SealedParts
 pub mod SealingLimits
 pub mod RecordFields
-pub mod Alone
 pub mod Beginnings
 pub mod Copies
-pub mod Passes
 pub mod SignedBoxes
 pub mod Unvouched
 pub mod FirstLine
@@ -18,9 +16,11 @@ pub mod Facts
 pub mod SecretKeyTexts
 pub mod GeneratedKeys
 pub mod Openings
+mod GivenKeys
 pub mod Asking
 pub mod WrittenKeys
 pub mod SignatureTexts
-pub mod VouchedTexts
 pub mod SignedTexts
 pub mod DefaultComments
+pub mod Passes
+pub mod VouchedTexts

@@ -1,16 +1,17 @@
 -- When a secret key's text gives a key, and what a refusal says.
-use Rattle.std.proofs.Common.{◌≡◌, ◌⊎◌, ℕ, ◌≤◌, Bool, true, false, if◌then◌else◌, nat_lt, bytes_eq, List, Option, None, Some, Result, Ok, Err, MatchResult, IfOk, IfErr, IfSome, refl, sym, ap, ◌∙◌, inl, inr, arith, lit≤}
+use Rattle.std.proofs.Common.{◌≡◌, ◌⊎◌, ℕ, ◌≤◌, Bool, true, false, not, ◌&&◌, if◌then◌else◌, nat_lt, bytes_eq, List, Option, None, Some, Result, Ok, Err, MatchResult, IfOk, IfErr, refl, sym, ap, ◌∙◌, inl, inr}
 use Rattle.std.specs.Option.{option_or}
-use Rattle.std.specs.Result.{result_err}
-use Rattle.std.proofs.lemmas.Bool.{le-ltb, ltb-false}
+use Rattle.std.proofs.lemmas.Bool.{ltb-false}
 use Rattle.std.proofs.lemmas.Slice.Eq.{bytes_eq-Decides}
 use Rattle.minisign_base.specs.Fault.{Fault}
 use Rattle.minisign_base.specs.Faults.{out_of_memory, key_might_be_encrypted, corrupted_key, wrong_password, key_not_encrypted, unsupported_encryption_algorithm, work_too_high}
-use Rattle.minisign_base.specs.Limits.{Numbers, parallelization}
+use Rattle.minisign_kdf.specs.Params.{Numbers}
+use Rattle.minisign_base.specs.Passages.{PromptPassage}
 use Rattle.minisign.specs.Records.{SecretKeyRecord}
 use Rattle.minisign.specs.SecretKeyText.{SecretKeyText}
-use Rattle.minisign.specs.Sealing.{IsUnencrypted, Opens, OpensWithin, bound_refusal, checksum_of, checksum_refusal, kdf_refusal, key_limits, key_numbers, no_kdf, scrypt_kdf, opening_refusal, password_refusal, unbounded_refusal, unencrypted_refusal, unsealed, work_refusal}
-use Rattle.minisign.specs.Opening.{RefusesKey, IsOpened, RefusesOpening, IsUnencryptedText, RefusesUnencrypted}
+use Rattle.minisign.specs.Headline.{OpeningHeadline}
+use Rattle.minisign.specs.Sealing.{IsUnencrypted, IsWithin, Opens, bound_refusal, checksum_of, checksum_refusal, is_encrypted, kdf_refusal, key_limits, key_numbers, no_kdf, scrypt_kdf, opening_refusal, password_refusal, unencrypted_refusal, work_refusal, xored_key}
+use Rattle.minisign.specs.Opening.{RefusesKey, IsOpened, IsOpening, RefusesOpening, IsUnencryptedText, RefusesUnencrypted}
 use Rattle.minisign.proofs.SecretKeyTexts.{one_key_text}
 use Rattle.minisign.proofs.SealingLimits.{allowed_numbers, within_bound}
 
@@ -82,124 +83,100 @@ not_above true h = absurd (cc)
 not_above false h = refl
 
 -- a bound that is met
-bound_held : (k : SecretKeyRecord) (max_p : ℕ) (r : Result Numbers Fault) → r ≡ key_limits k → bound_refusal r max_p ≡ None
-    → (key_limits k ≡ Ok (key_numbers k)) × ((key_numbers k).p ≤ max_p)
-bound_held k max_p (Err e) same h = absurd (cc)
-bound_held k max_p (Ok v) same h =
+bound_held : (k : SecretKeyRecord) (bound : Option ℕ) (r : Result Numbers Fault) → r ≡ key_limits k → bound_refusal r bound ≡ None
+    → (key_limits k ≡ Ok (key_numbers k)) × IsWithin bound (key_numbers k).p
+bound_held k bound (Err e) same h = absurd (cc)
+bound_held k None (Ok v) same h = (sym same ∙ ap (λ (w : Numbers). Ok w) (sym (allowed_numbers k v (sym same))), tt)
+bound_held k (Some max_p) (Ok v) same h =
     let numbers : key_numbers k ≡ v = allowed_numbers k v (sym same) in
     let within : v.p ≤ max_p = ltb-false max_p v.p (not_above (nat_lt max_p v.p) h) in
     (sym same ∙ ap (λ (w : Numbers). Ok w) (sym numbers), rw numbers within)
 
 -- nothing is refused exactly of a key that opens
-opening_held : (k : SecretKeyRecord) (password : List ℕ) (max_p : ℕ) → opening_refusal k password max_p ≡ None → OpensWithin k password max_p
-opening_held k password max_p h =
-    let (kdf, rest) = both_none (kdf_refusal k) (password_refusal k password max_p) h in
-    let (work, checksum) = both_none (work_refusal k max_p) (checksum_refusal (unsealed k password) wrong_password) rest in
-    let (allowed, bounded) = bound_held k max_p (key_limits k) refl work in
+opening_held : (k : SecretKeyRecord) (password : List ℕ) (bound : Option ℕ) → opening_refusal k password bound ≡ None → Opens k password bound
+opening_held k password bound h =
+    let (kdf, rest) = both_none (kdf_refusal k) (password_refusal k password bound) h in
+    let (work, checksum) = both_none (work_refusal k bound) (checksum_refusal (xored_key k password) wrong_password) rest in
+    let (allowed, bounded) = bound_held k bound (key_limits k) refl work in
     record {
-      opens = record {
-        kdf = kdf_held k kdf;
-        allowed = allowed;
-        restored = checksum_held (unsealed k password) wrong_password checksum;
-      };
+      kdf = kdf_held k kdf;
+      allowed = allowed;
       bounded = bounded;
+      restored = checksum_held (xored_key k password) wrong_password checksum;
     }
 
-opening_none : (k : SecretKeyRecord) (password : List ℕ) (max_p : ℕ) → OpensWithin k password max_p → opening_refusal k password max_p ≡ None
-opening_none k password max_p h =
-    let work : work_refusal k max_p ≡ None = within_bound k (key_numbers k) max_p h.opens.allowed h.bounded in
-    let checksum : checksum_refusal (unsealed k password) wrong_password ≡ None = checksum_none (unsealed k password) wrong_password h.opens.restored in
-    (λ i. option_or (kdf_none k h.opens.kdf i) (option_or (work i) (checksum i)))
+opening_none : (k : SecretKeyRecord) (password : List ℕ) (bound : Option ℕ) → Opens k password bound → opening_refusal k password bound ≡ None
+opening_none k password bound h =
+    let work : work_refusal k bound ≡ None = within_bound k (key_numbers k) bound h.allowed h.bounded in
+    let checksum : checksum_refusal (xored_key k password) wrong_password ≡ None = checksum_none (xored_key k password) wrong_password h.restored in
+    (λ i. option_or (kdf_none k h.kdf i) (option_or (work i) (checksum i)))
+
+-- a key that opened is not encrypted any more
+neither : (a b : Bool) → b ≡ true → a && not b ≡ false
+neither true b h = ap not h
+neither false b h = refl
+
+pub opened_key_is_open : (k v : SecretKeyRecord) (password : List ℕ) (bound : Option ℕ) → v ≡ xored_key k password → password_refusal k password bound ≡ None
+    → is_encrypted v ≡ false
+opened_key_is_open k v password bound is h =
+    let (work, checksum) = both_none (work_refusal k bound) (checksum_refusal (xored_key k password) wrong_password) h in
+    ap is_encrypted is ∙ neither _ _ ((bytes_eq-Decides (xored_key k password).checksum (checksum_of (xored_key k password))).1 (checksum_held (xored_key k password) wrong_password checksum))
 
 -- a text that no password opens
-pub any_password : (text password : List ℕ) (max_p : ℕ) (e : Fault) → (e ≡ out_of_memory) ⊎ RefusesKey text kdf_refusal e
-    → (e ≡ out_of_memory) ⊎ RefusesOpening text password max_p e
-any_password text password max_p e (inl memory) = inl memory
-any_password text password max_p e (inr refused) = inr (record {
-  first = first_refused text (λ k. password_refusal k password max_p) e refused;
-  closed = λ k read h. not_refused text kdf_refusal e k refused read (kdf_none k h.opens.kdf);
+pub any_password : (text password : List ℕ) (bound : Option ℕ) (e : Fault) → (e ≡ out_of_memory) ⊎ RefusesKey text kdf_refusal e
+    → (e ≡ out_of_memory) ⊎ RefusesOpening text password bound e
+any_password text password bound e (inl memory) = inl memory
+any_password text password bound e (inr refused) = inr (record {
+  first = first_refused text (λ k. password_refusal k password bound) e refused;
+  closed = λ k read h. not_refused text kdf_refusal e k refused read (kdf_none k h.kdf);
 })
 
 -- a key that was opened
-pub opened_text : (text password : List ℕ) (max_p : ℕ) (sealed k : SecretKeyRecord) → SecretKeyText text sealed → kdf_refusal sealed ≡ None
-    → k ≡ unsealed sealed password → password_refusal sealed password max_p ≡ None → IsOpened text password max_p k
-opened_text text password max_p sealed k read kdf is none = record {
+pub opened_text : (text password : List ℕ) (bound : Option ℕ) (sealed k : SecretKeyRecord) → SecretKeyText text sealed → kdf_refusal sealed ≡ None
+    → k ≡ xored_key sealed password → password_refusal sealed password bound ≡ None → IsOpened text password bound k
+opened_text text password bound sealed k read kdf is none = record {
   sealed = sealed;
   read = read;
-  opens = opening_held sealed password max_p (ap (λ (o : Option Fault). option_or o (password_refusal sealed password max_p)) kdf ∙ none);
+  opens = opening_held sealed password bound (ap (λ (o : Option Fault). option_or o (password_refusal sealed password bound)) kdf ∙ none);
   key = is;
 }
 
 -- what opening says of the text
-pub opening_outcome : (text password : List ℕ) (max_p : ℕ) (sealed : SecretKeyRecord) (r : Result SecretKeyRecord Fault)
+pub opening_outcome : (text password : List ℕ) (bound : Option ℕ) (sealed : SecretKeyRecord) (r : Result SecretKeyRecord Fault)
     → SecretKeyText text sealed → kdf_refusal sealed ≡ None
-    → IfOk r (λ k. (k ≡ unsealed sealed password) × (password_refusal sealed password max_p ≡ None))
-    → IfErr r (λ e. ((e ≡ out_of_memory) × (work_refusal sealed max_p ≡ None)) ⊎ (password_refusal sealed password max_p ≡ Some e))
-    → MatchResult r (IsOpened text password max_p) (λ e. (e ≡ out_of_memory) ⊎ RefusesOpening text password max_p e)
-opening_outcome text password max_p sealed (Ok k) read kdf (is, none) refused = opened_text text password max_p sealed k read kdf is none
-opening_outcome text password max_p sealed (Err e) read kdf ok (inl (memory, work)) = inl memory
-opening_outcome text password max_p sealed (Err e) read kdf ok (inr refused) =
-    let first : opening_refusal sealed password max_p ≡ Some e = ap (λ (o : Option Fault). option_or o (password_refusal sealed password max_p)) kdf ∙ refused in
-    let whole : RefusesKey text (λ k. opening_refusal k password max_p) e = inr (sealed, read, first) in
-    inr (record { first = whole; closed = λ k other h. not_refused text (λ k. opening_refusal k password max_p) e k whole other (opening_none k password max_p h) })
+    → IfOk r (λ k. (k ≡ xored_key sealed password) × (password_refusal sealed password bound ≡ None))
+    → IfErr r (λ e. ((e ≡ out_of_memory) × (work_refusal sealed bound ≡ None)) ⊎ (password_refusal sealed password bound ≡ Some e))
+    → MatchResult r (IsOpened text password bound) (λ e. (e ≡ out_of_memory) ⊎ RefusesOpening text password bound e)
+opening_outcome text password bound sealed (Ok k) read kdf (is, none) refused = opened_text text password bound sealed k read kdf is none
+opening_outcome text password bound sealed (Err e) read kdf ok (inl (memory, work)) = inl memory
+opening_outcome text password bound sealed (Err e) read kdf ok (inr refused) =
+    let first : opening_refusal sealed password bound ≡ Some e = ap (λ (o : Option Fault). option_or o (password_refusal sealed password bound)) kdf ∙ refused in
+    let whole : RefusesKey text (λ k. opening_refusal k password bound) e = inr (sealed, read, first) in
+    inr (record { first = whole; closed = λ k other h. not_refused text (λ k. opening_refusal k password bound) e k whole other (opening_none k password bound h) })
 
 -- why a key that is read does not open
-refused_key : (text password : List ℕ) (max_p : ℕ) (e : Fault) (k : SecretKeyRecord) → RefusesKey text (λ k. opening_refusal k password max_p) e
-    → SecretKeyText text k → k.kdf ≡ scrypt_kdf → password_refusal k password max_p ≡ Some e
-refused_key text password max_p e k (inl unread) read kdf = absurd (unread.unread k read)
-refused_key text password max_p e k (inr (l, other, refused)) read kdf =
+refused_key : (text password : List ℕ) (bound : Option ℕ) (e : Fault) (k : SecretKeyRecord) → RefusesKey text (λ k. opening_refusal k password bound) e
+    → SecretKeyText text k → k.kdf ≡ scrypt_kdf → password_refusal k password bound ≡ Some e
+refused_key text password bound e k (inl unread) read kdf = absurd (unread.unread k read)
+refused_key text password bound e k (inr (l, other, refused)) read kdf =
     let same : k ≡ l = one_key_text text l k other read in
-    ap (λ (o : Option Fault). option_or o (password_refusal k password max_p)) (sym (kdf_none k kdf)) ∙ ap (λ (m : SecretKeyRecord). opening_refusal m password max_p) same ∙ refused
+    ap (λ (o : Option Fault). option_or o (password_refusal k password bound)) (sym (kdf_none k kdf)) ∙ ap (λ (m : SecretKeyRecord). opening_refusal m password bound) same ∙ refused
 
 -- a key that is read opens exactly where its own conditions hold
-pub opening_headline : (text password : List ℕ) (max_p : ℕ) (r : Result SecretKeyRecord Fault)
-    → MatchResult r (IsOpened text password max_p) (λ e. (e ≡ out_of_memory) ⊎ RefusesOpening text password max_p e)
+pub opening_headline : (text password : List ℕ) (bound : Option ℕ) (r : Result SecretKeyRecord Fault)
+    → MatchResult r (IsOpened text password bound) (λ e. (e ≡ out_of_memory) ⊎ RefusesOpening text password bound e)
     → (k : SecretKeyRecord) → SecretKeyText text k → k.kdf ≡ scrypt_kdf
-    → MatchResult r (λ v. OpensWithin k password max_p × (v ≡ unsealed k password))
-    (λ e. (e ≡ out_of_memory) ⊎ (¬ (OpensWithin k password max_p) × (password_refusal k password max_p ≡ Some e)))
-opening_headline text password max_p (Ok v) opened k read kdf =
+    → MatchResult r (λ v. Opens k password bound × (v ≡ xored_key k password))
+    (λ e. (e ≡ out_of_memory) ⊎ (¬ (Opens k password bound) × (password_refusal k password bound ≡ Some e)))
+opening_headline text password bound (Ok v) opened k read kdf =
     let same : opened.sealed ≡ k = one_key_text text k opened.sealed read opened.read in
-    (rw same at opened.opens, opened.key ∙ ap (λ (l : SecretKeyRecord). unsealed l password) same)
-opening_headline text password max_p (Err e) (inl memory) k read kdf = inl memory
-opening_headline text password max_p (Err e) (inr refused) k read kdf =
-    inr (refused.closed k read, refused_key text password max_p e k refused.first read kdf)
+    (rw same at opened.opens, opened.key ∙ ap (λ (l : SecretKeyRecord). xored_key l password) same)
+opening_headline text password bound (Err e) (inl memory) k read kdf = inl memory
+opening_headline text password bound (Err e) (inr refused) k read kdf =
+    inr (refused.closed k read, refused_key text password bound e k refused.first read kdf)
 
--- no parallelization is above the greatest bound
-small_p : (b : Bool) (count n_log2 : ℕ) → (if b then 1 else parallelization count n_log2) ≤ 4294967295
-small_p true count n_log2 = lit≤ tt
-small_p false count n_log2 = omega arith
-
-small_numbers : (k : SecretKeyRecord) → (key_numbers k).p ≤ 4294967295
-unfolding key_numbers
-small_numbers k = small_p _ _ _
-
-unbounded_work : (k : SecretKeyRecord) (r : Result Numbers Fault) → r ≡ key_limits k → bound_refusal r 4294967295 ≡ result_err r
-unbounded_work k (Err e) same = refl
-unbounded_work k (Ok v) same =
-    let numbers : key_numbers k ≡ v = allowed_numbers k v (sym same) in
-    let within : v.p ≤ 4294967295 = rw (← numbers) (small_numbers k) in
-    rw (le-ltb 4294967295 v.p within) refl
-
--- what the greatest bound says is said without a bound
-pub unbounded_headline : (k : SecretKeyRecord) (password : List ℕ) (r : Result SecretKeyRecord Fault)
-    → MatchResult r (λ v. OpensWithin k password 4294967295 × (v ≡ unsealed k password))
-    (λ e. (e ≡ out_of_memory) ⊎ (¬ (OpensWithin k password 4294967295) × (password_refusal k password 4294967295 ≡ Some e)))
-    → MatchResult r (λ v. Opens k password × (v ≡ unsealed k password))
-    (λ e. (e ≡ out_of_memory) ⊎ (¬ (Opens k password) × (unbounded_refusal k password ≡ Some e)))
-unbounded_headline k password (Ok v) (opens, is) = (opens.opens, is)
-unbounded_headline k password (Err e) (inl memory) = inl memory
-unbounded_headline k password (Err e) (inr (closed, refused)) = inr (
-  λ opens. closed (record { opens = opens; bounded = small_numbers k }),
-  ap (λ (o : Option Fault). option_or o (checksum_refusal (unsealed k password) wrong_password)) (sym (unbounded_work k (key_limits k) refl)) ∙ refused,
-)
-
--- the same where a password is handed in
-pub unbounded_headlines : {P : Type 0} (text : List ℕ) (bytes_of : P → List ℕ) (password : Option P) (r : Result SecretKeyRecord Fault)
-    → IfSome password (λ p. (k : SecretKeyRecord) → SecretKeyText text k → k.kdf ≡ scrypt_kdf
-    → MatchResult r (λ v. OpensWithin k (bytes_of p) 4294967295 × (v ≡ unsealed k (bytes_of p)))
-    (λ e. (e ≡ out_of_memory) ⊎ (¬ (OpensWithin k (bytes_of p) 4294967295) × (password_refusal k (bytes_of p) 4294967295 ≡ Some e))))
-    → IfSome password (λ p. (k : SecretKeyRecord) → SecretKeyText text k → k.kdf ≡ scrypt_kdf
-    → MatchResult r (λ v. Opens k (bytes_of p) × (v ≡ unsealed k (bytes_of p)))
-    (λ e. (e ≡ out_of_memory) ⊎ (¬ (Opens k (bytes_of p)) × (unbounded_refusal k (bytes_of p) ≡ Some e))))
-unbounded_headlines text bytes_of None r h = tt
-unbounded_headlines text bytes_of (Some p) r h = λ k read kdf. unbounded_headline k (bytes_of p) r (h k read kdf)
+-- the same of an opening as a whole
+pub headline_of : {R W : Type 0} (p : PromptPassage R W) (given : Option (List ℕ)) (text : List ℕ) (bound : Option ℕ) (r : Result SecretKeyRecord Fault)
+    → IsOpening p given text bound r → OpeningHeadline given text bound r
+headline_of p None text bound r h = tt
+headline_of p (Some password) text bound r (same, h) = opening_headline text password bound r h

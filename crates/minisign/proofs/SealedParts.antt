@@ -6,7 +6,7 @@ use Rattle.std.proofs.lemmas.Simd.{length-zip2}
 use Rattle.std.specs.Simd.Lanes.{zip2}
 use Rattle.minisign.proofs.Xor.{xor_halves, xor_twice}
 use Rattle.minisign.specs.Records.{SecretKeyRecord}
-use Rattle.minisign.specs.Sealing.{key_numbers, sealed_part, stream_of, unsealed, with_sealed_part, xored}
+use Rattle.minisign.specs.Sealing.{key_numbers, key_xor, sealed_part, stream_of, with_sealed_part, xored_key}
 
 -- the fields that are sealed have their lengths
 pub record HasSealedLengths (k : SecretKeyRecord) : Type 0 where
@@ -33,8 +33,8 @@ cut_fields k a b c la lb lc =
 
 -- the key xored field by field
 pub xored_fields : (k : SecretKeyRecord) (a b c : List ℕ) → HasSealedLengths k → length a ≡ 8 → length b ≡ 64 → length c ≡ 32
-    → xored k (a ++ b ++ c) ≡ with_fields k (zip2 bit_xor k.keynum a) (zip2 bit_xor k.secret b) (zip2 bit_xor k.checksum c)
-unfolding xored
+    → key_xor k (a ++ b ++ c) ≡ with_fields k (zip2 bit_xor k.keynum a) (zip2 bit_xor k.secret b) (zip2 bit_xor k.checksum c)
+unfolding key_xor
 xored_fields k a b c len la lb lc =
     let halves : zip2 bit_xor (sealed_part k) (a ++ b ++ c) ≡ zip2 bit_xor k.keynum a ++ zip2 bit_xor k.secret b ++ zip2 bit_xor k.checksum c =
     xor_halves (k.keynum ++ k.secret) k.checksum (a ++ b) c
@@ -54,7 +54,7 @@ cut_stream stream =
 
 -- xoring once more with the same fields
 pub restored_fields : (k : SecretKeyRecord) (a b c : List ℕ) → HasSealedLengths k → length a ≡ 8 → length b ≡ 64 → length c ≡ 32
-    → xored (with_fields k (zip2 bit_xor k.keynum a) (zip2 bit_xor k.secret b) (zip2 bit_xor k.checksum c)) (a ++ b ++ c) ≡ k
+    → key_xor (with_fields k (zip2 bit_xor k.keynum a) (zip2 bit_xor k.secret b) (zip2 bit_xor k.checksum c)) (a ++ b ++ c) ≡ k
 restored_fields k a b c len la lb lc =
     let once : HasSealedLengths (with_fields k (zip2 bit_xor k.keynum a) (zip2 bit_xor k.secret b) (zip2 bit_xor k.checksum c)) = record {
       keynum = length-zip2 bit_xor k.keynum a (len.keynum ∙ sym la) ∙ len.keynum;
@@ -68,16 +68,16 @@ restored_fields k a b c len la lb lc =
 pub xored_parts : (k self : SecretKeyRecord) (stream a b c x y z : List ℕ) → k ≡ self → HasSealedLengths k → length stream ≡ 104
     → a ≡ take 8 stream → b ≡ take 64 (drop 8 stream) → c ≡ drop 64 (drop 8 stream) → length a ≡ 8 → length b ≡ 64 → length c ≡ 32
     → x ≡ zip2 bit_xor k.keynum a → y ≡ zip2 bit_xor k.secret b → z ≡ zip2 bit_xor k.checksum c
-    → (with_fields k x y z ≡ xored self stream) × (xored (with_fields k x y z) stream ≡ self)
+    → (with_fields k x y z ≡ key_xor self stream) × (key_xor (with_fields k x y z) stream ≡ self)
 xored_parts k self stream a b c x y z same len whole ea eb ec la lb lc ex ey ez =
     let joined : a ++ b ++ c ≡ stream = (λ i. ea i ++ eb i ++ ec i) ∙ cut_stream stream in
     let fields : with_fields k x y z ≡ with_fields k (zip2 bit_xor k.keynum a) (zip2 bit_xor k.secret b) (zip2 bit_xor k.checksum c) = λ i. with_fields k (ex i) (ey i) (ez i) in (
-      fields ∙ sym (xored_fields k a b c len la lb lc) ∙ (λ i. xored (same i) (joined i)),
-      (λ i. xored (fields i) (sym joined i)) ∙ restored_fields k a b c len la lb lc ∙ same,
+      fields ∙ sym (xored_fields k a b c len la lb lc) ∙ (λ i. key_xor (same i) (joined i)),
+      (λ i. key_xor (fields i) (sym joined i)) ∙ restored_fields k a b c len la lb lc ∙ same,
     )
 
 -- xoring twice with one stream
-pub xored_twice : (k : SecretKeyRecord) (stream : List ℕ) → HasSealedLengths k → length stream ≡ 104 → xored (xored k stream) stream ≡ k
+pub xored_twice : (k : SecretKeyRecord) (stream : List ℕ) → HasSealedLengths k → length stream ≡ 104 → key_xor (key_xor k stream) stream ≡ k
 xored_twice k stream len whole =
     let a : List ℕ = take 8 stream in
     let b : List ℕ = take 64 (drop 8 stream) in
@@ -87,24 +87,24 @@ xored_twice k stream len whole =
     let lb : length b ≡ 64 = length-take-le 64 (drop 8 stream) (omega (arith, behind)) in
     let lc : length c ≡ 32 = length-drop 64 (drop 8 stream) ∙ omega (arith, behind) in
     let joined : a ++ b ++ c ≡ stream = cut_stream stream in
-    (λ i. xored (xored k (sym joined i)) (sym joined i))
-    ∙ ap (λ (l : SecretKeyRecord). xored l (a ++ b ++ c)) (xored_fields k a b c len la lb lc)
+    (λ i. key_xor (key_xor k (sym joined i)) (sym joined i))
+    ∙ ap (λ (l : SecretKeyRecord). key_xor l (a ++ b ++ c)) (xored_fields k a b c len la lb lc)
     ∙ restored_fields k a b c len la lb lc
 
 -- the stream does not depend on what is sealed
-pub same_stream : (k : SecretKeyRecord) (stream password : List ℕ) → stream_of (xored k stream) password ≡ stream_of k password
-unfolding xored stream_of key_numbers
+pub same_stream : (k : SecretKeyRecord) (stream password : List ℕ) → stream_of (key_xor k stream) password ≡ stream_of k password
+unfolding key_xor stream_of key_numbers
 same_stream k stream password = refl
 
 -- opening what was sealed under the same password, and sealing what was opened
-pub unsealed_twice : (k : SecretKeyRecord) (password : List ℕ) → HasSealedLengths k → length (stream_of k password) ≡ 104
-    → unsealed (unsealed k password) password ≡ k
-unsealed_twice k password len whole =
-    ap (xored (unsealed k password)) (same_stream k (stream_of k password) password) ∙ xored_twice k (stream_of k password) len whole
+pub xored_key_twice : (k : SecretKeyRecord) (password : List ℕ) → HasSealedLengths k → length (stream_of k password) ≡ 104
+    → xored_key (xored_key k password) password ≡ k
+xored_key_twice k password len whole =
+    ap (key_xor (xored_key k password)) (same_stream k (stream_of k password) password) ∙ xored_twice k (stream_of k password) len whole
 
 -- the same, of a key that was xored with the stream
-pub restored_key : (k new : SecretKeyRecord) (stream password : List ℕ) → stream ≡ stream_of k password → new ≡ xored k stream → xored new stream ≡ k
-    → unsealed new password ≡ k
+pub restored_key : (k new : SecretKeyRecord) (stream password : List ℕ) → stream ≡ stream_of k password → new ≡ key_xor k stream → key_xor new stream ≡ k
+    → xored_key new password ≡ k
 restored_key k new stream password is once twice =
     let same : stream_of new password ≡ stream = ap (λ (l : SecretKeyRecord). stream_of l password) once ∙ same_stream k stream password ∙ sym is in
-    ap (xored new) same ∙ twice
+    ap (key_xor new) same ∙ twice

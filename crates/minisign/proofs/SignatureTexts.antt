@@ -4,7 +4,7 @@ use Rattle.std.proofs.Common.{◌≡◌, ◌≢◌, ℕ, ◌<◌, ◌≤◌, Boo
 use Rattle.std.specs.declared.option.Option.TheVariants.{None, Some}
 use Rattle.std.specs.List.{starts_with}
 use Rattle.std.specs.Str.{trim}
-use Rattle.std.specs.Str.Lines.{lines}
+use Rattle.std.specs.Str.Lines.{lines, strip_carriage_return}
 use Rattle.std.proofs.Math.Dec.{eqb, leb, lit<}
 use Rattle.std.proofs.lemmas.Bool.{le-leb, leb-true, lt-leb}
 use Rattle.std.proofs.lemmas.Bool.Decides.{Decides-eqb}
@@ -13,13 +13,13 @@ use Rattle.std.proofs.lemmas.Slice.Eq.{starts_is, bytes_eq-Decides}
 use Rattle.minisign_base.specs.Faults.{missing_untrusted_comment, missing_signature, missing_trusted_comment, missing_global_signature, untrusted_comment_prefix, signature_not_base64, record_too_short, trusted_comment_prefix, unsupported_signature_algorithm}
 use Rattle.minisign.specs.Records.{CommentsRecord, SignatureRecord, SignatureBoxRecord, ReadsSignature, IsKnownAlgorithm, signature_bytes, legacy_algorithm, prehashed_algorithm}
 use Rattle.minisign.specs.Texts.{IsBase64Of, IsDecided, base64_of, base64_bytes, is_base64, line_at, untrusted_comment_label}
-use Rattle.minisign.specs.SignatureText.{EncodesSignature, SignatureText, HasFourLines, KeepsComments, signature_text, is_known_algorithm, signature_tests, signature_fault, trusted_comment_label}
+use Rattle.minisign.specs.SignatureText.{AreOneLine, EncodesSignature, SignatureText, HasFourLines, KeepsComments, comments_read_back, signature_text, is_known_algorithm, signature_tests, signature_fault, trusted_comment_label}
 use Rattle.minisign.proofs.Base64Texts.{bytes_read, is_read, reads, one_decoding}
 use Rattle.base64.specs.GeneralPurpose.{IsBytes}
 use Rattle.base64.proofs.EngineFacts.{front_bytes}
-use Rattle.minisign.specs.Acceptance.{line}
+use Rattle.minisign.specs.Lines.{line}
 use Rattle.minisign.proofs.Letters.{AllGraphic, graphic_base64, trim_graphic}
-use Rattle.minisign.proofs.WrittenLines.{AllShown, labelled, labelled_one_line, lines_line, lines_last, shown_codes, shown_graphic, shown_one_line, trimmed_end}
+use Rattle.minisign.proofs.WrittenLines.{AllShown, labelled, labelled_one_line, lines_labelled, lines_line, lines_last, shown_codes, shown_graphic, shown_one_line, strip_none, trimmed_end}
 use Rattle.minisign.proofs.ReadTexts.{all_hold}
 use Rattle.minisign.proofs.RecordFields.{joined_fields, one_signature, stored_algorithm, stored_length}
 
@@ -239,9 +239,9 @@ some_trusted : 0 < length trusted_comment_label
 unfolding trusted_comment_label
 some_trusted = lit< tt
 
--- a written text reads as its signature and comments
+-- a written text reads as its signature and comments, but for a carriage return at the end of the untrusted one
 module _ (s : SignatureRecord) (c : CommentsRecord) (encodes : EncodesSignature (base64_of (signature_bytes s)) s) (signed : IsBase64Of (base64_of c.signature) c.signature)
-    (keeps : KeepsComments c) (algorithm : IsKnownAlgorithm s.algorithm) where
+    (one : AreOneLine c) (algorithm : IsKnownAlgorithm s.algorithm) where
   graphic : AllGraphic (base64_of (signature_bytes s))
   graphic = graphic_base64 (signature_bytes s) (front_bytes (signature_bytes s) _ (subst IsBytes encodes.reads.front.1 encodes.base64.each))
 
@@ -249,23 +249,34 @@ module _ (s : SignatureRecord) (c : CommentsRecord) (encodes : EncodesSignature 
   graphic_comment = graphic_base64 c.signature signed.each
 
   written_lines : lines (signature_text s c)
-      ≡ (untrusted_comment_label ++ c.untrusted) ∷ base64_of (signature_bytes s) ∷ (trusted_comment_label ++ c.trusted) ∷ base64_of c.signature ∷ []
+      ≡ (untrusted_comment_label ++ strip_carriage_return c.untrusted) ∷ base64_of (signature_bytes s) ∷ (trusted_comment_label ++ c.trusted) ∷ base64_of c.signature ∷ []
   written_lines =
-      lines_line _ _ (labelled_one_line untrusted_comment_label c.untrusted shown_untrusted some_untrusted keeps.untrusted_one_line keeps.untrusted_end)
-      ∙ ap (λ l. (untrusted_comment_label ++ c.untrusted) ∷ l) (lines_line _ _ (shown_one_line _ (shown_graphic _ graphic))
-      ∙ ap (λ l. base64_of (signature_bytes s) ∷ l) (lines_line _ _ (labelled_one_line trusted_comment_label c.trusted shown_trusted some_trusted keeps.trusted_one_line (trimmed_end c.trusted keeps.trusted_trimmed))
+      lines_labelled untrusted_comment_label c.untrusted _ shown_untrusted some_untrusted one.untrusted_one_line
+      ∙ ap (λ l. (untrusted_comment_label ++ strip_carriage_return c.untrusted) ∷ l) (lines_line _ _ (shown_one_line _ (shown_graphic _ graphic))
+      ∙ ap (λ l. base64_of (signature_bytes s) ∷ l) (lines_line _ _ (labelled_one_line trusted_comment_label c.trusted shown_trusted some_trusted one.trusted_one_line (trimmed_end c.trusted one.trusted_trimmed))
       ∙ ap (λ l. (trusted_comment_label ++ c.trusted) ∷ l) (lines_last _ (shown_one_line _ (shown_graphic _ graphic_comment)))))
 
-  pub written_text : SignatureText (signature_text s c) (record { signature = s; comments = Some c })
+  pub written_text : SignatureText (signature_text s c) (record { signature = s; comments = Some (comments_read_back c) })
   written_text =
       let at = λ (n : ℕ). ap (λ (ls : List (List ℕ)). slice_index_or ls n []) written_lines in
       record {
-        comments = c;
+        comments = comments_read_back c;
         four_lines = rw written_lines refl;
         untrusted_comment = at 0;
         signature = subst (λ (t : List ℕ). EncodesSignature t s) (sym (ap trim (at 1) ∙ trim_graphic _ graphic)) encodes;
         algorithm = algorithm;
-        trusted_comment = (c.trusted, at 2, keeps.trusted_trimmed);
+        trusted_comment = (c.trusted, at 2, one.trusted_trimmed);
         comment_signature = subst (λ (t : List ℕ). IsBase64Of t c.signature) (sym (ap trim (at 3) ∙ trim_graphic _ graphic_comment)) signed;
         box = refl;
       }
+
+-- comments that are kept stand in lines of their own, and nothing goes of them
+pub one_line : (c : CommentsRecord) → KeepsComments c → AreOneLine c
+one_line c keeps = record {
+  untrusted_one_line = keeps.untrusted_one_line;
+  trusted_one_line = keeps.trusted_one_line;
+  trusted_trimmed = keeps.trusted_trimmed;
+}
+
+pub same_comments : (c : CommentsRecord) → KeepsComments c → comments_read_back c ≡ c
+same_comments c keeps = ap (λ (u : List ℕ). record c { untrusted = u }) (strip_none c.untrusted keeps.untrusted_end)

@@ -1,33 +1,50 @@
--- The text of a box that signing made: it is written, and read back where its comments are kept.
-use Rattle.std.proofs.Common.{◌≡◌, ℕ, List, Option, Some, Result, Ok, Err, IfOk, IfSome, MatchOption, MatchResult, sym, subst}
+-- The text of a box that signing made: it is written, and read back as a box that vouches for the same.
+use Rattle.std.proofs.Common.{◌≡◌, ℕ, Bool, List, Option, Some, Result, Ok, Err, IfOk, IfSome, MatchOption, MatchResult, sym, subst}
 use Rattle.minisign_base.specs.Fault.{Fault}
 use Rattle.minisign_base.specs.Faults.{out_of_memory, signature_box_incomplete}
-use Rattle.minisign.specs.Records.{CommentsRecord, SignatureBoxRecord}
-use Rattle.minisign.specs.SignatureText.{SignatureText, KeepsComments, signature_text}
-use Rattle.minisign.specs.Signing.{ChosenComments}
-use Rattle.minisign.specs.SigningTexts.{AreKept}
+use Rattle.minisign.specs.Records.{CommentsRecord, PublicKeyRecord, SignatureBoxRecord}
+use Rattle.minisign.specs.SignatureText.{AreOneLine, SignatureText, box_read_back, signature_text}
+use Rattle.minisign.specs.Acceptance.{Verifier, Vouches, VouchesUnderEachKey}
+use Rattle.minisign.specs.Signing.{AreLines, ChosenComments}
 
 -- the chosen comments and a comment signature
 abbrev pub with_signature : ChosenComments → List ℕ → CommentsRecord
 with_signature chosen global = record { untrusted = chosen.untrusted; trusted = chosen.trusted; signature = global }
 
--- chosen comments that are kept are kept with their signature
-kept_with : (chosen : ChosenComments) (global : List ℕ) → AreKept chosen → KeepsComments (with_signature chosen global)
-kept_with chosen global kept = record {
-  untrusted_one_line = kept.untrusted_one_line;
-  untrusted_end = kept.untrusted_end;
-  trusted_one_line = kept.trusted_one_line;
-  trusted_trimmed = kept.trusted_trimmed;
+-- chosen comments that stand in lines of their own do so with their signature
+lines_with : (chosen : ChosenComments) (global : List ℕ) → AreLines chosen → AreOneLine (with_signature chosen global)
+lines_with chosen global one = record {
+  untrusted_one_line = one.untrusted_one_line;
+  trusted_one_line = one.trusted_one_line;
+  trusted_trimmed = one.trusted_trimmed;
 }
 
 -- what writing answers of a box with comments
 pub written_text : {T : Type 0} (bytes : T → List ℕ) (r : Result T Fault) (x : SignatureBoxRecord) (chosen : ChosenComments) (global : List ℕ)
     → x.comments ≡ Some (with_signature chosen global)
     → MatchOption x.comments (r ≡ Err signature_box_incomplete) (λ c. MatchResult r (λ t. bytes t ≡ signature_text x.signature c) (λ e. e ≡ out_of_memory))
-    → (IfSome x.comments KeepsComments → IfOk r (λ t. SignatureText (bytes t) x))
-    → IfOk r (λ t. (bytes t ≡ signature_text x.signature (with_signature chosen global)) × (AreKept chosen → SignatureText (bytes t) x))
+    → (IfSome x.comments AreOneLine → IfOk r (λ t. SignatureText (bytes t) (box_read_back x)))
+    → IfOk r (λ t. (bytes t ≡ signature_text x.signature (with_signature chosen global)) × (AreLines chosen → SignatureText (bytes t) (box_read_back x)))
 written_text bytes (Err e) x chosen global both written back = tt
 written_text bytes (Ok t) x chosen global both written back = (
   subst (λ (o : Option CommentsRecord). MatchOption o (Ok t ≡ Err signature_box_incomplete) (λ c. bytes t ≡ signature_text x.signature c)) both written,
-  λ kept. back (subst (λ (o : Option CommentsRecord). IfSome o KeepsComments) (sym both) (kept_with chosen global kept)),
+  λ one. back (subst (λ (o : Option CommentsRecord). IfSome o AreOneLine) (sym both) (lines_with chosen global one)),
 )
+
+-- the untrusted comment does not matter for what a box vouches for
+same_vouched : (accepts : Verifier) (pk : PublicKeyRecord) (x : SignatureBoxRecord) (c : CommentsRecord) (message : List ℕ) (legacy : Bool)
+    → Vouches accepts pk (record x { comments = Some c }) message legacy → Vouches accepts pk (box_read_back (record x { comments = Some c })) message legacy
+same_vouched accepts pk x c message legacy h = record {
+  same_key = h.same_key;
+  allowed = h.allowed;
+  signed = h.signed;
+  comment_signed = record { long_enough = h.comment_signed.long_enough; signed = h.comment_signed.signed };
+}
+
+pub vouched_back : (accepts : Verifier) (key keynum message : List ℕ) (x : SignatureBoxRecord) (chosen : ChosenComments) (global : List ℕ)
+    → x.comments ≡ Some (with_signature chosen global)
+    → VouchesUnderEachKey accepts key keynum message x → VouchesUnderEachKey accepts key keynum message (box_read_back x)
+vouched_back accepts key keynum message x chosen global both h = λ pk legacy same_key same_keynum.
+    subst (λ (o : Option CommentsRecord). Vouches accepts pk (box_read_back (record x { comments = o })) message legacy) (sym both)
+    (same_vouched accepts pk x (with_signature chosen global) message legacy
+    (subst (λ (o : Option CommentsRecord). Vouches accepts pk (record x { comments = o }) message legacy) both (h pk legacy same_key same_keynum)))

@@ -7,7 +7,7 @@ use Rattle.std.proofs.lemmas.List.{append_assoc, get_or_append_left, get_or_defa
 use Rattle.std.specs.List.{All}
 use Rattle.std.specs.Str.Iter.{LacksByte}
 use Rattle.std.specs.Str.Lines.{lines, strip_carriage_return}
-use Rattle.minisign.specs.Acceptance.{line}
+use Rattle.minisign.specs.Lines.{line}
 use Rattle.minisign.specs.Records.{SecretKeyRecord, ReadsSecretKey}
 use Rattle.minisign.specs.SecretKeyText.{SecretKeyText, default_secret_key_comment}
 use Rattle.minisign.specs.Texts.{IsBase64Of, untrusted_comment_label}

@@ -5,18 +5,18 @@ use Rattle.std.proofs.Math.Bool.{cond}
 use Rattle.std.proofs.lemmas.Bool.{cases_lt, ne_eqb, leb-true}
 use Rattle.std.proofs.Math.Logic.{⊎_elim}
 use Rattle.std.proofs.Math.ListN.{get_or-append}
-use Rattle.std.proofs.Math.Seq.{get_or-append_right}
+use Rattle.std.proofs.Math.Seq.{get_or-append_right, take-append-add}
 use Rattle.std.proofs.lemmas.List.{append-nil, append_assoc, length-append, length-replicate, get_or_default, get_or-append-add}
 use Rattle.std.proofs.lemmas.Str.{inside_one, len_utf8_bounds, length-encode, length-le-encodes}
 use Rattle.std.specs.Char.{encode_utf8, is_whitespace}
 use Rattle.std.specs.Str.{chars, drop_trailing_whitespace, encode_utf8_all, trim, trim_end, trim_start}
 use Rattle.std.specs.Str.Iter.{LacksByte}
 use Rattle.std.specs.List.{All, AllByRecursion}
-use Rattle.std.specs.Str.Lines.{lines}
+use Rattle.std.specs.Str.Lines.{lines, strip_carriage_return}
 use Rattle.base64.specs.Engines.{standard}
 use Rattle.base64.specs.Rfc4648.{unpadded_len, padding_len}
 use Rattle.base64.proofs.RoundTrip.{length-encode_symbols}
-use Rattle.minisign.specs.Acceptance.{line}
+use Rattle.minisign.specs.Lines.{line}
 use Rattle.minisign.specs.Texts.{base64_of}
 use Rattle.minisign.proofs.FirstLine.{lines-cut}
 use Rattle.minisign.proofs.Letters.{AllGraphic}
@@ -93,13 +93,17 @@ last_append xs ys some =
     let at : length (xs ++ ys) - 1 ≡ length xs + (length ys - 1) = omega (arith, length-append xs ys) in
     ap (λ (n : ℕ). slice_index (xs ++ ys) n) at ∙ get_or-append-add xs ys (length ys - 1) 0
 
+-- no line feed stands in a line with a label before it
+labelled_no_feed : (label x : List ℕ) → AllShown label → LacksByte 10 x → (k : ℕ) → k < length (label ++ x) → slice_index (label ++ x) k ≢ 10
+labelled_no_feed label x shown lacks k l e = ⊎_elim
+    (λ before. absurd (omega (arith, shown_at label k shown before, get_or-append label x 0 k before, e)))
+    (λ behind. lacks (k - length label) (omega (arith, l, length-append label x)) (sym (get_or-append_right label x k 0 behind) ∙ e))
+    (cases_lt k (length label))
+
 -- a line is one with a label before it
 pub labelled_one_line : (label x : List ℕ) → AllShown label → 0 < length label → LacksByte 10 x → slice_index x (length x - 1) ≢ 13 → IsOneLine (label ++ x)
 labelled_one_line label x shown some lacks end = record {
-  no_feed = λ k l e. ⊎_elim
-      (λ before. absurd (omega (arith, shown_at label k shown before, get_or-append label x 0 k before, e)))
-      (λ behind. lacks (k - length label) (omega (arith, l, length-append label x)) (sym (get_or-append_right label x k 0 behind) ∙ e))
-      (cases_lt k (length label));
+  no_feed = labelled_no_feed label x shown lacks;
   no_return = last_of x lacks end;
 }
   where
@@ -109,6 +113,35 @@ labelled_one_line label x shown some lacks end = record {
         let at : slice_index label (length label - 1) ≡ 13 = subst (λ (t : List ℕ). slice_index t (length t - 1) ≡ 13) same e in
         absurd (omega (arith, at, shown_at label (length label - 1) shown (omega arith)))
     last_of (y ∷ ys) lacks end e = end (sym (last_append label (y ∷ ys) (omega arith)) ∙ e)
+
+-- a line that begins with a label: the carriage return at its end is that of what stands behind the label
+label_ends : (label : List ℕ) → AllShown label → 0 < length label → slice_index (label ++ []) (length (label ++ []) - 1) ≢ 13
+label_ends label shown some = (labelled_one_line label [] shown some (λ k l. absurd (omega arith)) (λ e. absurd (omega arith))).no_return
+
+pub strip_labelled : (label x : List ℕ) → AllShown label → 0 < length label → strip_carriage_return (label ++ x) ≡ label ++ strip_carriage_return x
+strip_labelled label [] shown some =
+    ap (λ t. cond t (take (length (label ++ []) - 1) (label ++ [])) (label ++ [])) (ne_eqb _ 13 (label_ends label shown some))
+strip_labelled label (y ∷ ys) shown some =
+    ap (λ (n : ℕ). cond (eqb n 13) (take (length (label ++ y ∷ ys) - 1) (label ++ y ∷ ys)) (label ++ y ∷ ys)) (last_append label (y ∷ ys) (omega arith))
+    ∙ step (eqb (slice_index (y ∷ ys) (length (y ∷ ys) - 1)) 13)
+  where
+    shorter : length (label ++ y ∷ ys) - 1 ≡ length label + (length (y ∷ ys) - 1)
+    shorter = omega (arith, length-append label (y ∷ ys))
+
+    step : (b : Bool) → cond b (take (length (label ++ y ∷ ys) - 1) (label ++ y ∷ ys)) (label ++ y ∷ ys) ≡ label ++ cond b (take (length (y ∷ ys) - 1) (y ∷ ys)) (y ∷ ys)
+    step true = ap (λ (n : ℕ). take n (label ++ y ∷ ys)) shorter ∙ take-append-add label (y ∷ ys) (length (y ∷ ys) - 1)
+    step false = refl
+
+-- such a line with no line feed in it, and the lines behind it
+pub lines_labelled : (label x rest : List ℕ) → AllShown label → 0 < length label → LacksByte 10 x
+    → lines (line (label ++ x) ++ rest) ≡ (label ++ strip_carriage_return x) ∷ lines rest
+lines_labelled label x rest shown some lacks =
+    ap lines (append_assoc (label ++ x) (10 ∷ []) rest) ∙ lines-cut (label ++ x) rest (no_feeds (label ++ x) (labelled_no_feed label x shown lacks))
+    ∙ ap (λ (b : List ℕ). b ∷ lines rest) (strip_labelled label x shown some)
+
+-- nothing goes of a text that does not end in one
+pub strip_none : (x : List ℕ) → slice_index x (length x - 1) ≢ 13 → strip_carriage_return x ≡ x
+strip_none x other = ap (λ t. cond t (take (length x - 1) x) x) (ne_eqb _ 13 other)
 
 -- a text that is trimmed does not end with a carriage return
 last_of_letter : (c : ℕ) → is_whitespace c ≡ false → slice_index (encode_utf8 c) (length (encode_utf8 c) - 1) ≢ 13

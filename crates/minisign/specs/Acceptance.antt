@@ -5,15 +5,22 @@ use Rattle.std.specs.Option.{option_map_or}
 use Rattle.minisign_hash.specs.Blake2b.{blake2b_digest}
 use Rattle.minisign_base.specs.Fault.{Fault}
 use Rattle.minisign_base.specs.Faults.{different_key_ids, legacy_not_accepted, signature_refused, comment_signature_refused}
+use Rattle.minisign.specs.Lines.{line}
 use Rattle.minisign.specs.Records.{PublicKeyRecord, SignatureRecord, CommentsRecord, SignatureBoxRecord, is_prehashed, prehashed_algorithm}
 
 -- what a scheme accepts: a message, a public key and a signature
 abbrev pub Verifier : Type 0
 Verifier = List ℕ → List ℕ → List ℕ → Bool
 
+-- the three flags of a call: say nothing, copy the data, accept signatures over the data itself
+pub record Flags : Type 0 where
+  pub quiet : Bool
+  pub output : Bool
+  pub legacy : Bool
+
 -- what the signature is over: the Blake2b digest of 64 bytes of the message, or the message itself
-abbrev pub judged : SignatureBoxRecord → List ℕ → List ℕ
-judged x message = if is_prehashed x.signature then blake2b_digest 64 message else message
+abbrev pub signed_bytes : SignatureBoxRecord → List ℕ → List ℕ
+signed_bytes x message = if is_prehashed x.signature then blake2b_digest 64 message else message
 
 -- the comment signature has at least 64 bytes, and the first 64 are accepted for the signature
 -- followed by the trusted comment
@@ -26,7 +33,7 @@ pub record CommentIsSigned (accepts : Verifier) (pk : PublicKeyRecord) (s : Sign
 pub record Vouches (accepts : Verifier) (pk : PublicKeyRecord) (x : SignatureBoxRecord) (message : List ℕ) (legacy : Bool) : Type 0 where
   pub same_key : x.signature.keynum ≡ pk.keynum
   pub allowed : (x.signature.algorithm ≡ prehashed_algorithm) ⊎ IsTrue legacy
-  pub signed : IsTrue (accepts (judged x message) pk.key x.signature.signature)
+  pub signed : IsTrue (accepts (signed_bytes x message) pk.key x.signature.signature)
   pub comment_signed : IfSome x.comments (CommentIsSigned accepts pk x.signature)
 
 -- the box vouches for the message under every public key that has these 32 bytes and this identifier
@@ -48,7 +55,7 @@ abbrev pub first_refusal : Verifier → PublicKeyRecord → SignatureBoxRecord �
 first_refusal accepts pk x message legacy =
     if bytes_eq x.signature.keynum pk.keynum then
     (if is_prehashed x.signature || legacy then
-    (if accepts (judged x message) pk.key x.signature.signature then
+    (if accepts (signed_bytes x message) pk.key x.signature.signature then
     (if accepts_comments accepts pk x then None
     else Some comment_signature_refused)
     else Some signature_refused)
@@ -74,10 +81,6 @@ pub record SameWhereVouched (pk other : PublicKeyRecord) (x y : SignatureBoxReco
 pub record Refuses (accepts : Verifier) (pk : PublicKeyRecord) (x : SignatureBoxRecord) (message : List ℕ) (legacy : Bool) (e : Fault) : Type 0 where
   pub first : first_refusal accepts pk x message legacy ≡ Some e
   pub unacceptable : ¬ (Vouches accepts pk x message legacy)
-
--- a line
-abbrev pub line : List ℕ → List ℕ
-line text = text ++ 10 ∷ []
 
 unfoldable pub verified_text : List ℕ
 verified_text = codes "Signature and comment signature verified"

@@ -1,19 +1,19 @@
 -- The pairs of keys that generation makes, from which random bytes, and what the sinks of a pair take.
-use Rattle.std.specs.Prelude.{◌≡◌, ℕ, ◌≤◌, ◌⊎◌, List, [], ◌++◌, length, replicate, Option, codes}
+use Rattle.std.specs.Prelude.{◌≡◌, ℕ, ◌⊎◌, List, [], ◌++◌, length, replicate, Option, None, codes}
 use Rattle.std.specs.Int.{w64, to_le_bytes}
-use Rattle.std.specs.Io.KnownBytes.{Appends, Consumes}
-use Rattle.minisign_base.specs.declared.prompt.Prompt.{Prompt}
+use Rattle.std.specs.Io.KnownBytes.{Appends}
 use Rattle.minisign_base.specs.Devices.{AppendsFront, Rose}
+use Rattle.minisign_base.specs.Passages.{PromptPassage, RandomPassage, SinkPassage}
 use Rattle.minisign_base.specs.Fault.{Fault}
 use Rattle.minisign_base.specs.Faults.{out_of_memory, writing_failed}
 use Rattle.minisign_base.specs.Scheme.{IsBytes}
 use Rattle.minisign.specs.NewPassword.{IsPassword, IsSealingFault}
 use Rattle.minisign.specs.PublicKeyText.{public_key_text}
 use Rattle.minisign.specs.Records.{PublicKeyRecord, SecretKeyRecord, legacy_algorithm, public_key_bytes, secret_key_bytes}
-use Rattle.minisign.specs.Sealing.{Opens, checksum_of, no_kdf, scrypt_kdf, unsealed}
+use Rattle.minisign.specs.Sealing.{IsWithin, Opens, checksum_of, no_kdf, scrypt_kdf, xored_key}
 use Rattle.minisign.specs.Opening.{IsOpened}
 use Rattle.minisign.specs.SecretKeyText.{SecretKeyText, secret_key_text}
-use Rattle.minisign.specs.Signing.{DrawFails, IsGenuine}
+use Rattle.minisign.specs.Signing.{DrawFails, HasDrawn, IsGenuine}
 
 -- the checksum's algorithm: Blake2b
 abbrev pub blake2b_algorithm : List ℕ
@@ -68,7 +68,7 @@ opened_key keynum secret salt = record (unsealed_key keynum secret) {
 
 -- that key sealed under a password: the xor of sealing is that of opening
 abbrev pub sealed_key : List ℕ → List ℕ → List ℕ → List ℕ → SecretKeyRecord
-sealed_key keynum secret salt password = unsealed (opened_key keynum secret salt) password
+sealed_key keynum secret salt password = xored_key (opened_key keynum secret salt) password
 
 -- the keys belong together: the secret key is a genuine one, and the public key is that of its seed under
 -- its identifier
@@ -86,11 +86,11 @@ pub record AreSeedAndKeynum (seed keynum : List ℕ) : Type 0 where
   pub keynum_bytes : IsBytes keynum
 
 -- the pair that is not sealed, of random bytes that were drawn
-pub record IsUnsealedPair (public_of : List ℕ → List ℕ) (ahead left : Option (List ℕ)) (pk : PublicKeyRecord) (sk : SecretKeyRecord) : Type 0 where
+pub record IsUnsealedPair {Z : Type 0} (public_of : List ℕ → List ℕ) (z : RandomPassage Z) (pk : PublicKeyRecord) (sk : SecretKeyRecord) : Type 0 where
   pub seed : List ℕ
   pub keynum : List ℕ
   pub lengths : AreSeedAndKeynum seed keynum
-  pub drawn : Consumes ahead left (seed ++ keynum)
+  pub drawn : HasDrawn z (seed ++ keynum)
   pub public : pk ≡ public_key_of public_of seed keynum
   pub secret : sk ≡ unsealed_key keynum (secret_of public_of seed)
 
@@ -99,108 +99,89 @@ pub record IsSealedOf (public_of : List ℕ → List ℕ) (seed keynum salt pass
   pub public : pk ≡ public_key_of public_of seed keynum
   pub secret : sk ≡ sealed_key keynum (secret_of public_of seed) salt password
   -- opening gives the key as it was
-  pub opened : unsealed sk password ≡ opened_key keynum (secret_of public_of seed) salt
+  pub opened : xored_key sk password ≡ opened_key keynum (secret_of public_of seed) salt
 
 -- the sealed pair of random bytes that were drawn: those of the other pair, and then 32 of a salt
-pub record IsSealedPair (public_of : List ℕ → List ℕ) (password : List ℕ) (ahead left : Option (List ℕ)) (pk : PublicKeyRecord) (sk : SecretKeyRecord) : Type 0 where
+pub record IsSealedPair {Z : Type 0} (public_of : List ℕ → List ℕ) (password : List ℕ) (z : RandomPassage Z) (pk : PublicKeyRecord) (sk : SecretKeyRecord) : Type 0 where
   pub seed : List ℕ
   pub keynum : List ℕ
   pub salt : List ℕ
   pub lengths : AreSeedAndKeynum seed keynum
   pub salt_length : length salt ≡ 32
-  pub drawn : Consumes ahead left (seed ++ keynum ++ salt)
+  pub drawn : HasDrawn z (seed ++ keynum ++ salt)
   pub sealed : IsSealedOf public_of seed keynum salt password pk sk
 
 -- the text opens under the password, whatever bound p is within, to this key and to no other
 pub record OpensOnlyTo (text password : List ℕ) (key : SecretKeyRecord) : Type 0 where
-  pub opens : (max_p : ℕ) → 1 ≤ max_p → IsOpened text password max_p key
-  pub only : (max_p : ℕ) (other : SecretKeyRecord) → IsOpened text password max_p other → other ≡ key
+  pub opens : (bound : Option ℕ) → IsWithin bound 1 → IsOpened text password bound key
+  pub only : (bound : Option ℕ) (other : SecretKeyRecord) → IsOpened text password bound other → other ≡ key
 
 -- the secret key opens under the password, and then belongs to the public key; so does each text that reads
 -- as it
 pub record OpensToPair (public_of : List ℕ → List ℕ) (password : List ℕ) (pk : PublicKeyRecord) (sk : SecretKeyRecord) : Type 0 where
-  pub opens : Opens sk password
-  pub pair : IsGenuinePair public_of pk (unsealed sk password)
-  pub texts : (text : List ℕ) → SecretKeyText text sk → OpensOnlyTo text password (unsealed sk password)
+  pub opens : Opens sk password None
+  pub pair : IsGenuinePair public_of pk (xored_key sk password)
+  pub texts : (text : List ℕ) → SecretKeyText text sk → OpensOnlyTo text password (xored_key sk password)
 
 -- a sink took all of a part and passed it on
-pub record TakesPart {W : Type 0} (taken_of : W → Option (List ℕ)) (faults_of : W → ℕ) (old new : W) (part : List ℕ) : Type 0 where
-  pub bytes : Appends (taken_of old) (taken_of new) part
-  pub calm : faults_of new ≡ faults_of old
+pub record TakesPart {W : Type 0} (w : SinkPassage W) (part : List ℕ) : Type 0 where
+  pub bytes : Appends (w.sink.taken w.old) (w.sink.taken w.new) part
+  pub calm : w.sink.sink_faults w.new ≡ w.sink.sink_faults w.old
 
 -- a sink took a beginning of a part, and failed there or at passing it on
-pub record FailsAtPart {W : Type 0} (taken_of : W → Option (List ℕ)) (faults_of : W → ℕ) (old new : W) (part : List ℕ) : Type 0 where
-  pub front : AppendsFront (taken_of old) (taken_of new) part
-  pub rose : Rose (faults_of old) (faults_of new)
+pub record FailsAtPart {W : Type 0} (w : SinkPassage W) (part : List ℕ) : Type 0 where
+  pub front : AppendsFront (w.sink.taken w.old) (w.sink.taken w.new) part
+  pub rose : Rose (w.sink.sink_faults w.old) (w.sink.sink_faults w.new)
 
--- the public sink failed at the public part; the secret sink is as it was
-pub record PublicPartFails {P K : Type 0} (pk_taken : P → Option (List ℕ)) (pk_faults : P → ℕ) (pk_old pk_new : P) (sk_old sk_new : K) (public : List ℕ) : Type 0 where
-  pub failed : FailsAtPart pk_taken pk_faults pk_old pk_new public
-  pub unbegun : sk_new ≡ sk_old
-
--- the public sink took the public part, and the secret sink failed at the secret one
-pub record SecretPartFails {P K : Type 0} (pk_taken : P → Option (List ℕ)) (pk_faults : P → ℕ) (pk_old pk_new : P)
-    (sk_taken : K → Option (List ℕ)) (sk_faults : K → ℕ) (sk_old sk_new : K) (public secret : List ℕ) : Type 0 where
-  pub written : TakesPart pk_taken pk_faults pk_old pk_new public
-  pub failed : FailsAtPart sk_taken sk_faults sk_old sk_new secret
-
--- the two parts could not be written
-pub record WritingFails {P K : Type 0} (pk_taken : P → Option (List ℕ)) (pk_faults : P → ℕ) (pk_old pk_new : P)
-    (sk_taken : K → Option (List ℕ)) (sk_faults : K → ℕ) (sk_old sk_new : K) (public secret : List ℕ) (e : Fault) : Type 0 where
+-- the two parts could not be written: the public sink failed at the public part, with the secret sink as it
+-- was, or took it, and the secret sink failed at the secret part
+pub record WritingFails {P K : Type 0} (pk_sink : SinkPassage P) (sk_sink : SinkPassage K) (public secret : List ℕ) (e : Fault) : Type 0 where
   pub fault : e ≡ writing_failed
-  pub part : PublicPartFails pk_taken pk_faults pk_old pk_new sk_old sk_new public
-      ⊎ SecretPartFails pk_taken pk_faults pk_old pk_new sk_taken sk_faults sk_old sk_new public secret
+  pub part : (FailsAtPart pk_sink public × (sk_sink.new ≡ sk_sink.old)) ⊎ (TakesPart pk_sink public × FailsAtPart sk_sink secret)
+
+-- both sinks are as they were
+abbrev pub AreUnwritten : {P K : Type 0} → SinkPassage P → SinkPassage K → Type 0
+AreUnwritten pk_sink sk_sink = (pk_sink.new ≡ pk_sink.old) × (sk_sink.new ≡ sk_sink.old)
 
 -- a pair's parts are not written: memory was wanting for them, and both sinks are as they were, or a sink
 -- failed
-abbrev pub PartsFail : {P K : Type 0} → (P → Option (List ℕ)) → (P → ℕ) → P → P → (K → Option (List ℕ)) → (K → ℕ) → K → K
-    → List ℕ → List ℕ → Fault → Type 0
-PartsFail pk_taken pk_faults pk_old pk_new sk_taken sk_faults sk_old sk_new public secret e =
-    ((e ≡ out_of_memory) × (pk_new ≡ pk_old) × (sk_new ≡ sk_old))
-    ⊎ WritingFails pk_taken pk_faults pk_old pk_new sk_taken sk_faults sk_old sk_new public secret e
+abbrev pub PartsFail : {P K : Type 0} → SinkPassage P → SinkPassage K → List ℕ → List ℕ → Fault → Type 0
+PartsFail pk_sink sk_sink public secret e =
+    ((e ≡ out_of_memory) × AreUnwritten pk_sink sk_sink) ⊎ WritingFails pk_sink sk_sink public secret e
 
 -- a pair that is not sealed is not written as raw bytes: the random source failed, and both sinks are as they
 -- were, or a pair was made whose parts were not written
-abbrev pub RawPairFails : {Z P K : Type 0} → (List ℕ → List ℕ) → (Z → Option (List ℕ)) → (Z → ℕ) → Z → Z
-    → (P → Option (List ℕ)) → (P → ℕ) → P → P → (K → Option (List ℕ)) → (K → ℕ) → K → K → Fault → Type 0
-RawPairFails public_of ahead faults random_old random_new pk_taken pk_faults pk_old pk_new sk_taken sk_faults sk_old sk_new e =
-    (DrawFails faults random_old random_new e × (pk_new ≡ pk_old) × (sk_new ≡ sk_old))
-    ⊎ ((pk : PublicKeyRecord) × (sk : SecretKeyRecord) × IsUnsealedPair public_of (ahead random_old) (ahead random_new) pk sk
-    × PartsFail pk_taken pk_faults pk_old pk_new sk_taken sk_faults sk_old sk_new (public_key_bytes pk) (secret_key_bytes sk) e)
+abbrev pub RawPairFails : {Z P K : Type 0} → (List ℕ → List ℕ) → RandomPassage Z → SinkPassage P → SinkPassage K → Fault → Type 0
+RawPairFails public_of z pk_sink sk_sink e =
+    (DrawFails z e × AreUnwritten pk_sink sk_sink)
+    ⊎ ((pk : PublicKeyRecord) × (sk : SecretKeyRecord) × IsUnsealedPair public_of z pk sk
+    × PartsFail pk_sink sk_sink (public_key_bytes pk) (secret_key_bytes sk) e)
 
 -- the 72 random bytes of a sealed pair were drawn
-pub record AllDrawn {Z : Type 0} (ahead_of : Z → Option (List ℕ)) (faults_of : Z → ℕ) (old new : Z) : Type 0 where
+pub record AllDrawn {Z : Type 0} (z : RandomPassage Z) : Type 0 where
   pub bytes : List ℕ
   pub count : length bytes ≡ 72
-  pub drawn : Consumes (ahead_of old) (ahead_of new) bytes
-  pub calm : faults_of new ≡ faults_of old
+  pub drawn : HasDrawn z bytes
+  pub calm : z.random.random_faults z.new ≡ z.random.random_faults z.old
 
 -- a sealed pair is not made: the random source failed, before anything was asked, or else no key was sealed
-abbrev pub SealedPairFails : {Z R W : Type 0} → (Z → Option (List ℕ)) → (Z → ℕ) → Z → Z
-    → (R → Option (List ℕ)) → (R → ℕ) → (R → ℕ) → (W → Option (List ℕ)) → (W → ℕ) → Option (List ℕ) → Prompt R W → Prompt R W → Fault → Type 0
-SealedPairFails random_ahead random_faults random_old random_new ahead left faults taken sink_faults password old new e =
-    (DrawFails random_faults random_old random_new e × (new ≡ old))
-    ⊎ (AllDrawn random_ahead random_faults random_old random_new
-    × IsSealingFault ahead left faults taken sink_faults password old new e)
+abbrev pub SealedPairFails : {Z R W : Type 0} → RandomPassage Z → PromptPassage R W → Option (List ℕ) → Fault → Type 0
+SealedPairFails z p password e =
+    (DrawFails z e × (p.new ≡ p.old)) ⊎ (AllDrawn z × IsSealingFault p password e)
 
 -- a sealed pair was made, under the password that was handed in or typed
-pub record HasSealed {R W : Type 0} (public_of : List ℕ → List ℕ) (random_old random_new : Option (List ℕ))
-    (ahead_of : R → Option (List ℕ)) (left_of faults_of : R → ℕ) (taken_of : W → Option (List ℕ)) (sink_faults_of : W → ℕ)
-    (given : Option (List ℕ)) (old new : Prompt R W) (pk : PublicKeyRecord) (sk : SecretKeyRecord) : Type 0 where
+pub record HasSealed {Z R W : Type 0} (public_of : List ℕ → List ℕ) (z : RandomPassage Z) (p : PromptPassage R W)
+    (given : Option (List ℕ)) (pk : PublicKeyRecord) (sk : SecretKeyRecord) : Type 0 where
   pub password : List ℕ
-  pub prompted : IsPassword ahead_of left_of faults_of taken_of sink_faults_of given old new password
-  pub pair : IsSealedPair public_of password random_old random_new pk sk
+  pub prompted : IsPassword p given password
+  pub pair : IsSealedPair public_of password z pk sk
   pub opens : OpensToPair public_of password pk sk
 
 -- a sealed pair is not written as texts: it was not made, and both sinks are as they were, or its parts were
 -- not written
-abbrev pub SealedTextsFail : {Z R W P K : Type 0} → (List ℕ → List ℕ) → (Z → Option (List ℕ)) → (Z → ℕ) → Z → Z
-    → (R → Option (List ℕ)) → (R → ℕ) → (R → ℕ) → (W → Option (List ℕ)) → (W → ℕ) → Option (List ℕ) → Prompt R W → Prompt R W
-    → (P → Option (List ℕ)) → (P → ℕ) → P → P → (K → Option (List ℕ)) → (K → ℕ) → K → K → Option (List ℕ) → Fault → Type 0
-SealedTextsFail public_of random_ahead random_faults random_old random_new ahead left faults taken sink_faults password old new
-    pk_taken pk_faults pk_old pk_new sk_taken sk_faults sk_old sk_new comment e =
-    (SealedPairFails random_ahead random_faults random_old random_new ahead left faults taken sink_faults password old new e
-    × (pk_new ≡ pk_old) × (sk_new ≡ sk_old))
-    ⊎ ((pk : PublicKeyRecord) × (sk : SecretKeyRecord)
-    × HasSealed public_of (random_ahead random_old) (random_ahead random_new) ahead left faults taken sink_faults password old new pk sk
-    × PartsFail pk_taken pk_faults pk_old pk_new sk_taken sk_faults sk_old sk_new (public_key_text pk) (secret_key_text comment sk) e)
+abbrev pub SealedTextsFail : {Z R W P K : Type 0} → (List ℕ → List ℕ) → RandomPassage Z → PromptPassage R W → Option (List ℕ)
+    → SinkPassage P → SinkPassage K → Option (List ℕ) → Fault → Type 0
+SealedTextsFail public_of z p password pk_sink sk_sink comment e =
+    (SealedPairFails z p password e × AreUnwritten pk_sink sk_sink)
+    ⊎ ((pk : PublicKeyRecord) × (sk : SecretKeyRecord) × HasSealed public_of z p password pk sk
+    × PartsFail pk_sink sk_sink (public_key_text pk) (secret_key_text comment sk) e)

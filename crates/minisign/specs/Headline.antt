@@ -1,12 +1,20 @@
--- What a caller of `verify_texts` may rely on: when two texts vouch for a message, and which case fails
--- first where they do not.
-use Rattle.std.specs.Prelude.{◌≡◌, ℕ, Bool, ◌⊎◌, List, None, Some, MatchResult}
+-- What a caller may rely on, in the order of the headline's sentence. Verifying: when two texts vouch for a
+-- message, and which case fails first where they do not. Opening: when a sealed key opens under a password.
+-- Signing: what the text of a signature is worth.
+use Rattle.std.specs.Prelude.{◌≡◌, ◌≢◌, ℕ, Bool, true, ◌⊎◌, List, Option, None, Some, IfSome, IfErr, MatchResult}
 use Rattle.std.specs.declared.result.Result.{Result}
 use Rattle.minisign_base.specs.Fault.{Fault}
-use Rattle.minisign.specs.Records.{PublicKeyRecord, SignatureBoxRecord}
-use Rattle.minisign.specs.Acceptance.{Verifier, Vouches, first_refusal}
+use Rattle.minisign_base.specs.Faults.{out_of_memory}
+use Rattle.minisign_base.specs.Passages.{IsSteady, RereaderPassage, SinkFails, SinkPassage, SourceFails, Takes}
+use Rattle.minisign.specs.Records.{PublicKeyRecord, SecretKeyRecord, SignatureBoxRecord}
+use Rattle.minisign.specs.Acceptance.{Flags, Verifier, Vouches, VouchesUnderEachKey, first_refusal}
+use Rattle.minisign.specs.Sealing.{Opens, password_refusal, scrypt_kdf, xored_key}
+use Rattle.minisign.specs.SecretKeyText.{SecretKeyText}
+use Rattle.minisign.specs.Signing.{AreLines, ChosenComments, IsGenuine}
 use Rattle.minisign.specs.PublicKeyText.{PublicKeyText, public_key_fault}
 use Rattle.minisign.specs.SignatureText.{SignatureText, signature_fault}
+
+-- == Verifying ==
 
 -- the texts vouch for the message: one reads as a public key, the other as a signature box, and the box
 -- vouches for the message under the key; legacy says whether a signature over the message itself will do
@@ -27,11 +35,42 @@ IsFirstCase accepts pk_text sig_text message legacy e =
     × (first_refusal accepts key box message legacy ≡ Some e))
 
 -- the texts do not vouch for the message, and this is the first failing case
-pub record IsTurnedDown (accepts : Verifier) (pk_text sig_text message : List ℕ) (legacy : Bool) (e : Fault) : Type 0 where
+pub record TextsRefuse (accepts : Verifier) (pk_text sig_text message : List ℕ) (legacy : Bool) (e : Fault) : Type 0 where
   pub first_case : IsFirstCase accepts pk_text sig_text message legacy e
   pub unvouched : ¬ (TextsVouchFor accepts pk_text sig_text message legacy)
 
 -- success is answered exactly where the texts vouch for the message, and else the first failing case
 abbrev pub IsVerdict : {T : Type 0} → Verifier → List ℕ → List ℕ → List ℕ → Bool → Result T Fault → Type 0
 IsVerdict accepts pk_text sig_text message legacy r =
-    MatchResult r (λ _. TextsVouchFor accepts pk_text sig_text message legacy) (IsTurnedDown accepts pk_text sig_text message legacy)
+    MatchResult r (λ _. TextsVouchFor accepts pk_text sig_text message legacy) (TextsRefuse accepts pk_text sig_text message legacy)
+
+-- over data that is told, where memory is found and no device fails, and over a steady source where the data is
+-- copied: the answer is the verdict on the data
+abbrev pub VerifiesExactly : {R W O T : Type 0} → Verifier → List ℕ → List ℕ → Flags
+    → RereaderPassage R → SinkPassage W → SinkPassage O → Result T Fault → Type 0
+VerifiesExactly accepts pk_text sig_text flags reader status out answer =
+    (message : List ℕ) → reader.source.ahead reader.old ≡ Some message → IfErr answer (λ e. e ≢ out_of_memory)
+    → ¬ (SourceFails reader) → ¬ (SinkFails status) → ¬ (SinkFails out) → (flags.output ≡ true → IsSteady reader)
+    → IsVerdict accepts pk_text sig_text message flags.legacy answer
+
+-- what the output took is itself vouched for by the texts
+pub record CopyIsVouchedFor {O : Type 0} (accepts : Verifier) (pk_text sig_text : List ℕ) (legacy : Bool) (out : SinkPassage O) : Type 0 where
+  pub copy : List ℕ
+  pub taken : Takes out copy
+  pub vouched : TextsVouchFor accepts pk_text sig_text copy legacy
+
+-- opening: with a password that is handed in, a text that reads as a key sealed by scrypt gives that key opened
+-- exactly where its limits are allowed and within the bound and the stream restores its checksum, and else the
+-- first reason; the bound is on the parallelization, where there is one
+abbrev pub OpeningHeadline : Option (List ℕ) → List ℕ → Option ℕ → Result SecretKeyRecord Fault → Type 0
+OpeningHeadline password text bound answer =
+    IfSome password (λ p. (k : SecretKeyRecord) → SecretKeyText text k → k.kdf ≡ scrypt_kdf
+    → MatchResult answer (λ v. Opens k p bound × (v ≡ xored_key k p))
+    (λ e. (e ≡ out_of_memory) ⊎ (¬ (Opens k p bound) × (password_refusal k p bound ≡ Some e))))
+
+-- signing: where the key is a genuine one, and neither comment has a line feed and the trusted one is trimmed,
+-- the text reads as a box that every public key of its seed and identifier vouches for the message with
+abbrev pub SigningHeadline : Verifier → (List ℕ → List ℕ) → SecretKeyRecord → List ℕ → ChosenComments → List ℕ → Type 0
+SigningHeadline accepts public_of sk message chosen text =
+    (seed : List ℕ) → IsGenuine public_of sk seed → AreLines chosen
+    → (x : SignatureBoxRecord) × SignatureText text x × VouchesUnderEachKey accepts (public_of seed) sk.keynum message x

@@ -1,3 +1,4 @@
+pub mod Lines
 pub mod Records
 pub mod Texts
 pub mod Reading
@@ -7,6 +8,8 @@ pub mod PublicKeyText
 pub mod SignatureText
 pub mod Sealing
 pub mod Signing
+pub mod SignedData
+pub mod Copying
 pub mod Verifying
 pub mod Headline
 pub mod VerifyingTexts

@@ -5,7 +5,7 @@ use Rattle.std.specs.Str.{trim}
 use Rattle.minisign_base.specs.Fault.{Fault}
 use Rattle.minisign_base.specs.Faults.{missing_public_key_comment, missing_encoded_public_key, public_key_line_length, public_key_line_not_base64, bare_public_key_length, bare_public_key_not_base64, record_too_short}
 use Rattle.minisign_base.specs.Identifiers.{identifier_text}
-use Rattle.minisign.specs.Acceptance.{line}
+use Rattle.minisign.specs.Lines.{line}
 use Rattle.minisign.specs.Records.{PublicKeyRecord, ReadsPublicKey, public_key_bytes}
 use Rattle.minisign.specs.Texts.{IsBase64Of, base64_of, base64_bytes, is_base64, has_line, line_at, IsSecondLine, first_failing, untrusted_comment_label}
 

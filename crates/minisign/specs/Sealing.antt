@@ -1,13 +1,13 @@
 -- The checksum of a secret key, whether the key is still sealed, and what sealing and opening do: the
 -- last 104 bytes of its record, as one list, are xored with a stream of scrypt (RFC 7914, section 6).
-use Rattle.std.specs.Prelude.{◌≡◌, ℕ, ◌^◌, ◌≤◌, Bool, not, ◌&&◌, if◌then◌else◌, nat_lt, List, [], ◌∷◌, ◌++◌, take, drop, Option, None, Some, Result, Ok, Err, bit_xor, bytes_eq, codes}
+use Rattle.std.specs.Prelude.{◌≡◌, ℕ, ◌^◌, ◌≤◌, Bool, not, ◌&&◌, if◌then◌else◌, nat_lt, List, [], ◌∷◌, ◌++◌, take, drop, Option, None, Some, IfSome, Result, Ok, Err, bit_xor, bytes_eq, codes}
 use Rattle.std.specs.Option.{option_or}
-use Rattle.std.specs.Result.{result_err}
 use Rattle.std.specs.Int.{w64, from_le_bytes}
 use Rattle.std.specs.Simd.Lanes.{zip2}
 use Rattle.minisign_hash.specs.Blake2b.{blake2b_digest}
 use Rattle.minisign_kdf.specs.Scrypt.{scrypt}
-use Rattle.minisign_base.specs.Limits.{Numbers, numbers, sealing_limits}
+use Rattle.minisign_kdf.specs.Params.{Numbers}
+use Rattle.minisign_base.specs.Limits.{numbers, sealing_limits}
 use Rattle.minisign_base.specs.Fault.{Fault}
 use Rattle.minisign_base.specs.Faults.{work_too_high, key_not_encrypted, unsupported_encryption_algorithm, key_might_be_encrypted, wrong_password, corrupted_key}
 use Rattle.minisign.specs.Records.{SecretKeyRecord}
@@ -37,8 +37,8 @@ abbrev pub with_sealed_part : SecretKeyRecord → List ℕ → SecretKeyRecord
 with_sealed_part k part = record k { keynum = take 8 part; secret = take 64 (drop 8 part); checksum = take 32 (drop 72 part) }
 
 -- the key with those bytes xored with a stream of as many
-unfoldable pub xored : SecretKeyRecord → List ℕ → SecretKeyRecord
-xored k stream = with_sealed_part k (zip2 bit_xor (sealed_part k) stream)
+unfoldable pub key_xor : SecretKeyRecord → List ℕ → SecretKeyRecord
+key_xor k stream = with_sealed_part k (zip2 bit_xor (sealed_part k) stream)
 
 -- the parameters that the key's limits lead to
 unfoldable pub key_numbers : SecretKeyRecord → Numbers
@@ -55,19 +55,20 @@ stream_of k password =
 
 -- the key with its last 104 bytes xored with the stream under the password: what opening makes of a
 -- sealed key, and sealing of an opened one
-abbrev pub unsealed : SecretKeyRecord → List ℕ → SecretKeyRecord
-unsealed k password = xored k (stream_of k password)
+abbrev pub xored_key : SecretKeyRecord → List ℕ → SecretKeyRecord
+xored_key k password = key_xor k (stream_of k password)
 
--- the key is sealed, its limits are allowed, and the stream under the password restores its checksum
-pub record Opens (k : SecretKeyRecord) (password : List ℕ) : Type 0 where
+-- a parallelization is within a bound, where there is one
+abbrev pub IsWithin : Option ℕ → ℕ → Type 0
+IsWithin bound p = IfSome bound (λ max_p. p ≤ max_p)
+
+-- the key is sealed, its limits are allowed, its parallelization is within the bound, and the stream under the
+-- password restores its checksum
+pub record Opens (k : SecretKeyRecord) (password : List ℕ) (bound : Option ℕ) : Type 0 where
   pub kdf : k.kdf ≡ scrypt_kdf
   pub allowed : key_limits k ≡ Ok (key_numbers k)
-  pub restored : (unsealed k password).checksum ≡ checksum_of (unsealed k password)
-
--- the same, with a parallelization of at most max_p
-pub record OpensWithin (k : SecretKeyRecord) (password : List ℕ) (max_p : ℕ) : Type 0 where
-  pub opens : Opens k password
-  pub bounded : (key_numbers k).p ≤ max_p
+  pub bounded : IsWithin bound (key_numbers k).p
+  pub restored : (xored_key k password).checksum ≡ checksum_of (xored_key k password)
 
 -- a key that is not sealed, or not by scrypt, is not opened
 abbrev pub kdf_refusal : SecretKeyRecord → Option Fault
@@ -75,14 +76,15 @@ kdf_refusal k =
     if bytes_eq k.kdf no_kdf then Some key_not_encrypted
     else (if bytes_eq k.kdf scrypt_kdf then None else Some unsupported_encryption_algorithm)
 
--- parameters that are allowed, but for a parallelization above the bound
-abbrev pub bound_refusal : Result Numbers Fault → ℕ → Option Fault
-bound_refusal (Err e) max_p = Some e
-bound_refusal (Ok v) max_p = if nat_lt max_p v.p then Some work_too_high else None
+-- parameters that are allowed, but for a parallelization above a bound
+abbrev pub bound_refusal : Result Numbers Fault → Option ℕ → Option Fault
+bound_refusal (Err e) bound = Some e
+bound_refusal (Ok v) None = None
+bound_refusal (Ok v) (Some max_p) = if nat_lt max_p v.p then Some work_too_high else None
 
 -- limits that are not allowed, and then a parallelization above the bound
-abbrev pub work_refusal : SecretKeyRecord → ℕ → Option Fault
-work_refusal k max_p = bound_refusal (key_limits k) max_p
+abbrev pub work_refusal : SecretKeyRecord → Option ℕ → Option Fault
+work_refusal k bound = bound_refusal (key_limits k) bound
 
 -- a checksum that does not match
 abbrev pub checksum_refusal : SecretKeyRecord → Fault → Option Fault
@@ -90,18 +92,13 @@ checksum_refusal k e = if bytes_eq k.checksum (checksum_of k) then None else Som
 
 -- what is refused of a key sealed by scrypt where a password is known: its limits, the bound, and then a
 -- checksum that the stream does not restore
-abbrev pub password_refusal : SecretKeyRecord → List ℕ → ℕ → Option Fault
-password_refusal k password max_p =
-    option_or (work_refusal k max_p) (checksum_refusal (unsealed k password) wrong_password)
+abbrev pub password_refusal : SecretKeyRecord → List ℕ → Option ℕ → Option Fault
+password_refusal k password bound =
+    option_or (work_refusal k bound) (checksum_refusal (xored_key k password) wrong_password)
 
--- the same where nothing bounds the parallelization
-abbrev pub unbounded_refusal : SecretKeyRecord → List ℕ → Option Fault
-unbounded_refusal k password =
-    option_or (result_err (key_limits k)) (checksum_refusal (unsealed k password) wrong_password)
-
--- the first reason for which a key does not open under a password within the bound
-abbrev pub opening_refusal : SecretKeyRecord → List ℕ → ℕ → Option Fault
-opening_refusal k password max_p = option_or (kdf_refusal k) (password_refusal k password max_p)
+-- the first reason for which a key does not open under a password within a bound
+abbrev pub opening_refusal : SecretKeyRecord → List ℕ → Option ℕ → Option Fault
+opening_refusal k password bound = option_or (kdf_refusal k) (password_refusal k password bound)
 
 -- the key was never sealed, and its checksum matches
 pub record IsUnencrypted (k : SecretKeyRecord) : Type 0 where

@@ -4,7 +4,7 @@ use Rattle.std.specs.Prelude.{ℕ, IsTrue, nat_le, List, [], ◌∷◌, ◌++◌
 use Rattle.std.specs.Option.{unwrap_or}
 use Rattle.minisign_base.specs.Fault.{Fault}
 use Rattle.minisign_base.specs.Faults.{missing_secret_key_comment, missing_encoded_secret_key, secret_key_not_base64, record_too_short}
-use Rattle.minisign.specs.Acceptance.{line}
+use Rattle.minisign.specs.Lines.{line}
 use Rattle.minisign.specs.Records.{SecretKeyRecord, ReadsSecretKey, secret_key_bytes}
 use Rattle.minisign.specs.Texts.{IsBase64Of, Test, base64_bytes, base64_of, first_failing, has_line, is_base64, line_at, untrusted_comment_label}
 

@@ -2,12 +2,13 @@
 -- text that is written for a box.
 use Rattle.std.specs.Prelude.{◌≡◌, ◌≢◌, ◌||◌, ◌-◌, ℕ, Bool, List, [], ◌∷◌, ◌++◌, IsTrue, length, take, slice_index, nat_eq, nat_le, bytes_eq, Option, Some, codes}
 use Rattle.std.specs.List.{starts_with}
+use Rattle.std.specs.Option.{option_map}
 use Rattle.std.specs.Str.{trim}
 use Rattle.std.specs.Str.Iter.{LacksByte}
-use Rattle.std.specs.Str.Lines.{lines}
+use Rattle.std.specs.Str.Lines.{lines, strip_carriage_return}
 use Rattle.minisign_base.specs.Fault.{Fault}
 use Rattle.minisign_base.specs.Faults.{missing_untrusted_comment, missing_signature, missing_trusted_comment, missing_global_signature, untrusted_comment_prefix, signature_not_base64, record_too_short, trusted_comment_prefix, unsupported_signature_algorithm}
-use Rattle.minisign.specs.Acceptance.{line}
+use Rattle.minisign.specs.Lines.{line}
 use Rattle.minisign.specs.Records.{CommentsRecord, SignatureRecord, SignatureBoxRecord, ReadsSignature, IsKnownAlgorithm, signature_bytes, legacy_algorithm, prehashed_algorithm}
 use Rattle.minisign.specs.Texts.{IsBase64Of, base64_of, base64_bytes, is_base64, has_line, line_at, Test, first_failing, untrusted_comment_label}
 
@@ -60,6 +61,19 @@ abbrev pub signature_text : SignatureRecord → CommentsRecord → List ℕ
 signature_text s c =
     line (untrusted_comment_label ++ c.untrusted) ++ (line (base64_of (signature_bytes s))
     ++ (line (trusted_comment_label ++ c.trusted) ++ line (base64_of c.signature)))
+
+-- comments that each stand in a line of their own, and a trusted one that is trimmed
+pub record AreOneLine (c : CommentsRecord) : Type 0 where
+  pub untrusted_one_line : LacksByte 10 c.untrusted
+  pub trusted_one_line : LacksByte 10 c.trusted
+  pub trusted_trimmed : trim c.trusted ≡ c.trusted
+
+-- how a box with such comments is read back: one carriage return at the end of the untrusted comment goes
+abbrev pub comments_read_back : CommentsRecord → CommentsRecord
+comments_read_back c = record c { untrusted = strip_carriage_return c.untrusted }
+
+abbrev pub box_read_back : SignatureBoxRecord → SignatureBoxRecord
+box_read_back x = record x { comments = option_map comments_read_back x.comments }
 
 -- comments that are read back as they were written
 pub record KeepsComments (c : CommentsRecord) : Type 0 where

@@ -3,8 +3,11 @@ use Rattle.std.specs.Prelude.{◌≡◌, ℕ, true, false, List, [], ◌++◌, l
 use Rattle.std.specs.Option.{option_map_or, unwrap_or}
 use Rattle.std.specs.Fmt.{decimal}
 use Rattle.std.specs.Io.KnownBytes.{Consumes}
+use Rattle.std.specs.Str.{trim}
+use Rattle.std.specs.Str.Iter.{LacksByte}
 use Rattle.minisign_hash.specs.Blake2b.{blake2b_digest}
 use Rattle.minisign_base.specs.Devices.{Rose}
+use Rattle.minisign_base.specs.Passages.{RandomPassage, SourcePassage}
 use Rattle.minisign_base.specs.Fault.{Fault}
 use Rattle.minisign_base.specs.Faults.{out_of_memory, random_source_failed, encrypted_key_refused, refused_by_given_key}
 use Rattle.minisign_base.specs.Scheme.{IsBytes, IsNonce}
@@ -12,6 +15,7 @@ use Rattle.minisign.specs.Records.{PublicKeyRecord, SecretKeyRecord, SignatureBo
 use Rattle.minisign.specs.Acceptance.{Verifier, VouchesUnderEachKey, accepts_comments}
 use Rattle.minisign.specs.Reading.{ReadsWhole, ReadingFails}
 use Rattle.minisign.specs.Sealing.{is_encrypted}
+use Rattle.minisign.specs.SignatureText.{KeepsComments}
 
 -- what a scheme signs: a message, with a secret key of 64 bytes and 64 random bytes or none
 abbrev pub Signer : Type 0
@@ -44,14 +48,18 @@ signed_box sign sk message chosen z1 z2 =
       comments = Some (record { untrusted = chosen.untrusted; trusted = chosen.trusted; signature = sign (signature ++ chosen.trusted) sk.secret (Some z2) });
     }
 
+-- these bytes were drawn, where the random source tells its bytes
+abbrev pub HasDrawn : {Z : Type 0} → RandomPassage Z → List ℕ → Type 0
+HasDrawn z bytes = Consumes (z.random.random_ahead z.old) (z.random.random_ahead z.new) bytes
+
 -- the box is the one that vouches for the message with random bytes that were drawn: 64 for the
 -- signature and then 64 for the comment signature
-pub record IsSigned (sign : Signer) (sk : SecretKeyRecord) (message : List ℕ) (chosen : ChosenComments) (ahead left : Option (List ℕ)) (x : SignatureBoxRecord) : Type 0 where
+pub record IsSigned {Z : Type 0} (sign : Signer) (sk : SecretKeyRecord) (message : List ℕ) (chosen : ChosenComments) (z : RandomPassage Z) (x : SignatureBoxRecord) : Type 0 where
   pub first : List ℕ
   pub second : List ℕ
   pub first_nonce : IsNonce (Some first)
   pub second_nonce : IsNonce (Some second)
-  pub drawn : Consumes ahead left (first ++ second)
+  pub drawn : HasDrawn z (first ++ second)
   pub box : x ≡ signed_box sign sk message chosen first second
 
 -- the comment that nothing vouches for; a bare signature has none
@@ -70,39 +78,57 @@ abbrev pub VouchesWhereGenuine : Verifier → (List ℕ → List ℕ) → Secret
 VouchesWhereGenuine accepts public_of sk message x =
     (seed : List ℕ) → IsGenuine public_of sk seed → VouchesUnderEachKey accepts (public_of seed) sk.keynum message x
 
+-- comments that each stand in a line of their own, and a trusted one that is trimmed
+pub record AreLines (chosen : ChosenComments) : Type 0 where
+  pub untrusted_one_line : LacksByte 10 chosen.untrusted
+  pub trusted_one_line : LacksByte 10 chosen.trusted
+  pub trusted_trimmed : trim chosen.trusted ≡ chosen.trusted
+
+-- comments that are read back as they were written: neither has a line feed, the untrusted one ends in no
+-- carriage return, and the trusted one equals its trim
+abbrev pub AreKept : ChosenComments → Type 0
+AreKept chosen = KeepsComments (record { untrusted = chosen.untrusted; trusted = chosen.trusted; signature = [] })
+
 -- the key is sealed; nothing was read or drawn
-pub record KeyIsSealed {R Z : Type 0} (sk : SecretKeyRecord) (old new : R) (random_old random_new : Z) (e : Fault) : Type 0 where
+pub record KeyIsSealed {R Z : Type 0} (sk : SecretKeyRecord) (r : SourcePassage R) (z : RandomPassage Z) (e : Fault) : Type 0 where
   pub fault : e ≡ encrypted_key_refused
   pub sealed : is_encrypted sk ≡ true
-  pub unread : new ≡ old
-  pub undrawn : random_new ≡ random_old
+  pub unread : r.new ≡ r.old
+  pub undrawn : z.new ≡ z.old
 
 -- the data could not be read; nothing was drawn
-pub record DataFails {R Z : Type 0} (faults : R → ℕ) (old new : R) (random_old random_new : Z) (e : Fault) : Type 0 where
-  pub failed : ReadingFails faults old new e
-  pub undrawn : random_new ≡ random_old
+pub record DataFails {R Z : Type 0} (r : SourcePassage R) (z : RandomPassage Z) (e : Fault) : Type 0 where
+  pub failed : ReadingFails r.source r.old r.new e
+  pub undrawn : z.new ≡ z.old
 
 -- the random source failed
-pub record DrawFails {Z : Type 0} (faults : Z → ℕ) (random_old random_new : Z) (e : Fault) : Type 0 where
+pub record DrawFails {Z : Type 0} (z : RandomPassage Z) (e : Fault) : Type 0 where
   pub fault : e ≡ random_source_failed
-  pub rose : Rose (faults random_old) (faults random_new)
+  pub rose : Rose (z.random.random_faults z.old) (z.random.random_faults z.new)
 
 -- the public key that was given does not accept the comment signature of the box that was made
-pub record GivenKeyRefuses (accepts : Verifier) (sign : Signer) (pk : PublicKeyRecord) (sk : SecretKeyRecord) (message : List ℕ) (chosen : ChosenComments) (ahead left : Option (List ℕ)) (e : Fault) : Type 0 where
+pub record GivenKeyRefuses {Z : Type 0} (accepts : Verifier) (sign : Signer) (pk : PublicKeyRecord) (sk : SecretKeyRecord) (message : List ℕ) (chosen : ChosenComments) (z : RandomPassage Z) (e : Fault) : Type 0 where
   pub fault : e ≡ refused_by_given_key pk.keynum
   pub made : SignatureBoxRecord
-  pub signed : IsSigned sign sk message chosen ahead left made
+  pub signed : IsSigned sign sk message chosen z made
   pub refused : accepts_comments accepts pk made ≡ false
+
+-- signing with an opened key fails: memory is wanting, the data fails, or all of it was read and the random
+-- source fails
+abbrev pub OpenedSigningFails : {R Z : Type 0} → SourcePassage R → RandomPassage Z → Fault → Type 0
+OpenedSigningFails r z e =
+    (e ≡ out_of_memory)
+    ⊎ DataFails r z e
+    ⊎ ((message : List ℕ) × ReadsWhole r.source r.old r.new message × DrawFails z e)
 
 -- signing fails: the key is sealed; or it is opened, and memory is wanting, the data fails, or all of it was
 -- read and the random source fails or the given public key refuses
 abbrev pub SigningFails : {R Z : Type 0} → Verifier → Signer → Option PublicKeyRecord → SecretKeyRecord → ChosenComments
-    → (R → Option (List ℕ)) → (R → Option (List ℕ)) → (R → ℕ) → R → R → (Z → Option (List ℕ)) → (Z → ℕ) → Z → Z → Fault → Type 0
-SigningFails accepts sign pk sk chosen ahead behind faults old new random_ahead random_faults random_old random_new e =
-    KeyIsSealed sk old new random_old random_new e
+    → SourcePassage R → RandomPassage Z → Fault → Type 0
+SigningFails accepts sign pk sk chosen r z e =
+    KeyIsSealed sk r z e
     ⊎ ((is_encrypted sk ≡ false)
     × ((e ≡ out_of_memory)
-    ⊎ DataFails faults old new random_old random_new e
-    ⊎ ((message : List ℕ) × ReadsWhole ahead behind faults old new message
-    × (DrawFails random_faults random_old random_new e
-    ⊎ IsSomeAnd pk (λ p. GivenKeyRefuses accepts sign p sk message chosen (random_ahead random_old) (random_ahead random_new) e)))))
+    ⊎ DataFails r z e
+    ⊎ ((message : List ℕ) × ReadsWhole r.source r.old r.new message
+    × (DrawFails z e ⊎ IsSomeAnd pk (λ p. GivenKeyRefuses accepts sign p sk message chosen z e)))))

@@ -1,19 +1,20 @@
 -- Why a text is not read from a source or from a file.
-use Rattle.std.specs.Prelude.{◌≡◌, ℕ, ◌⊎◌, List, Option, IsUtf8}
+use Rattle.std.specs.Prelude.{◌≡◌, ℕ, ◌⊎◌, List, IsUtf8}
 use Rattle.minisign_base.specs.Fault.{Fault}
 use Rattle.minisign_base.specs.Faults.{out_of_memory, reading_failed, not_utf8}
+use Rattle.minisign_base.specs.Members.{SourceOf}
 use Rattle.minisign.specs.Reading.{IsReadFault, ReadsWhole}
 
 -- the source was read to its end, and what it gave is not UTF-8
-pub record GivesNoText {R : Type 0} (ahead behind : R → Option (List ℕ)) (faults : R → ℕ) (old new : R) (e : Fault) : Type 0 where
+pub record GivesNoText {R : Type 0} (source : SourceOf R) (old new : R) (e : Fault) : Type 0 where
   pub bytes : List ℕ
-  pub read : ReadsWhole ahead behind faults old new bytes
+  pub read : ReadsWhole source old new bytes
   pub unreadable : ¬ (IsUtf8 bytes)
   pub fault : e ≡ not_utf8
 
 -- why a source gave no text: memory was wanting, or it failed, or what it gave is not UTF-8
-abbrev pub IsTextFault : {R : Type 0} → (R → Option (List ℕ)) → (R → Option (List ℕ)) → (R → ℕ) → R → R → Fault → Type 0
-IsTextFault ahead behind faults old new e = IsReadFault faults old new e ⊎ GivesNoText ahead behind faults old new e
+abbrev pub IsTextFault : {R : Type 0} → SourceOf R → R → R → Fault → Type 0
+IsTextFault source old new e = IsReadFault source old new e ⊎ GivesNoText source old new e
 
 -- why a file gave no text: memory was wanting, or it could not be opened or read, or what it holds is not UTF-8
 abbrev pub IsTextFileFault : Fault → Type 0

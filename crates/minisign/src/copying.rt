@@ -1,46 +1,73 @@
 //! Copying the data of a box that was accepted: the data that was kept, or a second pass over the source
 //! that has to give the digest of the first.
 
-ghost use Rattle.std.specs.Prelude.{◌≡◌, ◌≢◌, ℕ, ◌<◌, ◌++◌, ◌⊎◌, List, false, length, vec_len, IfSome, IfOk, IfErr, OnOk, OnErr};
+ghost use Rattle.std.specs.Prelude.{◌≡◌, ℕ, ◌<◌, ◌++◌, ◌⊎◌, List, false, length, IfSome, IfOk, IfErr, OnOk, OnErr};
 ghost use Rattle.std.specs.Io.KnownBytes.{Appends, IsAtEnd, Keeps};
 ghost use Rattle.minisign_hash.specs.Blake2b.{blake2b_digest};
 ghost use Rattle.minisign_hash.specs.Fed.{IsFed, has_finalized, output_length};
 ghost use Rattle.minisign_base.specs.Devices.{Rose, HasGiven, AppendsFront};
-ghost use Rattle.minisign_base.specs.Faults.{out_of_memory, going_back_failed, data_changed};
+ghost use Rattle.minisign_base.specs.Faults.{going_back_failed};
+ghost use Rattle.minisign_base.specs.Passages.{rereader_passage, sink_passage};
+ghost use Rattle.minisign.specs.Copying.{CopyingFails, CopyingSucceeds, KeptFails, OutputFails, SecondPassFails};
 ghost use Rattle.minisign.specs.Reading.{IsAhead, IsReadFault, IsReturned, ReadsWhole};
-ghost use Rattle.minisign.specs.Verifying.{OutputFails, KeptFails, CopyingFails};
 
 use crate::reading::piece_buffer;
+use crate::signed_data::SignedData;
 use minisign_base::devices::sinks::{Sink, put_all};
 use minisign_base::devices::sources::{Rereader, Source};
 use minisign_base::{Result, faults};
 use minisign_hash::blake2b::Blake2b;
 use std::alloc::Global;
 
+// Copies the data where that is wanted: what was kept, or else what is read again from the mark on.
+pub(crate) fn copy_out<R: Rereader, O: Sink>(
+    alloc: Global,
+    signed: &SignedData,
+    data_reader: &mut R,
+    output: bool,
+    out: &mut O,
+) -> Result<()>
+    ensures copied { OnOk result (CopyingSucceeds output signed.now
+        (rereader_passage R.Source R.steady data_reader.old data_reader.new) (sink_passage O.Sink out.old out.new)) }
+    ensures calm { OnOk result (R.faults data_reader.new ≡ R.faults data_reader.old) }
+    ensures out_calm { OnOk result (O.sink_faults out.new ≡ O.sink_faults out.old) }
+    ensures refused { IfErr result (CopyingFails output signed.now
+        (rereader_passage R.Source R.steady data_reader.old data_reader.new) (sink_passage O.Sink out.old out.new)) }
+{
+    if !output {
+        return Ok(());
+    }
+    match signed {
+        SignedData::Digest(digest) => copy_again(alloc, digest, data_reader, out),
+        SignedData::Kept(bytes) => put_out(out, bytes),
+        SignedData::Unkept => Ok(()),
+    }
+}
+
 // Writes all of the bytes and flushes.
-pub(crate) fn put_out<O: Sink>(out: &mut O, bytes: &[u8]) -> Result<()>
+fn put_out<O: Sink>(out: &mut O, bytes: &[u8]) -> Result<()>
     ensures all { OnOk result (Appends (O.taken out.old) (O.taken out.new) bytes.now) }
     ensures calm { OnOk result (O.sink_faults out.new ≡ O.sink_faults out.old) }
-    ensures refused { IfErr result (KeptFails O.taken O.sink_faults out.old out.new bytes.now) }
+    ensures refused { IfErr result (KeptFails (sink_passage O.Sink out.old out.new) bytes.now) }
 {
     put_bytes(out, bytes)?;
     flush(out)
 }
 
 // Goes back to the mark and copies what is ahead then, and flushes where it has the digest.
-pub(crate) fn copy_again<R: Rereader, O: Sink>(
+fn copy_again<R: Rereader, O: Sink>(
     alloc: Global,
     digest: &[u8; 64],
     data_reader: &mut R,
     out: &mut O,
 ) -> Result<()>
-    ensures copied { OnOk result ((second : List ℕ) × IsReturned R.ahead R.behind data_reader.old data_reader.new second
+    ensures copied { OnOk result ((second : List ℕ) × IsReturned R.Source data_reader.old data_reader.new second
         × Appends (O.taken out.old) (O.taken out.new) second × (blake2b_digest 64 second ≡ digest.now)) }
     ensures end { OnOk result (IsAtEnd (R.ahead data_reader.new)) }
     ensures calm { OnOk result (R.faults data_reader.new ≡ R.faults data_reader.old) }
     ensures out_calm { OnOk result (O.sink_faults out.new ≡ O.sink_faults out.old) }
-    ensures refused { IfErr result (CopyingFails (IsReturned R.ahead R.behind data_reader.old data_reader.new) R.faults data_reader.old data_reader.new
-        O.taken O.sink_faults out.old out.new digest.now) }
+    ensures refused { IfErr result (SecondPassFails (IsReturned R.Source data_reader.old data_reader.new)
+        (rereader_passage R.Source R.steady data_reader.old data_reader.new) (sink_passage O.Sink out.old out.new) digest.now) }
 {
     go_back(data_reader)?;
     let second = copy_hashed(alloc, data_reader, out)?;
@@ -52,10 +79,10 @@ pub(crate) fn copy_again<R: Rereader, O: Sink>(
 
 // Copies all that is ahead, and answers its Blake2b digest of 64 bytes.
 fn copy_hashed<S: Source, O: Sink>(alloc: Global, source: &mut S, out: &mut O) -> Result<[u8; 64]>
-    ensures copied { IfOk result (λ d. (message : List ℕ) × ReadsWhole S.ahead S.behind S.faults source.old source.new message
+    ensures copied { IfOk result (λ d. (message : List ℕ) × ReadsWhole S.Source source.old source.new message
         × Appends (O.taken out.old) (O.taken out.new) message × (d ≡ blake2b_digest 64 message)) }
     ensures calm { OnOk result (O.sink_faults out.new ≡ O.sink_faults out.old) }
-    ensures refused { IfErr result (λ e. IsReadFault S.faults source.old source.new e ⊎ OutputFails O.sink_faults out.old out.new e) }
+    ensures refused { IfErr result (λ e. IsReadFault S.Source source.old source.new e ⊎ OutputFails (sink_passage O.Sink out.old out.new) e) }
     ensures front { OnErr result ((message : List ℕ) × IsAhead (S.ahead source.old) message
         × AppendsFront (O.taken out.old) (O.taken out.new) message) }
     ensures given { HasGiven (S.ahead source.old) (S.ahead source.new) }
@@ -77,12 +104,12 @@ fn copy_pieces<S: Source, O: Sink>(
 ) -> Result<()>
     requires some { 0 < length buf.old }
     requires open { has_finalized hasher.old ≡ false }
-    ensures fed { OnOk result ((message : List ℕ) × ReadsWhole S.ahead S.behind S.faults source.old source.new message
+    ensures fed { OnOk result ((message : List ℕ) × ReadsWhole S.Source source.old source.new message
         × Appends (O.taken out.old) (O.taken out.new) message
         × ((m : List ℕ) → IsFed hasher.old m → IsFed hasher.new (m ++ message))) }
     ensures length { output_length hasher.new ≡ output_length hasher.old }
     ensures calm { OnOk result (O.sink_faults out.new ≡ O.sink_faults out.old) }
-    ensures refused { IfErr result (λ e. IsReadFault S.faults source.old source.new e ⊎ OutputFails O.sink_faults out.old out.new e) }
+    ensures refused { IfErr result (λ e. IsReadFault S.Source source.old source.new e ⊎ OutputFails (sink_passage O.Sink out.old out.new) e) }
     ensures front { OnErr result ((message : List ℕ) × IsAhead (S.ahead source.old) message
         × AppendsFront (O.taken out.old) (O.taken out.new) message) }
     ensures given { HasGiven (S.ahead source.old) (S.ahead source.new) }
@@ -117,7 +144,7 @@ fn go_back<R: Rereader>(data_reader: &mut R) -> Result<()>
 fn put_bytes<O: Sink>(out: &mut O, bytes: &[u8]) -> Result<()>
     ensures all { OnOk result (Appends (O.taken out.old) (O.taken out.new) bytes.now) }
     ensures calm { OnOk result (O.sink_faults out.new ≡ O.sink_faults out.old) }
-    ensures refused { IfErr result (OutputFails O.sink_faults out.old out.new) }
+    ensures refused { IfErr result (OutputFails (sink_passage O.Sink out.old out.new)) }
     ensures front { OnErr result (AppendsFront (O.taken out.old) (O.taken out.new) bytes.now) }
 {
     match put_all(out, bytes) {
@@ -130,7 +157,7 @@ fn put_bytes<O: Sink>(out: &mut O, bytes: &[u8]) -> Result<()>
 fn flush<O: Sink>(out: &mut O) -> Result<()>
     ensures bytes { Keeps (O.taken out.old) (O.taken out.new) }
     ensures calm { OnOk result (O.sink_faults out.new ≡ O.sink_faults out.old) }
-    ensures refused { IfErr result (OutputFails O.sink_faults out.old out.new) }
+    ensures refused { IfErr result (OutputFails (sink_passage O.Sink out.old out.new)) }
 {
     match out.flush() {
         Ok(()) => Ok(()),

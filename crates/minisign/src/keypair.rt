@@ -3,20 +3,19 @@
 ghost use Rattle.std.specs.Prelude.{◌≡◌, ◌⊎◌, ℕ, List, ◌++◌, length, string_bytes, IfSome, IfOk, IfErr, OnOk, OnErr};
 ghost use Rattle.std.specs.Option.{option_map};
 ghost use Rattle.std.specs.Str.Iter.{LacksByte};
-ghost use Rattle.std.specs.Int.{to_le_bytes, w64};
-ghost use Rattle.std.specs.Io.KnownBytes.{Consumes};
 ghost use Rattle.minisign_base.specs.Devices.{HasGiven};
+ghost use Rattle.minisign_base.specs.Passages.{prompt_passage, random_passage, sink_passage};
 ghost use Rattle.minisign_base.specs.Faults.{out_of_memory, writing_failed};
 ghost use Rattle.minisign.specs.Records.{public_key_bytes, secret_key_bytes};
-ghost use Rattle.minisign.specs.Sealing.{IsUnencrypted, unsealed};
-ghost use Rattle.minisign.specs.Signing.{DrawFails};
+ghost use Rattle.minisign.specs.Sealing.{IsUnencrypted, xored_key};
+ghost use Rattle.minisign.specs.Signing.{DrawFails, HasDrawn};
 ghost use Rattle.minisign.specs.NewPassword.{HasAskedTwice, HasNotSealed, HasTold, HasTyped, IsChoosingFault, IsPassword, IsSealingFault, IsTellingFault};
 ghost use Rattle.minisign.specs.PublicKeyText.{public_key_text};
 ghost use Rattle.minisign.specs.SecretKeyText.{SecretKeyText, secret_key_text};
 ghost use Rattle.minisign.specs.Opening.{IsUnencryptedText};
-ghost use Rattle.minisign.specs.Generation.{AreSeedAndKeynum, FailsAtPart, HasSealed, IsGenuinePair, IsSealedOf, IsSealedPair, IsUnsealedPair, OpensOnlyTo, OpensToPair, SealedPairFails, SealedTextsFail, RawPairFails, TakesPart, WritingFails, opened_key, public_key_of, sealed_key, sealing_memory, sealing_operations, secret_of, unsealed_key};
+ghost use Rattle.minisign.specs.Generation.{AreSeedAndKeynum, FailsAtPart, HasSealed, IsGenuinePair, IsSealedOf, IsSealedPair, IsUnsealedPair, OpensOnlyTo, OpensToPair, RawPairFails, SealedPairFails, SealedTextsFail, TakesPart, WritingFails, public_key_of, secret_of, unsealed_key};
 
-use crate::constants::{CHK_ALG, KDF_ALG, KDF_NONE, MEMLIMIT, OPSLIMIT, SIGALG};
+use crate::constants::{CHK_ALG, KDF_NONE, SIGALG};
 use crate::drawing::draw;
 use crate::keynum::{KeynumPK, KeynumSK};
 use crate::public_key::PublicKey;
@@ -24,7 +23,7 @@ use crate::secret_key::SecretKey;
 use minisign_base::devices::random_sources::RandomSource;
 use minisign_base::devices::sinks::{Sink, put_and_flush};
 use minisign_base::devices::sources::Source;
-use minisign_base::helpers::{get_password, store_u64_le};
+use minisign_base::helpers::get_password;
 use minisign_base::prompt::Prompt;
 use minisign_base::scheme::Scheme;
 use minisign_base::{Result, faults};
@@ -55,13 +54,13 @@ impl KeyPair {
         scheme: &S,
         random: &mut Z,
     ) -> Result<KeyPair>
-        ensures made { IfOk result (λ pair. IsUnsealedPair (S.public_of scheme.now) (Z.random_ahead random.old) (Z.random_ahead random.new) pair.pk pair.sk) }
+        ensures made { IfOk result (λ pair. IsUnsealedPair (S.public_of scheme.now) (random_passage Z.RandomSource random.old random.new) pair.pk pair.sk) }
         ensures genuine { IfOk result (λ pair. IsGenuinePair (S.public_of scheme.now) pair.pk pair.sk) }
         ensures unencrypted { IfOk result (λ pair. IsUnencrypted pair.sk) }
         // Each text that reads as the secret key is one that `SecretKey::from_unencrypted_box` takes.
         ensures texts { IfOk result (λ pair. (text : List ℕ) → SecretKeyText text pair.sk → IsUnencryptedText text pair.sk) }
         ensures calm { OnOk result (Z.random_faults random.new ≡ Z.random_faults random.old) }
-        ensures refused { IfErr result (DrawFails Z.random_faults random.old random.new) }
+        ensures refused { IfErr result (DrawFails (random_passage Z.RandomSource random.old random.new)) }
         ensures given { HasGiven (Z.random_ahead random.old) (Z.random_ahead random.new) }
     {
         let (seed, keynum) = draw_seed_and_keynum(random)?;
@@ -83,16 +82,16 @@ impl KeyPair {
         sk_sink: &mut K,
     ) -> Result<KeyPair>
         // The pair, and what the sinks took of it.
-        ensures made { IfOk result (λ pair. IsUnsealedPair (S.public_of scheme.now) (Z.random_ahead random.old) (Z.random_ahead random.new) pair.pk pair.sk) }
+        ensures made { IfOk result (λ pair. IsUnsealedPair (S.public_of scheme.now) (random_passage Z.RandomSource random.old random.new) pair.pk pair.sk) }
         ensures genuine { IfOk result (λ pair. IsGenuinePair (S.public_of scheme.now) pair.pk pair.sk) }
         ensures unencrypted { IfOk result (λ pair. IsUnencrypted pair.sk) }
-        ensures public { IfOk result (λ pair. TakesPart P.taken P.sink_faults pk_sink.old pk_sink.new (public_key_bytes pair.pk)) }
-        ensures secret { IfOk result (λ pair. TakesPart K.taken K.sink_faults sk_sink.old sk_sink.new (secret_key_bytes pair.sk)) }
+        ensures public { IfOk result (λ pair. TakesPart (sink_passage P.Sink pk_sink.old pk_sink.new) (public_key_bytes pair.pk)) }
+        ensures secret { IfOk result (λ pair. TakesPart (sink_passage K.Sink sk_sink.old sk_sink.new) (secret_key_bytes pair.sk)) }
         ensures calm { OnOk result (Z.random_faults random.new ≡ Z.random_faults random.old) }
 
         // Why it was refused.
-        ensures refused { IfErr result (RawPairFails (S.public_of scheme.now) Z.random_ahead Z.random_faults random.old random.new
-            P.taken P.sink_faults pk_sink.old pk_sink.new K.taken K.sink_faults sk_sink.old sk_sink.new) }
+        ensures refused { IfErr result (RawPairFails (S.public_of scheme.now) (random_passage Z.RandomSource random.old random.new)
+            (sink_passage P.Sink pk_sink.old pk_sink.new) (sink_passage K.Sink sk_sink.old sk_sink.new)) }
         ensures given { HasGiven (Z.random_ahead random.old) (Z.random_ahead random.new) }
     {
         let pair = KeyPair::generate_unencrypted_keypair(scheme, random)?;
@@ -119,11 +118,13 @@ impl KeyPair {
         password: Option<String>,
         prompt: &mut Prompt<R, W>,
     ) -> Result<KeyPair>
-        ensures made { IfOk result (λ pair. HasSealed (S.public_of scheme.now) (Z.random_ahead random.old) (Z.random_ahead random.new)
-            R.ahead R.left R.faults W.taken W.sink_faults (option_map (λ s. string_bytes s) password) prompt.old prompt.new pair.pk pair.sk) }
+        ensures made { IfOk result (λ pair. HasSealed (S.public_of scheme.now) (random_passage Z.RandomSource random.old random.new)
+            (prompt_passage R.Source W.Sink prompt.old prompt.new)
+            (option_map (λ s. string_bytes s) password) pair.pk pair.sk) }
         ensures calm { OnOk result (Z.random_faults random.new ≡ Z.random_faults random.old) }
-        ensures refused { IfErr result (SealedPairFails Z.random_ahead Z.random_faults random.old random.new
-            R.ahead R.left R.faults W.taken W.sink_faults (option_map (λ s. string_bytes s) password) prompt.old prompt.new) }
+        ensures refused { IfErr result (SealedPairFails (random_passage Z.RandomSource random.old random.new)
+            (prompt_passage R.Source W.Sink prompt.old prompt.new)
+            (option_map (λ s. string_bytes s) password)) }
         ensures given { HasGiven (Z.random_ahead random.old) (Z.random_ahead random.new) }
     {
         let drawn = draw_with_salt(random)?;
@@ -155,21 +156,23 @@ impl KeyPair {
         prompt: &mut Prompt<R, W>,
     ) -> Result<KeyPair>
         // The pair, and what the sinks took of it.
-        ensures made { IfOk result (λ pair. HasSealed (S.public_of scheme.now) (Z.random_ahead random.old) (Z.random_ahead random.new)
-            R.ahead R.left R.faults W.taken W.sink_faults (option_map (λ s. string_bytes s) password) prompt.old prompt.new pair.pk pair.sk) }
-        ensures public { IfOk result (λ pair. TakesPart P.taken P.sink_faults pk_sink.old pk_sink.new (public_key_text pair.pk)) }
-        ensures secret { IfOk result (λ pair. TakesPart K.taken K.sink_faults sk_sink.old sk_sink.new
+        ensures made { IfOk result (λ pair. HasSealed (S.public_of scheme.now) (random_passage Z.RandomSource random.old random.new)
+            (prompt_passage R.Source W.Sink prompt.old prompt.new)
+            (option_map (λ s. string_bytes s) password) pair.pk pair.sk) }
+        ensures public { IfOk result (λ pair. TakesPart (sink_passage P.Sink pk_sink.old pk_sink.new) (public_key_text pair.pk)) }
+        ensures secret { IfOk result (λ pair. TakesPart (sink_passage K.Sink sk_sink.old sk_sink.new)
             (secret_key_text (option_map (λ s. s.now) comment.entry) pair.sk)) }
         // That text opens under the password, where the comment has no line feed.
         ensures opens_again { IfSome comment.entry (λ s. LacksByte 10 s.now) → IfOk result (λ pair. (typed : List ℕ) →
             OpensToPair (S.public_of scheme.now) typed pair.pk pair.sk →
-            OpensOnlyTo (secret_key_text (option_map (λ s. s.now) comment.entry) pair.sk) typed (unsealed pair.sk typed)) }
+            OpensOnlyTo (secret_key_text (option_map (λ s. s.now) comment.entry) pair.sk) typed (xored_key pair.sk typed)) }
         ensures calm { OnOk result (Z.random_faults random.new ≡ Z.random_faults random.old) }
 
         // Why it was refused.
-        ensures refused { IfErr result (SealedTextsFail (S.public_of scheme.now) Z.random_ahead Z.random_faults random.old random.new
-            R.ahead R.left R.faults W.taken W.sink_faults (option_map (λ s. string_bytes s) password) prompt.old prompt.new
-            P.taken P.sink_faults pk_sink.old pk_sink.new K.taken K.sink_faults sk_sink.old sk_sink.new
+        ensures refused { IfErr result (SealedTextsFail (S.public_of scheme.now) (random_passage Z.RandomSource random.old random.new)
+            (prompt_passage R.Source W.Sink prompt.old prompt.new)
+            (option_map (λ s. string_bytes s) password)
+            (sink_passage P.Sink pk_sink.old pk_sink.new) (sink_passage K.Sink sk_sink.old sk_sink.new)
             (option_map (λ s. s.now) comment.entry)) }
         ensures given { HasGiven (Z.random_ahead random.old) (Z.random_ahead random.new) }
     {
@@ -190,9 +193,11 @@ fn seal_pair<S: Scheme, R: Source, W: Sink>(
     prompt: &mut Prompt<R, W>,
 ) -> Result<KeyPair>
     ensures sealed { IfOk result (λ pair. (typed : List ℕ)
-        × IsPassword R.ahead R.left R.faults W.taken W.sink_faults (option_map (λ s. string_bytes s) password) prompt.old prompt.new typed
+        × IsPassword (prompt_passage R.Source W.Sink prompt.old prompt.new)
+        (option_map (λ s. string_bytes s) password) typed
         × IsSealedOf (S.public_of scheme.now) drawn.now.seed drawn.now.keynum drawn.now.salt typed pair.pk pair.sk) }
-    ensures refused { IfErr result (IsSealingFault R.ahead R.left R.faults W.taken W.sink_faults (option_map (λ s. string_bytes s) password) prompt.old prompt.new) }
+    ensures refused { IfErr result (IsSealingFault (prompt_passage R.Source W.Sink prompt.old prompt.new)
+        (option_map (λ s. string_bytes s) password)) }
 {
     match password {
         Some(password) => make_sealed_pair(alloc, scheme, drawn, password.as_bytes()),
@@ -207,10 +212,10 @@ fn ask_and_seal<S: Scheme, R: Source, W: Sink>(
     drawn: &Drawn,
     prompt: &mut Prompt<R, W>,
 ) -> Result<KeyPair>
-    ensures typed { IfOk result (λ pair. (password : List ℕ) × HasTyped R.ahead R.left R.faults W.taken W.sink_faults prompt.old prompt.new password
+    ensures typed { IfOk result (λ pair. (password : List ℕ) × HasTyped (prompt_passage R.Source W.Sink prompt.old prompt.new) password
         × IsSealedOf (S.public_of scheme.now) drawn.now.seed drawn.now.keynum drawn.now.salt password pair.pk pair.sk) }
-    ensures refused { IfErr result (λ e. IsChoosingFault R.ahead R.left R.faults W.taken W.sink_faults prompt.old prompt.new e
-        ⊎ HasNotSealed R.ahead R.left R.faults W.taken W.sink_faults prompt.old prompt.new e) }
+    ensures refused { IfErr result (λ e. IsChoosingFault (prompt_passage R.Source W.Sink prompt.old prompt.new) e
+        ⊎ HasNotSealed (prompt_passage R.Source W.Sink prompt.old prompt.new) e) }
 {
     let password = choose_password(alloc, prompt)?;
     seal_aloud(alloc, scheme, drawn, password.as_bytes(), prompt)
@@ -219,8 +224,8 @@ fn ask_and_seal<S: Scheme, R: Source, W: Sink>(
 // Says what a password is for, and asks for it twice.
 #[tactic(auto, unfolding(crate::specs::NewPassword::purpose_line, crate::specs::Opening::asking_text, crate::specs::NewPassword::second_question))]
 fn choose_password<R: Source, W: Sink>(alloc: Global, prompt: &mut Prompt<R, W>) -> Result<String>
-    ensures chosen { IfOk result (λ password. HasAskedTwice R.ahead R.left R.faults W.taken W.sink_faults prompt.old prompt.new (string_bytes password) (string_bytes password)) }
-    ensures refused { IfErr result (IsChoosingFault R.ahead R.left R.faults W.taken W.sink_faults prompt.old prompt.new) }
+    ensures chosen { IfOk result (λ password. HasAskedTwice (prompt_passage R.Source W.Sink prompt.old prompt.new) (string_bytes password) (string_bytes password)) }
+    ensures refused { IfErr result (IsChoosingFault (prompt_passage R.Source W.Sink prompt.old prompt.new)) }
 {
     prompt.say("Please enter a password to protect the secret key.\n")?;
     let password = get_password(alloc, prompt, "Password: ")?;
@@ -240,9 +245,9 @@ fn seal_aloud<S: Scheme, R: Source, W: Sink>(
     password: &[u8],
     prompt: &mut Prompt<R, W>,
 ) -> Result<KeyPair>
-    ensures told { OnOk result (HasTold W.taken W.sink_faults prompt.old prompt.new) }
+    ensures told { OnOk result (HasTold (prompt_passage R.Source W.Sink prompt.old prompt.new)) }
     ensures sealed { IfOk result (λ pair. IsSealedOf (S.public_of scheme.now) drawn.now.seed drawn.now.keynum drawn.now.salt password.now pair.pk pair.sk) }
-    ensures refused { IfErr result (IsTellingFault W.taken W.sink_faults prompt.old prompt.new) }
+    ensures refused { IfErr result (IsTellingFault (prompt_passage R.Source W.Sink prompt.old prompt.new)) }
 {
     prompt.say("Deriving a key from the password in order to encrypt the secret key... ")?;
     let pair = make_sealed_pair(alloc, scheme, drawn, password)?;
@@ -257,10 +262,10 @@ fn write_parts<P: Sink, K: Sink>(
     public: &[u8],
     secret: &[u8],
 ) -> Result<()>
-    ensures public { OnOk result (TakesPart P.taken P.sink_faults pk_sink.old pk_sink.new public.now) }
-    ensures secret { OnOk result (TakesPart K.taken K.sink_faults sk_sink.old sk_sink.new secret.now) }
-    ensures refused { IfErr result (WritingFails P.taken P.sink_faults pk_sink.old pk_sink.new
-        K.taken K.sink_faults sk_sink.old sk_sink.new public.now secret.now) }
+    ensures public { OnOk result (TakesPart (sink_passage P.Sink pk_sink.old pk_sink.new) public.now) }
+    ensures secret { OnOk result (TakesPart (sink_passage K.Sink sk_sink.old sk_sink.new) secret.now) }
+    ensures refused { IfErr result (WritingFails (sink_passage P.Sink pk_sink.old pk_sink.new)
+        (sink_passage K.Sink sk_sink.old sk_sink.new) public.now secret.now) }
 {
     write_part(pk_sink, public)?;
     write_part(sk_sink, secret)
@@ -268,14 +273,11 @@ fn write_parts<P: Sink, K: Sink>(
 
 // Writes a part and passes it on.
 fn write_part<W: Sink>(sink: &mut W, part: &[u8]) -> Result<()>
-    ensures taken { OnOk result (TakesPart W.taken W.sink_faults sink.old sink.new part.now) }
-    ensures failed { OnErr result (FailsAtPart W.taken W.sink_faults sink.old sink.new part.now) }
+    ensures taken { OnOk result (TakesPart (sink_passage W.Sink sink.old sink.new) part.now) }
+    ensures failed { OnErr result (FailsAtPart (sink_passage W.Sink sink.old sink.new) part.now) }
     ensures refused { IfErr result (λ e. e ≡ writing_failed) }
 {
-    match put_and_flush(sink, part) {
-        Ok(()) => Ok(()),
-        Err(_) => Err(faults::writing_failed()),
-    }
+    put_and_flush(sink, part).map_err(|_| faults::writing_failed())
 }
 
 // The pair of a seed under an identifier, sealed with a salt under a password.
@@ -295,11 +297,11 @@ fn make_sealed_pair<S: Scheme>(
 
 // The random bytes of a sealed pair: a seed, an identifier, and a salt.
 fn draw_with_salt<Z: RandomSource>(random: &mut Z) -> Result<Drawn>
-    ensures drawn { IfOk result (λ z. Consumes (Z.random_ahead random.old) (Z.random_ahead random.new) (z.seed ++ z.keynum ++ z.salt)) }
+    ensures drawn { IfOk result (λ z. HasDrawn (random_passage Z.RandomSource random.old random.new) (z.seed ++ z.keynum ++ z.salt)) }
     ensures lengths { IfOk result (λ z. AreSeedAndKeynum z.seed z.keynum) }
     ensures salt { IfOk result (λ z. length z.salt ≡ 32) }
     ensures calm { OnOk result (Z.random_faults random.new ≡ Z.random_faults random.old) }
-    ensures refused { IfErr result (DrawFails Z.random_faults random.old random.new) }
+    ensures refused { IfErr result (DrawFails (random_passage Z.RandomSource random.old random.new)) }
     ensures given { HasGiven (Z.random_ahead random.old) (Z.random_ahead random.new) }
 {
     let (seed, keynum) = draw_seed_and_keynum(random)?;
@@ -309,10 +311,10 @@ fn draw_with_salt<Z: RandomSource>(random: &mut Z) -> Result<Drawn>
 
 // Draws 32 bytes of a seed, and then 8 of an identifier.
 fn draw_seed_and_keynum<Z: RandomSource>(random: &mut Z) -> Result<([u8; 32], [u8; 8])>
-    ensures drawn { IfOk result (λ z. Consumes (Z.random_ahead random.old) (Z.random_ahead random.new) (z.0 ++ z.1)) }
+    ensures drawn { IfOk result (λ z. HasDrawn (random_passage Z.RandomSource random.old random.new) (z.0 ++ z.1)) }
     ensures lengths { IfOk result (λ z. AreSeedAndKeynum z.0 z.1) }
     ensures calm { OnOk result (Z.random_faults random.new ≡ Z.random_faults random.old) }
-    ensures refused { IfErr result (DrawFails Z.random_faults random.old random.new) }
+    ensures refused { IfErr result (DrawFails (random_passage Z.RandomSource random.old random.new)) }
     ensures given { HasGiven (Z.random_ahead random.old) (Z.random_ahead random.new) }
 {
     let seed = draw(random)?;
@@ -355,32 +357,4 @@ fn make_secret_key(keynum: [u8; 8], secret: [u8; 64]) -> SecretKey
     };
     sk.write_checksum();
     sk
-}
-
-impl SecretKey {
-    // Seals a key that is not sealed, with a salt and the limits by default.
-    fn seal(self, alloc: Global, salt: [u8; 32], password: &[u8]) -> Result<SecretKey>
-        ensures sealed { (keynum secret : List ℕ) → self ≡ unsealed_key keynum secret → IfOk result (λ k. k ≡ sealed_key keynum secret salt password.now) }
-        ensures opened { (keynum secret : List ℕ) → self ≡ unsealed_key keynum secret → IfOk result (λ k. unsealed k password.now ≡ opened_key keynum secret salt) }
-        ensures refused { IfErr result (λ e. e ≡ out_of_memory) }
-    {
-        let mut sk = self.with_limits(salt);
-        sk.unseal(alloc, password, u32::MAX, 1)?;
-        Ok(sk)
-    }
-
-    // Names the key derivation, its salt and the limits by default.
-    #[tactic(auto, unfolding(crate::specs::Generation::opened_key))]
-    fn with_limits(self, salt: [u8; 32]) -> SecretKey
-        ensures named { (keynum secret : List ℕ) → self ≡ unsealed_key keynum secret → result ≡ opened_key keynum secret salt }
-        ensures memory { result.memory_limit ≡ to_le_bytes w64 sealing_memory }
-        ensures operations { result.operations_limit ≡ to_le_bytes w64 sealing_operations }
-    {
-        let mut sk = self;
-        sk.kdf_alg = KDF_ALG;
-        sk.kdf_salt = salt;
-        sk.kdf_opslimit_le = store_u64_le(OPSLIMIT);
-        sk.kdf_memlimit_le = store_u64_le(MEMLIMIT);
-        sk
-    }
 }

@@ -1,14 +1,16 @@
 //! The key of a text: opened with a password where it is sealed.
 
-ghost use Rattle.std.specs.Prelude.{◌≡◌, ◌≤◌, ◌⊎◌, ℕ, List, ◌++◌, None, Some, Ok, string_bytes, MatchResult, IfOk, IfErr, OnOk, IfSome, IfNone};
+ghost use Rattle.std.specs.Prelude.{◌≡◌, ◌≤◌, ◌⊎◌, ℕ, List, ◌++◌, None, Some, Ok, false, string_bytes, MatchResult, IfOk, IfErr, OnOk};
+ghost use Rattle.std.specs.Option.{option_map};
 ghost use Rattle.minisign_base.specs.Faults.{out_of_memory, writing_failed, wrong_password};
 ghost use Rattle.minisign.specs.Records.{SecretKeyRecord};
 ghost use Rattle.minisign.specs.SecretKeyText.{SecretKeyText, secret_key_fault};
 ghost use Rattle.minisign.specs.Texts.{IsDecided};
-ghost use Rattle.minisign.specs.Sealing.{Opens, OpensWithin, checksum_refusal, kdf_refusal, password_refusal, scrypt_kdf, unbounded_refusal, unencrypted_refusal, unsealed, work_refusal};
-ghost use Rattle.minisign.specs.Opening.{RefusesKey, IsOpened, RefusesOpening, IsUnencryptedText, RefusesUnencrypted, HasSaid, HasAskedAndSaid, HasAskedAndNotSaid, IsOpenedAsking, IsToldRefusal, RefusesAsking, asking_text, deriving_text, done_text};
-ghost use Rattle.minisign_base.specs.Prompts.{HasAsked, IsAskingFault, HasNotSaid};
-ghost use Rattle.minisign.specs.TextFiles.{IsTextFileFault};
+ghost use Rattle.minisign.specs.Headline.{OpeningHeadline};
+ghost use Rattle.minisign.specs.Sealing.{checksum_refusal, is_encrypted, kdf_refusal, password_refusal, unencrypted_refusal, work_refusal, xored_key};
+ghost use Rattle.minisign.specs.Opening.{HasAskedAndNotSaid, HasAskedAndSaid, IsFileOpening, IsOpening, IsToldRefusal, IsUnencryptedText, RefusesKey, RefusesUnencrypted, asking_text, deriving_text, done_text};
+ghost use Rattle.minisign_base.specs.Passages.{prompt_passage};
+ghost use Rattle.minisign_base.specs.Prompts.{HasAsked, HasNotSaid, HasSaid, IsAskingFault};
 
 use crate::constants::{KDF_ALG, KDF_NONE};
 use crate::reading::read_text_file;
@@ -30,21 +32,9 @@ impl SecretKeyBox {
         password: Option<String>,
         prompt: &mut Prompt<R, W>,
     ) -> Result<SecretKey>
-        // A password that is handed in.
-        ensures handed_in { IfSome password (λ p. MatchResult result (IsOpened self (string_bytes p) 4294967295)
-            (λ e. (e ≡ out_of_memory) ⊎ RefusesOpening self (string_bytes p) 4294967295 e)) }
-        ensures untouched { IfSome password (λ _. prompt.new ≡ prompt.old) }
-
-        // A password that is asked for.
-        ensures asked { IfNone password (MatchResult result
-            (IsOpenedAsking R.ahead R.left R.faults W.taken W.sink_faults prompt.old prompt.new self 4294967295)
-            (RefusesAsking R.ahead R.left R.faults W.taken W.sink_faults prompt.old prompt.new self 4294967295)) }
-
-        // In one piece: a sealed key that is read opens with the password that is handed in exactly where
-        // its limits are allowed and the stream restores its checksum.
-        ensures headline { IfSome password (λ p. (k : SecretKeyRecord) → SecretKeyText self k → k.kdf ≡ scrypt_kdf →
-            MatchResult result (λ v. Opens k (string_bytes p) × (v ≡ unsealed k (string_bytes p)))
-            (λ e. (e ≡ out_of_memory) ⊎ (¬ (Opens k (string_bytes p)) × (unbounded_refusal k (string_bytes p) ≡ Some e)))) }
+        ensures opens { IsOpening (prompt_passage R.Source W.Sink prompt.old prompt.new)
+            (option_map (λ s. string_bytes s) password) self None result }
+        ensures headline { OpeningHeadline (option_map (λ s. string_bytes s) password) self None result }
     {
         SecretKey::from_box(alloc, self, password, prompt)
     }
@@ -73,47 +63,26 @@ impl SecretKey {
         password: Option<String>,
         prompt: &mut Prompt<R, W>,
     ) -> Result<SecretKey>
-        // A password that is handed in.
-        ensures handed_in { IfSome password (λ p. MatchResult result
-            (λ v. (text : List ℕ) × IsOpened text (string_bytes p) 4294967295 v)
-            (λ e. IsTextFileFault e ⊎ ((text : List ℕ) × RefusesOpening text (string_bytes p) 4294967295 e))) }
-        ensures untouched { IfSome password (λ _. prompt.new ≡ prompt.old) }
-
-        // A password that is asked for.
-        ensures asked { IfNone password (MatchResult result
-            (λ v. (text : List ℕ) × IsOpenedAsking R.ahead R.left R.faults W.taken W.sink_faults prompt.old prompt.new text 4294967295 v)
-            (λ e. (IsTextFileFault e × (prompt.new ≡ prompt.old))
-            ⊎ ((text : List ℕ) × RefusesAsking R.ahead R.left R.faults W.taken W.sink_faults prompt.old prompt.new text 4294967295 e))) }
+        ensures opens { IsFileOpening (prompt_passage R.Source W.Sink prompt.old prompt.new)
+            (option_map (λ s. string_bytes s) password) None result }
     {
         let text = read_text_file(files, alloc, path)?;
         SecretKey::from_box(alloc, SecretKeyBox::from(text), password, prompt)
     }
 
-    /// Reads a sealed key and opens it with the password: `from_box_within` with 4294967295, which no
-    /// parallelization exceeds, so that `work_too_high` never comes.
+    /// Reads a sealed key and opens it with the password: as `from_box_within`, with no bound, so that
+    /// `work_too_high` never comes.
     pub fn from_box<R: Source, W: Sink>(
         alloc: Global,
         sk_box: SecretKeyBox,
         password: Option<String>,
         prompt: &mut Prompt<R, W>,
     ) -> Result<SecretKey>
-        // A password that is handed in.
-        ensures handed_in { IfSome password (λ p. MatchResult result (IsOpened sk_box (string_bytes p) 4294967295)
-            (λ e. (e ≡ out_of_memory) ⊎ RefusesOpening sk_box (string_bytes p) 4294967295 e)) }
-        ensures untouched { IfSome password (λ _. prompt.new ≡ prompt.old) }
-
-        // A password that is asked for.
-        ensures asked { IfNone password (MatchResult result
-            (IsOpenedAsking R.ahead R.left R.faults W.taken W.sink_faults prompt.old prompt.new sk_box 4294967295)
-            (RefusesAsking R.ahead R.left R.faults W.taken W.sink_faults prompt.old prompt.new sk_box 4294967295)) }
-
-        // In one piece: a sealed key that is read opens with the password that is handed in exactly where
-        // its limits are allowed and the stream restores its checksum.
-        ensures headline { IfSome password (λ p. (k : SecretKeyRecord) → SecretKeyText sk_box k → k.kdf ≡ scrypt_kdf →
-            MatchResult result (λ v. Opens k (string_bytes p) × (v ≡ unsealed k (string_bytes p)))
-            (λ e. (e ≡ out_of_memory) ⊎ (¬ (Opens k (string_bytes p)) × (unbounded_refusal k (string_bytes p) ≡ Some e)))) }
+        ensures opens { IsOpening (prompt_passage R.Source W.Sink prompt.old prompt.new)
+            (option_map (λ s. string_bytes s) password) sk_box None result }
+        ensures headline { OpeningHeadline (option_map (λ s. string_bytes s) password) sk_box None result }
     {
-        SecretKey::from_box_within(alloc, sk_box, password, prompt, u32::MAX)
+        SecretKey::open_box(alloc, sk_box, password, prompt, None, 1)
     }
 
     /// Reads a sealed key and opens it with the password in a fraction of the memory: `from_box` with only
@@ -129,23 +98,11 @@ impl SecretKey {
     ) -> Result<SecretKey>
         requires kept { 1 ≤ k }
 
-        // A password that is handed in.
-        ensures handed_in { IfSome password (λ p. MatchResult result (IsOpened sk_box (string_bytes p) 4294967295)
-            (λ e. (e ≡ out_of_memory) ⊎ RefusesOpening sk_box (string_bytes p) 4294967295 e)) }
-        ensures untouched { IfSome password (λ _. prompt.new ≡ prompt.old) }
-
-        // A password that is asked for.
-        ensures asked { IfNone password (MatchResult result
-            (IsOpenedAsking R.ahead R.left R.faults W.taken W.sink_faults prompt.old prompt.new sk_box 4294967295)
-            (RefusesAsking R.ahead R.left R.faults W.taken W.sink_faults prompt.old prompt.new sk_box 4294967295)) }
-
-        // In one piece: a sealed key that is read opens with the password that is handed in exactly where
-        // its limits are allowed and the stream restores its checksum.
-        ensures headline { IfSome password (λ p. (sealed : SecretKeyRecord) → SecretKeyText sk_box sealed → sealed.kdf ≡ scrypt_kdf →
-            MatchResult result (λ v. Opens sealed (string_bytes p) × (v ≡ unsealed sealed (string_bytes p)))
-            (λ e. (e ≡ out_of_memory) ⊎ (¬ (Opens sealed (string_bytes p)) × (unbounded_refusal sealed (string_bytes p) ≡ Some e)))) }
+        ensures opens { IsOpening (prompt_passage R.Source W.Sink prompt.old prompt.new)
+            (option_map (λ s. string_bytes s) password) sk_box None result }
+        ensures headline { OpeningHeadline (option_map (λ s. string_bytes s) password) sk_box None result }
     {
-        SecretKey::open_box(alloc, sk_box, password, prompt, u32::MAX, k)
+        SecretKey::open_box(alloc, sk_box, password, prompt, None, k)
     }
 
     /// Reads a sealed key and opens it with the password, within a bound on the work of a stranger's key:
@@ -170,23 +127,11 @@ impl SecretKey {
         prompt: &mut Prompt<R, W>,
         max_p: u32,
     ) -> Result<SecretKey>
-        // A password that is handed in.
-        ensures handed_in { IfSome password (λ p. MatchResult result (IsOpened sk_box (string_bytes p) max_p)
-            (λ e. (e ≡ out_of_memory) ⊎ RefusesOpening sk_box (string_bytes p) max_p e)) }
-        ensures untouched { IfSome password (λ _. prompt.new ≡ prompt.old) }
-
-        // A password that is asked for.
-        ensures asked { IfNone password (MatchResult result
-            (IsOpenedAsking R.ahead R.left R.faults W.taken W.sink_faults prompt.old prompt.new sk_box max_p)
-            (RefusesAsking R.ahead R.left R.faults W.taken W.sink_faults prompt.old prompt.new sk_box max_p)) }
-
-        // In one piece: a sealed key that is read opens with the password that is handed in exactly where
-        // its limits are allowed, p is within the bound and the stream restores its checksum.
-        ensures headline { IfSome password (λ p. (k : SecretKeyRecord) → SecretKeyText sk_box k → k.kdf ≡ scrypt_kdf →
-            MatchResult result (λ v. OpensWithin k (string_bytes p) max_p × (v ≡ unsealed k (string_bytes p)))
-            (λ e. (e ≡ out_of_memory) ⊎ (¬ (OpensWithin k (string_bytes p) max_p) × (password_refusal k (string_bytes p) max_p ≡ Some e)))) }
+        ensures opens { IsOpening (prompt_passage R.Source W.Sink prompt.old prompt.new)
+            (option_map (λ s. string_bytes s) password) sk_box (Some max_p) result }
+        ensures headline { OpeningHeadline (option_map (λ s. string_bytes s) password) sk_box (Some max_p) result }
     {
-        SecretKey::open_box(alloc, sk_box, password, prompt, max_p, 1)
+        SecretKey::open_box(alloc, sk_box, password, prompt, Some(max_p), 1)
     }
 
     /// Reads a key that was never sealed. Its text is read as two lines: one of comment, and one that is the
@@ -205,38 +150,44 @@ impl SecretKey {
         SecretKey::unencrypted_from_text(alloc, sk_box.as_str())
     }
 
-    // Reads a sealed key and opens it within a bound on the parallelization, with every k-th row kept.
+    // Reads a sealed key and opens it, within a bound on the parallelization where there is one, with every
+    // k-th row kept.
     fn open_box<R: Source, W: Sink>(
         alloc: Global,
         sk_box: SecretKeyBox,
         password: Option<String>,
         prompt: &mut Prompt<R, W>,
-        max_p: u32,
+        bound: Option<u32>,
         k: u64,
     ) -> Result<SecretKey>
         requires kept { 1 ≤ k }
-
-        // A password that is handed in.
-        ensures handed_in { IfSome password (λ p. MatchResult result (IsOpened sk_box (string_bytes p) max_p)
-            (λ e. (e ≡ out_of_memory) ⊎ RefusesOpening sk_box (string_bytes p) max_p e)) }
-        ensures untouched { IfSome password (λ _. prompt.new ≡ prompt.old) }
-
-        // A password that is asked for.
-        ensures asked { IfNone password (MatchResult result
-            (IsOpenedAsking R.ahead R.left R.faults W.taken W.sink_faults prompt.old prompt.new sk_box max_p)
-            (RefusesAsking R.ahead R.left R.faults W.taken W.sink_faults prompt.old prompt.new sk_box max_p)) }
-
-        // In one piece: a sealed key that is read opens with the password that is handed in exactly where
-        // its limits are allowed, p is within the bound and the stream restores its checksum.
-        ensures headline { IfSome password (λ p. (sealed : SecretKeyRecord) → SecretKeyText sk_box sealed → sealed.kdf ≡ scrypt_kdf →
-            MatchResult result (λ v. OpensWithin sealed (string_bytes p) max_p × (v ≡ unsealed sealed (string_bytes p)))
-            (λ e. (e ≡ out_of_memory) ⊎ (¬ (OpensWithin sealed (string_bytes p) max_p) × (password_refusal sealed (string_bytes p) max_p ≡ Some e)))) }
+        ensures opens { IsOpening (prompt_passage R.Source W.Sink prompt.old prompt.new)
+            (option_map (λ s. string_bytes s) password) sk_box bound result }
+        ensures headline { OpeningHeadline (option_map (λ s. string_bytes s) password) sk_box bound result }
     {
+        let sk = SecretKey::from_text(alloc, sk_box.as_str())?;
+        sk.open(alloc, password, prompt, bound, k)
+    }
+
+    // Opens the sealed key that a text reads as, with a password that is handed in or asked for.
+    pub(crate) fn open<R: Source, W: Sink>(
+        self,
+        alloc: Global,
+        password: Option<String>,
+        prompt: &mut Prompt<R, W>,
+        bound: Option<u32>,
+        k: u64,
+    ) -> Result<SecretKey>
+        requires { 1 ≤ k }
+        ensures opens { (text : List ℕ) → SecretKeyText text self →
+            IsOpening (prompt_passage R.Source W.Sink prompt.old prompt.new)
+            (option_map (λ s. string_bytes s) password) text bound result }
+        ensures opened { IfOk result (λ v. is_encrypted v ≡ false) }
+    {
+        self.check_sealed()?;
         match password {
-            Some(password) => {
-                SecretKey::opened_from_text(alloc, sk_box.as_str(), password.as_bytes(), max_p, k)
-            }
-            None => SecretKey::asked_from_text(alloc, sk_box.as_str(), prompt, max_p, k),
+            Some(password) => self.open_with(alloc, password.as_bytes(), bound, k),
+            None => self.open_asking(alloc, prompt, bound, k),
         }
     }
 
@@ -252,7 +203,7 @@ impl SecretKey {
     }
 
     // Tests that the key was never sealed, and then its checksum.
-    fn check_unencrypted(&self) -> Result<()>
+    pub(crate) fn check_unencrypted(&self) -> Result<()>
         ensures { MatchResult result (λ _. unencrypted_refusal self.now ≡ None) (λ e. unencrypted_refusal self.now ≡ Some e) }
     {
         if self.kdf_alg != KDF_NONE {
@@ -262,33 +213,6 @@ impl SecretKey {
             return Err(faults::corrupted_key());
         }
         Ok(())
-    }
-
-    // Reads the text of a sealed key, and opens it with a password that was handed in.
-    fn opened_from_text(
-        alloc: Global,
-        text: &str,
-        password: &[u8],
-        max_p: u32,
-        k: u64,
-    ) -> Result<SecretKey>
-        requires { 1 ≤ k }
-        ensures outcome { MatchResult result (IsOpened text.now password.now max_p)
-            (λ e. (e ≡ out_of_memory) ⊎ RefusesOpening text.now password.now max_p e) }
-    {
-        let sk = SecretKey::sealed_from_text(alloc, text)?;
-        sk.open_with(alloc, password, max_p, k)
-    }
-
-    // Reads the text of a key that is sealed by scrypt.
-    fn sealed_from_text(alloc: Global, text: &str) -> Result<SecretKey>
-        ensures sealed { IfOk result (λ v. SecretKeyText text.now v × (kdf_refusal v ≡ None)) }
-        ensures refused { IfErr result (λ e. (e ≡ out_of_memory) ⊎ RefusesKey text.now kdf_refusal e) }
-        ensures one_reading { IfOk result (λ v. (other : SecretKeyRecord) → SecretKeyText text.now other → other ≡ v) }
-    {
-        let sk = SecretKey::from_text(alloc, text)?;
-        sk.check_sealed()?;
-        Ok(sk)
     }
 
     // Tests that the key is sealed, and by scrypt.
@@ -304,42 +228,26 @@ impl SecretKey {
         Ok(())
     }
 
-    // Reads the text of a sealed key, and opens it with a password that is asked for.
-    fn asked_from_text<R: Source, W: Sink>(
-        alloc: Global,
-        text: &str,
-        prompt: &mut Prompt<R, W>,
-        max_p: u32,
-        k: u64,
-    ) -> Result<SecretKey>
-        requires { 1 ≤ k }
-        ensures opened { IfOk result (IsOpenedAsking R.ahead R.left R.faults W.taken W.sink_faults prompt.old prompt.new text.now max_p) }
-        ensures refused { IfErr result (RefusesAsking R.ahead R.left R.faults W.taken W.sink_faults prompt.old prompt.new text.now max_p) }
-    {
-        let sk = SecretKey::sealed_from_text(alloc, text)?;
-        sk.open_asking(alloc, prompt, max_p, k)
-    }
-
     // Asks for a password, and opens a sealed key with it.
     fn open_asking<R: Source, W: Sink>(
         self,
         alloc: Global,
         prompt: &mut Prompt<R, W>,
-        max_p: u32,
+        bound: Option<u32>,
         k: u64,
     ) -> Result<SecretKey>
         requires { 1 ≤ k }
-        ensures opened { IfOk result (λ v. (bytes : List ℕ) × (password : List ℕ) × (v ≡ unsealed self password)
-            × (password_refusal self password max_p ≡ None)
-            × HasAskedAndSaid R.ahead R.left R.faults W.taken W.sink_faults prompt.old prompt.new bytes password (deriving_text ++ done_text)) }
+        ensures opened { IfOk result (λ v. (bytes : List ℕ) × (password : List ℕ) × (v ≡ xored_key self password)
+            × (password_refusal self password bound ≡ None)
+            × HasAskedAndSaid (prompt_passage R.Source W.Sink prompt.old prompt.new) bytes password (deriving_text ++ done_text)) }
         ensures refused { IfErr result (λ e.
-            IsAskingFault R.ahead R.left R.faults W.taken W.sink_faults prompt.old prompt.new asking_text e
+            IsAskingFault (prompt_passage R.Source W.Sink prompt.old prompt.new) asking_text e
             ⊎ ((bytes : List ℕ) × (password : List ℕ)
-            × IsToldRefusal (HasAskedAndSaid R.ahead R.left R.faults W.taken W.sink_faults prompt.old prompt.new bytes password)
-            (HasAskedAndNotSaid R.ahead R.left R.faults W.taken W.sink_faults prompt.old prompt.new bytes password) self password max_p e)) }
+            × IsToldRefusal (HasAskedAndSaid (prompt_passage R.Source W.Sink prompt.old prompt.new) bytes password)
+            (HasAskedAndNotSaid (prompt_passage R.Source W.Sink prompt.old prompt.new) bytes password) self password bound e)) }
     {
         let password = ask_password(alloc, prompt)?;
-        self.open_telling(alloc, password.as_bytes(), prompt, max_p, k)
+        self.open_telling(alloc, password.as_bytes(), prompt, bound, k)
     }
 
     // Opens a sealed key, and says so before the derivation and behind it.
@@ -348,43 +256,49 @@ impl SecretKey {
         alloc: Global,
         password: &[u8],
         prompt: &mut Prompt<R, W>,
-        max_p: u32,
+        bound: Option<u32>,
         k: u64,
     ) -> Result<SecretKey>
         requires { 1 ≤ k }
-        ensures opened { IfOk result (λ v. (v ≡ unsealed self password.now) × (password_refusal self password.now max_p ≡ None)
-            × HasSaid W.taken W.sink_faults prompt.old prompt.new (deriving_text ++ done_text)) }
-        ensures refused { IfErr result (λ e. IsToldRefusal (HasSaid W.taken W.sink_faults prompt.old prompt.new)
-            (HasNotSaid W.taken W.sink_faults prompt.old prompt.new) self password.now max_p e) }
+        ensures opened { IfOk result (λ v. (v ≡ xored_key self password.now) × (password_refusal self password.now bound ≡ None)
+            × HasSaid (prompt_passage R.Source W.Sink prompt.old prompt.new) (deriving_text ++ done_text)) }
+        ensures refused { IfErr result (λ e. IsToldRefusal (HasSaid (prompt_passage R.Source W.Sink prompt.old prompt.new))
+            (HasNotSaid (prompt_passage R.Source W.Sink prompt.old prompt.new)) self password.now bound e) }
     {
         say_deriving(prompt)?;
         let mut sk = self;
-        sk.unseal(alloc, password, max_p, k)?;
+        sk.apply_stream(alloc, password, bound, k)?;
         sk.finish_telling(prompt)?;
         Ok(sk)
     }
 
     // Says that the key was derived, and only then tests that opening restored the checksum.
     fn finish_telling<R: Source, W: Sink>(&self, prompt: &mut Prompt<R, W>) -> Result<()>
-        ensures said { OnOk result (HasSaid W.taken W.sink_faults prompt.old prompt.new done_text) }
+        ensures said { OnOk result (HasSaid (prompt_passage R.Source W.Sink prompt.old prompt.new) done_text) }
         ensures restored { OnOk result (checksum_refusal self.now wrong_password ≡ None) }
         ensures refused { IfErr result (λ e.
-            ((e ≡ writing_failed) × HasNotSaid W.taken W.sink_faults prompt.old prompt.new done_text)
-            ⊎ ((checksum_refusal self.now wrong_password ≡ Some e) × HasSaid W.taken W.sink_faults prompt.old prompt.new done_text)) }
+            ((e ≡ writing_failed) × HasNotSaid (prompt_passage R.Source W.Sink prompt.old prompt.new) done_text)
+            ⊎ ((checksum_refusal self.now wrong_password ≡ Some e) × HasSaid (prompt_passage R.Source W.Sink prompt.old prompt.new) done_text)) }
     {
         say_done(prompt)?;
         self.check_restored()
     }
 
     // Opens a sealed key with a password that was handed in.
-    fn open_with(self, alloc: Global, password: &[u8], max_p: u32, k: u64) -> Result<SecretKey>
+    fn open_with(
+        self,
+        alloc: Global,
+        password: &[u8],
+        bound: Option<u32>,
+        k: u64,
+    ) -> Result<SecretKey>
         requires { 1 ≤ k }
-        ensures opened { IfOk result (λ v. (v ≡ unsealed self password.now) × (password_refusal self password.now max_p ≡ None)) }
-        ensures refused { IfErr result (λ e. ((e ≡ out_of_memory) × (work_refusal self max_p ≡ None))
-            ⊎ (password_refusal self password.now max_p ≡ Some e)) }
+        ensures opened { IfOk result (λ v. (v ≡ xored_key self password.now) × (password_refusal self password.now bound ≡ None)) }
+        ensures refused { IfErr result (λ e. ((e ≡ out_of_memory) × (work_refusal self bound ≡ None))
+            ⊎ (password_refusal self password.now bound ≡ Some e)) }
     {
         let mut sk = self;
-        sk.unseal(alloc, password, max_p, k)?;
+        sk.apply_stream(alloc, password, bound, k)?;
         sk.check_restored()?;
         Ok(sk)
     }
@@ -404,8 +318,8 @@ impl SecretKey {
 #[tactic(auto, unfolding(crate::specs::Opening::asking_text))]
 fn ask_password<R: Source, W: Sink>(alloc: Global, prompt: &mut Prompt<R, W>) -> Result<String>
     ensures asked { IfOk result (λ password. (bytes : List ℕ)
-        × HasAsked R.ahead R.left R.faults W.taken W.sink_faults prompt.old prompt.new asking_text bytes (Ok (string_bytes password))) }
-    ensures refused { IfErr result (λ e. IsAskingFault R.ahead R.left R.faults W.taken W.sink_faults prompt.old prompt.new asking_text e) }
+        × HasAsked (prompt_passage R.Source W.Sink prompt.old prompt.new) asking_text bytes (Ok (string_bytes password))) }
+    ensures refused { IfErr result (IsAskingFault (prompt_passage R.Source W.Sink prompt.old prompt.new) asking_text) }
 {
     get_password(alloc, prompt, "Password: ")
 }
@@ -413,8 +327,8 @@ fn ask_password<R: Source, W: Sink>(alloc: Global, prompt: &mut Prompt<R, W>) ->
 // Says that the key is being derived.
 #[tactic(auto, unfolding(crate::specs::Opening::deriving_text))]
 fn say_deriving<R: Source, W: Sink>(prompt: &mut Prompt<R, W>) -> Result<()>
-    ensures said { OnOk result (HasSaid W.taken W.sink_faults prompt.old prompt.new deriving_text) }
-    ensures refused { IfErr result (λ e. (e ≡ writing_failed) × HasNotSaid W.taken W.sink_faults prompt.old prompt.new deriving_text) }
+    ensures said { OnOk result (HasSaid (prompt_passage R.Source W.Sink prompt.old prompt.new) deriving_text) }
+    ensures refused { IfErr result (λ e. (e ≡ writing_failed) × HasNotSaid (prompt_passage R.Source W.Sink prompt.old prompt.new) deriving_text) }
 {
     prompt.say("Deriving a key from the password and decrypting the secret key... ")
 }
@@ -422,8 +336,8 @@ fn say_deriving<R: Source, W: Sink>(prompt: &mut Prompt<R, W>) -> Result<()>
 // Says that the key was derived.
 #[tactic(auto, unfolding(crate::specs::Opening::done_text))]
 fn say_done<R: Source, W: Sink>(prompt: &mut Prompt<R, W>) -> Result<()>
-    ensures said { OnOk result (HasSaid W.taken W.sink_faults prompt.old prompt.new done_text) }
-    ensures refused { IfErr result (λ e. (e ≡ writing_failed) × HasNotSaid W.taken W.sink_faults prompt.old prompt.new done_text) }
+    ensures said { OnOk result (HasSaid (prompt_passage R.Source W.Sink prompt.old prompt.new) done_text) }
+    ensures refused { IfErr result (λ e. (e ≡ writing_failed) × HasNotSaid (prompt_passage R.Source W.Sink prompt.old prompt.new) done_text) }
 {
     prompt.say("done\n")
 }

@@ -172,7 +172,7 @@ impl PublicKey {
 }
 
 // Reads a public key text.
-fn read_text(alloc: Global, text: &str) -> Result<PublicKey>
+pub(crate) fn read_text(alloc: Global, text: &str) -> Result<PublicKey>
     ensures read { IfOk result (PublicKeyText text.now) }
     ensures refused { IfErr result (λ e. (e ≡ out_of_memory) ⊎ (public_key_fault text.now ≡ Some e)) }
 {

@@ -34,8 +34,8 @@ pub(crate) fn read_text_file<F: Files>(files: &F, alloc: Global, path: &str) -> 
 /// All that is ahead, as a text in memory. Refused are a failing source (`reading_failed`), bytes that are
 /// not UTF-8 (`not_utf8`), and want of memory, which may come at any time.
 pub fn read_text<S: Source>(alloc: Global, source: &mut S) -> Result<String>
-    ensures text { IfOk result (λ t. ReadsWhole S.ahead S.behind S.faults source.old source.new (string_bytes t)) }
-    ensures refused { IfErr result (IsTextFault S.ahead S.behind S.faults source.old source.new) }
+    ensures text { IfOk result (λ t. ReadsWhole S.Source source.old source.new (string_bytes t)) }
+    ensures refused { IfErr result (IsTextFault S.Source source.old source.new) }
     ensures given { HasGiven (S.ahead source.old) (S.ahead source.new) }
 {
     let bytes = read_to_end(alloc, source)?;
@@ -48,8 +48,8 @@ pub fn read_text<S: Source>(alloc: Global, source: &mut S) -> Result<String>
 /// All that is ahead, in memory. It is read in pieces of 64 KiB. Refused are a failing source, and want of
 /// memory, for the buffer or for what is kept; some bytes may have been read by then.
 pub fn read_to_end<S: Source>(alloc: Global, source: &mut S) -> Result<Vec<u8>>
-    ensures bytes { IfOk result (λ v. ReadsWhole S.ahead S.behind S.faults source.old source.new v.items) }
-    ensures fault { IfErr result (IsReadFault S.faults source.old source.new) }
+    ensures bytes { IfOk result (λ v. ReadsWhole S.Source source.old source.new v.items) }
+    ensures refused { IfErr result (IsReadFault S.Source source.old source.new) }
     ensures given { HasGiven (S.ahead source.old) (S.ahead source.new) }
 {
     let mut buf = piece_buffer(alloc)?;
@@ -61,9 +61,9 @@ pub fn read_to_end<S: Source>(alloc: Global, source: &mut S) -> Result<Vec<u8>>
 // The Blake2b digest of 64 bytes of all that is ahead, which is read in pieces, so that memory does
 // not grow with it.
 pub(crate) fn prehash<S: Source>(alloc: Global, source: &mut S) -> Result<[u8; 64]>
-    ensures digest { IfOk result (λ d. (message : List ℕ) × ReadsWhole S.ahead S.behind S.faults source.old source.new message
+    ensures digest { IfOk result (λ d. (message : List ℕ) × ReadsWhole S.Source source.old source.new message
         × (d ≡ blake2b_digest 64 message)) }
-    ensures fault { IfErr result (IsReadFault S.faults source.old source.new) }
+    ensures refused { IfErr result (IsReadFault S.Source source.old source.new) }
     ensures given { HasGiven (S.ahead source.old) (S.ahead source.new) }
 {
     let mut buf = piece_buffer(alloc)?;
@@ -86,7 +86,7 @@ fn feed<S: Source>(
 ) -> std::result::Result<(), DeviceFault>
     requires some { 0 < length buf.old }
     requires open { has_finalized hasher.old ≡ false }
-    ensures fed { OnOk result ((message : List ℕ) × ReadsWhole S.ahead S.behind S.faults source.old source.new message
+    ensures fed { OnOk result ((message : List ℕ) × ReadsWhole S.Source source.old source.new message
         × ((m : List ℕ) → IsFed hasher.old m → IsFed hasher.new (m ++ message))) }
     ensures length { output_length hasher.new ≡ output_length hasher.old }
     ensures fault { OnErr result (Rose (S.faults source.old) (S.faults source.new)) }
@@ -104,9 +104,9 @@ fn feed<S: Source>(
 // Adds all that is ahead, through the buffer.
 fn keep<S: Source>(source: &mut S, buf: &mut [u8], kept: &mut Vec<u8>) -> Result<()>
     requires { 0 < length buf.old }
-    ensures kept { OnOk result ((message : List ℕ) × ReadsWhole S.ahead S.behind S.faults source.old source.new message
+    ensures kept { OnOk result ((message : List ℕ) × ReadsWhole S.Source source.old source.new message
         × (kept.new.items ≡ kept.old.items ++ message)) }
-    ensures fault { IfErr result (IsReadFault S.faults source.old source.new) }
+    ensures refused { IfErr result (IsReadFault S.Source source.old source.new) }
     ensures given { HasGiven (S.ahead source.old) (S.ahead source.new) }
 {
     'pieces: loop {

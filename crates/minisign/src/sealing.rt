@@ -1,13 +1,16 @@
 //! Sealing and opening: the last 104 bytes of a secret key are xored with a stream of scrypt.
 
-ghost use Rattle.std.specs.Prelude.{◌≡◌, ◌≤◌, ◌⊎◌, None, Some, Ok, Err, length, bit_xor, MatchResult, IfOk, IfErr, OnOk, OnErr};
+ghost use Rattle.std.specs.Prelude.{◌≡◌, ◌≤◌, ◌⊎◌, ℕ, List, None, Some, Ok, Err, length, bit_xor, MatchResult, IfOk, IfErr, OnOk, OnErr};
+ghost use Rattle.std.specs.Int.{to_le_bytes, w64};
 ghost use Rattle.std.specs.Simd.Lanes.{zip2};
 ghost use Rattle.minisign_base.specs.Faults.{out_of_memory};
 ghost use Rattle.minisign_base.specs.Limits.{sealing_limits};
-ghost use Rattle.minisign.specs.Sealing.{key_limits, key_numbers, stream_of, unsealed, work_refusal, xored};
+ghost use Rattle.minisign.specs.Generation.{opened_key, sealed_key, sealing_memory, sealing_operations, unsealed_key};
+ghost use Rattle.minisign.specs.Sealing.{bound_refusal, key_limits, key_numbers, key_xor, stream_of, work_refusal, xored_key};
 
+use crate::constants::{KDF_ALG, MEMLIMIT, OPSLIMIT};
 use crate::secret_key::SecretKey;
-use minisign_base::helpers::{load_u64_le, raw_scrypt_params};
+use minisign_base::helpers::{load_u64_le, raw_scrypt_params, store_u64_le};
 use minisign_base::{Params, Result, faults};
 use minisign_kdf::scrypt::scrypt_keeping;
 use std::alloc::Global;
@@ -19,34 +22,60 @@ const MEMLIMIT_MAX: u64 = 1073741824;
 const N_LOG2_MAX: u8 = 20;
 
 impl SecretKey {
+    // Seals a key that is not sealed, with a salt and the limits by default.
+    pub(crate) fn seal(self, alloc: Global, salt: [u8; 32], password: &[u8]) -> Result<SecretKey>
+        ensures sealed { (keynum secret : List ℕ) → self ≡ unsealed_key keynum secret → IfOk result (λ k. k ≡ sealed_key keynum secret salt password.now) }
+        ensures opened { (keynum secret : List ℕ) → self ≡ unsealed_key keynum secret → IfOk result (λ k. xored_key k password.now ≡ opened_key keynum secret salt) }
+        ensures refused { IfErr result (λ e. e ≡ out_of_memory) }
+    {
+        let mut sk = self.with_limits(salt);
+        sk.apply_stream(alloc, password, None, 1)?;
+        Ok(sk)
+    }
+
+    // Names the key derivation, its salt and the limits by default.
+    #[tactic(auto, unfolding(crate::specs::Generation::opened_key))]
+    fn with_limits(self, salt: [u8; 32]) -> SecretKey
+        ensures named { (keynum secret : List ℕ) → self ≡ unsealed_key keynum secret → result ≡ opened_key keynum secret salt }
+        ensures memory { result.memory_limit ≡ to_le_bytes w64 sealing_memory }
+        ensures operations { result.operations_limit ≡ to_le_bytes w64 sealing_operations }
+    {
+        let mut sk = self;
+        sk.kdf_alg = KDF_ALG;
+        sk.kdf_salt = salt;
+        sk.kdf_opslimit_le = store_u64_le(OPSLIMIT);
+        sk.kdf_memlimit_le = store_u64_le(MEMLIMIT);
+        sk
+    }
+
     // Xors the last 104 bytes of the record with the stream under the password: opens a sealed key, and
     // seals an opened one. Limits that are not allowed are refused before anything is derived, and then
-    // a parallelization above `max_p`; neither takes memory. Every k-th row of scrypt is kept.
+    // a parallelization above the bound; neither takes memory. Every k-th row of scrypt is kept.
     #[tactic(auto, using(crate::proofs::SealedParts::restored_key))]
-    pub(crate) fn unseal(
+    pub(crate) fn apply_stream(
         &mut self,
         alloc: Global,
         password: &[u8],
-        max_p: u32,
+        bound: Option<u32>,
         k: u64,
     ) -> Result<()>
         requires { 1 ≤ k }
-        ensures unsealed { OnOk result (self.new ≡ unsealed self.old password.now) }
-        ensures restores { OnOk result (unsealed self.new password.now ≡ self.old) }
-        ensures allowed { OnOk result (work_refusal self.old max_p ≡ None) }
-        ensures refused { IfErr result (λ e. ((e ≡ out_of_memory) × (work_refusal self.old max_p ≡ None))
-            ⊎ (work_refusal self.old max_p ≡ Some e)) }
+        ensures xored { OnOk result (self.new ≡ xored_key self.old password.now) }
+        ensures restores { OnOk result (xored_key self.new password.now ≡ self.old) }
+        ensures allowed { OnOk result (work_refusal self.old bound ≡ None) }
+        ensures refused { IfErr result (λ e. ((e ≡ out_of_memory) × (work_refusal self.old bound ≡ None))
+            ⊎ (work_refusal self.old bound ≡ Some e)) }
         ensures same { OnErr result (self.new ≡ self.old) }
     {
-        let stream = derive_stream(alloc, self, password, max_p, k)?;
+        let stream = derive_stream(alloc, self, password, bound, k)?;
         self.xor_keynum(&stream);
         Ok(())
     }
 
     // Xors the last 104 bytes of the record, as one list. Once more with the same stream restores them.
     fn xor_keynum(&mut self, stream: &[u8; 104])
-        ensures xored { self.new ≡ xored self.old stream.now }
-        ensures restores { xored self.new stream.now ≡ self.old }
+        ensures xored { self.new ≡ key_xor self.old stream.now }
+        ensures restores { key_xor self.new stream.now ≡ self.old }
     {
         let (keynum, rest) = stream.split_at(8);
         let (secret, checksum) = rest.split_at(64);
@@ -72,39 +101,49 @@ fn derive_stream(
     alloc: Global,
     sk: &SecretKey,
     password: &[u8],
-    max_p: u32,
+    bound: Option<u32>,
     k: u64,
 ) -> Result<[u8; 104]>
     requires { 1 ≤ k }
     ensures stream { IfOk result (λ s. s ≡ stream_of sk.now password.now) }
-    ensures allowed { OnOk result (work_refusal sk.now max_p ≡ None) }
-    ensures refused { IfErr result (λ e. ((e ≡ out_of_memory) × (work_refusal sk.now max_p ≡ None))
-        ⊎ (work_refusal sk.now max_p ≡ Some e)) }
+    ensures allowed { OnOk result (work_refusal sk.now bound ≡ None) }
+    ensures refused { IfErr result (λ e. ((e ≡ out_of_memory) × (work_refusal sk.now bound ≡ None))
+        ⊎ (work_refusal sk.now bound ≡ Some e)) }
 {
-    let params = bounded_params(sk, max_p)?;
+    let params = bounded_params(sk, bound)?;
     let mut stream = [0u8; 104];
     scrypt_keeping(alloc, password, &sk.kdf_salt, &params, k, &mut stream)?;
     Ok(stream)
 }
 
-// The parameters that the key's limits lead to, where these are allowed and p is at most `max_p`.
-fn bounded_params(sk: &SecretKey, max_p: u32) -> Result<Params>
+// The parameters that the key's limits lead to, where these are allowed and p is within the bound.
+fn bounded_params(sk: &SecretKey, bound: Option<u32>) -> Result<Params>
     ensures { MatchResult result
-        (λ v. (key_numbers sk.now ≡ record { n_log2 = v.n_log2; r = v.r; p = v.p }) × (work_refusal sk.now max_p ≡ None))
-        (λ e. work_refusal sk.now max_p ≡ Some e) }
+        (λ v. (key_numbers sk.now ≡ v) × (work_refusal sk.now bound ≡ None))
+        (λ e. work_refusal sk.now bound ≡ Some e) }
 {
     let params = key_params(sk)?;
-    if params.p() > max_p {
-        return Err(faults::work_too_high());
-    }
+    check_bound(&params, bound)?;
     Ok(params)
+}
+
+// Tests that p is within the bound, where there is one.
+fn check_bound(params: &Params, bound: Option<u32>) -> Result<()>
+    ensures { MatchResult result
+        (λ _. bound_refusal (Ok params.now) bound ≡ None)
+        (λ e. bound_refusal (Ok params.now) bound ≡ Some e) }
+{
+    if let Some(max_p) = bound {
+        if params.p() > max_p {
+            return Err(faults::work_too_high());
+        }
+    }
+    Ok(())
 }
 
 // The parameters that the key's limits lead to, where these are allowed.
 fn key_params(sk: &SecretKey) -> Result<Params>
-    ensures { MatchResult result
-        (λ v. key_limits sk.now ≡ Ok (record { n_log2 = v.n_log2; r = v.r; p = v.p }))
-        (λ e. key_limits sk.now ≡ Err e) }
+    ensures { result ≡ key_limits sk.now }
 {
     let memlimit = load_u64_le(&sk.kdf_memlimit_le);
     let opslimit = load_u64_le(&sk.kdf_opslimit_le);
@@ -114,72 +153,10 @@ fn key_params(sk: &SecretKey) -> Result<Params>
 // The parameters that a memory limit in bytes and an operations limit lead to, where sealing and opening
 // allow them.
 fn sealing_params(memlimit: u64, opslimit: u64) -> Result<Params>
-    ensures { MatchResult result
-        (λ v. sealing_limits memlimit opslimit ≡ Ok (record { n_log2 = v.n_log2; r = v.r; p = v.p }))
-        (λ e. sealing_limits memlimit opslimit ≡ Err e) }
+    ensures { result ≡ sealing_limits memlimit opslimit }
 {
     if memlimit > MEMLIMIT_MAX {
         return Err(faults::parameters_too_high());
     }
     raw_scrypt_params(memlimit, opslimit, N_LOG2_MAX)
-}
-
-#[cfg(test)]
-mod tests {
-    use crate::keynum::KeynumSK;
-    use crate::secret_key::SecretKey;
-
-    // The secret of the toy's pair whose seed counts up from 0: the seed, then each byte of it xored with
-    // 0x5a.
-    const SECRET: [u8; 64] = [
-        0x00, 0x01, 0x02, 0x03, 0x04, 0x05, 0x06, 0x07, 0x08, 0x09, 0x0a, 0x0b, 0x0c, 0x0d, 0x0e,
-        0x0f, 0x10, 0x11, 0x12, 0x13, 0x14, 0x15, 0x16, 0x17, 0x18, 0x19, 0x1a, 0x1b, 0x1c, 0x1d,
-        0x1e, 0x1f, 0x5a, 0x5b, 0x58, 0x59, 0x5e, 0x5f, 0x5c, 0x5d, 0x52, 0x53, 0x50, 0x51, 0x56,
-        0x57, 0x54, 0x55, 0x4a, 0x4b, 0x48, 0x49, 0x4e, 0x4f, 0x4c, 0x4d, 0x42, 0x43, 0x40, 0x41,
-        0x46, 0x47, 0x44, 0x45,
-    ];
-
-    // Blake2b with 32 bytes of `Ed`, the identifier and the secret, by Python's hashlib.
-    const CHECKSUM: [u8; 32] = [
-        0xb1, 0x40, 0xaf, 0x16, 0xb3, 0x2e, 0xf9, 0x9a, 0xc3, 0x36, 0xea, 0xc4, 0xcd, 0x5b, 0xb9,
-        0xbe, 0xf0, 0x8d, 0x3a, 0xda, 0x6e, 0x1c, 0xd9, 0x2b, 0x7c, 0xde, 0x3e, 0x20, 0xf0, 0x8f,
-        0x24, 0x50,
-    ];
-
-    // That pair's secret key, never sealed, under the identifier that goes on counting.
-    fn counted_key() -> SecretKey {
-        SecretKey {
-            sig_alg: *b"Ed",
-            kdf_alg: [0; 2],
-            chk_alg: *b"B2",
-            kdf_salt: [0; 32],
-            kdf_opslimit_le: [0; 8],
-            kdf_memlimit_le: [0; 8],
-            keynum_sk: KeynumSK {
-                keynum: [32, 33, 34, 35, 36, 37, 38, 39],
-                sk: SECRET,
-                chk: [0; 32],
-            },
-        }
-    }
-
-    #[test]
-    fn xoring_twice_restores(rt: HostRuntime) {
-        let mut key = counted_key();
-        key.xor_keynum(&[1; 104]);
-        assert!(rt; key.keynum_sk != counted_key().keynum_sk);
-        assert_eq!(rt; key.keynum_sk.keynum, [33, 32, 35, 34, 37, 36, 39, 38]);
-        assert_eq!(rt; key.keynum_sk.chk, [1; 32]);
-        key.xor_keynum(&[1; 104]);
-        assert!(rt; key.keynum_sk == counted_key().keynum_sk);
-        assert_eq!(rt; key.keynum_sk.chk, [0; 32]);
-    }
-
-    #[test]
-    fn written_checksum_is_computed(rt: HostRuntime) {
-        let mut key = counted_key();
-        key.write_checksum();
-        assert_eq!(rt; key.keynum_sk.chk, CHECKSUM);
-        assert_eq!(rt; key.read_checksum(), CHECKSUM);
-    }
 }

@@ -4,7 +4,7 @@ ghost use Rattle.std.specs.Prelude.{◌≡◌, ◌≢◌, ◌⊎◌, ◌<◌, �
 ghost use Rattle.std.specs.Str.{trim};
 ghost use Rattle.minisign_base.specs.Faults.{out_of_memory, record_too_short, signature_box_incomplete, signature_not_base64, trusted_comment_absent, trusted_comment_prefix, unsupported_signature_algorithm, untrusted_comment_prefix};
 ghost use Rattle.minisign.specs.Records.{CommentsRecord, SignatureBoxRecord, SignatureRecord, IsKnownAlgorithm};
-ghost use Rattle.minisign.specs.SignatureText.{EncodesSignature, HasFourLines, SignatureText, KeepsComments, is_known_algorithm, signature_fault, signature_text, trusted_comment_label};
+ghost use Rattle.minisign.specs.SignatureText.{AreOneLine, EncodesSignature, HasFourLines, SignatureText, KeepsComments, box_read_back, comments_read_back, is_known_algorithm, signature_fault, signature_text, trusted_comment_label};
 ghost use Rattle.minisign.specs.TextFiles.{IsTextFileFault};
 ghost use Rattle.minisign.specs.Texts.{IsBase64Of, IsDecided, IsRefused, base64_bytes, is_base64, untrusted_comment_label};
 
@@ -121,11 +121,13 @@ impl SignatureBox {
     /// was made from a bare signature is refused, and want of memory.
     ///
     /// Comments are written as they stand: they are read back where the untrusted one has no line feed and
-    /// no carriage return at its end, and the trusted one no line feed and no white space at its ends.
+    /// no carriage return at its end, and the trusted one no line feed and no white space at its ends. Where
+    /// the untrusted one ends in a carriage return, it is read back without that one.
     pub fn to_string(&self, alloc: Global) -> Result<String>
         ensures text { MatchOption self.now.comments (result ≡ Err signature_box_incomplete)
             (λ c. MatchResult result (λ t. string_bytes t ≡ signature_text self.now.signature c) (λ e. e ≡ out_of_memory)) }
         ensures reads_back { IfSome self.now.comments KeepsComments → IfOk result (λ t. SignatureText (string_bytes t) self.now) }
+        ensures reads { IfSome self.now.comments AreOneLine → IfOk result (λ t. SignatureText (string_bytes t) (box_read_back self.now)) }
     {
         match &self.comments {
             Some(comments) => written(alloc, &self.signature, comments),
@@ -138,6 +140,7 @@ impl SignatureBox {
         ensures text { MatchOption self.comments (result ≡ Err signature_box_incomplete)
             (λ c. MatchResult result (λ t. string_bytes t ≡ signature_text self.signature c) (λ e. e ≡ out_of_memory)) }
         ensures reads_back { IfSome self.comments KeepsComments → IfOk result (λ t. SignatureText (string_bytes t) self) }
+        ensures reads { IfSome self.comments AreOneLine → IfOk result (λ t. SignatureText (string_bytes t) (box_read_back self)) }
     {
         self.to_string(alloc)
     }
@@ -147,10 +150,7 @@ impl SignatureBox {
         ensures { MatchOption self.now.comments (result ≡ Err signature_box_incomplete)
             (λ c. MatchResult result (λ v. v.items ≡ signature_text self.now.signature c) (λ e. e ≡ out_of_memory)) }
     {
-        match self.to_string(alloc) {
-            Ok(text) => Ok(text.into_bytes()),
-            Err(fault) => Err(fault),
-        }
+        Ok(self.to_string(alloc)?.into_bytes())
     }
 
     /// A box that holds the same. Only want of memory is refused.
@@ -227,6 +227,8 @@ fn written(alloc: Global, signature: &Signature, comments: &Comments) -> Result<
     ensures text { IfOk result (λ t. string_bytes t ≡ signature_text signature.now comments.now) }
     ensures reads_back { KeepsComments comments.now → IsKnownAlgorithm signature.now.algorithm →
         IfOk result (λ t. SignatureText (string_bytes t) (record { signature = signature.now; comments = Some comments.now })) }
+    ensures reads { AreOneLine comments.now → IsKnownAlgorithm signature.now.algorithm →
+        IfOk result (λ t. SignatureText (string_bytes t) (record { signature = signature.now; comments = Some (comments_read_back comments.now) })) }
     ensures refused { IfErr result (λ e. e ≡ out_of_memory) }
 {
     let bytes = signature.to_bytes(alloc)?;

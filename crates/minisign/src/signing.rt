@@ -1,17 +1,17 @@
 //! Signing with an opened secret key.
 
-ghost use Rattle.std.specs.Prelude.{◌≡◌, ℕ, true, false, List, ◌++◌, Some, ◌⊎◌, string_bytes, IfOk, IfErr, OnOk, IfSome, IsSomeAnd};
+ghost use Rattle.std.specs.Prelude.{◌≡◌, ℕ, true, false, List, ◌++◌, None, Some, ◌⊎◌, string_bytes, IfOk, IfErr, OnOk, IfSome, IsSomeAnd};
 ghost use Rattle.std.specs.Option.{option_map, unwrap_or};
-ghost use Rattle.std.specs.Io.KnownBytes.{Consumes};
 ghost use Rattle.minisign_hash.specs.Blake2b.{blake2b_digest};
 ghost use Rattle.minisign_base.specs.Devices.{HasGiven};
+ghost use Rattle.minisign_base.specs.Passages.{random_passage, source_passage};
 ghost use Rattle.minisign_base.specs.Scheme.{IsNonce};
 ghost use Rattle.minisign_base.specs.Faults.{out_of_memory};
 ghost use Rattle.minisign.specs.Reading.{ReadsWhole};
 ghost use Rattle.minisign.specs.Records.{SignatureBoxRecord};
 ghost use Rattle.minisign.specs.Sealing.{is_encrypted};
 ghost use Rattle.minisign.specs.Acceptance.{accepts_comments};
-ghost use Rattle.minisign.specs.Signing.{IsSigned, VouchesWhereGenuine, SigningFails, DrawFails, comments_or_defaults, default_trusted_comment, default_untrusted_comment};
+ghost use Rattle.minisign.specs.Signing.{AreKept, DrawFails, HasDrawn, IsSigned, SigningFails, VouchesWhereGenuine, comments_or_defaults, default_trusted_comment, default_untrusted_comment};
 
 use crate::comment_signature::accepts_comments;
 use crate::constants::{DEFAULT_COMMENT, SIGALG_PREHASHED};
@@ -50,19 +50,23 @@ pub fn sign<S: Scheme, R: Source, Z: RandomSource>(
 ) -> Result<SignatureBox>
     // The box that is answered, made with an opened key from all of the data, and what vouches for it: a
     // genuine key's box is accepted under its own public key, whatever the comments.
-    ensures signed { IfOk result (λ x. (message : List ℕ) × ReadsWhole R.ahead R.behind R.faults data_reader.old data_reader.new message
+    ensures signed { IfOk result (λ x. (message : List ℕ) × ReadsWhole R.Source data_reader.old data_reader.new message
         × IsSigned (S.signature_of scheme.now) sk.now message
         (comments_or_defaults (option_map (λ s. s.now) trusted_comment.entry) (option_map (λ s. s.now) untrusted_comment.entry) moment)
-        (Z.random_ahead random.old) (Z.random_ahead random.new) x
+        (random_passage Z.RandomSource random.old random.new) x
         × VouchesWhereGenuine (S.accepts scheme.now) (S.public_of scheme.now) sk.now message x) }
     ensures opened { OnOk result (is_encrypted sk.now ≡ false) }
     ensures given_key { IfOk result (λ x. IfSome pk.entry (λ p. accepts_comments (S.accepts scheme.now) p.now x ≡ true)) }
     ensures random_calm { OnOk result (Z.random_faults random.new ≡ Z.random_faults random.old) }
 
+    // The comments by default are read back as they were written.
+    ensures defaults { AreKept (comments_or_defaults None None moment) }
+
     // Why it was refused.
     ensures refused { IfErr result (SigningFails (S.accepts scheme.now) (S.signature_of scheme.now) (option_map (λ p. p.now) pk.entry) sk.now
         (comments_or_defaults (option_map (λ s. s.now) trusted_comment.entry) (option_map (λ s. s.now) untrusted_comment.entry) moment)
-        R.ahead R.behind R.faults data_reader.old data_reader.new Z.random_ahead Z.random_faults random.old random.new) }
+        (source_passage R.Source data_reader.old data_reader.new)
+        (random_passage Z.RandomSource random.old random.new)) }
     ensures given { HasGiven (R.ahead data_reader.old) (R.ahead data_reader.new) }
     ensures drawn { HasGiven (Z.random_ahead random.old) (Z.random_ahead random.new) }
 {
@@ -94,10 +98,10 @@ fn make_box<S: Scheme, Z: RandomSource>(
 ) -> Result<SignatureBox>
     ensures signed { IfOk result (λ x. (message : List ℕ) → digest.now ≡ blake2b_digest 64 message →
         IsSigned (S.signature_of scheme.now) sk.now message (record { trusted = string_bytes trusted_comment; untrusted = string_bytes untrusted_comment })
-        (Z.random_ahead random.old) (Z.random_ahead random.new) x
+        (random_passage Z.RandomSource random.old random.new) x
         × VouchesWhereGenuine (S.accepts scheme.now) (S.public_of scheme.now) sk.now message x) }
     ensures calm { OnOk result (Z.random_faults random.new ≡ Z.random_faults random.old) }
-    ensures refused { IfErr result (λ e. (e ≡ out_of_memory) ⊎ DrawFails Z.random_faults random.old random.new e) }
+    ensures refused { IfErr result (λ e. (e ≡ out_of_memory) ⊎ DrawFails (random_passage Z.RandomSource random.old random.new) e) }
     ensures given { HasGiven (Z.random_ahead random.old) (Z.random_ahead random.new) }
 {
     let secret = sk.keynum_sk.sk;
@@ -124,11 +128,11 @@ fn make_box<S: Scheme, Z: RandomSource>(
 
 // Twice 64 random bytes.
 fn draw_twice<Z: RandomSource>(random: &mut Z) -> Result<([u8; 64], [u8; 64])>
-    ensures drawn { IfOk result (λ z. Consumes (Z.random_ahead random.old) (Z.random_ahead random.new) (z.0 ++ z.1)) }
+    ensures drawn { IfOk result (λ z. HasDrawn (random_passage Z.RandomSource random.old random.new) (z.0 ++ z.1)) }
     ensures calm { OnOk result (Z.random_faults random.new ≡ Z.random_faults random.old) }
     ensures first { IfOk result (λ z. IsNonce (Some z.0)) }
     ensures second { IfOk result (λ z. IsNonce (Some z.1)) }
-    ensures refused { IfErr result (DrawFails Z.random_faults random.old random.new) }
+    ensures refused { IfErr result (DrawFails (random_passage Z.RandomSource random.old random.new)) }
     ensures given { HasGiven (Z.random_ahead random.old) (Z.random_ahead random.new) }
 {
     let first = draw(random)?;

@@ -1,26 +1,25 @@
 //! Signing with the text of a secret key.
 
-ghost use Rattle.std.specs.Prelude.{◌≡◌, ◌⊎◌, ℕ, false, List, Some, None, string_bytes, MatchResult, IfOk, IfErr, OnOk, IfSome, IfNone};
+ghost use Rattle.std.specs.Prelude.{◌≡◌, ℕ, false, List, Some, None, string_bytes, IfOk, IfErr, OnOk, IfSome};
 ghost use Rattle.std.specs.Option.{option_map};
 ghost use Rattle.minisign_base.specs.Devices.{HasGiven};
-ghost use Rattle.minisign_base.specs.Faults.{out_of_memory, corrupted_key};
+ghost use Rattle.minisign_base.specs.Passages.{prompt_passage, random_passage, source_passage};
 ghost use Rattle.minisign.specs.Records.{SecretKeyRecord};
 ghost use Rattle.minisign.specs.Reading.{IsAhead, ReadsWhole};
-ghost use Rattle.minisign.specs.Sealing.{no_kdf, checksum_refusal, is_encrypted};
-ghost use Rattle.minisign.specs.Signing.{comments_or_defaults};
-ghost use Rattle.minisign.specs.Opening.{RefusesKey};
-ghost use Rattle.minisign.specs.SigningTexts.{AreKept, GivesKey, GivesKeyAsking, GivesNoneAsking, IsSignedText, OpenedSigningFails, ReadsBackVouched, giving_refusal};
+ghost use Rattle.minisign.specs.Sealing.{is_encrypted};
+ghost use Rattle.minisign.specs.Signing.{AreKept, OpenedSigningFails, comments_or_defaults};
+ghost use Rattle.minisign.specs.Headline.{SigningHeadline};
+ghost use Rattle.minisign.specs.SigningTexts.{GivesKey, IsGiving, IsSignedText, TextSigningFails};
 
 use crate::constants::KDF_NONE;
 use crate::secret_key::SecretKey;
-use crate::secret_key_box::SecretKeyBox;
 use crate::signing::sign;
+use minisign_base::Result;
 use minisign_base::devices::random_sources::RandomSource;
 use minisign_base::devices::sinks::Sink;
 use minisign_base::devices::sources::Source;
 use minisign_base::prompt::Prompt;
 use minisign_base::scheme::Scheme;
-use minisign_base::{Result, faults};
 use std::alloc::Global;
 
 /// Signs all the data ahead of `data_reader` with the key of a text, and answers the text of the signature.
@@ -45,12 +44,11 @@ pub fn sign_texts<S: Scheme, P: Source, Q: Sink, R: Source, Z: RandomSource>(
     random: &mut Z,
     moment: u64,
 ) -> Result<String>
-    // What a genuine key signed verifies after being written and read back, where its comments are such as
-    // are read back: every public key of its seed and identifier vouches for all of the data.
+    // What a genuine key signed verifies after being written and read back: every public key of its seed and
+    // identifier vouches for all of the data with the text.
     ensures headline { IfOk result (λ t. (sk : SecretKeyRecord) × (message : List ℕ) × IsAhead (R.ahead data_reader.old) message
-        × IfSome password (λ p. GivesKey sk_text.now (string_bytes p) sk)
-        × IfNone password (GivesKeyAsking P.ahead P.left P.faults Q.taken Q.sink_faults prompt.old prompt.new sk_text.now sk)
-        × ReadsBackVouched (S.accepts scheme.now) (S.public_of scheme.now) sk message
+        × GivesKey (prompt_passage P.Source Q.Sink prompt.old prompt.new) (option_map (λ s. string_bytes s) password) sk_text.now sk
+        × SigningHeadline (S.accepts scheme.now) (S.public_of scheme.now) sk message
         (comments_or_defaults (option_map (λ s. s.now) trusted_comment.entry) (option_map (λ s. s.now) untrusted_comment.entry) moment) (string_bytes t)) }
 
     // The comments by default are read back as they were written.
@@ -58,23 +56,17 @@ pub fn sign_texts<S: Scheme, P: Source, Q: Sink, R: Source, Z: RandomSource>(
 
     // The text of the box that the definition of signing makes.
     ensures signed { IfOk result (λ t. (sk : SecretKeyRecord) × (message : List ℕ)
-        × IfSome password (λ p. GivesKey sk_text.now (string_bytes p) sk)
-        × IfNone password (GivesKeyAsking P.ahead P.left P.faults Q.taken Q.sink_faults prompt.old prompt.new sk_text.now sk)
-        × ReadsWhole R.ahead R.behind R.faults data_reader.old data_reader.new message
+        × GivesKey (prompt_passage P.Source Q.Sink prompt.old prompt.new) (option_map (λ s. string_bytes s) password) sk_text.now sk
+        × ReadsWhole R.Source data_reader.old data_reader.new message
         × IsSignedText (S.signature_of scheme.now) sk message
         (comments_or_defaults (option_map (λ s. s.now) trusted_comment.entry) (option_map (λ s. s.now) untrusted_comment.entry) moment)
-        (Z.random_ahead random.old) (Z.random_ahead random.new) (string_bytes t)) }
-    ensures untouched { IfSome password (λ _. prompt.new ≡ prompt.old) }
+        (random_passage Z.RandomSource random.old random.new) (string_bytes t)) }
     ensures random_calm { OnOk result (Z.random_faults random.new ≡ Z.random_faults random.old) }
 
     // Why it was refused: the text gives no key, with nothing read or drawn, or signing with its key failed.
-    ensures refused { IfErr result (λ e.
-        (IfSome password (λ p. (e ≡ out_of_memory) ⊎ RefusesKey sk_text.now (λ k. giving_refusal k (string_bytes p)) e)
-        × IfNone password (GivesNoneAsking P.ahead P.left P.faults Q.taken Q.sink_faults prompt.old prompt.new sk_text.now e)
-        × (data_reader.new ≡ data_reader.old) × (random.new ≡ random.old))
-        ⊎ ((sk : SecretKeyRecord) × IfSome password (λ p. GivesKey sk_text.now (string_bytes p) sk)
-        × IfNone password (GivesKeyAsking P.ahead P.left P.faults Q.taken Q.sink_faults prompt.old prompt.new sk_text.now sk)
-        × OpenedSigningFails R.ahead R.behind R.faults data_reader.old data_reader.new Z.random_faults random.old random.new e)) }
+    ensures refused { IfErr result (TextSigningFails (prompt_passage P.Source Q.Sink prompt.old prompt.new) (option_map (λ s. string_bytes s) password) sk_text.now
+        (source_passage R.Source data_reader.old data_reader.new) (random_passage Z.RandomSource random.old random.new)) }
+    ensures untouched { IfSome password (λ _. prompt.new ≡ prompt.old) }
     ensures given { HasGiven (R.ahead data_reader.old) (R.ahead data_reader.new) }
     ensures drawn { HasGiven (Z.random_ahead random.old) (Z.random_ahead random.new) }
 {
@@ -103,14 +95,14 @@ fn sign_opened<S: Scheme, R: Source, Z: RandomSource>(
     moment: u64,
 ) -> Result<String>
     requires { is_encrypted sk.now ≡ false }
-    ensures signed { IfOk result (λ t. (message : List ℕ) × ReadsWhole R.ahead R.behind R.faults data_reader.old data_reader.new message
+    ensures signed { IfOk result (λ t. (message : List ℕ) × ReadsWhole R.Source data_reader.old data_reader.new message
         × IsSignedText (S.signature_of scheme.now) sk.now message
         (comments_or_defaults (option_map (λ s. s.now) trusted_comment.entry) (option_map (λ s. s.now) untrusted_comment.entry) moment)
-        (Z.random_ahead random.old) (Z.random_ahead random.new) (string_bytes t)
-        × ReadsBackVouched (S.accepts scheme.now) (S.public_of scheme.now) sk.now message
+        (random_passage Z.RandomSource random.old random.new) (string_bytes t)
+        × SigningHeadline (S.accepts scheme.now) (S.public_of scheme.now) sk.now message
         (comments_or_defaults (option_map (λ s. s.now) trusted_comment.entry) (option_map (λ s. s.now) untrusted_comment.entry) moment) (string_bytes t)) }
     ensures random_calm { OnOk result (Z.random_faults random.new ≡ Z.random_faults random.old) }
-    ensures refused { IfErr result (OpenedSigningFails R.ahead R.behind R.faults data_reader.old data_reader.new Z.random_faults random.old random.new) }
+    ensures refused { IfErr result (OpenedSigningFails (source_passage R.Source data_reader.old data_reader.new) (random_passage Z.RandomSource random.old random.new)) }
     ensures given { HasGiven (R.ahead data_reader.old) (R.ahead data_reader.new) }
     ensures drawn { HasGiven (Z.random_ahead random.old) (Z.random_ahead random.new) }
 {
@@ -136,34 +128,13 @@ fn key_of_text<P: Source, Q: Sink>(
     prompt: &mut Prompt<P, Q>,
 ) -> Result<SecretKey>
     ensures opened { IfOk result (λ v. is_encrypted v ≡ false) }
-    ensures handed_in { IfSome password (λ p. MatchResult result (GivesKey text.now (string_bytes p))
-        (λ e. (e ≡ out_of_memory) ⊎ RefusesKey text.now (λ k. giving_refusal k (string_bytes p)) e)) }
+    ensures gives { IsGiving (prompt_passage P.Source Q.Sink prompt.old prompt.new) (option_map (λ s. string_bytes s) password) text.now result }
     ensures untouched { IfSome password (λ _. prompt.new ≡ prompt.old) }
-    ensures asked { IfNone password (MatchResult result
-        (GivesKeyAsking P.ahead P.left P.faults Q.taken Q.sink_faults prompt.old prompt.new text.now)
-        (GivesNoneAsking P.ahead P.left P.faults Q.taken Q.sink_faults prompt.old prompt.new text.now)) }
 {
     let sk = SecretKey::from_text(alloc, text)?;
     if sk.kdf_alg == KDF_NONE {
-        return sk.unencrypted();
+        sk.check_unencrypted()?;
+        return Ok(sk);
     }
-    SecretKey::from_box(
-        alloc,
-        SecretKeyBox::from_string(alloc, text)?,
-        password,
-        prompt,
-    )
-}
-
-impl SecretKey {
-    // A key that was never sealed, where its checksum matches.
-    fn unencrypted(self) -> Result<SecretKey>
-        requires { self.kdf ≡ no_kdf }
-        ensures { MatchResult result (λ v. (v ≡ self) × (checksum_refusal self corrupted_key ≡ None)) (λ e. checksum_refusal self corrupted_key ≡ Some e) }
-    {
-        if self.keynum_sk.chk != self.read_checksum() {
-            return Err(faults::corrupted_key());
-        }
-        Ok(self)
-    }
+    sk.open(alloc, password, prompt, None, 1)
 }

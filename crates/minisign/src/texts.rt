@@ -4,7 +4,7 @@ ghost use Rattle.std.specs.Prelude.{◌≡◌, [], ◌∷◌, ◌++◌, false, s
 ghost use Rattle.std.specs.Str.Lines.{lines};
 ghost use Rattle.std.specs.Str.Iter.{lines_rest};
 ghost use Rattle.minisign_base.specs.Faults.{out_of_memory};
-ghost use Rattle.minisign.specs.Acceptance.{line};
+ghost use Rattle.minisign.specs.Lines.{line};
 ghost use Rattle.minisign.specs.Texts.{IsBase64Of, base64_of, is_base64};
 
 use base64::DecodeAllocError;

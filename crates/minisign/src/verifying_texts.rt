@@ -1,17 +1,15 @@
 //! Whether a public key text and a signature text vouch for data.
 
-ghost use Rattle.std.specs.Prelude.{◌≡◌, ◌≢◌, ◌⊎◌, ℕ, List, true, false, Some, IfOk, IfErr, OnOk, OnErr};
-ghost use Rattle.std.specs.Io.KnownBytes.{Appends};
-ghost use Rattle.minisign_base.specs.Devices.{Rose, HasGiven, AppendsFront};
-ghost use Rattle.minisign_base.specs.Faults.{out_of_memory};
+ghost use Rattle.std.specs.Prelude.{◌≡◌, ◌⊎◌, ℕ, List, true, false, IfOk, IfErr, OnOk, OnErr};
+ghost use Rattle.minisign_base.specs.Devices.{HasGiven};
+ghost use Rattle.minisign_base.specs.Passages.{TakesFront, rereader_passage, sink_passage};
 ghost use Rattle.minisign.specs.Records.{PublicKeyRecord, SignatureBoxRecord};
-ghost use Rattle.minisign.specs.Acceptance.{Vouches};
-ghost use Rattle.minisign.specs.Verifying.{Delivers, said};
-ghost use Rattle.minisign.specs.VerifyingTexts.{ReadTexts, TextsFail, VerifyingTextsFails};
-ghost use Rattle.minisign.specs.Headline.{IsVerdict};
+ghost use Rattle.minisign.specs.Verifying.{wanted_status};
+ghost use Rattle.minisign.specs.VerifyingTexts.{ReadTexts, TextsFail, VerifyingTextsFails, VerifyingTextsSucceeds};
+ghost use Rattle.minisign.specs.Headline.{CopyIsVouchedFor, VerifiesExactly};
 
+use crate::public_key;
 use crate::public_key::PublicKey;
-use crate::public_key_box::PublicKeyBox;
 use crate::signature_box::SignatureBox;
 use crate::verifying::verify;
 use minisign_base::Result;
@@ -40,30 +38,32 @@ pub fn verify_texts<S: Scheme, R: Rereader, W: Sink, O: Sink>(
 ) -> Result<()>
     // Where memory is found and no device fails: success exactly where the texts vouch for the data, and
     // else the first failing case.
-    ensures headline { (message : List ℕ) → R.ahead data_reader.old ≡ Some message → IfErr result (λ e. e ≢ out_of_memory)
-        → ¬ (Rose (R.faults data_reader.old) (R.faults data_reader.new)) → ¬ (Rose (W.sink_faults status.old) (W.sink_faults status.new))
-        → ¬ (Rose (O.sink_faults out.old) (O.sink_faults out.new)) → (output ≡ true → R.steady data_reader.old)
-        → IsVerdict (S.accepts scheme.now) pk_text.now sig_text.now message allow_legacy result }
+    ensures headline { VerifiesExactly (S.accepts scheme.now) pk_text.now sig_text.now
+        (record { quiet = quiet; output = output; legacy = allow_legacy })
+        (rereader_passage R.Source R.steady data_reader.old data_reader.new)
+        (sink_passage W.Sink status.old status.new) (sink_passage O.Sink out.old out.new) result }
 
     // What is accepted is vouched for, this was said of it, and it was copied where that is wanted.
-    ensures accepted { OnOk result ((key : PublicKeyRecord) × (box : SignatureBoxRecord) × (message : List ℕ)
-        × ReadTexts pk_text.now sig_text.now key box
-        × Vouches (S.accepts scheme.now) key box message allow_legacy
-        × Delivers output box R.steady R.ahead R.behind R.faults data_reader.old data_reader.new O.taken out.old out.new message
-        × Appends (W.taken status.old) (W.taken status.new) (said quiet box)) }
-    ensures quiet { quiet ≡ true → status.new ≡ status.old }
-    ensures status_calm { OnOk result (W.sink_faults status.new ≡ W.sink_faults status.old) }
-    ensures out_calm { OnOk result (O.sink_faults out.new ≡ O.sink_faults out.old) }
+    ensures accepted { OnOk result (VerifyingTextsSucceeds (S.accepts scheme.now) pk_text.now sig_text.now
+        (record { quiet = quiet; output = output; legacy = allow_legacy })
+        (rereader_passage R.Source R.steady data_reader.old data_reader.new)
+        (sink_passage W.Sink status.old status.new) (sink_passage O.Sink out.old out.new)) }
+
+    // What the output took is itself vouched for, whatever a second reading gave.
+    ensures vouched { output ≡ true → OnOk result (CopyIsVouchedFor (S.accepts scheme.now) pk_text.now sig_text.now allow_legacy
+        (sink_passage O.Sink out.old out.new)) }
 
     // Why it was refused.
-    ensures refused { IfErr result (VerifyingTextsFails (S.accepts scheme.now) pk_text.now sig_text.now allow_legacy quiet output
-        R.steady R.ahead R.behind R.faults data_reader.old data_reader.new
-        W.taken W.sink_faults status.old status.new O.taken O.sink_faults out.old out.new) }
+    ensures refused { IfErr result (VerifyingTextsFails (S.accepts scheme.now) pk_text.now sig_text.now
+        (record { quiet = quiet; output = output; legacy = allow_legacy })
+        (rereader_passage R.Source R.steady data_reader.old data_reader.new)
+        (sink_passage W.Sink status.old status.new) (sink_passage O.Sink out.old out.new)) }
     ensures said_front { OnErr result ((status.new ≡ status.old) ⊎ ((key : PublicKeyRecord) × (box : SignatureBoxRecord)
         × ReadTexts pk_text.now sig_text.now key box
-        × AppendsFront (W.taken status.old) (W.taken status.new) (said quiet box))) }
+        × TakesFront (sink_passage W.Sink status.old status.new) (wanted_status quiet box))) }
 
     ensures given { output ≡ false → HasGiven (R.ahead data_reader.old) (R.ahead data_reader.new) }
+    ensures quiet { quiet ≡ true → status.new ≡ status.old }
     ensures out { output ≡ false → out.new ≡ out.old }
 {
     let (pk, signature_box) = read_texts(alloc, pk_text, sig_text)?;
@@ -86,8 +86,7 @@ fn read_texts(alloc: Global, pk_text: &str, sig_text: &str) -> Result<(PublicKey
     ensures read { IfOk result (λ both. ReadTexts pk_text.now sig_text.now both.0 both.1) }
     ensures refused { IfErr result (TextsFail pk_text.now sig_text.now) }
 {
-    let pk_box = PublicKeyBox::from_string(alloc, pk_text)?;
-    let pk = PublicKey::from_box(alloc, pk_box)?;
+    let pk = public_key::read_text(alloc, pk_text)?;
     let signature_box = SignatureBox::from_string(alloc, sig_text)?;
     Ok((pk, signature_box))
 }

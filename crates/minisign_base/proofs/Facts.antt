@@ -6,7 +6,7 @@ use lib.Utf8.{encode}
 use Rattle.minisign_base.specs.Identifiers.{identifier_text}
 use Rattle.minisign_base.specs.Faults.{end_of_input, invalid_parameters, not_utf8, parameters_too_high, password_too_long}
 use Rattle.minisign_base.specs.Limits.{cost_log2, limits, sealing_limits}
-use Rattle.minisign_base.specs.Prompts.{accepted, first_line, password_of, read_count}
+use Rattle.minisign_base.specs.Prompts.{accepted_line, first_line, password_of, read_count}
 
 -- the identifier of the bytes 1 to 8
 pub identifier_of_counted_bytes : identifier_text (1 ∷ 2 ∷ 3 ∷ 4 ∷ 5 ∷ 6 ∷ 7 ∷ 8 ∷ []) ≡ codes "0807060504030201"
@@ -50,19 +50,19 @@ limits_without_parallelization = refl
 
 -- a line feed ends a password, with one carriage return before it, and no other byte does
 pub password_before_line_feed : password_of (codes "password" ++ 10 ∷ codes "more") ≡ Ok (codes "password")
-unfolding password_of first_line accepted is_utf8 chars encode
+unfolding password_of first_line accepted_line is_utf8 chars encode
 password_before_line_feed = refl
 
 pub password_before_carriage_return : password_of (97 ∷ 13 ∷ 13 ∷ 10 ∷ []) ≡ Ok (97 ∷ 13 ∷ [])
-unfolding password_of first_line accepted is_utf8 chars encode
+unfolding password_of first_line accepted_line is_utf8 chars encode
 password_before_carriage_return = refl
 
 pub password_of_carriage_return_at_the_end : password_of (13 ∷ []) ≡ Ok (13 ∷ [])
-unfolding password_of first_line accepted is_utf8 chars encode
+unfolding password_of first_line accepted_line is_utf8 chars encode
 password_of_carriage_return_at_the_end = refl
 
 pub password_of_empty_lines : (password_of (10 ∷ []) ≡ Ok []) × (password_of (13 ∷ 10 ∷ []) ≡ Ok [])
-unfolding password_of first_line accepted is_utf8 chars encode
+unfolding password_of first_line accepted_line is_utf8 chars encode
 password_of_empty_lines = (refl, refl)
 
 pub password_of_no_byte : password_of [] ≡ Err end_of_input
@@ -70,17 +70,17 @@ unfolding password_of
 password_of_no_byte = refl
 
 pub password_of_no_text : password_of (255 ∷ 10 ∷ []) ≡ Err not_utf8
-unfolding password_of first_line accepted is_utf8 chars encode
+unfolding password_of first_line accepted_line is_utf8 chars encode
 password_of_no_text = refl
 
 -- 1024 letters and either end of a line are a password
 pub password_of_1024_letters : password_of (replicate 1024 97 ++ 13 ∷ 10 ∷ []) ≡ Ok (replicate 1024 97)
-unfolding password_of first_line accepted is_utf8 chars encode
+unfolding password_of first_line accepted_line is_utf8 chars encode
 password_of_1024_letters = refl
 
 -- 1024 letters and a carriage return at the end are too many
 pub password_of_1025_bytes : password_of (replicate 1024 97 ++ 13 ∷ []) ≡ Err password_too_long
-unfolding password_of first_line accepted is_utf8 chars encode
+unfolding password_of first_line accepted_line is_utf8 chars encode
 password_of_1025_bytes = refl
 
 -- 1025 letters, a carriage return and a line feed: the line feed is not read
@@ -91,5 +91,5 @@ password_of_1026_bytes = (refl, refl)
 
 -- 1026 bytes without a line feed are too many before they are no text, 1025 bytes are no text first
 pub password_of_bytes_that_are_no_text : (password_of (replicate 1026 255) ≡ Err password_too_long) × (password_of (replicate 1025 255) ≡ Err not_utf8)
-unfolding password_of first_line accepted is_utf8 chars encode
+unfolding password_of first_line accepted_line is_utf8 chars encode
 password_of_bytes_that_are_no_text = (refl, refl)

@@ -8,7 +8,8 @@ use Rattle.std.specs.Io.KnownBytes.{Consumes, IsAtEnd}
 use Rattle.std.specs.Str.{is_utf8}
 use Rattle.std.specs.Str.Lines.{strip_carriage_return}
 use Rattle.minisign_base.specs.Faults.{end_of_input, not_utf8, password_too_long}
-use Rattle.minisign_base.specs.Prompts.{HasReadLine, accepted, first_line, line_length, password_of, read_count}
+use Rattle.minisign_base.specs.Passages.{SourcePassage}
+use Rattle.minisign_base.specs.Prompts.{HasReadLine, accepted_line, first_line, line_length, password_of, read_count}
 
 -- what a reader that tells its bytes had is what was read and what is left
 pub told : (a b : Option (List ℕ)) (done : List ℕ) → Consumes a b done
@@ -40,7 +41,7 @@ line_length-feed done rest e =
     ap line_length (append_assoc done (10 ∷ []) rest) ∙ line_length-append done (10 ∷ rest) e ∙ omega arith
 
 pub password_of-feed : (done rest : List ℕ) → line_length done ≡ length done → length done < 1026
-    → password_of ((done ++ 10 ∷ []) ++ rest) ≡ accepted (strip_carriage_return done)
+    → password_of ((done ++ 10 ∷ []) ++ rest) ≡ accepted_line (strip_carriage_return done)
 unfolding password_of first_line
 password_of-feed done rest e short =
     let bytes : List ℕ = (done ++ 10 ∷ []) ++ rest in
@@ -50,7 +51,7 @@ password_of-feed done rest e short =
     rw (line, ne_eqb (length bytes) 0 (λ z. omega (arith, whole)), le-ltb 1025 (length done) (omega (arith, short)), lt-ltb (length done) (length bytes) (omega (arith, whole)), front) refl
 
 pub password_of-end : (done : List ℕ) → line_length done ≡ length done → 0 < length done → length done < 1026
-    → password_of done ≡ accepted done
+    → password_of done ≡ accepted_line done
 unfolding password_of first_line
 password_of-end done e some short =
     rw (e, ne_eqb (length done) 0 (λ z. omega arith), le-ltb 1025 (length done) (omega (arith, short)), le-ltb (length done) (length done) (omega arith), take_all (length done) done (omega arith)) refl
@@ -65,26 +66,26 @@ password_of-long done rest e long =
     rw (ne_eqb (length bytes) 0 (λ z. omega (arith, whole)), lt-ltb 1025 (line_length bytes) (omega (arith, line))) refl
 
 -- what was read is all that is read for a line
-pub read_front : {R : Type 0} (ahead_of : R → Option (List ℕ)) (left_of faults_of : R → ℕ) (old new : R) (done rest : List ℕ)
-    → IfSome (ahead_of old) (λ xs. xs ≡ done ++ rest) → IfSome (ahead_of old) (λ _. ahead_of new ≡ Some rest)
-    → length done ≡ read_count (done ++ rest) → left_of new + length done ≡ left_of old → faults_of new ≡ faults_of old
-    → HasReadLine ahead_of left_of faults_of old new (done ++ rest)
-read_front ahead_of left_of faults_of old new done rest ahead unread count left calm = record {
+pub read_front : {R : Type 0} (r : SourcePassage R) (done rest : List ℕ)
+    → IfSome (r.source.ahead r.old) (λ xs. xs ≡ done ++ rest) → IfSome (r.source.ahead r.old) (λ _. r.source.ahead r.new ≡ Some rest)
+    → length done ≡ read_count (done ++ rest) → r.source.left r.new + length done ≡ r.source.left r.old → r.source.faults r.new ≡ r.source.faults r.old
+    → HasReadLine r (done ++ rest)
+read_front r done rest ahead unread count left calm = record {
   ahead = ahead;
-  unread = subst (λ (r : List ℕ). IfSome (ahead_of old) (λ _. ahead_of new ≡ Some r)) (sym (drop_at done rest (read_count (done ++ rest)) count)) unread;
-  left = ap (λ (l : List ℕ). left_of new + length l) (take_at done rest (read_count (done ++ rest)) count) ∙ left;
+  unread = subst (λ (l : List ℕ). IfSome (r.source.ahead r.old) (λ _. r.source.ahead r.new ≡ Some l)) (sym (drop_at done rest (read_count (done ++ rest)) count)) unread;
+  left = ap (λ (l : List ℕ). r.source.left r.new + length l) (take_at done rest (read_count (done ++ rest)) count) ∙ left;
   calm = calm;
 }
 
 -- the end came before
-pub read_whole : {R : Type 0} (ahead_of : R → Option (List ℕ)) (left_of faults_of : R → ℕ) (old new : R) (done : List ℕ)
-    → IfSome (ahead_of old) (λ xs. xs ≡ done) → IfSome (ahead_of old) (λ _. ahead_of new ≡ Some [])
-    → length done ≤ read_count done → left_of new + length done ≡ left_of old → faults_of new ≡ faults_of old
-    → HasReadLine ahead_of left_of faults_of old new done
-read_whole ahead_of left_of faults_of old new done ahead unread count left calm = record {
+pub read_whole : {R : Type 0} (r : SourcePassage R) (done : List ℕ)
+    → IfSome (r.source.ahead r.old) (λ xs. xs ≡ done) → IfSome (r.source.ahead r.old) (λ _. r.source.ahead r.new ≡ Some [])
+    → length done ≤ read_count done → r.source.left r.new + length done ≡ r.source.left r.old → r.source.faults r.new ≡ r.source.faults r.old
+    → HasReadLine r done
+read_whole r done ahead unread count left calm = record {
   ahead = ahead;
-  unread = subst (λ (r : List ℕ). IfSome (ahead_of old) (λ _. ahead_of new ≡ Some r)) (sym (drop_all (read_count done) done count)) unread;
-  left = ap (λ (l : List ℕ). left_of new + length l) (take_all (read_count done) done count) ∙ left;
+  unread = subst (λ (l : List ℕ). IfSome (r.source.ahead r.old) (λ _. r.source.ahead r.new ≡ Some l)) (sym (drop_all (read_count done) done count)) unread;
+  left = ap (λ (l : List ℕ). r.source.left r.new + length l) (take_all (read_count done) done count) ∙ left;
   calm = calm;
 }
 
@@ -93,18 +94,18 @@ unfolding password_of
 password_of-nothing = refl
 
 -- a line that is no UTF-8
-pub accepted-other : (line : List ℕ) → (IsUtf8 line → false ≡ true) → accepted line ≡ Err not_utf8
-unfolding accepted
-accepted-other line other =
+pub accepted_line-other : (line : List ℕ) → (IsUtf8 line → false ≡ true) → accepted_line line ≡ Err not_utf8
+unfolding accepted_line
+accepted_line-other line other =
     elim (is_utf8 line) as (λ b. is_utf8 line ≡ b → (if not b then Err not_utf8 else (if nat_lt 1024 (length line) then Err password_too_long else Ok line)) ≡ Err not_utf8) [
       | true ↦ λ e. absurd (true≢false (sym (other (IsUtf8-from_is_utf8 line e))))
       | false ↦ λ e. refl
     ] refl
 
-pub accepted-long : (line : List ℕ) → IsUtf8 line → 1024 < length line → accepted line ≡ Err password_too_long
-unfolding accepted
-accepted-long line text long = rw (is_utf8-from_IsUtf8 line text, lt-ltb 1024 (length line) long) refl
+pub accepted_line-long : (line : List ℕ) → IsUtf8 line → 1024 < length line → accepted_line line ≡ Err password_too_long
+unfolding accepted_line
+accepted_line-long line text long = rw (is_utf8-from_IsUtf8 line text, lt-ltb 1024 (length line) long) refl
 
-pub accepted-text : (line : List ℕ) → IsUtf8 line → length line ≤ 1024 → accepted line ≡ Ok line
-unfolding accepted
-accepted-text line text short = rw (is_utf8-from_IsUtf8 line text, le-ltb 1024 (length line) short) refl
+pub accepted_line-text : (line : List ℕ) → IsUtf8 line → length line ≤ 1024 → accepted_line line ≡ Ok line
+unfolding accepted_line
+accepted_line-text line text short = rw (is_utf8-from_IsUtf8 line text, le-ltb 1024 (length line) short) refl

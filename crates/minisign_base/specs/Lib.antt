@@ -5,6 +5,8 @@ pub mod Fault
 pub mod Faults
 pub mod Identifiers
 pub mod Limits
+pub mod Members
+pub mod Passages
 pub mod Prompts
 pub mod Scheme
 pub mod Toy

@@ -3,15 +3,9 @@
 use Rattle.std.specs.Prelude.{◌≡◌, ◌⊎◌, ℕ, ◌/◌, ◌%◌, ◌^◌, ◌<◌, ◌≤◌, min, max, nat_lt, if◌then◌else◌, Result, Ok, Err}
 use Rattle.std.specs.List.{find, range_with_len}
 use Rattle.std.specs.Option.{unwrap_or}
-use Rattle.minisign_kdf.specs.Params.{is_accepted}
+use Rattle.minisign_kdf.specs.Params.{Numbers, is_accepted}
 use Rattle.minisign_base.specs.Fault.{Fault}
 use Rattle.minisign_base.specs.Faults.{parameters_too_high, invalid_parameters}
-
--- the cost N of scrypt as its logarithm to base 2, the block size and the parallelization
-pub record Numbers : Type 0 where
-  pub n_log2 : ℕ
-  pub r : ℕ
-  pub p : ℕ
 
 -- the operations that count: at least 32768
 abbrev pub operations : ℕ → ℕ
@@ -46,14 +40,14 @@ numbers memlimit opslimit =
     record { n_log2 = n_log2; r = 8; p = p }
 
 -- a cost above the allowed one is refused, and then what scrypt does not take
-abbrev pub checked : Numbers → ℕ → Result Numbers Fault
-checked v n_log2_max =
+abbrev pub checked_numbers : Numbers → ℕ → Result Numbers Fault
+checked_numbers v n_log2_max =
     if nat_lt n_log2_max v.n_log2 then Err parameters_too_high
-    else (if is_accepted v.n_log2 v.r v.p then Ok v else Err invalid_parameters)
+    else (if is_accepted v then Ok v else Err invalid_parameters)
 
 -- the parameters that two limits lead to, or the fault
 unfoldable pub limits : ℕ → ℕ → ℕ → Result Numbers Fault
-limits memlimit opslimit n_log2_max = checked (numbers memlimit opslimit) n_log2_max
+limits memlimit opslimit n_log2_max = checked_numbers (numbers memlimit opslimit) n_log2_max
 
 -- the limits of sealing and opening: at most 1073741824 bytes, and N at most 2 ^ 20
 abbrev pub sealing_limits : ℕ → ℕ → Result Numbers Fault

@@ -1,12 +1,12 @@
 -- What a prompt reads and writes when a password is asked for. The bytes of a prompt are all that its
 -- reader has ahead.
-use Rattle.std.specs.Prelude.{◌≡◌, ◌⊎◌, ℕ, ◌+◌, ◌<◌, min, nat_lt, ◌==◌, not, List, [], ◌∷◌, ◌++◌, length, take, drop, Option, Some, IfSome, Result, Ok, Err, codes, if◌then◌else◌}
+use Rattle.std.specs.Prelude.{◌≡◌, ◌⊎◌, ℕ, ◌+◌, ◌<◌, min, nat_lt, ◌==◌, not, List, [], ◌∷◌, ◌++◌, length, take, drop, Some, IfSome, Result, Ok, Err, codes, if◌then◌else◌}
 use Rattle.std.specs.Io.KnownBytes.{Appends}
 use Rattle.std.specs.List.{position_or_len}
 use Rattle.std.specs.Str.{is_utf8}
 use Rattle.std.specs.Str.Lines.{strip_carriage_return}
 use Rattle.minisign_base.specs.Devices.{AppendsFront, Rose}
-use Rattle.minisign_base.specs.declared.prompt.Prompt.{Prompt}
+use Rattle.minisign_base.specs.Passages.{PromptPassage, SourcePassage}
 use Rattle.minisign_base.specs.Fault.{Fault}
 use Rattle.minisign_base.specs.Faults.{end_of_input, not_utf8, out_of_memory, password_too_long, reading_failed, writing_failed}
 
@@ -25,8 +25,8 @@ abbrev pub read_count : List ℕ → ℕ
 read_count bytes = min 1026 (line_length bytes + 1)
 
 -- a line as a password: UTF-8 of at most 1024 bytes
-unfoldable pub accepted : List ℕ → Result (List ℕ) Fault
-accepted line =
+unfoldable pub accepted_line : List ℕ → Result (List ℕ) Fault
+accepted_line line =
     if not (is_utf8 line) then Err not_utf8
     else (if nat_lt 1024 (length line) then Err password_too_long
     else Ok line)
@@ -36,7 +36,7 @@ unfoldable pub password_of : List ℕ → Result (List ℕ) Fault
 password_of bytes =
     if length bytes == 0 then Err end_of_input
     else (if nat_lt 1025 (line_length bytes) then Err password_too_long
-    else accepted (first_line bytes))
+    else accepted_line (first_line bytes))
 
 -- what is written where the password is empty
 abbrev pub empty_mark : List ℕ
@@ -49,55 +49,61 @@ written_after (Ok (b ∷ password)) = []
 written_after (Err e) = []
 
 -- a reader gave the line of these bytes, which were all that it had ahead where it tells that
-pub record HasReadLine {R : Type 0} (ahead_of : R → Option (List ℕ)) (left_of faults_of : R → ℕ) (old new : R) (bytes : List ℕ) : Type 0 where
-  pub ahead : IfSome (ahead_of old) (λ xs. xs ≡ bytes)
-  pub unread : IfSome (ahead_of old) (λ _. ahead_of new ≡ Some (drop (read_count bytes) bytes))
-  pub left : left_of new + length (take (read_count bytes) bytes) ≡ left_of old
-  pub calm : faults_of new ≡ faults_of old
+pub record HasReadLine {R : Type 0} (r : SourcePassage R) (bytes : List ℕ) : Type 0 where
+  pub ahead : IfSome (r.source.ahead r.old) (λ xs. xs ≡ bytes)
+  pub unread : IfSome (r.source.ahead r.old) (λ _. r.source.ahead r.new ≡ Some (drop (read_count bytes) bytes))
+  pub left : r.source.left r.new + length (take (read_count bytes) bytes) ≡ r.source.left r.old
+  pub calm : r.source.faults r.new ≡ r.source.faults r.old
 
 -- a reader failed inside the line: of what it still tells, fewer than 1026 bytes are gone
-pub record HasFailedInLine {R : Type 0} (ahead_of : R → Option (List ℕ)) (faults_of : R → ℕ) (old new : R) : Type 0 where
-  pub fault : Rose (faults_of old) (faults_of new)
-  pub given : IfSome (ahead_of new) (λ ys. IfSome (ahead_of old) (λ xs.
+pub record HasFailedInLine {R : Type 0} (r : SourcePassage R) : Type 0 where
+  pub fault : Rose (r.source.faults r.old) (r.source.faults r.new)
+  pub given : IfSome (r.source.ahead r.new) (λ ys. IfSome (r.source.ahead r.old) (λ xs.
       (front : List ℕ) × (xs ≡ front ++ ys) × (length front < 1026)))
+
+-- the passage over a prompt's reader
+abbrev pub reader_passage : {R W : Type 0} → PromptPassage R W → SourcePassage R
+reader_passage p = record { source = p.source; old = p.old.reader; new = p.new.reader }
+
+-- a prompt said a text: nothing was read
+pub record HasSaid {R W : Type 0} (p : PromptPassage R W) (text : List ℕ) : Type 0 where
+  pub reader : p.new.reader ≡ p.old.reader
+  pub written : Appends (p.sink.taken p.old.writer) (p.sink.taken p.new.writer) text
+  pub calm : p.sink.sink_faults p.new.writer ≡ p.sink.sink_faults p.old.writer
+
+-- the text could not be written: nothing was read
+pub record HasNotSaid {R W : Type 0} (p : PromptPassage R W) (text : List ℕ) : Type 0 where
+  pub reader : p.new.reader ≡ p.old.reader
+  pub fault : Rose (p.sink.sink_faults p.old.writer) (p.sink.sink_faults p.new.writer)
+  pub front : AppendsFront (p.sink.taken p.old.writer) (p.sink.taken p.new.writer) text
 
 -- a prompt asked with a text: what came of these bytes, which were all that the reader had ahead where it
 -- tells that
-pub record HasAsked {R W : Type 0} (ahead_of : R → Option (List ℕ)) (left_of faults_of : R → ℕ) (taken_of : W → Option (List ℕ)) (sink_faults_of : W → ℕ)
-    (old new : Prompt R W) (text bytes : List ℕ) (answer : Result (List ℕ) Fault) : Type 0 where
-  pub read : HasReadLine ahead_of left_of faults_of old.reader new.reader bytes
+pub record HasAsked {R W : Type 0} (p : PromptPassage R W) (text bytes : List ℕ) (answer : Result (List ℕ) Fault) : Type 0 where
+  pub read : HasReadLine (reader_passage p) bytes
   pub password : password_of bytes ≡ answer
-  pub written : Appends (taken_of old.writer) (taken_of new.writer) (text ++ written_after answer)
-  pub calm : sink_faults_of new.writer ≡ sink_faults_of old.writer
-
--- the text could not be written: nothing was read
-pub record HasNotSaid {R W : Type 0} (taken_of : W → Option (List ℕ)) (sink_faults_of : W → ℕ)
-    (old new : Prompt R W) (text : List ℕ) : Type 0 where
-  pub reader : new.reader ≡ old.reader
-  pub fault : Rose (sink_faults_of old.writer) (sink_faults_of new.writer)
-  pub front : AppendsFront (taken_of old.writer) (taken_of new.writer) text
+  pub written : Appends (p.sink.taken p.old.writer) (p.sink.taken p.new.writer) (text ++ written_after answer)
+  pub calm : p.sink.sink_faults p.new.writer ≡ p.sink.sink_faults p.old.writer
 
 -- the text was written, and the reader failed
-pub record HasNotRead {R W : Type 0} (ahead_of : R → Option (List ℕ)) (faults_of : R → ℕ) (taken_of : W → Option (List ℕ)) (sink_faults_of : W → ℕ)
-    (old new : Prompt R W) (text : List ℕ) : Type 0 where
-  pub read : HasFailedInLine ahead_of faults_of old.reader new.reader
-  pub written : Appends (taken_of old.writer) (taken_of new.writer) text
-  pub calm : sink_faults_of new.writer ≡ sink_faults_of old.writer
+pub record HasNotRead {R W : Type 0} (p : PromptPassage R W) (text : List ℕ) : Type 0 where
+  pub read : HasFailedInLine (reader_passage p)
+  pub written : Appends (p.sink.taken p.old.writer) (p.sink.taken p.new.writer) text
+  pub calm : p.sink.sink_faults p.new.writer ≡ p.sink.sink_faults p.old.writer
 
 -- an empty password was read, and its mark could not be written
-pub record HasNotMarked {R W : Type 0} (ahead_of : R → Option (List ℕ)) (left_of faults_of : R → ℕ) (taken_of : W → Option (List ℕ)) (sink_faults_of : W → ℕ)
-    (old new : Prompt R W) (text bytes : List ℕ) : Type 0 where
-  pub read : HasReadLine ahead_of left_of faults_of old.reader new.reader bytes
+pub record HasNotMarked {R W : Type 0} (p : PromptPassage R W) (text bytes : List ℕ) : Type 0 where
+  pub read : HasReadLine (reader_passage p) bytes
   pub password : password_of bytes ≡ Ok []
-  pub fault : Rose (sink_faults_of old.writer) (sink_faults_of new.writer)
-  pub front : AppendsFront (taken_of old.writer) (taken_of new.writer) (text ++ empty_mark)
+  pub fault : Rose (p.sink.sink_faults p.old.writer) (p.sink.sink_faults p.new.writer)
+  pub front : AppendsFront (p.sink.taken p.old.writer) (p.sink.taken p.new.writer) (text ++ empty_mark)
 
 -- why no password came: no memory for a line, which is asked for first, a device that failed, or the
 -- first fault of the line
-abbrev pub IsAskingFault : {R W : Type 0} → (R → Option (List ℕ)) → (R → ℕ) → (R → ℕ) → (W → Option (List ℕ)) → (W → ℕ) → Prompt R W → Prompt R W → List ℕ → Fault → Type 0
-IsAskingFault ahead left faults taken sink_faults old new text e =
-    ((e ≡ out_of_memory) × (new ≡ old))
-    ⊎ (((e ≡ writing_failed) × HasNotSaid taken sink_faults old new text)
-    ⊎ (((e ≡ reading_failed) × HasNotRead ahead faults taken sink_faults old new text)
-    ⊎ (((bytes : List ℕ) × HasAsked ahead left faults taken sink_faults old new text bytes (Err e))
-    ⊎ ((e ≡ writing_failed) × ((bytes : List ℕ) × HasNotMarked ahead left faults taken sink_faults old new text bytes)))))
+abbrev pub IsAskingFault : {R W : Type 0} → PromptPassage R W → List ℕ → Fault → Type 0
+IsAskingFault p text e =
+    ((e ≡ out_of_memory) × (p.new ≡ p.old))
+    ⊎ (((e ≡ writing_failed) × HasNotSaid p text)
+    ⊎ (((e ≡ reading_failed) × HasNotRead p text)
+    ⊎ (((bytes : List ℕ) × HasAsked p text bytes (Err e))
+    ⊎ ((e ≡ writing_failed) × ((bytes : List ℕ) × HasNotMarked p text bytes)))))

@@ -357,7 +357,7 @@ pub fn signature_box_incomplete() -> PError
     )
 }
 
-/// The system clock shows a moment before 1970.
+/// The system clock shows a moment before 1970, or cannot be read.
 #[tactic(auto, unfolding(crate::specs::Faults::clock_incorrect))]
 pub fn clock_incorrect() -> PError
     ensures { result ≡ named.clock_incorrect }

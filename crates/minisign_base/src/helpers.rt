@@ -6,6 +6,7 @@ ghost use Rattle.std.specs.Int.{from_le_bytes, to_le_bytes, w64};
 ghost use Rattle.std.specs.Time.{system_time_nanos};
 ghost use Rattle.minisign_base.specs.Faults.{clock_incorrect, out_of_memory};
 ghost use Rattle.minisign_base.specs.Limits.{IsCostLog2, cost_log2, greatest_cost, limits, numbers, parallelization};
+ghost use Rattle.minisign_base.specs.Passages.{prompt_passage};
 ghost use Rattle.minisign_base.specs.Prompts.{HasAsked, IsAskingFault};
 
 use crate::devices::sinks::Sink;
@@ -53,17 +54,14 @@ pub fn get_password<R: Source, W: Sink>(
     text: &str,
 ) -> Result<String>
     ensures asked { IfOk result (λ password. (bytes : List ℕ)
-        × HasAsked R.ahead R.left R.faults W.taken W.sink_faults prompt.old prompt.new text.now bytes (Ok (string_bytes password))) }
-    ensures fault { IfErr result (λ e.
-        IsAskingFault R.ahead R.left R.faults W.taken W.sink_faults prompt.old prompt.new text.now e) }
+        × HasAsked (prompt_passage R.Source W.Sink prompt.old prompt.new) text.now bytes (Ok (string_bytes password))) }
+    ensures refused { IfErr result (IsAskingFault (prompt_passage R.Source W.Sink prompt.old prompt.new) text.now) }
 {
     let line = line_buffer(alloc)?;
     prompt.say(text)?;
     let password = prompt.read_password(line)?;
-    match prompt.mark_empty(&password) {
-        Ok(()) => Ok(password),
-        Err(fault) => Err(fault),
-    }
+    prompt.mark_empty(&password)?;
+    Ok(password)
 }
 
 // Room for the longest line that is read: a password of 1024 bytes, a carriage return and a line feed.
@@ -79,10 +77,8 @@ fn line_buffer(alloc: Global) -> Result<Vec<u8>>
 pub fn unix_timestamp(clock: &impl Clock) -> Result<u64>
     ensures { IfErr result (λ e. e ≡ clock_incorrect) }
 {
-    match SystemTime::now(clock) {
-        Ok(now) => seconds_since_1970(now),
-        Err(_) => Err(faults::clock_incorrect()),
-    }
+    let now = SystemTime::now(clock).map_err(|_| faults::clock_incorrect())?;
+    seconds_since_1970(now)
 }
 
 // The seconds from 1970 to a moment.
@@ -104,9 +100,7 @@ fn seconds_since_1970(now: SystemTime) -> Result<u64>
 /// no memory.
 #[tactic(auto, unfolding(crate::specs::Limits::limits))]
 pub fn raw_scrypt_params(memlimit: u64, opslimit: u64, n_log2_max: u8) -> Result<Params>
-    ensures outcome { MatchResult result
-        (λ v. limits memlimit opslimit n_log2_max ≡ Ok (record { n_log2 = v.n_log2; r = v.r; p = v.p }))
-        (λ e. limits memlimit opslimit n_log2_max ≡ Err e) }
+    ensures outcome { result ≡ limits memlimit opslimit n_log2_max }
     ensures least { IsCostLog2 (greatest_cost memlimit opslimit) (numbers memlimit opslimit).n_log2 }
 {
     let operations = opslimit.max(32768);

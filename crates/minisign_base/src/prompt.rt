@@ -1,11 +1,12 @@
 //! Where a person is asked: texts are written, and lines are read.
 
 ghost use Rattle.std.specs.Prelude.{◌≡◌, ◌⊎◌, ℕ, ◌+◌, ◌≤◌, List, [], ◌∷◌, length, take, Ok, Err, IfOk, IfErr, OnOk, OnErr, MatchOption, MatchResult, string_bytes};
-ghost use Rattle.std.specs.Io.KnownBytes.{Appends, Consumes, IsAtEnd};
+ghost use Rattle.std.specs.Io.KnownBytes.{Consumes, IsAtEnd};
 ghost use Rattle.std.specs.Str.Lines.{strip_carriage_return};
-ghost use Rattle.minisign_base.specs.Devices.{Rose, AppendsFront, StaysOrHides};
+ghost use Rattle.minisign_base.specs.Devices.{Rose, StaysOrHides};
+ghost use Rattle.minisign_base.specs.Passages.{prompt_passage, source_passage};
 ghost use Rattle.minisign_base.specs.Faults.{reading_failed, writing_failed};
-ghost use Rattle.minisign_base.specs.Prompts.{HasReadLine, HasFailedInLine, password_of, accepted, written_after, empty_mark};
+ghost use Rattle.minisign_base.specs.Prompts.{HasReadLine, HasFailedInLine, HasSaid, HasNotSaid, password_of, accepted_line, written_after, empty_mark};
 
 use crate::devices::sinks::{Sink, put_and_flush};
 use crate::devices::sources::Source;
@@ -46,36 +47,26 @@ impl<R: Source, W: Sink> Prompt<R, W> {
     /// Writes a text and flushes it. After a fault the writer took a beginning of the text. Takes no
     /// memory, and leaves the reader alone.
     pub fn say(&mut self, text: &str) -> Result<()>
-        ensures reader { self.new.reader ≡ self.old.reader }
-        ensures bytes { OnOk result (Appends (W.taken self.old.writer) (W.taken self.new.writer) text.now) }
-        ensures calm { OnOk result (W.sink_faults self.new.writer ≡ W.sink_faults self.old.writer) }
-        ensures fault { IfErr result (λ e. (e ≡ writing_failed)
-            × Rose (W.sink_faults self.old.writer) (W.sink_faults self.new.writer)) }
-        ensures front { OnErr result (AppendsFront (W.taken self.old.writer) (W.taken self.new.writer) text.now) }
+        ensures said { OnOk result (HasSaid (prompt_passage R.Source W.Sink self.old self.new) text.now) }
+        ensures refused { IfErr result (λ e. (e ≡ writing_failed)
+            × HasNotSaid (prompt_passage R.Source W.Sink self.old self.new) text.now) }
     {
-        match put_and_flush(&mut self.writer, text.as_bytes()) {
-            Ok(()) => Ok(()),
-            Err(_) => Err(faults::writing_failed()),
-        }
+        put_and_flush(&mut self.writer, text.as_bytes()).map_err(|_| faults::writing_failed())
     }
 
     // Where the password is empty, shows that.
     pub(crate) fn mark_empty(&mut self, password: &str) -> Result<()>
         ensures reader { self.new.reader ≡ self.old.reader }
-        ensures bytes { OnOk result (Appends (W.taken self.old.writer) (W.taken self.new.writer) (written_after (Ok password.now))) }
-        ensures calm { OnOk result (W.sink_faults self.new.writer ≡ W.sink_faults self.old.writer) }
+        ensures said { OnOk result (HasSaid (prompt_passage R.Source W.Sink self.old self.new)
+            (written_after (Ok password.now))) }
         ensures empty { OnErr result (password.now ≡ []) }
-        ensures fault { IfErr result (λ e. (e ≡ writing_failed)
-            × Rose (W.sink_faults self.old.writer) (W.sink_faults self.new.writer)) }
-        ensures front { OnErr result (AppendsFront (W.taken self.old.writer) (W.taken self.new.writer) empty_mark) }
+        ensures refused { IfErr result (λ e. (e ≡ writing_failed)
+            × HasNotSaid (prompt_passage R.Source W.Sink self.old self.new) empty_mark) }
     {
         if !password.is_empty() {
             return Ok(());
         }
-        match self.say("<empty>\n") {
-            Ok(()) => Ok(()),
-            Err(fault) => Err(fault),
-        }
+        self.say("<empty>\n")
     }
 
     // Reads a line into a buffer of 1026 bytes, and takes it as a password.
@@ -83,20 +74,17 @@ impl<R: Source, W: Sink> Prompt<R, W> {
         requires { length line.items ≡ 1026 }
         ensures writer { self.new.writer ≡ self.old.writer }
         ensures password { IfOk result (λ password. (bytes : List ℕ)
-            × HasReadLine R.ahead R.left R.faults self.old.reader self.new.reader bytes
+            × HasReadLine (source_passage R.Source self.old.reader self.new.reader) bytes
             × (password_of bytes ≡ Ok (string_bytes password))) }
-        ensures fault { IfErr result (λ e.
-            ((e ≡ reading_failed) × HasFailedInLine R.ahead R.faults self.old.reader self.new.reader)
-            ⊎ ((bytes : List ℕ) × HasReadLine R.ahead R.left R.faults self.old.reader self.new.reader bytes
+        ensures refused { IfErr result (λ e.
+            ((e ≡ reading_failed) × HasFailedInLine (source_passage R.Source self.old.reader self.new.reader))
+            ⊎ ((bytes : List ℕ) × HasReadLine (source_passage R.Source self.old.reader self.new.reader) bytes
             × (password_of bytes ≡ Err e))) }
     {
         let mut line = line;
         let length = read_line(&mut self.reader, &mut line)?;
         line.truncate(length);
-        match accepted(line) {
-            Ok(password) => Ok(password),
-            Err(fault) => Err(fault),
-        }
+        accepted_line(line)
     }
 }
 
@@ -105,10 +93,10 @@ impl<R: Source, W: Sink> Prompt<R, W> {
 fn read_line<R: Source>(source: &mut R, line: &mut [u8]) -> Result<usize>
     requires { length line.old ≡ 1026 }
     ensures outcome { MatchResult result
-        (λ n. (bytes : List ℕ) × HasReadLine R.ahead R.left R.faults source.old source.new bytes
-        × (n ≤ length line.new) × (password_of bytes ≡ accepted (take n line.new)))
-        (λ e. ((e ≡ reading_failed) × HasFailedInLine R.ahead R.faults source.old source.new)
-        ⊎ ((bytes : List ℕ) × HasReadLine R.ahead R.left R.faults source.old source.new bytes
+        (λ n. (bytes : List ℕ) × HasReadLine (source_passage R.Source source.old source.new) bytes
+        × (n ≤ length line.new) × (password_of bytes ≡ accepted_line (take n line.new)))
+        (λ e. ((e ≡ reading_failed) × HasFailedInLine (source_passage R.Source source.old source.new))
+        ⊎ ((bytes : List ℕ) × HasReadLine (source_passage R.Source source.old source.new) bytes
         × (password_of bytes ≡ Err e))) }
 {
     let mut used = 0;
@@ -156,11 +144,11 @@ fn without_carriage_return(line: &[u8]) -> usize
 }
 
 // A line as a password, if it is UTF-8 of at most 1024 bytes.
-#[tactic(auto, unfolding(crate::specs::Prompts::accepted))]
-fn accepted(line: Vec<u8>) -> Result<String>
+#[tactic(auto, unfolding(crate::specs::Prompts::accepted_line))]
+fn accepted_line(line: Vec<u8>) -> Result<String>
     ensures outcome { MatchResult result
-        (λ password. accepted line.items ≡ Ok (string_bytes password))
-        (λ e. accepted line.items ≡ Err e) }
+        (λ password. accepted_line line.items ≡ Ok (string_bytes password))
+        (λ e. accepted_line line.items ≡ Err e) }
 {
     let Ok(password) = String::from_utf8(line) else {
         return Err(faults::not_utf8());

@@ -1,7 +1,5 @@
 //! The sizes of Blake2b in bytes (RFC 7693, 2.1 and 2.5).
 
-ghost use Rattle.std.specs.Prelude.{◌≡◌, ◌∷◌, []};
-
 /// The length of a block.
 pub const BLAKE2B_BLOCKBYTES: usize = 128;
 
@@ -17,15 +15,13 @@ pub const BLAKE2B_SALTBYTES: usize = 16;
 /// The length of a personalization. No call of this crate takes one.
 pub const BLAKE2B_PERSONALBYTES: usize = 16;
 
-// The five sizes, which are the standard's: this contract pins them.
-fn sizes() -> [usize; 5]
-    ensures { result ≡ 128 ∷ 64 ∷ 64 ∷ 16 ∷ 16 ∷ [] }
-{
-    [
-        BLAKE2B_BLOCKBYTES,
-        BLAKE2B_OUTBYTES,
-        BLAKE2B_KEYBYTES,
-        BLAKE2B_SALTBYTES,
-        BLAKE2B_PERSONALBYTES,
-    ]
-}
+// The sizes are the standard's.
+const _: () = prove!(BLAKE2B_BLOCKBYTES == 128);
+
+const _: () = prove!(BLAKE2B_OUTBYTES == 64);
+
+const _: () = prove!(BLAKE2B_KEYBYTES == 64);
+
+const _: () = prove!(BLAKE2B_SALTBYTES == 16);
+
+const _: () = prove!(BLAKE2B_PERSONALBYTES == 16);

@@ -3,7 +3,7 @@ use Rattle.std.proofs.Common.{ℕ, ◌*◌, ◌^◌, ◌<◌, ◌≤◌, inl, in
 use Rattle.std.proofs.Math.Nat.{mul-le-mul}
 use Rattle.std.proofs.Math.Pow.{pow_mono}
 use Rattle.std.proofs.lemmas.Bool.{cases_lt}
-use Rattle.minisign_kdf.specs.Params.{IsAccepted}
+use Rattle.minisign_kdf.specs.Params.{IsAccepted, Numbers}
 
 -- 64 rows' worth of bits or more have no count
 pub table_full : (n r : ℕ) → 1 ≤ r → 64 ≤ n → 2 ^ 64 ≤ 128 * r * 2 ^ n
@@ -12,8 +12,8 @@ table_full n r some many =
     let least : 1 * 2 ^ 64 ≤ 128 * r * 2 ^ n = mul-le-mul {n₁ = 1} {m₁ = 2 ^ 64} {n₂ = 128 * r} {m₂ = 2 ^ n} (omega arith) power in
     omega arith
 
-pub n_log2_small : (n r p : ℕ) → IsAccepted n r p → n < 64
-n_log2_small n r p a = elim (cases_lt n 64) [
+pub n_log2_small : (v : Numbers) → IsAccepted v → v.n_log2 < 64
+n_log2_small v a = elim (cases_lt v.n_log2 64) [
   | inl h ↦ h
-  | inr h ↦ let full = table_full n r a.block_size h in let table = a.table in absurd (omega arith)
+  | inr h ↦ let full = table_full v.n_log2 v.r a.block_size h in let table = a.table in absurd (omega arith)
 ]

@@ -2,20 +2,26 @@
 -- parallelization p (RFC 7914, section 2).
 use Rattle.std.specs.Prelude.{ℕ, ◌*◌, ◌^◌, ◌<◌, ◌≤◌, Bool, ◌&&◌, nat_lt, nat_le}
 
+-- the cost N as its logarithm to base 2, the block size and the parallelization
+pub record Numbers : Type 0 where
+  pub n_log2 : ℕ
+  pub r : ℕ
+  pub p : ℕ
+
 -- the six conditions
-pub record IsAccepted (n_log2 r p : ℕ) : Type 0 where
-  pub cost : 1 ≤ n_log2
-  pub block_size : 1 ≤ r
-  pub parallelization : 1 ≤ p
+pub record IsAccepted (v : Numbers) : Type 0 where
+  pub cost : 1 ≤ v.n_log2
+  pub block_size : 1 ≤ v.r
+  pub parallelization : 1 ≤ v.p
   -- N below 2 ^ (128 * r / 8)
-  pub cost_bound : n_log2 < 16 * r
+  pub cost_bound : v.n_log2 < 16 * v.r
   -- p at most (2 ^ 32 - 1) * 32 / (128 * r)
-  pub product : r * p < 2 ^ 30
+  pub product : v.r * v.p < 2 ^ 30
   -- the rows of a part have a number of bytes that 64 bits can count
-  pub table : 128 * r * 2 ^ n_log2 < 2 ^ 64
+  pub table : 128 * v.r * 2 ^ v.n_log2 < 2 ^ 64
 
 -- the same as a test
-abbrev pub is_accepted : ℕ → ℕ → ℕ → Bool
-is_accepted n_log2 r p =
-    nat_le 1 n_log2 && nat_le 1 r && nat_le 1 p && nat_lt n_log2 (16 * r) && nat_lt (r * p) (2 ^ 30)
-    && nat_lt (128 * r * 2 ^ n_log2) (2 ^ 64)
+abbrev pub is_accepted : Numbers → Bool
+is_accepted v =
+    nat_le 1 v.n_log2 && nat_le 1 v.r && nat_le 1 v.p && nat_lt v.n_log2 (16 * v.r) && nat_lt (v.r * v.p) (2 ^ 30)
+    && nat_lt (128 * v.r * 2 ^ v.n_log2) (2 ^ 64)

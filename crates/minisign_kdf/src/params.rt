@@ -1,18 +1,28 @@
 //! The parameters of scrypt (RFC 7914, section 2).
 
 ghost use Rattle.std.specs.Prelude.{◌≡◌, ◌↔◌, ◌*◌, ◌^◌, ◌<◌, ◌≤◌, IsOk, IfOk, Some, codes, is_ok, nat_lt};
-ghost use Rattle.minisign_kdf.specs.Params.{IsAccepted, is_accepted};
+ghost use Rattle.minisign_kdf.specs.Params.{IsAccepted, Numbers, is_accepted};
 
 use std::fmt;
+use std::marker::Model;
 
 /// Parameters of scrypt that can be used: the cost N as its logarithm to base 2, the block size r and
-/// the parallelization p.
+/// the parallelization p. A contract sees these three numbers.
 #[derive(Clone, Copy, Debug, PartialEq)]
 pub struct Params {
     n_log2: u8,
     r: u32,
     p: u32,
-    pub ghost accepted: { IsAccepted n_log2 r p },
+}
+
+impl Model for Params {
+    ghost Value = { Numbers };
+
+    ghost view = { λ v. record { n_log2 = v.n_log2; r = v.r; p = v.p } };
+
+    ghost inverse = { λ v. record { n_log2 = v.n_log2; r = v.r; p = v.p } };
+
+    ghost invariant = { λ v. IsAccepted (record { n_log2 = v.n_log2; r = v.r; p = v.p }) };
 }
 
 /// Parameters that scrypt can't be used with.
@@ -32,11 +42,9 @@ impl Params {
     /// r * p is below 2^30, and the 128 * r * N bytes of a part's rows are below 2^64; anything else
     /// is refused (RFC 7914, section 2). Takes no memory.
     pub fn new(n_log2: u8, r: u32, p: u32) -> Result<Params, InvalidParams>
-        ensures accepted { IsOk result ↔ IsAccepted n_log2 r p }
-        ensures test { is_ok result ≡ is_accepted n_log2 r p }
-        ensures n_log2 { IfOk result (λ v. v.n_log2 ≡ n_log2) }
-        ensures r { IfOk result (λ v. v.r ≡ r) }
-        ensures p { IfOk result (λ v. v.p ≡ p) }
+        ensures accepted { IsOk result ↔ IsAccepted (record { n_log2 = n_log2; r = r; p = p }) }
+        ensures test { is_ok result ≡ is_accepted (record { n_log2 = n_log2; r = r; p = p }) }
+        ensures numbers { IfOk result (λ v. v ≡ record { n_log2 = n_log2; r = r; p = p }) }
     {
         if n_log2 < 1 || r < 1 || p < 1 {
             return Err(InvalidParams);
@@ -52,21 +60,24 @@ impl Params {
 
     /// The logarithm of the cost N to base 2.
     pub fn n_log2(&self) -> u8
-        ensures { result ≡ self.now.n_log2 }
+        ensures number { result ≡ self.now.n_log2 }
+        ensures accepted { IsAccepted self.now }
     {
         self.n_log2
     }
 
     /// The block size.
     pub fn r(&self) -> u32
-        ensures { result ≡ self.now.r }
+        ensures number { result ≡ self.now.r }
+        ensures accepted { IsAccepted self.now }
     {
         self.r
     }
 
     /// The parallelization.
     pub fn p(&self) -> u32
-        ensures { result ≡ self.now.p }
+        ensures number { result ≡ self.now.p }
+        ensures accepted { IsAccepted self.now }
     {
         self.p
     }

@@ -1,4 +1,6 @@
+pub mod Copying
 pub mod Keygen
+pub mod Replacing
 pub mod Report
 pub mod Sign
 pub mod TextFiles

@@ -1,10 +1,12 @@
 -- What the program says on the error stream.
-use Rattle.std.specs.Prelude.{◌≡◌, ℕ, ◌⊎◌, List, ◌++◌, Option, codes}
+use Rattle.std.specs.Prelude.{◌≡◌, ℕ, ◌⊎◌, List, ◌++◌, codes}
 use Rattle.std.specs.Io.KnownBytes.{Appends}
 use Rattle.minisign_base.specs.Devices.{Rose, AppendsFront}
 use Rattle.minisign_base.specs.Fault.{Fault}
 use Rattle.minisign_base.specs.Faults.{out_of_memory}
-use Rattle.minisign.specs.Acceptance.{line}
+use Rattle.minisign_base.specs.Members.{SinkOf}
+use Rattle.minisign_base.specs.Passages.{SinkPassage, sink_passage}
+use Rattle.minisign.specs.Lines.{line}
 
 -- the first line of every run
 unfoldable pub warning_line : List ℕ
@@ -19,18 +21,23 @@ abbrev pub fault_line : Fault → List ℕ
 fault_line e = codes "error: " ++ line e.text
 
 -- a sink took the text whole, or it failed and took a beginning of it
-abbrev pub HasSaid : {S : Type 0} → (S → Option (List ℕ)) → (S → ℕ) → S → S → List ℕ → Type 0
-HasSaid taken_of faults_of old new text =
-    (Appends (taken_of old) (taken_of new) text × (faults_of new ≡ faults_of old))
-    ⊎ (AppendsFront (taken_of old) (taken_of new) text × Rose (faults_of old) (faults_of new))
+abbrev pub TakesOrFails : {S : Type 0} → SinkOf S → S → S → List ℕ → Type 0
+TakesOrFails sink old new text =
+    (Appends (sink.taken old) (sink.taken new) text × (sink.sink_faults new ≡ sink.sink_faults old))
+    ⊎ (AppendsFront (sink.taken old) (sink.taken new) text × Rose (sink.sink_faults old) (sink.sink_faults new))
 
 -- the warning was said, or the sink failed at it, and then the sink took this text whole
-abbrev pub SaysAfterWarning : {S : Type 0} → (S → Option (List ℕ)) → (S → ℕ) → S → S → List ℕ → Type 0
-SaysAfterWarning {S = S} taken_of faults_of old new text =
-    (warned : S) × HasSaid taken_of faults_of old warned warning_line
-    × Appends (taken_of warned) (taken_of new) text × (faults_of new ≡ faults_of warned)
+abbrev pub SaysAfterWarning : {S : Type 0} → SinkOf S → S → S → List ℕ → Type 0
+SaysAfterWarning {S = S} sink old new text =
+    (warned : S) × TakesOrFails sink old warned warning_line
+    × Appends (sink.taken warned) (sink.taken new) text × (sink.sink_faults new ≡ sink.sink_faults warned)
 
 -- the line of a fault was said, or, where memory was wanting for it, that of want of memory
-abbrev pub ShowsFault : {S : Type 0} → (S → Option (List ℕ)) → (S → ℕ) → S → S → Fault → Type 0
-ShowsFault taken_of faults_of old new e =
-    HasSaid taken_of faults_of old new (fault_line e) ⊎ HasSaid taken_of faults_of old new (fault_line out_of_memory)
+abbrev pub ShowsFault : {S : Type 0} → SinkOf S → S → S → Fault → Type 0
+ShowsFault sink old new e = TakesOrFails sink old new (fault_line e) ⊎ TakesOrFails sink old new (fault_line out_of_memory)
+
+-- a run ends with a fault: the warning was said, what Fails says went on, and the line of the fault was said
+abbrev pub EndsWithFault : {S : Type 0} → SinkOf S → S → S → (SinkPassage S → Fault → Type 0) → Type 0
+EndsWithFault {S = S} sink old new Fails =
+    (e : Fault) × (warned told : S) × TakesOrFails sink old warned warning_line × ShowsFault sink told new e
+    × Fails (sink_passage sink warned told) e

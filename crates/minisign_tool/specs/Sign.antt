@@ -1,15 +1,16 @@
 -- How a run that signs with a text file ends.
-use Rattle.std.specs.Prelude.{◌≡◌, ℕ, ◌⊎◌, None, List, Option}
-use Rattle.minisign_base.specs.declared.prompt.Prompt.{Prompt}
-use Rattle.minisign_base.specs.Devices.{Rose, AppendsFront}
+use Rattle.std.specs.Prelude.{◌≡◌, ℕ, ◌⊎◌, None, List}
+use Rattle.minisign_base.specs.Passages.{PromptPassage, RandomPassage, SinkPassage, SourcePassage, Takes}
 use Rattle.minisign_base.specs.Fault.{Fault}
 use Rattle.minisign_base.specs.Faults.{writing_failed}
 use Rattle.minisign.specs.Records.{SecretKeyRecord, SignatureBoxRecord}
 use Rattle.minisign.specs.Acceptance.{Verifier, VouchesUnderEachKey}
-use Rattle.minisign.specs.Reading.{ReadsWhole}
+use Rattle.minisign.specs.Generation.{FailsAtPart, TakesPart}
+use Rattle.minisign.specs.Reading.{IsAhead, ReadsWhole}
 use Rattle.minisign.specs.SignatureText.{SignatureText}
 use Rattle.minisign.specs.Signing.{IsGenuine, Signer, comments_or_defaults}
-use Rattle.minisign.specs.SigningTexts.{GivesKeyAsking, GivesNoneAsking, IsSignedText, OpenedSigningFails}
+use Rattle.minisign.specs.SigningTexts.{GivesKey, IsSignedText, TextSigningFails}
+use Rattle.minisign.specs.TextFiles.{IsTextFault}
 
 -- where the key is genuine, the text reads as a box that every public key of the same seed and identifier
 -- vouches with
@@ -20,30 +21,59 @@ ReadsBackWhereGenuine accepts public_of sk message text =
 
 -- the key's text gave a key, with a password that was asked for where it is sealed; all the data was read,
 -- and this is the text of the box that the key signs it with, the comments being those by default
-pub record SignsText {A B R Z : Type 0} (sign : Signer) (prompt_ahead : A → Option (List ℕ)) (prompt_left prompt_faults : A → ℕ)
-    (prompt_taken : B → Option (List ℕ)) (prompt_sink_faults : B → ℕ) (prompt_old prompt_new : Prompt A B)
-    (ahead behind : R → Option (List ℕ)) (faults : R → ℕ) (old new : R) (random_ahead : Z → Option (List ℕ)) (random_old random_new : Z)
+pub record SignsText {A B R Z : Type 0} (sign : Signer) (p : PromptPassage A B) (r : SourcePassage R) (z : RandomPassage Z)
     (sk_text : List ℕ) (moment : ℕ) (text : List ℕ) : Type 0 where
   pub key : SecretKeyRecord
   pub message : List ℕ
-  pub given : GivesKeyAsking prompt_ahead prompt_left prompt_faults prompt_taken prompt_sink_faults prompt_old prompt_new sk_text key
-  pub read : ReadsWhole ahead behind faults old new message
-  pub signed : IsSignedText sign key message (comments_or_defaults None None moment) (random_ahead random_old) (random_ahead random_new) text
-
--- signing with a key's text fails: the text gives no key, with nothing read or drawn, or signing with its
--- key fails
-abbrev pub SignFails : {A B R Z : Type 0} → (A → Option (List ℕ)) → (A → ℕ) → (A → ℕ) → (B → Option (List ℕ)) → (B → ℕ) → Prompt A B → Prompt A B
-    → (R → Option (List ℕ)) → (R → Option (List ℕ)) → (R → ℕ) → R → R → (Z → ℕ) → Z → Z → List ℕ → Fault → Type 0
-SignFails prompt_ahead prompt_left prompt_faults prompt_taken prompt_sink_faults prompt_old prompt_new
-    ahead behind faults old new random_faults random_old random_new sk_text e =
-    (GivesNoneAsking prompt_ahead prompt_left prompt_faults prompt_taken prompt_sink_faults prompt_old prompt_new sk_text e
-    × (new ≡ old) × (random_new ≡ random_old))
-    ⊎ ((key : SecretKeyRecord)
-    × GivesKeyAsking prompt_ahead prompt_left prompt_faults prompt_taken prompt_sink_faults prompt_old prompt_new sk_text key
-    × OpenedSigningFails ahead behind faults old new random_faults random_old random_new e)
+  pub given : GivesKey p None sk_text key
+  pub read : ReadsWhole r.source r.old r.new message
+  pub signed : IsSignedText sign key message (comments_or_defaults None None moment) z text
 
 -- the text of a signature could not be written: a beginning of it was
-pub record WriteFails {G : Type 0} (taken_of : G → Option (List ℕ)) (faults_of : G → ℕ) (old new : G) (text : List ℕ) (e : Fault) : Type 0 where
+pub record WriteFails {G : Type 0} (g : SinkPassage G) (text : List ℕ) (e : Fault) : Type 0 where
   pub fault : e ≡ writing_failed
-  pub rose : Rose (faults_of old) (faults_of new)
-  pub front : AppendsFront (taken_of old) (taken_of new) text
+  pub failed : FailsAtPart g text
+
+-- what a genuine key signed was written: every public key of its seed and identifier vouches for all of the
+-- data with it
+pub record HasWrittenVouched {K A B R G : Type 0} (accepts : Verifier) (public_of : List ℕ → List ℕ) (sk_file : SourcePassage K)
+    (p : PromptPassage A B) (r : SourcePassage R) (g : SinkPassage G) : Type 0 where
+  pub sk_text : List ℕ
+  pub text : List ℕ
+  pub message : List ℕ
+  pub key : SecretKeyRecord
+  pub held : IsAhead (sk_file.source.ahead sk_file.old) sk_text
+  pub signed : IsAhead (r.source.ahead r.old) message
+  pub given : GivesKey p None sk_text key
+  pub vouched : ReadsBackWhereGenuine accepts public_of key message text
+  pub written : Takes g text
+
+-- the text of the box that the definition of signing makes was written, and nothing failed
+pub record HasWrittenSigned {K A B R Z G : Type 0} (sign : Signer) (sk_file : SourcePassage K) (p : PromptPassage A B)
+    (r : SourcePassage R) (z : RandomPassage Z) (g : SinkPassage G) (moment : ℕ) : Type 0 where
+  pub sk_text : List ℕ
+  pub text : List ℕ
+  pub read : ReadsWhole sk_file.source sk_file.old sk_file.new sk_text
+  pub signs : SignsText sign p r z sk_text moment text
+  pub written : TakesPart g text
+
+-- nothing was written: the key's file gave no text, with nothing else touched, or signing with the text failed
+abbrev pub NoSignature : {K A B R Z : Type 0} → SourcePassage K → PromptPassage A B → SourcePassage R → RandomPassage Z → Fault → Type 0
+NoSignature sk_file p r z e =
+    (IsTextFault sk_file.source sk_file.old sk_file.new e × (p.new ≡ p.old) × (r.new ≡ r.old) × (z.new ≡ z.old))
+    ⊎ ((sk_text : List ℕ) × ReadsWhole sk_file.source sk_file.old sk_file.new sk_text × TextSigningFails p None sk_text r z e)
+
+-- a signature was made, and its text was not written whole
+pub record UnwrittenSignature {K A B R Z G : Type 0} (sign : Signer) (sk_file : SourcePassage K) (p : PromptPassage A B)
+    (r : SourcePassage R) (z : RandomPassage Z) (g : SinkPassage G) (moment : ℕ) (e : Fault) : Type 0 where
+  pub sk_text : List ℕ
+  pub text : List ℕ
+  pub read : ReadsWhole sk_file.source sk_file.old sk_file.new sk_text
+  pub signs : SignsText sign p r z sk_text moment text
+  pub failed : WriteFails g text e
+
+-- signing a file fails: there is no signature, and nothing was written, or its text was not written whole
+abbrev pub FileSigningFails : {K A B R Z G : Type 0} → Signer → SourcePassage K → PromptPassage A B → SourcePassage R → RandomPassage Z
+    → SinkPassage G → ℕ → Fault → Type 0
+FileSigningFails sign sk_file p r z g moment e =
+    (NoSignature sk_file p r z e × (g.new ≡ g.old)) ⊎ UnwrittenSignature sign sk_file p r z g moment e

@@ -4,6 +4,7 @@ ghost use Rattle.std.specs.Prelude.{◌≡◌, IfErr};
 ghost use Rattle.minisign_base.specs.Faults.{out_of_memory};
 
 use minisign::base::{Result, faults};
+use std::env::FillError;
 use std::rt::Env;
 use std::{env, io};
 
@@ -42,19 +43,39 @@ pub enum Command {
     Usage,
 }
 
-/// Reads the arguments behind the program's name. Only want of memory is refused: arguments of which one
+// The arguments behind the path of the program, which need not be UTF-8.
+#[derive(Drop)]
+struct BehindProgram<'a, R>(&'a R);
+
+impl<R: Env> Env for BehindProgram<'_, R> {
+    fn arg(&self, i: usize, buf: &mut [u8]) -> std::result::Result<usize, FillError> {
+        match i.checked_add(1) {
+            Some(i) => self.0.arg(i, buf),
+            None => Err(FillError::NotPresent),
+        }
+    }
+
+    fn var(&self, name: &str, buf: &mut [u8]) -> std::result::Result<usize, FillError> {
+        self.0.var(name, buf)
+    }
+
+    fn var_at(&self, i: usize, buf: &mut [u8]) -> std::result::Result<usize, FillError> {
+        self.0.var_at(i, buf)
+    }
+}
+
+/// Reads the arguments behind the program's path. Only want of memory is refused: arguments of which one
 /// is no UTF-8 are none of the table's.
 pub fn read_arguments<R: Env + AllocGlobal>(rt: &R) -> Result<Command>
     ensures { IfErr result (λ e. e ≡ out_of_memory) }
 {
-    let mut arguments = match env::args(rt) {
+    let mut arguments = match env::args(&(BehindProgram(rt), rt.alloc())) {
         Ok(arguments) => arguments,
         Err(error) if error.kind() == io::ErrorKind::OutOfMemory => {
             return Err(faults::out_of_memory());
         }
         Err(_) => return Ok(Command::Usage),
     };
-    let _program = arguments.next();
     let Some(name) = arguments.next() else {
         return Ok(Command::Usage);
     };

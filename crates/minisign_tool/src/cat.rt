@@ -1,16 +1,15 @@
 //! The command `cat`: as `verify`, and what was verified is copied out.
 
-ghost use Rattle.std.specs.Prelude.{◌≡◌, ℕ, ◌≤◌, List, false, true, ◌⊎◌, OnOk, OnErr, IfErr};
+ghost use Rattle.std.specs.Prelude.{◌≡◌, ℕ, ◌≤◌, List, false, true, OnOk, OnErr, IfErr};
 ghost use Rattle.std.specs.Io.KnownBytes.{Appends};
-ghost use Rattle.minisign_base.specs.Fault.{Fault};
+ghost use Rattle.minisign_base.specs.Passages.{Takes, rereader_passage, sink_passage, source_passage};
 ghost use Rattle.minisign.specs.Acceptance.{status_lines};
-ghost use Rattle.minisign.specs.Headline.{TextsVouchFor};
+ghost use Rattle.minisign.specs.Headline.{CopyIsVouchedFor, TextsVouchFor};
 ghost use Rattle.minisign.specs.Reading.{IsAhead};
 ghost use Rattle.minisign.specs.Verifying.{Copied};
 ghost use Rattle.minisign.specs.VerifyingTexts.{VerifyingTextsFails};
-ghost use Rattle.minisign_tool.specs.Report.{HasSaid, SaysAfterWarning, ShowsFault, warning_line};
-ghost use Rattle.minisign_tool.specs.TextFiles.{EitherFails, ReadsBoth};
-ghost use Rattle.minisign_tool.specs.Verify.{SaysFront};
+ghost use Rattle.minisign_tool.specs.Report.{EndsWithFault, SaysAfterWarning};
+ghost use Rattle.minisign_tool.specs.Verify.{FilesFailToCopy, FilesVouchForCopy, SaysFront, says_and_copies};
 
 use crate::report::{report, warn};
 use crate::text_files::read_both_texts;
@@ -34,25 +33,18 @@ pub fn run_cat<S: Scheme, P: Source, R: Rereader, Q: Source, O: Sink, W: Sink>(
 ) -> u8
     ensures status { result ≤ 1 }
 
-    // What both files hold vouches for the data, that was said of it behind the warning, and it was copied.
-    ensures accepted { result ≡ 0 → (pk_text sig_text message : List ℕ) × IsAhead (P.ahead pk_file.old) pk_text
-        × IsAhead (Q.ahead sig_file.old) sig_text × IsAhead (R.ahead data_reader.old) message
-        × ((vouched : TextsVouchFor (S.accepts scheme.now) pk_text sig_text message false)
-        × SaysAfterWarning W.taken W.sink_faults errors.old errors.new (status_lines vouched.box)
-        × Copied R.steady R.ahead data_reader.old O.taken out.old out.new vouched.box message) }
+    // What both files hold vouches for the data, that was said of it behind the warning, and it was copied; what
+    // `out` took is itself vouched for.
+    ensures accepted { result ≡ 0 → FilesVouchForCopy (S.accepts scheme.now)
+        (source_passage P.Source pk_file.old pk_file.new) (source_passage Q.Source sig_file.old sig_file.new)
+        (rereader_passage R.Source R.steady data_reader.old data_reader.new) (sink_passage O.Sink out.old out.new)
+        (SaysAfterWarning W.Sink errors.old errors.new) }
     ensures out_calm { result ≡ 0 → O.sink_faults out.new ≡ O.sink_faults out.old }
 
-    // Why it ended otherwise, between the warning and the line of the fault: a file gave no text, with no
-    // data read or copied, or verifying with the texts failed.
-    ensures refused { result ≡ 1 → (e : Fault) × (warned told : W) × HasSaid W.taken W.sink_faults errors.old warned warning_line
-        × ShowsFault W.taken W.sink_faults told errors.new e
-        × ((EitherFails P.ahead P.behind P.faults pk_file.old pk_file.new Q.ahead Q.behind Q.faults sig_file.old sig_file.new e
-        × (data_reader.new ≡ data_reader.old) × (out.new ≡ out.old) × (told ≡ warned))
-        ⊎ ((pk_text sig_text : List ℕ) × ReadsBoth P.ahead P.behind P.faults pk_file.old pk_file.new
-        Q.ahead Q.behind Q.faults sig_file.old sig_file.new pk_text sig_text
-        × VerifyingTextsFails (S.accepts scheme.now) pk_text sig_text false false true R.steady R.ahead R.behind R.faults data_reader.old data_reader.new
-        W.taken W.sink_faults warned told O.taken O.sink_faults out.old out.new e
-        × SaysFront W.taken warned told pk_text sig_text)) }
+    // Why it ended otherwise, between the warning and the line of the fault.
+    ensures refused { result ≡ 1 → EndsWithFault W.Sink errors.old errors.new (FilesFailToCopy (S.accepts scheme.now)
+        (source_passage P.Source pk_file.old pk_file.new) (source_passage Q.Source sig_file.old sig_file.new)
+        (rereader_passage R.Source R.steady data_reader.old data_reader.new) (sink_passage O.Sink out.old out.new)) }
 {
     warn(errors);
     match read_and_copy(alloc, scheme, pk_file, data_reader, sig_file, out, errors) {
@@ -71,21 +63,14 @@ fn read_and_copy<S: Scheme, P: Source, R: Rereader, Q: Source, O: Sink, W: Sink>
     out: &mut O,
     errors: &mut W,
 ) -> Result<()>
-    ensures accepted { OnOk result ((pk_text sig_text message : List ℕ) × IsAhead (P.ahead pk_file.old) pk_text
-        × IsAhead (Q.ahead sig_file.old) sig_text × IsAhead (R.ahead data_reader.old) message
-        × ((vouched : TextsVouchFor (S.accepts scheme.now) pk_text sig_text message false)
-        × Appends (W.taken errors.old) (W.taken errors.new) (status_lines vouched.box)
-        × Copied R.steady R.ahead data_reader.old O.taken out.old out.new vouched.box message)) }
+    ensures accepted { OnOk result (FilesVouchForCopy (S.accepts scheme.now)
+        (source_passage P.Source pk_file.old pk_file.new) (source_passage Q.Source sig_file.old sig_file.new)
+        (rereader_passage R.Source R.steady data_reader.old data_reader.new) (sink_passage O.Sink out.old out.new) (Takes (sink_passage W.Sink errors.old errors.new))) }
     ensures calm { OnOk result (W.sink_faults errors.new ≡ W.sink_faults errors.old) }
     ensures out_calm { OnOk result (O.sink_faults out.new ≡ O.sink_faults out.old) }
-    ensures refused { IfErr result (λ e.
-        (EitherFails P.ahead P.behind P.faults pk_file.old pk_file.new Q.ahead Q.behind Q.faults sig_file.old sig_file.new e
-        × (data_reader.new ≡ data_reader.old) × (out.new ≡ out.old) × (errors.new ≡ errors.old))
-        ⊎ ((pk_text sig_text : List ℕ) × ReadsBoth P.ahead P.behind P.faults pk_file.old pk_file.new
-        Q.ahead Q.behind Q.faults sig_file.old sig_file.new pk_text sig_text
-        × VerifyingTextsFails (S.accepts scheme.now) pk_text sig_text false false true R.steady R.ahead R.behind R.faults data_reader.old data_reader.new
-        W.taken W.sink_faults errors.old errors.new O.taken O.sink_faults out.old out.new e
-        × SaysFront W.taken errors.old errors.new pk_text sig_text)) }
+    ensures refused { IfErr result (FilesFailToCopy (S.accepts scheme.now)
+        (source_passage P.Source pk_file.old pk_file.new) (source_passage Q.Source sig_file.old sig_file.new)
+        (rereader_passage R.Source R.steady data_reader.old data_reader.new) (sink_passage O.Sink out.old out.new) (sink_passage W.Sink errors.old errors.new)) }
 {
     let (pk_text, sig_text) = read_both_texts(alloc, pk_file, sig_file)?;
     match copy_data(alloc, scheme, &pk_text, &sig_text, data_reader, out, errors) {
@@ -108,13 +93,14 @@ pub fn copy_data<S: Scheme, R: Rereader, O: Sink, W: Sink>(
     ensures accepted { OnOk result ((message : List ℕ) × IsAhead (R.ahead data_reader.old) message
         × ((vouched : TextsVouchFor (S.accepts scheme.now) pk_text.now sig_text.now message false)
         × Appends (W.taken errors.old) (W.taken errors.new) (status_lines vouched.box)
-        × Copied R.steady R.ahead data_reader.old O.taken out.old out.new vouched.box message)) }
+        × Copied (S.accepts scheme.now) vouched.key vouched.box false
+        (rereader_passage R.Source R.steady data_reader.old data_reader.new) (sink_passage O.Sink out.old out.new) message
+        × CopyIsVouchedFor (S.accepts scheme.now) pk_text.now sig_text.now false (sink_passage O.Sink out.old out.new))) }
     ensures calm { OnOk result (W.sink_faults errors.new ≡ W.sink_faults errors.old) }
     ensures out_calm { OnOk result (O.sink_faults out.new ≡ O.sink_faults out.old) }
-    ensures refused { IfErr result (VerifyingTextsFails (S.accepts scheme.now) pk_text.now sig_text.now false false true
-        R.steady R.ahead R.behind R.faults data_reader.old data_reader.new
-        W.taken W.sink_faults errors.old errors.new O.taken O.sink_faults out.old out.new) }
-    ensures front { OnErr result (SaysFront W.taken errors.old errors.new pk_text.now sig_text.now) }
+    ensures refused { IfErr result (VerifyingTextsFails (S.accepts scheme.now) pk_text.now sig_text.now says_and_copies
+        (rereader_passage R.Source R.steady data_reader.old data_reader.new) (sink_passage W.Sink errors.old errors.new) (sink_passage O.Sink out.old out.new)) }
+    ensures front { OnErr result (SaysFront (sink_passage W.Sink errors.old errors.new) pk_text.now sig_text.now) }
 {
     let (quiet, output, allow_legacy) = (false, true, false);
     verify_texts(

@@ -1,14 +1,17 @@
 //! The commands over the files that the arguments name: opens the files, runs a command's body over them
-//! and the standard streams, and answers the exit status. A fault of opening is shown here.
+//! and the standard streams, and answers the exit status. What fails before the body has begun is answered as a
+//! fault, with nothing said.
 
-ghost use Rattle.std.specs.Prelude.{◌≡◌, ◌≤◌};
-ghost use Rattle.minisign_base.specs.Faults.{reading_failed};
-ghost use Rattle.minisign_tool.specs.Report.{HasSaid, ShowsFault, warning_line};
+ghost use Rattle.std.specs.Prelude.{◌≡◌, ◌≤◌, ◌⊎◌, IfOk, IfErr};
+ghost use Rattle.minisign_base.specs.Faults.{clock_incorrect, reading_failed};
+ghost use Rattle.minisign_tool.specs.Copying.{input_is_output};
 
 use crate::cat::run_cat;
 use crate::keygen::run_keygen;
-use crate::replacing::{FOR_ALL, FOR_THE_OWNER, replace_file};
-use crate::report::{report, warn};
+use crate::replacing::{
+    Contents, FOR_ALL, FOR_THE_OWNER, is_same_file, replace_both, replace_file,
+};
+use crate::report::report;
 use crate::sign::run_sign;
 use crate::verify::run_verify;
 use crate::verify_raw::run_verify_raw;
@@ -19,17 +22,17 @@ use minisign::base::devices::sources::{FileSource, ReaderSource};
 use minisign::base::helpers::unix_timestamp;
 use minisign::base::prompt::Prompt;
 use minisign::base::toy::ToyScheme;
-use minisign::base::{PError, faults};
+use minisign::base::{ErrorKind, PError, faults};
 use std::fs;
+use std::fs::File;
 
 /// Opens the device of random bytes, and runs `keygen` over it, a prompt on standard input and output, and
-/// memory. The two files are written last.
-pub fn keygen_files<W: Sink>(rt: &HostRuntime, pk: &str, sk: &str, errors: &mut W) -> u8
-    ensures { result ≤ 1 }
+/// memory. The two files are replaced last.
+pub fn keygen_files<W: Sink>(rt: &HostRuntime, pk: &str, sk: &str, errors: &mut W) -> Result<u8>
+    ensures status { IfOk result (λ s. s ≤ 1) }
+    ensures refused { IfErr result (λ e. (e ≡ reading_failed) × (errors.new ≡ errors.old)) }
 {
-    let Ok(random_file) = fs::open(rt, "/dev/urandom") else {
-        return cannot_open(rt, errors);
-    };
+    let random_file = open(rt, "/dev/urandom")?;
     let mut pk_text = VecSink::new(rt.alloc());
     let mut sk_text = VecSink::new(rt.alloc());
     let status = run_keygen(
@@ -42,45 +45,40 @@ pub fn keygen_files<W: Sink>(rt: &HostRuntime, pk: &str, sk: &str, errors: &mut 
         errors,
     );
     if status != 0 {
-        return status;
+        return Ok(status);
     }
-    match replace_both(rt, pk, pk_text.as_slice(), sk, sk_text.as_slice()) {
+    let public = Contents {
+        path: pk,
+        mode: FOR_ALL,
+        bytes: pk_text.as_slice(),
+    };
+    let secret = Contents {
+        path: sk,
+        mode: FOR_THE_OWNER,
+        bytes: sk_text.as_slice(),
+    };
+    Ok(match replace_both(rt, public, secret) {
         Ok(()) => 0,
         Err(fault) => report(rt.alloc(), errors, &fault),
-    }
-}
-
-// Replaces the file of the public key, and then that of the secret one, which only its owner may read where
-// it is new.
-fn replace_both(
-    rt: &HostRuntime,
-    pk: &str,
-    pk_text: &[u8],
-    sk: &str,
-    sk_text: &[u8],
-) -> Result<()> {
-    replace_file(rt, pk, FOR_ALL, pk_text)?;
-    replace_file(rt, sk, FOR_THE_OWNER, sk_text)
+    })
 }
 
 /// Opens the secret key, the data and the device of random bytes, asks the clock, and runs `sign` over them,
-/// a prompt on standard input and output, and memory. The file of the signature is written last.
-pub fn sign_files<W: Sink>(rt: &HostRuntime, sk: &str, file: &str, sig: &str, errors: &mut W) -> u8
-    ensures { result ≤ 1 }
+/// a prompt on standard input and output, and memory. The file of the signature is replaced last.
+pub fn sign_files<W: Sink>(
+    rt: &HostRuntime,
+    sk: &str,
+    file: &str,
+    sig: &str,
+    errors: &mut W,
+) -> Result<u8>
+    ensures status { IfOk result (λ s. s ≤ 1) }
+    ensures refused { IfErr result (λ e. ((e ≡ reading_failed) ⊎ (e ≡ clock_incorrect)) × (errors.new ≡ errors.old)) }
 {
-    let Ok(sk_file) = fs::open(rt, sk) else {
-        return cannot_open(rt, errors);
-    };
-    let Ok(data_file) = fs::open(rt, file) else {
-        return cannot_open(rt, errors);
-    };
-    let Ok(random_file) = fs::open(rt, "/dev/urandom") else {
-        return cannot_open(rt, errors);
-    };
-    let moment = match unix_timestamp(rt) {
-        Ok(moment) => moment,
-        Err(fault) => return refuse(rt, errors, &fault),
-    };
+    let sk_file = open(rt, sk)?;
+    let data_file = open(rt, file)?;
+    let random_file = open(rt, "/dev/urandom")?;
+    let moment = unix_timestamp(rt)?;
     let mut signature = VecSink::new(rt.alloc());
     let status = run_sign(
         rt.alloc(),
@@ -94,12 +92,17 @@ pub fn sign_files<W: Sink>(rt: &HostRuntime, sk: &str, file: &str, sig: &str, er
         errors,
     );
     if status != 0 {
-        return status;
+        return Ok(status);
     }
-    match replace_file(rt, sig, FOR_ALL, signature.as_slice()) {
+    let contents = Contents {
+        path: sig,
+        mode: FOR_ALL,
+        bytes: signature.as_slice(),
+    };
+    Ok(match replace_file(rt, contents) {
         Ok(()) => 0,
         Err(fault) => report(rt.alloc(), errors, &fault),
-    }
+    })
 }
 
 /// Opens the public key, the data and the signature, and runs `verify` over them.
@@ -109,63 +112,65 @@ pub fn verify_files<W: Sink>(
     file: &str,
     sig: &str,
     errors: &mut W,
-) -> u8
-    ensures { result ≤ 1 }
+) -> Result<u8>
+    ensures status { IfOk result (λ s. s ≤ 1) }
+    ensures refused { IfErr result (λ e. (e ≡ reading_failed) × (errors.new ≡ errors.old)) }
 {
-    let Ok(pk_file) = fs::open(rt, pk) else {
-        return cannot_open(rt, errors);
-    };
-    let Ok(data_file) = fs::open(rt, file) else {
-        return cannot_open(rt, errors);
-    };
-    let Ok(sig_file) = fs::open(rt, sig) else {
-        return cannot_open(rt, errors);
-    };
-    run_verify(
+    let pk_file = open(rt, pk)?;
+    let data_file = open(rt, file)?;
+    let sig_file = open(rt, sig)?;
+    Ok(run_verify(
         rt.alloc(),
         &ToyScheme::new(),
         &mut ReaderSource::new(pk_file),
         &mut ReaderSource::new(data_file),
         &mut ReaderSource::new(sig_file),
         errors,
-    )
+    ))
 }
 
 /// Opens the key and the signature, and runs `verify-raw` over them and standard input.
-pub fn verify_raw_files<W: Sink>(rt: &HostRuntime, pk: &str, sig: &str, errors: &mut W) -> u8
-    ensures { result ≤ 1 }
+pub fn verify_raw_files<W: Sink>(
+    rt: &HostRuntime,
+    pk: &str,
+    sig: &str,
+    errors: &mut W,
+) -> Result<u8>
+    ensures status { IfOk result (λ s. s ≤ 1) }
+    ensures refused { IfErr result (λ e. (e ≡ reading_failed) × (errors.new ≡ errors.old)) }
 {
-    let Ok(pk_file) = fs::open(rt, pk) else {
-        return cannot_open(rt, errors);
-    };
-    let Ok(sig_file) = fs::open(rt, sig) else {
-        return cannot_open(rt, errors);
-    };
-    run_verify_raw(
+    let pk_file = open(rt, pk)?;
+    let sig_file = open(rt, sig)?;
+    Ok(run_verify_raw(
         rt.alloc(),
         &ToyScheme::new(),
         &mut ReaderSource::new(pk_file),
         &mut ReaderSource::new(sig_file),
         &mut ReaderSource::new(rt.stdin()),
         errors,
-    )
+    ))
 }
 
 /// Opens the public key, the data, which goes back by seeking, and the signature, and runs `cat` over them
-/// and standard output.
-pub fn cat_files<W: Sink>(rt: &HostRuntime, pk: &str, file: &str, sig: &str, errors: &mut W) -> u8
-    ensures { result ≤ 1 }
+/// and standard output. Data from the file that standard output leads into is refused, with nothing read:
+/// the copy would be read as data again.
+pub fn cat_files<W: Sink>(
+    rt: &HostRuntime,
+    pk: &str,
+    file: &str,
+    sig: &str,
+    errors: &mut W,
+) -> Result<u8>
+    ensures status { IfOk result (λ s. s ≤ 1) }
+    ensures refused { IfErr result (λ e. ((e ≡ reading_failed) ⊎ (e ≡ input_is_output)) × (errors.new ≡ errors.old)) }
 {
-    let Ok(pk_file) = fs::open(rt, pk) else {
-        return cannot_open(rt, errors);
-    };
-    let Ok(data_file) = fs::open(rt, file) else {
-        return cannot_open(rt, errors);
-    };
-    let Ok(sig_file) = fs::open(rt, sig) else {
-        return cannot_open(rt, errors);
-    };
-    run_cat(
+    let pk_file = open(rt, pk)?;
+    let data_file = open(rt, file)?;
+    let sig_file = open(rt, sig)?;
+    if is_output(rt, &data_file) {
+        return Err(input_is_output());
+    }
+    Ok(run_cat(
         rt.alloc(),
         &ToyScheme::new(),
         &mut ReaderSource::new(pk_file),
@@ -173,24 +178,32 @@ pub fn cat_files<W: Sink>(rt: &HostRuntime, pk: &str, file: &str, sig: &str, err
         &mut ReaderSource::new(sig_file),
         &mut WriterSink::new(rt.stdout()),
         errors,
-    )
+    ))
 }
 
-/// Says that a file cannot be opened, and answers the exit status.
-pub fn cannot_open<W: Sink>(rt: &HostRuntime, errors: &mut W) -> u8
-    ensures status { result ≡ 1 }
-    ensures said { (warned : W) × HasSaid W.taken W.sink_faults errors.old warned warning_line
-        × ShowsFault W.taken W.sink_faults warned errors.new reading_failed }
+// Opens a file for reading.
+fn open(rt: &HostRuntime, path: &str) -> Result<File>
+    ensures { IfErr result (λ e. e ≡ reading_failed) }
 {
-    refuse(rt, errors, &faults::reading_failed())
+    match fs::open(rt, path) {
+        Ok(file) => Ok(file),
+        Err(_) => Err(faults::reading_failed()),
+    }
 }
 
-/// Warns and shows a fault that came before a command's body, and answers the exit status.
-pub fn refuse<W: Sink>(rt: &HostRuntime, errors: &mut W, fault: &PError) -> u8
-    ensures status { result ≡ 1 }
-    ensures said { (warned : W) × HasSaid W.taken W.sink_faults errors.old warned warning_line
-        × ShowsFault W.taken W.sink_faults warned errors.new fault.now }
+// Whether a file is a regular one, and standard output leads into the same. The system tells what standard output
+// is by a name below `/proc`; where there is none the answer is no.
+fn is_output(rt: &HostRuntime, file: &File) -> bool {
+    match (file.metadata(), fs::metadata(rt, "/proc/self/fd/1")) {
+        (Ok(input), Ok(output)) => input.is_file() && is_same_file(&input, &output),
+        _ => false,
+    }
+}
+
+/// The data comes from the file that standard output leads into.
+#[tactic(auto, unfolding(crate::specs::Copying::input_is_output))]
+pub fn input_is_output() -> PError
+    ensures { result ≡ input_is_output }
 {
-    warn(errors);
-    report(rt.alloc(), errors, fault)
+    PError::fixed(ErrorKind::Io, "input file is output file")
 }

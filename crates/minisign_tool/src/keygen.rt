@@ -2,9 +2,10 @@
 
 ghost use Rattle.std.specs.Prelude.{◌≡◌, ◌≤◌, None, IfErr, OnOk};
 ghost use Rattle.minisign_base.specs.Fault.{Fault};
+ghost use Rattle.minisign_base.specs.Passages.{prompt_passage, random_passage, sink_passage};
 ghost use Rattle.minisign.specs.Generation.{SealedTextsFail};
 ghost use Rattle.minisign_tool.specs.Keygen.{MakesKeys};
-ghost use Rattle.minisign_tool.specs.Report.{HasSaid, ShowsFault, warning_line};
+ghost use Rattle.minisign_tool.specs.Report.{TakesOrFails, ShowsFault, warning_line};
 
 use crate::report::{report, warn};
 use minisign::base::devices::random_sources::RandomSource;
@@ -32,15 +33,15 @@ pub fn run_keygen<S: Scheme, Z: RandomSource, R: Source, W: Sink, P: Sink, K: Si
     errors: &mut E,
 ) -> u8
     ensures status { result ≤ 1 }
-    ensures made { result ≡ 0 → MakesKeys (S.public_of scheme.now) (Z.random_ahead random.old) (Z.random_ahead random.new)
-        R.ahead R.left R.faults W.taken W.sink_faults prompt.old prompt.new
-        P.taken P.sink_faults pk_sink.old pk_sink.new K.taken K.sink_faults sk_sink.old sk_sink.new }
-    ensures warned { result ≡ 0 → HasSaid E.taken E.sink_faults errors.old errors.new warning_line }
-    ensures refused { result ≡ 1 → (e : Fault) × (warned : E) × HasSaid E.taken E.sink_faults errors.old warned warning_line
-        × ShowsFault E.taken E.sink_faults warned errors.new e
-        × SealedTextsFail (S.public_of scheme.now) Z.random_ahead Z.random_faults random.old random.new
-        R.ahead R.left R.faults W.taken W.sink_faults None prompt.old prompt.new
-        P.taken P.sink_faults pk_sink.old pk_sink.new K.taken K.sink_faults sk_sink.old sk_sink.new None e }
+    ensures made { result ≡ 0 → MakesKeys (S.public_of scheme.now) (random_passage Z.RandomSource random.old random.new)
+        (prompt_passage R.Source W.Sink prompt.old prompt.new)
+        (sink_passage P.Sink pk_sink.old pk_sink.new) (sink_passage K.Sink sk_sink.old sk_sink.new) }
+    ensures warned { result ≡ 0 → TakesOrFails E.Sink errors.old errors.new warning_line }
+    ensures refused { result ≡ 1 → (e : Fault) × (warned : E) × TakesOrFails E.Sink errors.old warned warning_line
+        × ShowsFault E.Sink warned errors.new e
+        × SealedTextsFail (S.public_of scheme.now) (random_passage Z.RandomSource random.old random.new)
+        (prompt_passage R.Source W.Sink prompt.old prompt.new) None
+        (sink_passage P.Sink pk_sink.old pk_sink.new) (sink_passage K.Sink sk_sink.old sk_sink.new) None e }
 {
     warn(errors);
     match make_keys(alloc, scheme, random, prompt, pk_sink, sk_sink) {
@@ -58,12 +59,12 @@ fn make_keys<S: Scheme, Z: RandomSource, R: Source, W: Sink, P: Sink, K: Sink>(
     pk_sink: &mut P,
     sk_sink: &mut K,
 ) -> Result<()>
-    ensures made { OnOk result (MakesKeys (S.public_of scheme.now) (Z.random_ahead random.old) (Z.random_ahead random.new)
-        R.ahead R.left R.faults W.taken W.sink_faults prompt.old prompt.new
-        P.taken P.sink_faults pk_sink.old pk_sink.new K.taken K.sink_faults sk_sink.old sk_sink.new) }
-    ensures refused { IfErr result (SealedTextsFail (S.public_of scheme.now) Z.random_ahead Z.random_faults random.old random.new
-        R.ahead R.left R.faults W.taken W.sink_faults None prompt.old prompt.new
-        P.taken P.sink_faults pk_sink.old pk_sink.new K.taken K.sink_faults sk_sink.old sk_sink.new None) }
+    ensures made { OnOk result (MakesKeys (S.public_of scheme.now) (random_passage Z.RandomSource random.old random.new)
+        (prompt_passage R.Source W.Sink prompt.old prompt.new)
+        (sink_passage P.Sink pk_sink.old pk_sink.new) (sink_passage K.Sink sk_sink.old sk_sink.new)) }
+    ensures refused { IfErr result (SealedTextsFail (S.public_of scheme.now) (random_passage Z.RandomSource random.old random.new)
+        (prompt_passage R.Source W.Sink prompt.old prompt.new) None
+        (sink_passage P.Sink pk_sink.old pk_sink.new) (sink_passage K.Sink sk_sink.old sk_sink.new) None) }
 {
     let (password, comment) = (None, None);
     match KeyPair::generate_and_write_encrypted_keypair(

@@ -1,7 +1,7 @@
 //! The program `minisign_tool`. It signs and verifies under a toy scheme that is insecure, and says so.
 #![tactic(auto)]
 
-ghost use Rattle.std.specs.Prelude.{◌≤◌};
+ghost use Rattle.std.specs.Prelude.{◌≡◌, ◌≤◌, IfOk, OnErr};
 
 mod arguments;
 mod cat;
@@ -22,38 +22,39 @@ mod verify;
 mod verify_raw;
 
 use arguments::{Command, read_arguments};
-use files::{
-    cannot_open, cat_files, keygen_files, refuse, sign_files, verify_files, verify_raw_files,
-};
+use files::{cat_files, keygen_files, sign_files, verify_files, verify_raw_files};
+use minisign::Result;
 use minisign::base::devices::sinks::{Sink, WriterSink};
-use report::{usage, warn};
+use minisign::base::faults;
+use report::{end, usage, warn};
 use std::process::ExitCode;
 use streams::hold_closed_streams;
 
 fn main(rt: HostRuntime) -> ExitCode {
     let mut errors = WriterSink::new(rt.stderr());
     // No file may get the number of a closed stream, into which a prompt or a fault's line would go.
-    let status = match hold_closed_streams(&rt) {
+    let answer = match hold_closed_streams(&rt) {
         Ok(_held) => run(&rt, &mut errors),
-        Err(_) => cannot_open(&rt, &mut errors),
+        Err(_) => Err(faults::reading_failed()),
     };
-    ExitCode::from(status)
+    ExitCode::from(end(rt.alloc(), &mut errors, answer))
 }
 
-// Runs the command that the arguments ask for, and answers the exit status.
-fn run<W: Sink>(rt: &HostRuntime, errors: &mut W) -> u8
-    ensures { result ≤ 2 }
+// Runs the command that the arguments ask for, and answers its exit status. What fails before its body has begun
+// is a fault, with nothing said.
+fn run<W: Sink>(rt: &HostRuntime, errors: &mut W) -> Result<u8>
+    ensures status { IfOk result (λ s. s ≤ 2) }
+    ensures unsaid { OnErr result (errors.new ≡ errors.old) }
 {
-    match read_arguments(rt) {
-        Ok(Command::Keygen { pk, sk }) => keygen_files(rt, &pk, &sk, errors),
-        Ok(Command::Sign { sk, file, sig }) => sign_files(rt, &sk, &file, &sig, errors),
-        Ok(Command::Verify { pk, file, sig }) => verify_files(rt, &pk, &file, &sig, errors),
-        Ok(Command::VerifyRaw { pk, sig }) => verify_raw_files(rt, &pk, &sig, errors),
-        Ok(Command::Cat { pk, file, sig }) => cat_files(rt, &pk, &file, &sig, errors),
-        Ok(Command::Usage) => {
+    match read_arguments(rt)? {
+        Command::Keygen { pk, sk } => keygen_files(rt, &pk, &sk, errors),
+        Command::Sign { sk, file, sig } => sign_files(rt, &sk, &file, &sig, errors),
+        Command::Verify { pk, file, sig } => verify_files(rt, &pk, &file, &sig, errors),
+        Command::VerifyRaw { pk, sig } => verify_raw_files(rt, &pk, &sig, errors),
+        Command::Cat { pk, file, sig } => cat_files(rt, &pk, &file, &sig, errors),
+        Command::Usage => {
             warn(errors);
-            usage(errors)
+            Ok(usage(errors))
         }
-        Err(fault) => refuse(rt, errors, &fault),
     }
 }

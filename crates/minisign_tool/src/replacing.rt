@@ -1,13 +1,15 @@
-//! Files whose contents are replaced.
+//! Files that are replaced in one step: whoever looks, also after a kill or a full disk, finds the older file
+//! or the new one, whole.
 
-ghost use Rattle.std.specs.Prelude.{◌≡◌, IfErr};
-ghost use Rattle.minisign_base.specs.Faults.{writing_failed};
+ghost use Rattle.std.specs.Prelude.{IfErr};
+ghost use Rattle.minisign_tool.specs.Replacing.{IsWriteFault};
 
 use minisign::base::devices::sinks::{WriterSink, put_and_flush};
-use minisign::base::{Result, faults};
-use std::fs::OpenOptions;
-use std::os::unix::fs::OpenOptionsExt;
-use std::rt::Files;
+use minisign::base::{PError, Result, faults};
+use std::fs::{File, Metadata, OpenOptions, Permissions};
+use std::os::unix::fs::{MetadataExt, OpenOptionsExt, PermissionsExt, fchown};
+use std::random::RandomSource;
+use std::{fs, io};
 
 /// All may read and write a file that is made, as far as the system's mask allows.
 pub const FOR_ALL: u32 = 0o666;
@@ -15,25 +17,378 @@ pub const FOR_ALL: u32 = 0o666;
 /// Its owner alone may read and write a file that is made.
 pub const FOR_THE_OWNER: u32 = 0o600;
 
-/// Replaces what the file at `path` holds. A file that is not there is made, with those of the nine
-/// permission bits of `mode` that the system's mask leaves; one that is there keeps its own.
+// The nine bits that say who may read, write and run a file, and those of its group.
+const ALL_RIGHTS: u32 = 0o777;
+
+const RIGHTS_OF_THE_GROUP: u32 = 0o070;
+
+// How many links are followed one after another, as the system does.
+const MOST_LINKS: u32 = 40;
+
+// How many names are tried for a stage.
+const MOST_NAMES: u64 = 100;
+
+/// What a file is to hold.
+#[derive(Clone, Copy)]
+pub struct Contents<'a> {
+    /// The path, as it was given.
+    pub path: &'a str,
+    /// The permission bits where no file is there, of which the system's mask takes some away.
+    pub mode: u32,
+    /// All its bytes.
+    pub bytes: &'a [u8],
+}
+
+// What a path leads to.
+#[derive(Drop)]
+enum Place {
+    // A regular file, or nothing.
+    File(FilePlace),
+    // Anything else, as a device, a pipe or a stream of the program's own, which is written as it is.
+    Stream,
+}
+
+// The path behind all links, and the file that is there.
+#[derive(Drop)]
+struct FilePlace {
+    path: String,
+    older: Option<Metadata>,
+    keeps_rights: bool,
+}
+
+// A new file, whole and brought to the disk, beside the path that it is to take. It is removed again where it
+// is let go of before it took that.
+struct Stage<'a> {
+    rt: &'a HostRuntime,
+    staged: String,
+    path: String,
+    folder: Option<File>,
+    is_installed: bool,
+}
+
+impl Drop for Stage<'_> {
+    fn drop(self) {
+        if !self.is_installed {
+            let _removed = fs::remove_file(self.rt, self.staged.as_str());
+        }
+        let Stage {
+            rt: _rt,
+            staged: _staged,
+            path: _path,
+            folder: _folder,
+            is_installed: _is_installed,
+        } = self;
+    }
+}
+
+impl Stage<'_> {
+    // Takes the path, in one step.
+    fn install(&mut self) -> Result<()>
+        ensures { IfErr result IsWriteFault }
+    {
+        written(fs::rename(self.rt, self.staged.as_str(), self.path.as_str()))?;
+        self.is_installed = true;
+        Ok(())
+    }
+
+    // Brings the new name to the disk, where the folder can be opened for that and knows how.
+    fn settle(&self) -> Result<()>
+        ensures { IfErr result IsWriteFault }
+    {
+        let Some(folder) = &self.folder else {
+            return Ok(());
+        };
+        match folder.sync_all() {
+            Err(error) if error.kind() != io::ErrorKind::InvalidInput => Err(
+                faults::writing_failed(),
+            ),
+            _ => Ok(()),
+        }
+    }
+}
+
+/// Replaces the file that the path leads to, links followed, in one step: a new one is made beside it under a
+/// name of its own, written, brought to the disk, and renamed. It gets the rights, and where that is allowed
+/// the owner and the group, of the file that was there, or else `mode`. What is no regular file is written as it
+/// is.
 ///
-/// A file that cannot be opened for writing stays as it was; one that cannot be written holds a beginning
-/// of `bytes`. Takes no memory.
-pub fn replace_file<F: Files>(files: &F, path: &str, mode: u32, bytes: &[u8]) -> Result<()>
-    ensures { IfErr result (λ e. e ≡ writing_failed) }
+/// Where a file is refused, which is want of memory or `writing_failed`, the older one is as it was and nothing
+/// is left beside it. Only where the folder cannot be brought to the disk the new one stands there already.
+pub fn replace_file(rt: &HostRuntime, contents: Contents<'_>) -> Result<()>
+    ensures { IfErr result IsWriteFault }
 {
-    let opened = OpenOptions::new()
-        .write(true)
-        .create(true)
-        .truncate(true)
-        .mode(mode)
-        .open(files, path);
-    let Ok(file) = opened else {
+    let place = find_place(rt, contents.path)?;
+    match make_stage(rt, &place, contents)? {
+        Some(mut stage) => {
+            stage.install()?;
+            stage.settle()
+        }
+        None => write_stream(rt, contents),
+    }
+}
+
+/// Replaces the file of a public key and that of its secret key, each as `replace_file` does. Both new files are
+/// made and brought to the disk, and what is no regular file is written, before any file is replaced; the secret
+/// one is replaced last.
+///
+/// Where both paths lead to one file it is the secret key's in the end, and its mode the one for new files,
+/// since the rights of the older file were also chosen for a public key. Two names of one file get a file each.
+pub fn replace_both(rt: &HostRuntime, public: Contents<'_>, secret: Contents<'_>) -> Result<()>
+    ensures { IfErr result IsWriteFault }
+{
+    let public_place = find_place(rt, public.path)?;
+    let secret_place = find_place(rt, secret.path)?.apart_from(&public_place);
+    let mut public_stage = make_stage(rt, &public_place, public)?;
+    let mut secret_stage = make_stage(rt, &secret_place, secret)?;
+    if public_stage.is_none() {
+        write_stream(rt, public)?;
+    }
+    if secret_stage.is_none() {
+        write_stream(rt, secret)?;
+    }
+    install(&mut public_stage)?;
+    install(&mut secret_stage)?;
+    settle(&public_stage)?;
+    settle(&secret_stage)
+}
+
+// Takes the path of a stage, where there is one.
+fn install(stage: &mut Option<Stage<'_>>) -> Result<()>
+    ensures { IfErr result IsWriteFault }
+{
+    match stage {
+        Some(stage) => stage.install(),
+        None => Ok(()),
+    }
+}
+
+// Brings the new name of a stage to the disk, where there is one.
+fn settle(stage: &Option<Stage<'_>>) -> Result<()>
+    ensures { IfErr result IsWriteFault }
+{
+    match stage {
+        Some(stage) => stage.settle(),
+        None => Ok(()),
+    }
+}
+
+impl Place {
+    // The same place, where no rights are kept if the other leads to the same file.
+    fn apart_from(self, other: &Place) -> Place {
+        match self {
+            Place::File(place) => Place::File(FilePlace {
+                keeps_rights: !other.leads_to(&place.older),
+                path: place.path,
+                older: place.older,
+            }),
+            Place::Stream => Place::Stream,
+        }
+    }
+
+    // Whether a file is the one that is there.
+    fn leads_to(&self, file: &Option<Metadata>) -> bool {
+        match (self, file) {
+            (
+                Place::File(
+                    FilePlace {
+                        older: Some(older),
+                        ..
+                    },
+                ),
+                Some(file),
+            ) => is_same_file(older, file),
+            _ => false,
+        }
+    }
+}
+
+/// Whether both are one file.
+pub fn is_same_file(one: &Metadata, other: &Metadata) -> bool {
+    one.dev() == other.dev() && one.ino() == other.ino()
+}
+
+// What a path leads to.
+fn find_place(rt: &HostRuntime, path: &str) -> Result<Place>
+    ensures { IfErr result IsWriteFault }
+{
+    let older = match fs::metadata(rt, path) {
+        Ok(found) if found.is_file() => Some(found),
+        Ok(_) => return Ok(Place::Stream),
+        Err(error) if error.kind() == io::ErrorKind::NotFound && !path.is_empty() => None,
+        Err(_) => return Err(faults::writing_failed()),
+    };
+    Ok(match follow_links(rt, path)? {
+        Some(path) => Place::File(FilePlace {
+            path,
+            older,
+            keeps_rights: true,
+        }),
+        None => Place::Stream,
+    })
+}
+
+// The path behind all links, or none where a link stands for a stream of the program's own, as `/dev/stdout`.
+fn follow_links(rt: &HostRuntime, path: &str) -> Result<Option<String>>
+    ensures { IfErr result IsWriteFault }
+{
+    let mut path = String::from_str(rt.alloc(), path)?;
+    for _ in 0..MOST_LINKS {
+        let link = match fs::symlink_metadata(rt, path.as_str()) {
+            Ok(found) if found.is_symlink() => found,
+            Ok(_) => return Ok(Some(path)),
+            Err(error) if error.kind() == io::ErrorKind::NotFound => return Ok(Some(path)),
+            Err(_) => return Err(faults::writing_failed()),
+        };
+        if is_of_processes(rt, &link) {
+            return Ok(None);
+        }
+        let target = written(fs::read_link(rt, path.as_str()))?;
+        path = beside(rt, &path, target.as_str())?;
+    }
+    Err(faults::writing_failed())
+}
+
+// Whether a link is one of those by which the system shows what a process has open.
+fn is_of_processes(rt: &HostRuntime, link: &Metadata) -> bool {
+    match fs::metadata(rt, "/proc") {
+        Ok(processes) => processes.dev() == link.dev(),
+        Err(_) => false,
+    }
+}
+
+// Makes the new file of a place beside it and writes it; none where the place is no regular file.
+fn make_stage<'a>(
+    rt: &'a HostRuntime,
+    place: &Place,
+    contents: Contents<'_>,
+) -> Result<Option<Stage<'a>>>
+    ensures { IfErr result IsWriteFault }
+{
+    let Place::File(place) = place else {
+        return Ok(None);
+    };
+    let path = String::from_str(rt.alloc(), &place.path)?;
+    let mode = match &place.older {
+        Some(_) => {
+            // A file that may not be written is not replaced.
+            let _writable = written(OpenOptions::new().write(true).open(rt, path.as_str()))?;
+            FOR_THE_OWNER
+        }
+        None => contents.mode,
+    };
+    let folder = fs::open(rt, folder_of(&path)).ok();
+    let (file, staged) = create_beside(rt, &path, mode)?;
+    let stage = Stage {
+        rt,
+        staged,
+        path,
+        folder,
+        is_installed: false,
+    };
+    if let (Some(older), true) = (&place.older, place.keeps_rights) {
+        written(take_rights(&file, older))?;
+    }
+    fill(file, contents.bytes)?;
+    Ok(Some(stage))
+}
+
+// Makes a file of its own name in the folder of a path.
+fn create_beside(rt: &HostRuntime, path: &str, mode: u32) -> Result<(File, String)>
+    ensures { IfErr result IsWriteFault }
+{
+    let mut number = [0u8; 8];
+    written(rt.fill_bytes(&mut number))?;
+    let number = u64::from_le_bytes(number);
+    for more in 0..MOST_NAMES {
+        let name = format!(in rt.alloc(); ".minisign_tool-{:016x}", number.wrapping_add(more))?;
+        let staged = beside(rt, path, &name)?;
+        let made = OpenOptions::new()
+            .write(true)
+            .create_new(true)
+            .mode(mode)
+            .open(rt, staged.as_str());
+        match made {
+            Ok(file) => return Ok((file, staged)),
+            Err(error) if error.kind() == io::ErrorKind::AlreadyExists => {}
+            Err(_) => return Err(faults::writing_failed()),
+        }
+    }
+    Err(faults::writing_failed())
+}
+
+// Gives a new file the owner, the group and the rights of an older one. Where another group may not be given, no
+// group gets rights.
+fn take_rights(file: &File, older: &Metadata) -> io::Result<()> {
+    let mut rights = older.mode() & ALL_RIGHTS;
+    let made = file.metadata()?;
+    let differs = made.uid() != older.uid() || made.gid() != older.gid();
+    if differs
+        && fchown(file, Some(older.uid()), Some(older.gid())).is_err()
+        && fchown(file, None, Some(older.gid())).is_err()
+    {
+        rights &= !RIGHTS_OF_THE_GROUP;
+    }
+    if made.mode() & ALL_RIGHTS == rights {
+        return Ok(());
+    }
+    file.set_permissions(Permissions::from_mode(rights))
+}
+
+// Writes all bytes and brings the file to the disk.
+fn fill(file: File, bytes: &[u8]) -> Result<()>
+    ensures { IfErr result IsWriteFault }
+{
+    let Ok(()) = put_and_flush(&mut WriterSink::new(&file), bytes) else {
         return Err(faults::writing_failed());
     };
-    match put_and_flush(&mut WriterSink::new(file), bytes) {
+    written(file.sync_all())
+}
+
+// Writes what is no regular file.
+fn write_stream(rt: &HostRuntime, contents: Contents<'_>) -> Result<()>
+    ensures { IfErr result IsWriteFault }
+{
+    let stream = written(
+        OpenOptions::new()
+            .write(true)
+            .truncate(true)
+            .open(rt, contents.path),
+    )?;
+    match put_and_flush(&mut WriterSink::new(stream), contents.bytes) {
         Ok(()) => Ok(()),
         Err(_) => Err(faults::writing_failed()),
+    }
+}
+
+// What the system answers to a call of writing: all that it refuses, but for want of memory, is
+// `writing_failed`.
+fn written<T>(answer: io::Result<T>) -> Result<T>
+    ensures { IfErr result IsWriteFault }
+{
+    match answer {
+        Ok(value) => Ok(value),
+        Err(error) if error.kind() == io::ErrorKind::OutOfMemory => Err(faults::out_of_memory()),
+        Err(_) => Err(faults::writing_failed()),
+    }
+}
+
+// A path from the folder of another one on.
+fn beside(rt: &HostRuntime, path: &str, other: &str) -> Result<String>
+    ensures { IfErr result IsWriteFault }
+{
+    match path.rsplit_once('/') {
+        Some((folder, _)) if !other.starts_with('/') => Ok(format!(in rt.alloc();
+            "{folder}/{other}"
+        )?),
+        _ => Ok(String::from_str(rt.alloc(), other)?),
+    }
+}
+
+// The folder that a path leads into.
+fn folder_of(path: &str) -> &str {
+    match path.rsplit_once('/') {
+        Some(("", _)) => "/",
+        Some((folder, _)) => folder,
+        None => ".",
     }
 }

@@ -1,16 +1,15 @@
 //! The command `sign`: the text of a secret key from a file, the data from another, the signature's text
 //! to a third.
 
-ghost use Rattle.std.specs.Prelude.{◌≡◌, ℕ, ◌≤◌, List, ◌⊎◌, string_bytes, IfOk, IfErr, OnOk};
-ghost use Rattle.std.specs.Io.KnownBytes.{Appends};
+ghost use Rattle.std.specs.Prelude.{◌≡◌, ℕ, ◌≤◌, List, None, string_bytes, IfOk, IfErr, OnOk};
 ghost use Rattle.minisign_base.specs.Devices.{HasGiven};
 ghost use Rattle.minisign_base.specs.Fault.{Fault};
+ghost use Rattle.minisign_base.specs.Passages.{prompt_passage, random_passage, sink_passage, source_passage};
 ghost use Rattle.minisign.specs.Records.{SecretKeyRecord};
-ghost use Rattle.minisign.specs.Reading.{IsAhead, ReadsWhole};
-ghost use Rattle.minisign.specs.SigningTexts.{GivesKeyAsking};
-ghost use Rattle.minisign.specs.TextFiles.{IsTextFault};
-ghost use Rattle.minisign_tool.specs.Report.{HasSaid, ShowsFault, warning_line};
-ghost use Rattle.minisign_tool.specs.Sign.{SignFails, SignsText, ReadsBackWhereGenuine, WriteFails};
+ghost use Rattle.minisign.specs.Reading.{IsAhead};
+ghost use Rattle.minisign.specs.SigningTexts.{GivesKey, TextSigningFails};
+ghost use Rattle.minisign_tool.specs.Report.{TakesOrFails, ShowsFault, warning_line};
+ghost use Rattle.minisign_tool.specs.Sign.{FileSigningFails, HasWrittenSigned, HasWrittenVouched, ReadsBackWhereGenuine, SignsText};
 
 use crate::report::{report, warn};
 use minisign::base::devices::random_sources::RandomSource;
@@ -53,34 +52,31 @@ pub fn run_sign<
 
     // What a genuine key signed was written, and every public key of its seed and identifier vouches for all
     // of the data with it.
-    ensures headline { result ≡ 0 → (sk_text text message : List ℕ) × (sk : SecretKeyRecord) × IsAhead (K.ahead sk_file.old) sk_text
-        × IsAhead (R.ahead data_reader.old) message
-        × GivesKeyAsking A.ahead A.left A.faults B.taken B.sink_faults prompt.old prompt.new sk_text sk
-        × ReadsBackWhereGenuine (S.accepts scheme.now) (S.public_of scheme.now) sk message text
-        × Appends (G.taken signature.old) (G.taken signature.new) text }
+    ensures headline { result ≡ 0 → HasWrittenVouched (S.accepts scheme.now) (S.public_of scheme.now)
+        (source_passage K.Source sk_file.old sk_file.new)
+        (prompt_passage A.Source B.Sink prompt.old prompt.new)
+        (source_passage R.Source data_reader.old data_reader.new)
+        (sink_passage G.Sink signature.old signature.new) }
 
     // The text of the box that the definition of signing makes was written, and nothing failed.
-    ensures signed { result ≡ 0 → (sk_text text : List ℕ) × ReadsWhole K.ahead K.behind K.faults sk_file.old sk_file.new sk_text
-        × SignsText (S.signature_of scheme.now) A.ahead A.left A.faults B.taken B.sink_faults prompt.old prompt.new
-        R.ahead R.behind R.faults data_reader.old data_reader.new Z.random_ahead random.old random.new sk_text moment text
-        × Appends (G.taken signature.old) (G.taken signature.new) text
-        × (G.sink_faults signature.new ≡ G.sink_faults signature.old) }
-    ensures said { result ≡ 0 → HasSaid W.taken W.sink_faults errors.old errors.new warning_line }
+    ensures signed { result ≡ 0 → HasWrittenSigned (S.signature_of scheme.now)
+        (source_passage K.Source sk_file.old sk_file.new)
+        (prompt_passage A.Source B.Sink prompt.old prompt.new)
+        (source_passage R.Source data_reader.old data_reader.new)
+        (random_passage Z.RandomSource random.old random.new)
+        (sink_passage G.Sink signature.old signature.new) moment }
+    ensures said { result ≡ 0 → TakesOrFails W.Sink errors.old errors.new warning_line }
 
     // Why it ended otherwise, between the warning and the line of the fault: the file gave no text, with
     // nothing else touched; signing with the text failed, with nothing written; or its text was not written.
-    ensures refused { result ≡ 1 → (e : Fault) × (warned : W) × HasSaid W.taken W.sink_faults errors.old warned warning_line
-        × ShowsFault W.taken W.sink_faults warned errors.new e
-        × (((signature.new ≡ signature.old)
-        × ((IsTextFault K.ahead K.behind K.faults sk_file.old sk_file.new e
-        × (prompt.new ≡ prompt.old) × (data_reader.new ≡ data_reader.old) × (random.new ≡ random.old))
-        ⊎ ((sk_text : List ℕ) × ReadsWhole K.ahead K.behind K.faults sk_file.old sk_file.new sk_text
-        × SignFails A.ahead A.left A.faults B.taken B.sink_faults prompt.old prompt.new
-        R.ahead R.behind R.faults data_reader.old data_reader.new Z.random_faults random.old random.new sk_text e)))
-        ⊎ ((sk_text text : List ℕ) × ReadsWhole K.ahead K.behind K.faults sk_file.old sk_file.new sk_text
-        × SignsText (S.signature_of scheme.now) A.ahead A.left A.faults B.taken B.sink_faults prompt.old prompt.new
-        R.ahead R.behind R.faults data_reader.old data_reader.new Z.random_ahead random.old random.new sk_text moment text
-        × WriteFails G.taken G.sink_faults signature.old signature.new text e)) }
+    ensures refused { result ≡ 1 → (e : Fault) × (warned : W) × TakesOrFails W.Sink errors.old warned warning_line
+        × ShowsFault W.Sink warned errors.new e
+        × FileSigningFails (S.signature_of scheme.now)
+        (source_passage K.Source sk_file.old sk_file.new)
+        (prompt_passage A.Source B.Sink prompt.old prompt.new)
+        (source_passage R.Source data_reader.old data_reader.new)
+        (random_passage Z.RandomSource random.old random.new)
+        (sink_passage G.Sink signature.old signature.new) moment e }
     ensures given { HasGiven (R.ahead data_reader.old) (R.ahead data_reader.new) }
     ensures drawn { HasGiven (Z.random_ahead random.old) (Z.random_ahead random.new) }
 {
@@ -111,27 +107,23 @@ fn sign_file<S: Scheme, K: Source, R: Source, G: Sink, Z: RandomSource, A: Sourc
     prompt: &mut Prompt<A, B>,
     moment: u64,
 ) -> Result<()>
-    ensures headline { OnOk result ((sk_text text message : List ℕ) × (sk : SecretKeyRecord) × IsAhead (K.ahead sk_file.old) sk_text
-        × IsAhead (R.ahead data_reader.old) message
-        × GivesKeyAsking A.ahead A.left A.faults B.taken B.sink_faults prompt.old prompt.new sk_text sk
-        × ReadsBackWhereGenuine (S.accepts scheme.now) (S.public_of scheme.now) sk message text
-        × Appends (G.taken signature.old) (G.taken signature.new) text) }
-    ensures signed { OnOk result ((sk_text text : List ℕ) × ReadsWhole K.ahead K.behind K.faults sk_file.old sk_file.new sk_text
-        × SignsText (S.signature_of scheme.now) A.ahead A.left A.faults B.taken B.sink_faults prompt.old prompt.new
-        R.ahead R.behind R.faults data_reader.old data_reader.new Z.random_ahead random.old random.new sk_text moment text
-        × Appends (G.taken signature.old) (G.taken signature.new) text
-        × (G.sink_faults signature.new ≡ G.sink_faults signature.old)) }
-    ensures refused { IfErr result (λ e.
-        ((signature.new ≡ signature.old)
-        × ((IsTextFault K.ahead K.behind K.faults sk_file.old sk_file.new e
-        × (prompt.new ≡ prompt.old) × (data_reader.new ≡ data_reader.old) × (random.new ≡ random.old))
-        ⊎ ((sk_text : List ℕ) × ReadsWhole K.ahead K.behind K.faults sk_file.old sk_file.new sk_text
-        × SignFails A.ahead A.left A.faults B.taken B.sink_faults prompt.old prompt.new
-        R.ahead R.behind R.faults data_reader.old data_reader.new Z.random_faults random.old random.new sk_text e)))
-        ⊎ ((sk_text text : List ℕ) × ReadsWhole K.ahead K.behind K.faults sk_file.old sk_file.new sk_text
-        × SignsText (S.signature_of scheme.now) A.ahead A.left A.faults B.taken B.sink_faults prompt.old prompt.new
-        R.ahead R.behind R.faults data_reader.old data_reader.new Z.random_ahead random.old random.new sk_text moment text
-        × WriteFails G.taken G.sink_faults signature.old signature.new text e)) }
+    ensures headline { OnOk result (HasWrittenVouched (S.accepts scheme.now) (S.public_of scheme.now)
+        (source_passage K.Source sk_file.old sk_file.new)
+        (prompt_passage A.Source B.Sink prompt.old prompt.new)
+        (source_passage R.Source data_reader.old data_reader.new)
+        (sink_passage G.Sink signature.old signature.new)) }
+    ensures signed { OnOk result (HasWrittenSigned (S.signature_of scheme.now)
+        (source_passage K.Source sk_file.old sk_file.new)
+        (prompt_passage A.Source B.Sink prompt.old prompt.new)
+        (source_passage R.Source data_reader.old data_reader.new)
+        (random_passage Z.RandomSource random.old random.new)
+        (sink_passage G.Sink signature.old signature.new) moment) }
+    ensures refused { IfErr result (FileSigningFails (S.signature_of scheme.now)
+        (source_passage K.Source sk_file.old sk_file.new)
+        (prompt_passage A.Source B.Sink prompt.old prompt.new)
+        (source_passage R.Source data_reader.old data_reader.new)
+        (random_passage Z.RandomSource random.old random.new)
+        (sink_passage G.Sink signature.old signature.new) moment) }
     ensures given { HasGiven (R.ahead data_reader.old) (R.ahead data_reader.new) }
     ensures drawn { HasGiven (Z.random_ahead random.old) (Z.random_ahead random.new) }
 {
@@ -161,12 +153,15 @@ pub fn sign_data<S: Scheme, R: Source, Z: RandomSource, A: Source, B: Sink>(
     moment: u64,
 ) -> Result<String>
     ensures headline { IfOk result (λ t. (message : List ℕ) × (sk : SecretKeyRecord) × IsAhead (R.ahead data_reader.old) message
-        × GivesKeyAsking A.ahead A.left A.faults B.taken B.sink_faults prompt.old prompt.new sk_text.now sk
+        × GivesKey (prompt_passage A.Source B.Sink prompt.old prompt.new) None sk_text.now sk
         × ReadsBackWhereGenuine (S.accepts scheme.now) (S.public_of scheme.now) sk message (string_bytes t)) }
-    ensures signed { IfOk result (λ t. SignsText (S.signature_of scheme.now) A.ahead A.left A.faults B.taken B.sink_faults prompt.old prompt.new
-        R.ahead R.behind R.faults data_reader.old data_reader.new Z.random_ahead random.old random.new sk_text.now moment (string_bytes t)) }
-    ensures refused { IfErr result (SignFails A.ahead A.left A.faults B.taken B.sink_faults prompt.old prompt.new
-        R.ahead R.behind R.faults data_reader.old data_reader.new Z.random_faults random.old random.new sk_text.now) }
+    ensures signed { IfOk result (λ t. SignsText (S.signature_of scheme.now)
+        (prompt_passage A.Source B.Sink prompt.old prompt.new)
+        (source_passage R.Source data_reader.old data_reader.new)
+        (random_passage Z.RandomSource random.old random.new) sk_text.now moment (string_bytes t)) }
+    ensures refused { IfErr result (TextSigningFails (prompt_passage A.Source B.Sink prompt.old prompt.new) None sk_text.now
+        (source_passage R.Source data_reader.old data_reader.new)
+        (random_passage Z.RandomSource random.old random.new)) }
     ensures given { HasGiven (R.ahead data_reader.old) (R.ahead data_reader.new) }
     ensures drawn { HasGiven (Z.random_ahead random.old) (Z.random_ahead random.new) }
 {

@@ -1,6 +1,7 @@
 //! Texts of keys and signatures, read from files.
 
 ghost use Rattle.std.specs.Prelude.{string_bytes, IfOk, IfErr};
+ghost use Rattle.minisign_base.specs.Passages.{source_passage};
 ghost use Rattle.minisign_tool.specs.TextFiles.{EitherFails, ReadsBoth};
 
 use minisign::Result;
@@ -15,10 +16,10 @@ pub fn read_both_texts<P: Source, Q: Source>(
     first: &mut P,
     second: &mut Q,
 ) -> Result<(String, String)>
-    ensures texts { IfOk result (λ both. ReadsBoth P.ahead P.behind P.faults first.old first.new
-        Q.ahead Q.behind Q.faults second.old second.new (string_bytes both.0) (string_bytes both.1)) }
-    ensures refused { IfErr result (EitherFails P.ahead P.behind P.faults first.old first.new
-        Q.ahead Q.behind Q.faults second.old second.new) }
+    ensures texts { IfOk result (λ both. ReadsBoth (source_passage P.Source first.old first.new)
+        (source_passage Q.Source second.old second.new) (string_bytes both.0) (string_bytes both.1)) }
+    ensures refused { IfErr result (EitherFails (source_passage P.Source first.old first.new)
+        (source_passage Q.Source second.old second.new)) }
 {
     let first_text = read_text(alloc, first)?;
     let second_text = read_text(alloc, second)?;

@@ -1,15 +1,14 @@
 //! The command `verify`: the texts of a public key and a signature from files, the data from a third.
 
-ghost use Rattle.std.specs.Prelude.{◌≡◌, ℕ, ◌≤◌, List, false, ◌⊎◌, OnOk, OnErr, IfErr};
+ghost use Rattle.std.specs.Prelude.{◌≡◌, ℕ, ◌≤◌, List, false, OnOk, OnErr, IfErr};
 ghost use Rattle.std.specs.Io.KnownBytes.{Appends};
 ghost use Rattle.minisign_base.specs.Devices.{HasGiven};
-ghost use Rattle.minisign_base.specs.Fault.{Fault};
+ghost use Rattle.minisign_base.specs.Passages.{Takes, rereader_passage, sink_passage, source_passage};
 ghost use Rattle.minisign.specs.Acceptance.{status_lines};
 ghost use Rattle.minisign.specs.Headline.{TextsVouchFor};
 ghost use Rattle.minisign.specs.Reading.{IsAhead};
-ghost use Rattle.minisign_tool.specs.Report.{HasSaid, SaysAfterWarning, ShowsFault, warning_line};
-ghost use Rattle.minisign_tool.specs.TextFiles.{EitherFails, ReadsBoth};
-ghost use Rattle.minisign_tool.specs.Verify.{SaysFront, VerifyFails};
+ghost use Rattle.minisign_tool.specs.Report.{EndsWithFault, SaysAfterWarning};
+ghost use Rattle.minisign_tool.specs.Verify.{FilesFail, FilesVouch, SaysFront, VerifyFails};
 
 use crate::report::{report, warn};
 use crate::text_files::read_both_texts;
@@ -34,21 +33,14 @@ pub fn run_verify<S: Scheme, P: Source, R: Rereader, Q: Source, W: Sink>(
     ensures status { result ≤ 1 }
 
     // What both files hold vouches for the data, and that was said of it behind the warning.
-    ensures accepted { result ≡ 0 → (pk_text sig_text message : List ℕ) × IsAhead (P.ahead pk_file.old) pk_text
-        × IsAhead (Q.ahead sig_file.old) sig_text × IsAhead (R.ahead data_reader.old) message
-        × ((vouched : TextsVouchFor (S.accepts scheme.now) pk_text sig_text message false)
-        × SaysAfterWarning W.taken W.sink_faults errors.old errors.new (status_lines vouched.box)) }
+    ensures accepted { result ≡ 0 → FilesVouch (S.accepts scheme.now)
+        (source_passage P.Source pk_file.old pk_file.new) (source_passage Q.Source sig_file.old sig_file.new)
+        (rereader_passage R.Source R.steady data_reader.old data_reader.new) (SaysAfterWarning W.Sink errors.old errors.new) }
 
-    // Why it ended otherwise, between the warning and the line of the fault: a file gave no text, with no
-    // data read, or verifying with the texts failed.
-    ensures refused { result ≡ 1 → (e : Fault) × (warned told : W) × HasSaid W.taken W.sink_faults errors.old warned warning_line
-        × ShowsFault W.taken W.sink_faults told errors.new e
-        × ((EitherFails P.ahead P.behind P.faults pk_file.old pk_file.new Q.ahead Q.behind Q.faults sig_file.old sig_file.new e
-        × (data_reader.new ≡ data_reader.old) × (told ≡ warned))
-        ⊎ ((pk_text sig_text : List ℕ) × ReadsBoth P.ahead P.behind P.faults pk_file.old pk_file.new
-        Q.ahead Q.behind Q.faults sig_file.old sig_file.new pk_text sig_text
-        × VerifyFails (S.accepts scheme.now) pk_text sig_text R.ahead R.behind R.faults data_reader.old data_reader.new W.sink_faults warned told e
-        × SaysFront W.taken warned told pk_text sig_text)) }
+    // Why it ended otherwise, between the warning and the line of the fault.
+    ensures refused { result ≡ 1 → EndsWithFault W.Sink errors.old errors.new (FilesFail (S.accepts scheme.now)
+        (source_passage P.Source pk_file.old pk_file.new) (source_passage Q.Source sig_file.old sig_file.new)
+        (rereader_passage R.Source R.steady data_reader.old data_reader.new)) }
     ensures given { HasGiven (R.ahead data_reader.old) (R.ahead data_reader.new) }
 {
     warn(errors);
@@ -67,18 +59,13 @@ fn read_and_verify<S: Scheme, P: Source, R: Rereader, Q: Source, W: Sink>(
     sig_file: &mut Q,
     errors: &mut W,
 ) -> Result<()>
-    ensures accepted { OnOk result ((pk_text sig_text message : List ℕ) × IsAhead (P.ahead pk_file.old) pk_text
-        × IsAhead (Q.ahead sig_file.old) sig_text × IsAhead (R.ahead data_reader.old) message
-        × ((vouched : TextsVouchFor (S.accepts scheme.now) pk_text sig_text message false)
-        × Appends (W.taken errors.old) (W.taken errors.new) (status_lines vouched.box))) }
+    ensures accepted { OnOk result (FilesVouch (S.accepts scheme.now)
+        (source_passage P.Source pk_file.old pk_file.new) (source_passage Q.Source sig_file.old sig_file.new)
+        (rereader_passage R.Source R.steady data_reader.old data_reader.new) (Takes (sink_passage W.Sink errors.old errors.new))) }
     ensures calm { OnOk result (W.sink_faults errors.new ≡ W.sink_faults errors.old) }
-    ensures refused { IfErr result (λ e.
-        (EitherFails P.ahead P.behind P.faults pk_file.old pk_file.new Q.ahead Q.behind Q.faults sig_file.old sig_file.new e
-        × (data_reader.new ≡ data_reader.old) × (errors.new ≡ errors.old))
-        ⊎ ((pk_text sig_text : List ℕ) × ReadsBoth P.ahead P.behind P.faults pk_file.old pk_file.new
-        Q.ahead Q.behind Q.faults sig_file.old sig_file.new pk_text sig_text
-        × VerifyFails (S.accepts scheme.now) pk_text sig_text R.ahead R.behind R.faults data_reader.old data_reader.new W.sink_faults errors.old errors.new e
-        × SaysFront W.taken errors.old errors.new pk_text sig_text)) }
+    ensures refused { IfErr result (FilesFail (S.accepts scheme.now)
+        (source_passage P.Source pk_file.old pk_file.new) (source_passage Q.Source sig_file.old sig_file.new)
+        (rereader_passage R.Source R.steady data_reader.old data_reader.new) (sink_passage W.Sink errors.old errors.new)) }
     ensures given { HasGiven (R.ahead data_reader.old) (R.ahead data_reader.new) }
 {
     let (pk_text, sig_text) = read_both_texts(alloc, pk_file, sig_file)?;
@@ -105,8 +92,8 @@ pub fn verify_data<S: Scheme, R: Rereader, W: Sink>(
         × Appends (W.taken errors.old) (W.taken errors.new) (status_lines vouched.box))) }
     ensures calm { OnOk result (W.sink_faults errors.new ≡ W.sink_faults errors.old) }
     ensures refused { IfErr result (VerifyFails (S.accepts scheme.now) pk_text.now sig_text.now
-        R.ahead R.behind R.faults data_reader.old data_reader.new W.sink_faults errors.old errors.new) }
-    ensures front { OnErr result (SaysFront W.taken errors.old errors.new pk_text.now sig_text.now) }
+        (rereader_passage R.Source R.steady data_reader.old data_reader.new) (sink_passage W.Sink errors.old errors.new)) }
+    ensures front { OnErr result (SaysFront (sink_passage W.Sink errors.old errors.new) pk_text.now sig_text.now) }
     ensures given { HasGiven (R.ahead data_reader.old) (R.ahead data_reader.new) }
 {
     let (quiet, output, allow_legacy) = (false, false, false);

@@ -4,10 +4,13 @@ ghost use Rattle.std.specs.Prelude.{◌≡◌, ℕ, ◌≤◌, List, false, ◌�
 ghost use Rattle.std.specs.Io.KnownBytes.{Appends};
 ghost use Rattle.minisign_base.specs.Devices.{Rose};
 ghost use Rattle.minisign_base.specs.Fault.{Fault};
-ghost use Rattle.minisign.specs.Acceptance.{line, verified_text};
+ghost use Rattle.minisign_base.specs.Passages.{rereader_passage, sink_passage};
+ghost use Rattle.minisign.specs.Acceptance.{verified_text};
+ghost use Rattle.minisign.specs.Lines.{line};
 ghost use Rattle.minisign.specs.Reading.{IsAhead, ReadsWhole};
 ghost use Rattle.minisign.specs.Records.{PublicKeyRecord, SignatureRecord};
 ghost use Rattle.minisign.specs.Verifying.{SayingFails};
+ghost use Rattle.minisign_tool.specs.Verify.{says_only};
 ghost use Rattle.minisign_tool.specs.VerifyRaw.{FailsRaw, HoldsRaw, IsFileFault, VouchesRaw, bare_box};
 
 use crate::report::{report, warn};
@@ -86,14 +89,14 @@ pub fn verify_raw<S: Scheme, R: Rereader, W: Sink>(
     data_reader: &mut R,
     errors: &mut W,
 ) -> Result<()>
-    ensures accepted { OnOk result ((message : List ℕ) × ReadsWhole R.ahead R.behind R.faults data_reader.old data_reader.new message
+    ensures accepted { OnOk result ((message : List ℕ) × ReadsWhole R.Source data_reader.old data_reader.new message
         × VouchesRaw (S.accepts scheme.now) key.now signature.now message) }
     ensures said { OnOk result (Appends (W.taken errors.old) (W.taken errors.new) (line verified_text)) }
     ensures refused { IfErr result (λ e.
         (IsFileFault key.now signature.now e × (data_reader.new ≡ data_reader.old) × (errors.new ≡ errors.old))
         ⊎ ((pk : PublicKeyRecord) × (bones : SignatureRecord) × HoldsRaw key.now signature.now pk bones
-        × SayingFails (S.accepts scheme.now) pk (bare_box bones) false false R.faults data_reader.old data_reader.new
-        W.sink_faults errors.old errors.new (ReadsWhole R.ahead R.behind R.faults data_reader.old data_reader.new) e)) }
+        × SayingFails (S.accepts scheme.now) pk (bare_box bones) says_only
+        (rereader_passage R.Source R.steady data_reader.old data_reader.new) (sink_passage W.Sink errors.old errors.new) e)) }
 {
     let pk = PublicKey::from_bytes(key)?;
     let bones = SignatureBones::from_bytes(signature)?;

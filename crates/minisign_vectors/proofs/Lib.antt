@@ -1,3 +1,1 @@
-mod Refusals
 mod Facts
-mod WrittenBoxes

@@ -143,7 +143,7 @@ pub fn put_line<S: Sink>(
 ) -> errors::Result<()>
     ensures bytes { OnOk result (Appends (S.taken sink.old) (S.taken sink.new) (label.now ++ text.now ++ 10 ∷ [])) }
     ensures calm { OnOk result (S.sink_faults sink.new ≡ S.sink_faults sink.old) }
-    ensures fault { IfErr result (λ e. ((e ≡ out_of_memory) × (sink.new ≡ sink.old))
+    ensures refused { IfErr result (λ e. ((e ≡ out_of_memory) × (sink.new ≡ sink.old))
         ⊎ ((e ≡ writing_failed) × Rose (S.sink_faults sink.old) (S.sink_faults sink.new))) }
     ensures front { OnErr result (AppendsFront (S.taken sink.old) (S.taken sink.new) (label.now ++ text.now ++ 10 ∷ [])) }
 {

@@ -16,8 +16,8 @@ returns-in_err-password-clause-refused g c =
     let p = err_from_is_err_and c.from_residual-in_err-password.result c.from_residual-in_err-password.ensures.1 in
     rw (p.1, p.2) (inr (inl (record {
       begun = c.say.new.self;
-      said = record { reader = c.in_ok-say.ensures.reader; written = c.in_ok-say.ensures.bytes; calm = c.in_ok-say.ensures.calm };
-      asking = c.in_err-password.ensures.fault;
+      said = c.in_ok-say.ensures.said;
+      asking = c.in_err-password.ensures.refused;
     })))
 
 pub returns-in_err-again-clause-refused : goal.returns-in_err-again-clause-refused
@@ -29,9 +29,9 @@ returns-in_err-again-clause-refused g c =
       between = c.get_password.new.prompt;
       first_bytes = c.in_ok-password.ensures.asked.0;
       password = string_bytes c.in_ok-password.password;
-      said = record { reader = c.in_ok-say.ensures.reader; written = c.in_ok-say.ensures.bytes; calm = c.in_ok-say.ensures.calm };
+      said = c.in_ok-say.ensures.said;
       first = c.in_ok-password.ensures.asked.1;
-      asking = c.in_err-again.ensures.fault;
+      asking = c.in_err-again.ensures.refused;
     }))))
 
 pub returns-then-ne-clause-refused : goal.returns-then-ne-clause-refused
@@ -45,7 +45,7 @@ returns-then-ne-clause-refused g c =
         between = c.get_password.new.prompt;
         first_bytes = c.in_ok-password.ensures.asked.0;
         second_bytes = c.in_ok-again.ensures.asked.0;
-        said = record { reader = c.in_ok-say.ensures.reader; written = c.in_ok-say.ensures.bytes; calm = c.in_ok-say.ensures.calm };
+        said = c.in_ok-say.ensures.said;
         first = c.in_ok-password.ensures.asked.1;
         second = c.in_ok-again.ensures.asked.1;
       };
@@ -62,7 +62,7 @@ returns-clause-chosen g c =
       between = c.get_password.new.prompt;
       first_bytes = c.in_ok-password.ensures.asked.0;
       second_bytes = c.in_ok-again.ensures.asked.0;
-      said = record { reader = c.in_ok-say.ensures.reader; written = c.in_ok-say.ensures.bytes; calm = c.in_ok-say.ensures.calm };
+      said = c.in_ok-say.ensures.said;
       first = c.in_ok-password.ensures.asked.1;
       second = rw same at c.in_ok-again.ensures.asked.1;
     }

@@ -10,7 +10,7 @@ returns-in_err-pair-clause-refused g c =
     let p = err_from_is_err_and c.from_residual-in_err-pair.result c.from_residual-in_err-pair.ensures.1 in
     rw (p.1, p.2) (inr (record {
       between = c.say.new.self;
-      before = record { reader = c.in_ok-say.ensures.reader; written = c.in_ok-say.ensures.bytes; calm = c.in_ok-say.ensures.calm };
+      before = c.in_ok-say.ensures.said;
       failed = inl (c.in_err-pair.ensures.refused, refl);
     }))
 
@@ -18,17 +18,16 @@ pub returns-in_err-say-2-clause-refused : goal.returns-in_err-say-2-clause-refus
 unfolding sealing_text done_text
 returns-in_err-say-2-clause-refused g c =
     let p = err_from_is_err_and c.from_residual-in_err-say-2.result c.from_residual-in_err-say-2.ensures.1 in
-    let (is, rose) = c.in_err-say-2.ensures.fault in
     rw (p.1, p.2) (inr (record {
       between = c.say.new.self;
-      before = record { reader = c.in_ok-say.ensures.reader; written = c.in_ok-say.ensures.bytes; calm = c.in_ok-say.ensures.calm };
-      failed = inr (is, record { reader = c.in_err-say-2.ensures.reader; fault = rose; front = c.in_err-say-2.ensures.front });
+      before = c.in_ok-say.ensures.said;
+      failed = inr c.in_err-say-2.ensures.refused;
     }))
 
 pub returns-clause-told : goal.returns-clause-told
 unfolding sealing_text done_text
 returns-clause-told g c = record {
   between = c.say.new.self;
-  before = record { reader = c.in_ok-say.ensures.reader; written = c.in_ok-say.ensures.bytes; calm = c.in_ok-say.ensures.calm };
-  after = record { reader = c.in_ok-say-2.ensures.reader; written = c.in_ok-say-2.ensures.bytes; calm = c.in_ok-say-2.ensures.calm };
+  before = c.in_ok-say.ensures.said;
+  after = c.in_ok-say-2.ensures.said;
 }

@@ -1,9 +1,10 @@
-use Rattle.std.proofs.Common.{arith}
-use Rattle.minisign.proofs.SealingLimits.{allowed_numbers, within_bound}
+use Rattle.std.proofs.Common.{sym, ap, ◌∙◌}
+use Rattle.minisign.specs.Sealing.{bound_refusal}
+use Rattle.minisign.proofs.SealingLimits.{allowed_numbers}
 use Rattle.minisign.proofs.sealing.bounded_params.Goals as goal
 
 pub returns : goal.returns
 returns c = (
-  allowed_numbers c.args.sk.now _ c.in_ok-params.ensures,
-  within_bound c.args.sk.now _ c.args.max_p c.in_ok-params.ensures (omega arith),
+  allowed_numbers c.args.sk.now _ (sym c.in_ok-params.ensures),
+  ap (λ r. bound_refusal r c.args.bound) (sym c.in_ok-params.ensures) ∙ c.in_ok-check_bound.ensures,
 )

@@ -1,6 +1,7 @@
 use Rattle.std.proofs.Common.{ap, string_bytes}
 use Rattle.std.proofs.lemmas.Result.{IfOk-weaker}
-use Rattle.minisign.proofs.SignedTexts.{written_text}
+use Rattle.minisign.proofs.SignedTexts.{vouched_back, written_text}
+use Rattle.minisign.specs.SignatureText.{box_read_back}
 use Rattle.minisign.proofs.signing_texts.sign_opened.Goals as goal
 
 pub returns-clause-signed : goal.returns-clause-signed
@@ -12,6 +13,6 @@ returns-clause-signed g c =
       message,
       read,
       record { box = c.in_ok-signature_box.signature_box; comments = _; signed = made; both = both; written = written },
-      λ seed owner kept. (c.in_ok-signature_box.signature_box, back kept, genuine seed owner),
+      λ seed owner one. (box_read_back c.in_ok-signature_box.signature_box, back one, vouched_back _ _ _ _ c.in_ok-signature_box.signature_box _ _ both (genuine seed owner)),
     ))
-    (written_text string_bytes c.to_string.result c.in_ok-signature_box.signature_box _ _ both c.to_string.ensures.text c.to_string.ensures.reads_back)
+    (written_text string_bytes c.to_string.result c.in_ok-signature_box.signature_box _ _ both c.to_string.ensures.text c.to_string.ensures.reads)

@@ -5,11 +5,11 @@ use Rattle.minisign_kdf.proofs.scrypt.scrypt_keeping.Goals as goal
 pub room_for_rows-requires-clause-cost : goal.room_for_rows-requires-clause-cost
 room_for_rows-requires-clause-cost c =
     let p = c.args.params.now in
-    let small : p.n_log2 < 64 = n_log2_small p.n_log2 p.r p.p p.accepted in
+    let small : p.n_log2 < 64 = n_log2_small p c.r-r.ensures.accepted in
     omega arith
 
 pub kept_count-requires-clause-cost : goal.kept_count-requires-clause-cost
 kept_count-requires-clause-cost c =
     let p = c.args.params.now in
-    let small : p.n_log2 < 64 = n_log2_small p.n_log2 p.r p.p p.accepted in
+    let small : p.n_log2 < 64 = n_log2_small p c.r-r.ensures.accepted in
     omega arith

@@ -5,5 +5,14 @@ use Rattle.minisign_tool.proofs.cat.copy_data.Goals as goal
 pub returns-clause-accepted : goal.returns-clause-accepted
 returns-clause-accepted g c =
     on_ok_weaker c.verify_texts.result
-    (λ h. (h.2, h.5.given, (record { key = h.0; box = h.1; key_read = h.3.key_read; box_read = h.3.box_read; vouches = h.4 }, h.6, h.5.copied refl)))
+    (λ h. let copied = h.verified.copied refl in (
+      h.verified.message,
+      h.verified.given,
+      (
+        record { key = h.key; box = h.box; key_read = h.read.key_read; box_read = h.read.box_read; vouches = h.verified.vouches },
+        h.verified.said,
+        copied,
+        record { copy = copied.copy; taken = copied.all; vouched = record { key = h.key; box = h.box; key_read = h.read.key_read; box_read = h.read.box_read; vouches = copied.vouched } },
+      ),
+    ))
     c.verify_texts.ensures.accepted

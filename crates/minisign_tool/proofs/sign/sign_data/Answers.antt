@@ -1,6 +1,18 @@
-use Rattle.std.proofs.Common.{inl, inr, ⊎_elim}
+use Rattle.std.proofs.Common.{string_bytes}
+use Rattle.minisign.specs.Signing.{AreLines, comments_or_defaults}
 use Rattle.minisign_tool.proofs.sign.sign_data.Goals as goal
 
-pub returns-in-Err-clause-refused : goal.returns-in-Err-clause-refused
-returns-in-Err-clause-refused g c =
-    ⊎_elim (λ none. inl (none.1, none.2, none.3)) (λ failed. inr (failed.0, failed.2, failed.3)) c.in-Err.ensures.refused
+pub returns-in-Ok-clause-headline : goal.returns-in-Ok-clause-headline
+returns-in-Ok-clause-headline g c =
+    let (key, message, ahead, given, vouched) = c.in-Ok.ensures.headline in
+    let kept = c.sign_texts.ensures.defaults in (
+      message,
+      key,
+      ahead,
+      given,
+      λ seed genuine. vouched seed genuine (record {
+        untrusted_one_line = kept.untrusted_one_line;
+        trusted_one_line = kept.trusted_one_line;
+        trusted_trimmed = kept.trusted_trimmed;
+      }),
+    )

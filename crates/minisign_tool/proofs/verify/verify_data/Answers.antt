@@ -4,5 +4,9 @@ use Rattle.minisign_tool.proofs.verify.verify_data.Goals as goal
 pub returns-clause-accepted : goal.returns-clause-accepted
 returns-clause-accepted g c =
     on_ok_weaker c.verify_texts.result
-    (λ h. (h.2, h.5.given, (record { key = h.0; box = h.1; key_read = h.3.key_read; box_read = h.3.box_read; vouches = h.4 }, h.6)))
+    (λ h. (
+      h.verified.message,
+      h.verified.given,
+      (record { key = h.key; box = h.box; key_read = h.read.key_read; box_read = h.read.box_read; vouches = h.verified.vouches }, h.verified.said),
+    ))
     c.verify_texts.ensures.accepted

@@ -1,4 +1,5 @@
-use Rattle.std.proofs.Common.{inl, inr, ⊎_elim}
+use Rattle.std.proofs.Common.{inl, inr, sym, ⊎_elim}
+use Rattle.std.proofs.lemmas.Bool.{true≢false}
 use Rattle.minisign.specs.Reading.{IsAhead}
 use Rattle.minisign_tool.proofs.verify_raw.read_and_verify.Goals as goal
 
@@ -9,7 +10,8 @@ returns-clause-refused g c =
     let signature : IsAhead (g.Q.Source.ahead c.args.sig_file.now) c.deref-2.result.now = rw c.deref-2.ensures.value c.in_ok-signature.ensures.bytes.given in
     ⊎_elim (λ file. inr (inr (_, _, key, signature, inl file.0)))
     (λ held. ⊎_elim
-    (λ broken. ⊎_elim (λ memory. inl memory) (λ reading. inr (inl (reading.fault, inr (inr reading.rose)))) broken.failed)
+    (λ broken. ⊎_elim (λ mark. absurd (true≢false (sym mark.wanted)))
+    (⊎_elim (λ memory. inl memory) (λ reading. inr (inl (reading.fault, inr (inr reading.rose))))) broken.failed)
     (λ read. inr (inr (
       _,
       _,

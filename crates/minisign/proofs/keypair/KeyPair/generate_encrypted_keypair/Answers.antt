@@ -1,6 +1,7 @@
 use Rattle.std.proofs.Common.{◌≡◌, ℕ, List, ◌++◌, length, inr, arith}
 use Rattle.std.proofs.lemmas.List.{length-append}
 use Rattle.std.proofs.lemmas.Result.{IfErr-weaker, IfOk-weaker}
+use Rattle.minisign_base.specs.Passages.{random_passage}
 use Rattle.minisign.specs.Generation.{IsSealedPair}
 use Rattle.minisign.proofs.GeneratedKeys.{sealed_pair}
 use Rattle.minisign.proofs.keypair.KeyPair.generate_encrypted_keypair.Goals as goal
@@ -8,15 +9,14 @@ use Rattle.minisign.proofs.keypair.KeyPair.generate_encrypted_keypair.Goals as g
 pub returns-clause-made : goal.returns-clause-made
 returns-clause-made g c =
     let public_of = g.S.Scheme.public_of c.args.scheme.now in
-    let ahead = g.Z.RandomSource.random_ahead c.args.random.now in
-    let left = g.Z.RandomSource.random_ahead c.draw_with_salt.new.random in
+    let z = random_passage g.Z.RandomSource c.args.random.now c.draw_with_salt.new.random in
     let seed : List ℕ = c.in_ok-drawn.drawn.seed in
     let keynum : List ℕ = c.in_ok-drawn.drawn.keynum in
     let salt : List ℕ = c.in_ok-drawn.drawn.salt in
     IfOk-weaker c.seal_pair.result _ _ (λ pair (typed, prompted, sealed).
-    let made : IsSealedPair public_of typed ahead left pair.pk pair.sk =
+    let made : IsSealedPair public_of typed z pair.pk pair.sk =
     record { seed = seed; keynum = keynum; salt = salt; lengths = c.in_ok-drawn.ensures.lengths; salt_length = c.in_ok-drawn.ensures.salt; drawn = c.in_ok-drawn.ensures.drawn; sealed = sealed } in
-    record { password = typed; prompted = prompted; pair = made; opens = sealed_pair public_of typed ahead left pair.pk pair.sk made }) c.seal_pair.ensures.sealed
+    record { password = typed; prompted = prompted; pair = made; opens = sealed_pair public_of typed z pair.pk pair.sk made }) c.seal_pair.ensures.sealed
 
 pub returns-clause-refused : goal.returns-clause-refused
 returns-clause-refused g c =

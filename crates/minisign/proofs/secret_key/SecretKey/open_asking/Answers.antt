@@ -1,5 +1,6 @@
 use Rattle.std.proofs.Common.{inl}
 use Rattle.std.proofs.lemmas.Result.{err_from_is_err_and}
+use Rattle.minisign_base.specs.Passages.{prompt_passage}
 use Rattle.minisign.proofs.Asking.{asked_opened, asked_refused}
 use Rattle.minisign.proofs.secret_key.SecretKey.open_asking.Goals as goal
 
@@ -11,12 +12,12 @@ pub returns-clause-opened : goal.returns-clause-opened
 returns-clause-opened g c =
     let (bytes, asked) = c.in_ok-password.ensures.asked in
     let opened = rw c.as_bytes.ensures.value at c.open_telling.ensures.opened in
-    asked_opened g.R.Source.ahead g.R.Source.left g.R.Source.faults g.W.Sink.taken g.W.Sink.sink_faults
-    c.args.prompt.now c.ask_password.new.prompt c.open_telling.new.prompt c.args.self c.args.max_p bytes _ _ c.open_telling.result asked opened
+    asked_opened (prompt_passage g.R.Source g.W.Sink c.args.prompt.now c.open_telling.new.prompt) c.ask_password.new.prompt
+    c.args.self c.args.bound bytes _ _ c.open_telling.result asked opened
 
 pub returns-clause-refused : goal.returns-clause-refused
 returns-clause-refused g c =
     let (bytes, asked) = c.in_ok-password.ensures.asked in
     let refused = rw c.as_bytes.ensures.value at c.open_telling.ensures.refused in
-    asked_refused g.R.Source.ahead g.R.Source.left g.R.Source.faults g.W.Sink.taken g.W.Sink.sink_faults
-    c.args.prompt.now c.ask_password.new.prompt c.open_telling.new.prompt c.args.self c.args.max_p bytes _ c.open_telling.result asked refused
+    asked_refused (prompt_passage g.R.Source g.W.Sink c.args.prompt.now c.open_telling.new.prompt) c.ask_password.new.prompt
+    c.args.self c.args.bound bytes _ c.open_telling.result asked refused

@@ -1,0 +1,116 @@
+#!/usr/bin/env python3
+"""Times the same jobs over the Rust crate minisign 0.10.0 and over this library, in turns.
+
+    beside_rust.py UPSTREAM ORACLE [ROUNDS]
+
+UPSTREAM is the folder of the crate's own files, ORACLE the folder with build.sh, which builds it with plain
+stand-ins for scrypt and base64 (so `open` compares with plain Rust and not with the crate `scrypt`). The jobs
+are those of crates/library_bench (`rt run` there leaves the program) and of beside_rust.rs, which is built
+here with full optimization for the processor that `rt run` builds for. The time is processor time, of the
+program and of the system for it, the least of ROUNDS runs (5 where it is left out) that take turns. It stops
+where the two programs print other results.
+"""
+
+import base64
+import hashlib
+import os
+import subprocess
+import sys
+import tempfile
+
+from timing import HERE, run
+import toy
+
+OURS = os.path.join(HERE, "..", "crates", "library_bench", "out", "library_bench")
+TARGET = "-C opt-level=3 -C target-cpu=x86-64-v2"
+MEGABYTE = 1 << 20
+
+
+def built(upstream, oracle, folder):
+    """The Rust program over the crate."""
+    environment = dict(os.environ, OPT=TARGET)
+    build = os.path.join(oracle, "build.sh")
+    subprocess.run(["sh", build, upstream, folder], check=True, env=environment, stdout=subprocess.DEVNULL)
+    lib = os.path.join(folder, "lib")
+    program = os.path.join(folder, "beside_rust")
+    subprocess.run(["rustc", "--edition", "2021", *TARGET.split(), "-L", lib, "--extern",
+                    f"minisign={lib}/libminisign.rlib", "-o", program,
+                    os.path.join(HERE, "beside_rust.rs")], check=True)
+    return program
+
+
+def sealed_text(password, opslimit, memlimit, n, p):
+    """A secret key sealed with other limits than those of new keys."""
+    salt = bytes(range(32))
+    stream = hashlib.scrypt(password, salt=salt, n=n, r=8, p=p, dklen=104, maxmem=(1 << 31) - 1)
+    opened = toy.KEYNUM + toy.SEED + toy.KEY + toy.checksum(toy.KEYNUM, toy.SEED + toy.KEY)
+    limits = opslimit.to_bytes(8, "little") + memlimit.to_bytes(8, "little")
+    record = b"EdScB2" + salt + limits + bytes(a ^ b for a, b in zip(opened, stream))
+    return toy.lines(b"untrusted comment: c", base64.b64encode(record))
+
+
+def write(folder, name, data):
+    with open(os.path.join(folder, name), "wb") as file:
+        file.write(data)
+
+
+def prepare(folder):
+    """The files of the jobs."""
+    block = toy.some_data(16 * MEGABYTE)
+    large = os.path.join(folder, "large")
+    hasher = hashlib.blake2b()
+    with open(large, "wb") as file:
+        for _ in range(64):
+            file.write(block)
+            hasher.update(block)
+    write(folder, "large.sig", toy.signature_text(b"", record=b"ED" + toy.KEYNUM + toy.signature_of(hasher.digest())))
+    write(folder, "part", block * 4)
+    write(folder, "key.pub", toy.public_text())
+    write(folder, "plain.key", toy.secret_text())
+    write(folder, "sealed.key", toy.sealed_text(b"p"))
+    write(folder, "strong.key", sealed_text(b"p", 1 << 25, 1 << 30, 1 << 20, 1))
+    small = toy.some_data(1000)
+    write(folder, "small.sig", toy.signature_text(small))
+    for number in range(1000):
+        write(folder, str(number), small)
+
+
+# Each job's name in the table, its arguments, and how often it is run at most.
+JOBS = [
+    ("hashing 1 GiB in memory", ["hash", "part", "16"], 9),
+    ("verifying a file of 1 GiB", ["verify", "key.pub", "large.sig", "large"], 9),
+    ("signing a file of 1 GiB", ["sign", "plain.key", "large"], 9),
+    ("opening a key, N 2^15", ["open", "sealed.key", "p"], 9),
+    ("opening a key, N 2^20", ["open", "strong.key", "p"], 3),
+    ("reading 1,000,000 key texts", ["keys", "key.pub", "1000000"], 9),
+    ("reading 1,000,000 signature texts", ["signatures", "small.sig", "1000000"], 9),
+    ("verifying 20,000 small files", ["small", "key.pub", "small.sig", "20"], 9),
+]
+
+
+def job(program, arguments, folder):
+    """The processor time of a job in seconds, and what it printed."""
+    ended = run([os.path.abspath(program), *arguments], folder=folder)
+    if ended.status != 0:
+        raise SystemExit(f"{program} {arguments} ended with {ended.status}: {ended.output}")
+    return ended.processor_seconds, ended.output
+
+
+def main():
+    rounds = int(sys.argv[3]) if len(sys.argv) > 3 else 5
+    with tempfile.TemporaryDirectory() as build, tempfile.TemporaryDirectory() as folder:
+        theirs = built(sys.argv[1], sys.argv[2], build)
+        prepare(folder)
+        print("| Job | Rust crate | Here | Ratio |\n|---|---|---|---|")
+        for name, arguments, most in JOBS:
+            best = [float("inf"), float("inf")]
+            for _ in range(min(rounds, most)):
+                (first, said), (second, answered) = job(theirs, arguments, folder), job(OURS, arguments, folder)
+                if said != answered:
+                    raise SystemExit(f"{name}: {said!r} is not {answered!r}")
+                best = [min(best[0], first), min(best[1], second)]
+            print(f"| {name} | {best[0]:.2f} s | {best[1]:.2f} s | {best[1] / best[0]:.2f} |", flush=True)
+
+
+if __name__ == "__main__":
+    main()

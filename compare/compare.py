@@ -1,0 +1,171 @@
+#!/usr/bin/env python3
+"""Compares this library with the Rust crate minisign 0.10.0.
+
+    compare.py run UPSTREAM ORACLE [--seed N] [--count N] [--program FILE]
+    compare.py list UPSTREAM ORACLE [--program FILE]
+
+UPSTREAM is the folder of the crate's own files, ORACLE the folder with build.sh, which builds the crate and a
+program over it that answers requests; the build goes into a folder of its own, which is deleted again. `run`
+makes requests by seed, has both programs answer them, and prints each difference that known.py does not name,
+the shortest request of its kind first. `list` makes the stored run of crates/minisign_compare anew from the
+crate's answers: stdin, stdout and data/. Wants a Rust compiler; README.md says more.
+"""
+
+import argparse
+import collections
+import os
+import random
+import re
+import subprocess
+import sys
+import tempfile
+
+HERE = os.path.dirname(os.path.abspath(__file__))
+CRATE = os.path.join(HERE, '..', 'crates', 'minisign_compare')
+DIFFERENCES = os.path.join(HERE, '..', 'docs', 'DIFFERENCES.md')
+sys.path.insert(0, HERE)
+import known  # noqa: E402
+import requests  # noqa: E402
+
+# How many requests the stored run has, and at most of each name: few of those that derive keys.
+LISTED = 3000
+LISTED_OF_A_NAME = 220
+LISTED_BY_NAME = {'verify': 420, 'verify_texts': 330, 'sig_from_string': 330, 'sk_open': 110,
+                  'gen_sealed': 14, 'gen_write_sealed': 12, 'scrypt': 60}
+# Longer requests do not stand in the stored run, but for two over much data, and for long typed lines.
+LONGEST = 1800
+LONGEST_TYPED = 7000
+TYPED = ('get_password', 'sk_open', 'gen_sealed', 'gen_write_sealed')
+
+
+def built_oracle(arguments, folder):
+    """Builds the crate and the program over it."""
+    build = os.path.join(arguments.oracle, 'build.sh')
+    made = subprocess.run(['sh', build, arguments.upstream, folder], capture_output=True, text=True)
+    if made.returncode:
+        sys.exit(f'{build} ended with status {made.returncode}:\n{made.stderr[-2000:]}')
+    return os.path.join(folder, 'oracle')
+
+
+def answers(program, lines, folder):
+    """What a program answers to the requests, in a folder with the files that they name."""
+    for name, body in requests.files().items():
+        with open(os.path.join(folder, name), 'wb') as file:
+            file.write(body)
+    said = subprocess.run([os.path.abspath(program)], cwd=folder, input='\n'.join(lines) + '\n',
+                          capture_output=True, text=True)
+    if said.returncode:
+        sys.exit(f'{program} ended with status {said.returncode}: {said.stderr[-500:]}')
+    told = said.stdout.splitlines()
+    if len(told) != len(lines):
+        sys.exit(f'{program} answered {len(told)} of {len(lines)} requests')
+    return told
+
+
+def summary(request, answer):
+    """What a request is about and how it was answered, without the values."""
+    fault = answer.fault()
+    outcome = (fault[0], re.sub(rb'[0-9A-F]{16}', b'ID', fault[1])) if fault else answer.kind()
+    words = request.split(' ')
+    flags = tuple(words[4:]) if words[0].startswith('verify') else ()
+    parts = tuple(sorted(re.findall(r',(pos|chunk|fail|second)=', request)))
+    marks = tuple(re.findall(r'(?:prehashed|encrypted|eq)=(.)', answer.head))
+    done = tuple((name, value if name in ('drawn', 'typed_left') else value not in ('x', '0'))
+                 for name, value in sorted(answer.tail.items()) if name not in ('reads', 'pos'))
+    return words[0], outcome, flags, parts, marks, done
+
+
+def run(arguments):
+    """Compares the answers; whether none differs without being named."""
+    lines = list(dict.fromkeys(requests.all_requests(arguments.seed, arguments.count)))
+    # A triple stays until the table is cleared, so these come in their order, and again.
+    lines += requests.tables(random.Random(arguments.seed))
+    with tempfile.TemporaryDirectory() as folder, tempfile.TemporaryDirectory() as files:
+        theirs = answers(built_oracle(arguments, folder), lines, files)
+        ours = answers(arguments.program, lines, files)
+    entries, names, differences = collections.Counter(), collections.Counter(), collections.defaultdict(list)
+    for request, line, told in zip(lines, theirs, ours):
+        names[request.split(' ')[0]] += 1
+        expected, explained = known.expected(request, line)
+        entries.update(explained)
+        if not expected.matches(known.Answer(told)):
+            differences[summary(request, known.Answer(told))].append((request, expected.line(), told))
+    with open(DIFFERENCES, encoding='utf-8') as file:
+        listed = file.read()
+    unlisted = [entry for entry in entries if entry not in listed]
+    for entry in unlisted:
+        print(f'NOT LISTED: {entry}')
+    for name, count in sorted(names.items()):
+        print(f'{count:7} {name}')
+    for entry, count in entries.most_common():
+        print(f'{count:7} differ as the list says: {entry}')
+    for found in differences.values():
+        request, expected, told = min(found, key=lambda one: len(one[0]))
+        print(f'DIFFERENCE, {len(found)} times:\n  {request}\n  expected {expected}\n  answered {told}')
+    different = sum(map(len, differences.values())) + len(unlisted)
+    print(f'seed {arguments.seed}: {len(lines) - different} passed, {different} failed')
+    return different == 0
+
+
+def chosen(lines, theirs):
+    """The requests of the stored run: of each kind of answer the shortest, then others in turn."""
+    groups = collections.defaultdict(list)
+    for at, (request, line) in enumerate(zip(lines, theirs)):
+        longest = LONGEST_TYPED if request.startswith(TYPED) else LONGEST
+        if len(request) <= longest and len(line) <= 2 * longest:
+            groups[summary(request, known.Answer(line))].append(at)
+    rng = random.Random(1)
+    picked, by_name = set(), collections.Counter()
+    for group in groups.values():
+        group.sort(key=lambda at: (len(lines[at]), at), reverse=True)
+        shortest = group.pop()
+        rng.shuffle(group)
+        group.append(shortest)
+    while len(picked) < LISTED and any(groups.values()):
+        for summed, group in sorted(groups.items(), key=lambda item: repr(item[0])):
+            name = summed[0]
+            if group and len(picked) < LISTED and by_name[name] < LISTED_BY_NAME.get(name, LISTED_OF_A_NAME):
+                picked.add(group.pop())
+                by_name[name] += 1
+            else:
+                group.clear()
+    return sorted(picked)
+
+
+def store(arguments):
+    """Writes the stored run: requests, the crate's answers with the known differences, and the files."""
+    plain = list(dict.fromkeys(requests.all_requests(arguments.seed, arguments.count)))
+    last = list(requests.tables(random.Random(arguments.seed)))
+    large = [line for line in requests.large_data() if len(line) < 140000 and ' 0 1 1' not in line][-2:]
+    with tempfile.TemporaryDirectory() as folder, tempfile.TemporaryDirectory() as files:
+        oracle = built_oracle(arguments, folder)
+        theirs = answers(oracle, plain, files)
+        lines = [plain[at] for at in chosen(plain, theirs)] + large + last
+        theirs = answers(oracle, lines, files)
+    expected = [known.expected(request, line)[0].line() for request, line in zip(lines, theirs)]
+    os.makedirs(os.path.join(CRATE, 'data'), exist_ok=True)
+    for name, body in requests.files().items():
+        with open(os.path.join(CRATE, 'data', name), 'wb') as file:
+            file.write(body)
+    for name, body in (('stdin', lines), ('stdout', expected)):
+        with open(os.path.join(CRATE, name), 'w', encoding='ascii') as file:
+            file.write('\n'.join(body) + '\n')
+    print(f'{len(lines)} answers stored')
+    return True
+
+
+def main():
+    parser = argparse.ArgumentParser(description=__doc__, formatter_class=argparse.RawDescriptionHelpFormatter)
+    parser.add_argument('what', choices=('run', 'list'))
+    parser.add_argument('upstream', help="the folder of the crate's own files")
+    parser.add_argument('oracle', help='the folder with build.sh')
+    parser.add_argument('--seed', type=int, default=1)
+    parser.add_argument('--count', type=int, default=5000, help='of each kind of random request, about')
+    parser.add_argument('--program', default=os.path.join(CRATE, 'out', 'minisign_compare'))
+    arguments = parser.parse_args()
+    done = run(arguments) if arguments.what == 'run' else store(arguments)
+    sys.exit(0 if done else 1)
+
+
+if __name__ == '__main__':
+    main()

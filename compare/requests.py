@@ -1,0 +1,580 @@
+"""Requests for the comparison: short inputs exhaustively, and others around each boundary, by seed.
+
+Texts and records are those of the toy scheme (tests/toy.py). A request is one line; README.md lists them.
+"""
+
+import hashlib
+import itertools
+import os
+import random
+import sys
+
+sys.path.insert(0, os.path.join(os.path.dirname(os.path.abspath(__file__)), '..', 'tests'))
+import base64  # noqa: E402
+import toy  # noqa: E402
+
+KEYNUM = toy.KEYNUM
+PUBLIC = b'Ed' + KEYNUM + toy.KEY
+SECRET = (b'Ed' + bytes(2) + b'B2' + bytes(48) + KEYNUM + toy.SEED + toy.KEY
+          + toy.checksum(KEYNUM, toy.SEED + toy.KEY))
+COMMENT = b'untrusted comment: '
+TRUSTED = b'trusted comment: '
+# All that `trim` drops, and characters near them that it keeps.
+SPACES = [' ', '\t', '\x0b', '\x0c', '\r', '\x1c', '\x85', '\xa0', '\u1680', '\u180e', '\u2000', '\u200a',
+          '\u200b', '\u2028', '\u2029', '\u202f', '\u205f', '\u3000', '\ufeff', '\0']
+
+
+def hexed(data):
+    return 'x' + data.hex()
+
+
+def text(data):
+    """A text word: the bytes have to be UTF-8."""
+    data.decode()
+    return hexed(data)
+
+
+def is_utf8(data):
+    try:
+        data.decode()
+    except UnicodeDecodeError:
+        return False
+    return True
+
+
+def sealed_record(password, opslimit, memlimit, salt=bytes(range(32)), keynum=KEYNUM, kdf=b'Sc'):
+    """A secret key sealed under the password, with its own limits (small ones, with N 2^1 to 2^8)."""
+    operations = max(32768, opslimit)
+    n_log2 = 1
+    if operations < memlimit // 32:
+        most, p = operations // 32, 1
+    else:
+        most, p = memlimit // 1024, None
+    while n_log2 < 63 and (1 << n_log2) <= most // 2:
+        n_log2 += 1
+    if p is None:
+        p = min(0x3fffffff, (operations // 4 >> n_log2) & 0xffffffff) // 8
+    stream = hashlib.scrypt(password, salt=salt, n=1 << n_log2, r=8, p=p, dklen=104, maxmem=1 << 30)
+    opened = keynum + toy.SEED + toy.KEY + toy.checksum(keynum, toy.SEED + toy.KEY)
+    limits = opslimit.to_bytes(8, 'little') + memlimit.to_bytes(8, 'little')
+    return b'Ed' + kdf + b'B2' + salt + limits + bytes(a ^ b for a, b in zip(opened, stream))
+
+
+def secret_text(record, comment=b'c'):
+    return toy.lines(COMMENT + comment, base64.b64encode(record))
+
+
+def files():
+    """The files that requests name, by name."""
+    sealed = secret_text(sealed_record(b'p', 32768, 16384))
+    return {
+        'good.pub': toy.public_text(),
+        'good.minisig': toy.signature_text(b'abc'),
+        'sealed.key': sealed,
+        'plain.key': secret_text(SECRET),
+        'empty': b'',
+        'not_utf8': b'untrusted comment: \xff\n',
+        'one_line': b'untrusted comment: c\n',
+    }
+
+
+# ---- texts ------------------------------------------------------------------------------------------
+
+
+def texts_of(pieces, most, ends=(b'\n',)):
+    """Every text of up to so many lines over the pieces, with and without a last line feed."""
+    for count in range(most + 1):
+        for lines in itertools.product(pieces, repeat=count):
+            for end in ends:
+                joined = end.join(lines)
+                yield joined
+                if lines:
+                    yield joined + end
+
+
+def public_key_texts(rng):
+    key = base64.b64encode(PUBLIC)
+    pieces = [b'', COMMENT + b'c', key, key[:-1], key + b'A', key[:-1] + b'=', b' ' * 56,
+              b' ' + key[:55], key[:30] + b'-' + key[31:], b'\r', key + b'\r']
+    for body in texts_of(pieces, 3):
+        yield f'pk_from_box {text(body)}'
+    for body in texts_of(pieces[:6], 2, (b'\r\n', b'\n\n', b'\r')):
+        yield f'pk_from_box {text(body)}'
+    for length in range(120):
+        for letter in (b'A', b'=', b' ', b'+'):
+            yield f'pk_from_box {text(COMMENT + bytes([10]) + letter * length)}'
+            yield f'pk_from_base64 {text(letter * length)}'
+    for length in range(60):
+        encoded = base64.b64encode(bytes(rng.randrange(256) for _ in range(length)))
+        yield f'pk_from_base64 {text(encoded)}'
+        yield f'pk_from_box {text(COMMENT + bytes([10]) + encoded)}'
+        for padded in (encoded.rstrip(b'='), encoded + b'=', encoded + b'\n', encoded[:-1] + b'B'):
+            yield f'pk_from_base64 {text(padded)}'
+            yield f'pk_from_box {text(COMMENT + bytes([10]) + padded)}'
+    for space in SPACES:
+        space = space.encode()
+        for body in (space + key, key + space, space + key + space, key[:20] + space + key[20:],
+                     space * 56, space + key[len(space):], key[:-len(space)] + space, space + key[:-1]):
+            yield f'pk_from_base64 {text(body)}'
+            yield f'pk_from_box {text(COMMENT + bytes([10]) + body)}'
+            yield f'pk_from_box {text(COMMENT + space + bytes([10]) + body + bytes([10]) + space)}'
+    for at in range(56):
+        for letter in (0, 10, 13, 32, 43, 45, 47, 61, 65, 95, 122, 127):
+            changed = key[:at] + bytes([letter]) + key[at + 1:]
+            yield f'pk_from_base64 {text(changed)}'
+            yield f'pk_from_box {text(COMMENT + bytes([10]) + changed)}'
+
+
+def signature_lines():
+    """For each line of a signature's text the pieces that may stand there."""
+    record = toy.signature_record(b'abc')
+    encoded = base64.b64encode(record)
+    legacy = base64.b64encode(toy.signature_record(b'abc', algorithm=b'Ed'))
+    unknown = base64.b64encode(b'eD' + record[2:])
+    comment_signature = base64.b64encode(toy.signature_of(record[10:] + b't'))
+    first = [COMMENT + b'c', COMMENT, COMMENT[:-1], b'', b'Untrusted comment: c', COMMENT + b'\xc3\xa9 \r']
+    second = [encoded, legacy, unknown, b'', encoded[:-4], encoded[:-1], b'-' + encoded[1:],
+              b' ' + encoded + b'\t\r', base64.b64encode(record + b'x')]
+    third = [TRUSTED + b't', TRUSTED + b' t ', TRUSTED[:-1], b'', b'trusted', TRUSTED, b'Trusted comment: t']
+    fourth = [comment_signature, b'', comment_signature[:-1], b' ' + comment_signature + b' ', b'A', b'AAAA',
+              base64.b64encode(base64.b64decode(comment_signature)[:63])]
+    return first, second, third, fourth
+
+
+def signature_texts(rng):
+    lines = signature_lines()
+    for four in itertools.product(*lines):
+        yield f'sig_from_string {text(toy.lines(*four))}'
+    for count in range(4):
+        for some in itertools.product(*lines[:count]):
+            body = b'\n'.join(some)
+            yield f'sig_from_string {text(body)}'
+            yield f'sig_from_string {text(body + bytes([10]))}'
+    pieces = [b'', lines[0][0], lines[1][0], lines[2][0], lines[3][0], b'\r', b'x']
+    for body in texts_of(pieces, 4):
+        yield f'sig_from_string {text(body)}'
+    good = toy.signature_text(b'abc')
+    for end in (b'\r\n', b'\n\n', b'\r', b'\n\r\n', b'\r\r\n', b'\x0b', b'\xc2\x85'):
+        yield f'sig_from_string {text(good.replace(bytes([10]), end))}'
+    for space in SPACES:
+        space = space.encode()
+        for at, _ in enumerate(lines):
+            parts = good.split(b'\n')
+            for changed in (space + parts[at], parts[at] + space, parts[at].replace(b' ', space),
+                            parts[at][:9] + space + parts[at][9:]):
+                rest = parts[:at] + [changed] + parts[at + 1:]
+                yield f'sig_from_string {text(bytes([10]).join(rest))}'
+        body = toy.signature_text(b'abc', trusted=space + b't' + space, untrusted=space + b'c' + space)
+        yield f'sig_from_string {text(body)}'
+    for length in range(100):
+        raw = bytes(rng.randrange(256) for _ in range(length))
+        encoded = base64.b64encode(raw)
+        yield f'sig_from_string {text(toy.lines(lines[0][0], encoded, lines[2][0], lines[3][0]))}'
+        yield f'sig_from_string {text(toy.lines(lines[0][0], lines[1][0], lines[2][0], encoded))}'
+        named = base64.b64encode((b'ED' + raw)[:max(length, 2)])
+        yield f'sig_from_string {text(toy.lines(lines[0][0], named, lines[2][0], encoded[:-1]))}'
+
+
+def secret_key_texts(rng):
+    plain = base64.b64encode(SECRET)
+    kinds = [SECRET, SECRET[:2] + b'Sc' + SECRET[4:], SECRET[:2] + b'sC' + SECRET[4:],
+             SECRET[:2] + b'\0\1' + SECRET[4:], SECRET[:-1] + b'\0', SECRET[:157], SECRET + b'x', b'']
+    pieces = [b'', COMMENT + b'c'] + [base64.b64encode(kind) for kind in kinds[:6]] + [plain[:-1], b' ' + plain]
+    for body in texts_of(pieces, 3):
+        yield f'sk_plain {text(body)}'
+        if b'RWRTY0Iy' not in body:
+            yield f'sk_open {text(body)} x70 -'
+            yield f'sk_open {text(body)} - x70'
+    for kind in kinds:
+        yield f'sk_plain {text(secret_text(kind))}'
+    for at in range(len(SECRET)):
+        for bit in (1, 128):
+            changed = SECRET[:at] + bytes([SECRET[at] ^ bit]) + SECRET[at + 1:]
+            yield f'sk_plain {text(secret_text(changed))}'
+            yield f'sk_from_bytes {hexed(changed)}'
+    for space in SPACES:
+        space = space.encode()
+        for body in (space + plain, plain + space, plain[:50] + space + plain[50:]):
+            yield f'sk_plain {text(COMMENT + bytes([10]) + body)}'
+            yield f'sk_plain {text(COMMENT + space + bytes([10]) + body + bytes([10]))}'
+    for length in range(170):
+        raw = bytes(rng.randrange(256) for _ in range(length))
+        yield f'sk_plain {text(secret_text(raw))}'
+        yield f'sk_plain {text(secret_text((SECRET + raw)[:length]))}'
+
+
+def damaged(rng, body):
+    """A copy of a text with one to three places changed; UTF-8 stays."""
+    changed = bytearray(body)
+    for _ in range(rng.choice((1, 1, 1, 2, 3))):
+        at = rng.randrange(len(changed) + 1) if changed else 0
+        what = rng.randrange(6)
+        if what == 0 and at < len(changed):
+            changed[at] ^= 1 << rng.randrange(7)
+        elif what == 1 and at < len(changed):
+            del changed[at]
+        elif what == 2:
+            changed[at:at] = rng.choice([b'\n', b'\r\n', b'\r', b' ', b'=', b'A', b'\xc2\xa0', b'\0'])
+        elif what == 3:
+            del changed[at:at + rng.randrange(1, 20)]
+        elif what == 4:
+            changed[at:at] = changed[at:at + rng.randrange(1, 20)]
+        elif at < len(changed):
+            changed[at] = rng.choice(b'\n\r =+/-_AZaz09:\x7f')
+    return bytes(changed) if is_utf8(bytes(changed)) else body
+
+
+def damaged_texts(rng, count):
+    """Copies of good texts with a few places changed, for each call that reads a text."""
+    good_key = toy.public_text()
+    good = toy.signature_text(b'abc')
+    legacy = toy.signature_text(b'abc', record=toy.signature_record(b'abc', algorithm=b'Ed'))
+    secret = secret_text(SECRET)
+    for _ in range(count):
+        yield f'pk_from_box {text(damaged(rng, good_key))}'
+        yield f'pk_from_base64 {text(damaged(rng, good_key.split(bytes([10]))[1]))}'
+        yield f'sig_from_string {text(damaged(rng, good))}'
+        yield f'sig_from_string {text(damaged(rng, legacy))}'
+        yield f'sk_plain {text(damaged(rng, secret))}'
+        which = rng.choice((good, legacy))
+        key, sig = (damaged(rng, good_key), which) if rng.randrange(3) == 0 else (good_key, damaged(rng, which))
+        flags = ' '.join(str(rng.randrange(2)) for _ in range(3))
+        yield f'verify_texts {text(key)} {text(sig)} x616263 {flags}'
+
+
+# ---- records ----------------------------------------------------------------------------------------
+
+
+def records(rng, count):
+    for length in range(200):
+        raw = bytes(rng.randrange(256) for _ in range(length))
+        for begin in (b'', b'Ed', b'ED', b'eD', b'E'):
+            record = (begin + raw)[:length]
+            yield f'pk_from_bytes {hexed(record)}'
+            yield f'sig_from_bytes {hexed(record)}'
+            yield f'bones_untrusted {hexed(record)}'
+            yield f'bones_trusted {hexed(record)}'
+            yield f'bones_to_string {hexed(record)}'
+            yield f'sk_from_bytes {hexed(record)}'
+            yield f'pk_to_box {hexed(record)}'
+            yield f'pk_from_secret_key {hexed(record)}'
+            yield f'sk_to_box {hexed(record)} -'
+    for first in range(256):
+        for second in (0, 1, 68, 99, 100, 255):
+            algorithm = bytes([first, second])
+            yield f'sig_from_bytes {hexed(algorithm + bytes(72))}'
+            yield f'pk_from_bytes {hexed(algorithm + PUBLIC[2:])}'
+            yield f'sk_from_bytes {hexed(b"Ed" + algorithm + SECRET[4:])}'
+    comments = [b'', b'c', b'a comment', b'two\nlines', '\xe9\u2028'.encode(), b'x' * 300, b'\r', b' c ']
+    for comment in comments:
+        yield f'sk_to_box {hexed(SECRET)} {text(comment)}'
+    for _ in range(count):
+        public = PUBLIC[:10] + bytes(rng.choice((90, 90, 90, 91)) for _ in range(32))
+        other = PUBLIC[:2] + bytes(8) + bytes(rng.choice((90, 90, 90, 91)) for _ in range(32))
+        yield f'pk_eq {hexed(rng.choice((public, PUBLIC)))} {hexed(rng.choice((other, public, PUBLIC)))}'
+        secret = bytearray(SECRET)
+        secret[rng.randrange(158)] ^= 1 << rng.randrange(8)
+        yield f'sk_eq {hexed(SECRET)} {hexed(bytes(secret))}'
+        yield f'sk_from_bytes {hexed(bytes(secret))}'
+        yield f'pk_from_secret_key {hexed(bytes(secret))}'
+
+
+# ---- hashes, numbers, limits ------------------------------------------------------------------------
+
+
+def hashes(rng, count):
+    for outlen in range(67):
+        for length in (0, 1, 127, 128, 129, 255, 256, 257, 384):
+            yield f'blake2b {outlen} - {hexed(toy.some_data(length))}'
+    data = toy.some_data(300)
+    for cut in range(301):
+        yield f'blake2b 64 {cut} {hexed(data)}'
+        yield f'blake2b 32 {cut},{300 - cut} {hexed(data)}'
+        yield f'blake2b 64 - {hexed(data[:cut])}'
+    for _ in range(count):
+        length = rng.choice((rng.randrange(700), rng.randrange(4) * 128 + rng.randrange(-2, 3) % 700))
+        body = bytes(rng.randrange(256) for _ in range(length))
+        cuts = sorted(rng.randrange(length + 3) for _ in range(rng.randrange(1, 6)))
+        yield f'blake2b {rng.randrange(1, 65)} {",".join(map(str, cuts))} {hexed(body)}'
+
+
+def numbers(rng, count):
+    values = [0, 1, 255, 256, 65535, 2 ** 32 - 1, 2 ** 32, 2 ** 63, 2 ** 64 - 1]
+    for value in values + [rng.randrange(2 ** 64) for _ in range(count)]:
+        yield f'store_u64_le {value}'
+        yield f'load_u64_le {hexed(value.to_bytes(8, "little"))}'
+        yield f'load_u64_le {hexed(value.to_bytes(8, "little") + bytes(rng.randrange(3)))}'
+    for length in range(10):
+        yield f'load_u64_le {hexed(bytes(range(length)))}'
+    for moment in (0, 1, -1, -10 ** 9, 1700000000, 2 ** 40):
+        yield f'unix_timestamp {moment}'
+    for left in range(6):
+        for right in range(6):
+            yield f'fixed_time_eq {hexed(bytes(range(left)))} {hexed(bytes(range(right)))}'
+    for _ in range(count):
+        body = bytes(rng.randrange(256) for _ in range(rng.randrange(1, 70)))
+        at = rng.randrange(len(body))
+        other = body[:at] + bytes([body[at] ^ (1 << rng.randrange(8))]) + body[at + 1:]
+        yield f'fixed_time_eq {hexed(body)} {hexed(rng.choice((body, other, body[:-1])))}'
+
+
+def limits(rng, count):
+    edges = sorted({max(0, value + by) for value in
+                    [0, 1024, 2048, 16384, 32768, 1 << 20, 1 << 25, 1 << 30, 1 << 31, 1 << 40, 1 << 63]
+                    for by in (-1, 0, 1)} | {2 ** 64 - 1})
+    for memlimit in edges:
+        for opslimit in edges:
+            for most in (0, 1, 14, 15, 20, 63, 255):
+                yield f'raw_scrypt_params {memlimit} {opslimit} {most}'
+    for _ in range(count):
+        memlimit = rng.randrange(1 << rng.randrange(1, 65))
+        opslimit = rng.randrange(1 << rng.randrange(1, 65))
+        if rng.randrange(2):
+            opslimit = max(0, min(2 ** 64 - 1, memlimit // 32 + rng.randrange(-2, 3)))
+        yield f'raw_scrypt_params {memlimit} {opslimit} {rng.choice((20, 20, 63, rng.randrange(256)))}'
+
+
+def derivations(rng, count):
+    for n_log2, r, p, length in [(4, 1, 1, 64), (1, 8, 1, 1), (1, 1, 1, 0), (2, 0, 1, 8), (2, 1, 0, 8),
+                                 (16, 1, 1, 8), (64, 8, 1, 8), (3, 2, 2, 33), (15, 1, 1, 4),
+                                 (1, 1 << 30, 1, 4), (1, 1 << 15, 1 << 15, 4), (63, 8, 1, 4)]:
+        yield f'scrypt {n_log2} {r} {p} {length} x70 x73'
+    for _ in range(count):
+        password = bytes(rng.randrange(256) for _ in range(rng.choice((0, 1, 63, 64, 65, 100))))
+        salt = bytes(rng.randrange(256) for _ in range(rng.choice((0, 1, 32, 55, 64, 119))))
+        yield (f'scrypt {rng.randrange(1, 6)} {rng.randrange(1, 10)} {rng.randrange(1, 4)} '
+               f'{rng.choice((1, 31, 32, 33, 64, 104))} {hexed(password)} {hexed(salt)}')
+
+
+# ---- passwords and sealed keys ----------------------------------------------------------------------
+
+
+def passwords(rng):
+    lines = [b'', b'p', b'a password', '\xe9\u3042'.encode(), b' p ', b'x' * 1023, b'x' * 1024, b'x' * 1025,
+             b'x' * 1026, b'x' * 1027, b'x' * 3000, '\xe9'.encode() * 512, b'x' + '\xe9'.encode() * 512]
+    for count in range(3):
+        for some in itertools.product(lines, repeat=count):
+            yield f'get_password {",".join(map(text, some)) or "-"}'
+
+
+def sealed_keys(rng, count):
+    """Keys with small limits, opened with the right password and others; and the greatest limits."""
+    for opslimit, memlimit in [(0, 0), (32768, 16384), (32768, 1 << 17), (40000, 1 << 21), (65536, 65536),
+                               (1 << 17, 2048)]:
+        for password in (b'', b'p', b'x' * 100, '\xe9'.encode()):
+            body = secret_text(sealed_record(password, opslimit, memlimit))
+            for given in (b'', b'p', b'x' * 100, '\xe9'.encode()):
+                yield f'sk_open {text(body)} {text(given)} -'
+            for typed in ('-', text(password), f'{text(password)},x71', 'x', 'x71', text(b'x' * 1025)):
+                yield f'sk_open {text(body)} - {typed}'
+                yield f'sk_open {text(body)} {text(password)} {typed}'
+    record = sealed_record(b'p', 32768, 16384)
+    for opslimit, memlimit in [(2 ** 64 - 1, 2048), (1 << 25, 1 << 31), (1 << 25, (1 << 30) + 1), (0, 2 ** 64 - 1),
+                               (1 << 60, 1 << 20), (0, 1 << 32), (1 << 20, (1 << 32) + 2048)]:
+        limited = record[:38] + opslimit.to_bytes(8, 'little') + memlimit.to_bytes(8, 'little') + record[54:]
+        if opslimit < 1 << 40 or memlimit > 1 << 30:
+            yield f'sk_open {text(secret_text(limited))} x70 -'
+            yield f'sk_open {text(secret_text(limited))} - x70'
+    for _ in range(count):
+        at = rng.randrange(158)
+        if 38 <= at < 54:
+            at = 53 + rng.randrange(1, 100)
+        changed = record[:at] + bytes([record[at] ^ (1 << rng.randrange(8))]) + record[at + 1:]
+        yield f'sk_open {text(secret_text(changed))} x70 -'
+    usual = toy.sealed_text(b'p')
+    yield f'sk_open {text(usual)} x70 -'
+    yield f'sk_open {text(usual)} - x70'
+    yield f'sk_open {text(usual)} - x71'
+
+
+def file_requests():
+    for name in ['good.pub', 'good.minisig', 'sealed.key', 'plain.key', 'empty', 'not_utf8', 'one_line', 'absent',
+                 '.', 'good.pub/below']:
+        path = text(name.encode())
+        yield f'pk_from_file {path}'
+        yield f'sig_from_file {path}'
+        yield f'sk_from_file {path} x70 -'
+        yield f'sk_from_file {path} - x70'
+        yield f'sk_from_file {path} - -'
+
+
+# ---- pairs ------------------------------------------------------------------------------------------
+
+
+def pairs(rng, count):
+    for length in range(75):
+        yield f'gen_plain {hexed(bytes(range(length)))}'
+        yield f'gen_write_plain {hexed(bytes(range(length)))} - -'
+    for first in range(0, 256, 5):
+        yield f'gen_plain c{first}'
+    for room in list(range(45)) + [157, 158, 159]:
+        yield f'gen_write_plain c7 {room} -'
+        yield f'gen_write_plain c7 - {room}'
+        yield f'gen_write_plain c7 f{room} -'
+        yield f'gen_write_plain c7 - f{room}'
+    for room in range(45, 158, 7):
+        yield f'gen_write_plain c7 - {room}'
+    for left, right in itertools.product(('-', 'f', '0', 'f0', '42', 'f42', '158', 'f158'), repeat=2):
+        yield f'gen_write_plain c9 {left} {right}'
+    for length in (0, 31, 32, 39, 40, 71, 72, 73):
+        yield f'gen_sealed {hexed(bytes(range(length)))} x70 -'
+    for typed in ('-', 'x', 'x,x', 'x70', 'x70,x70', 'x70,x71', 'x,x70', 'x70,x70,x71', text(b'x' * 1025),
+                  f'x70,{text(b"x" * 1027)}', f'{text(b"x" * 1026)},x70', f'{text(b"x" * 1024)},{text(b"x" * 1024)}'):
+        yield f'gen_sealed c1 - {typed}'
+        yield f'gen_sealed c1 x70 {typed}'
+        yield f'gen_write_sealed c1 - - - - {typed}'
+    for comment in ('-', 'x', 'x63', text('\xe9'.encode()), text(b'two\nlines')):
+        yield f'gen_write_sealed c2 - - {comment} x70 -'
+    for left, right in [('0', '-'), ('-', '0'), ('f', '-'), ('-', 'f'), ('50', '-'), ('-', '50'), ('113', '-'),
+                        ('114', '-'), ('f114', '-'), ('-', '259'), ('-', '260'), ('40', '40'), ('f40', 'f')]:
+        yield f'gen_write_sealed c3 {left} {right} x63 x70 -'
+    for _ in range(count):
+        body = bytes(rng.randrange(256) for _ in range(rng.choice((40, 71, 72, 80))))
+        yield f'gen_plain {hexed(body)}'
+        yield f'gen_write_plain {hexed(body)} {rng.choice(("-", rng.randrange(50)))} {rng.choice(("-", rng.randrange(170)))}'
+
+
+# ---- signing and verifying --------------------------------------------------------------------------
+
+
+def data_word(rng, body, legacy=False, output=True):
+    """The data with parts behind it: place, piece, failing read, second reading."""
+    parts = []
+    if rng.randrange(4) == 0:
+        parts.append(f'pos={rng.choice((0, 1, len(body), len(body) + 1, rng.randrange(len(body) + 2)))}')
+    if rng.randrange(3) == 0:
+        parts.append(f'chunk={rng.choice((1, 2, 3, 7, 64, 1000))}')
+    if rng.randrange(4) == 0:
+        parts.append(f'fail={1 if legacy else rng.choice((1, 1, 2, 3, 4, 5, 8, 20))}')
+    if output and rng.randrange(4) == 0:
+        parts.append(f'second={hexed(rng.choice((body, body[:-1], body + b"x", b"", b"z" * len(body))))}')
+    return ','.join([hexed(body)] + parts)
+
+
+def signings(rng, count):
+    # The public key of the secret one, another one, one with another identifier, none.
+    keys = ['-', hexed(PUBLIC), hexed(PUBLIC[:10] + bytes(32)), hexed(PUBLIC[:2] + bytes(8) + PUBLIC[10:])]
+    comments = ['-', 'x', 'x74', text('\xe9\u3042'.encode()), text(b' t '), text(b't\nu'), text(b'x' * 500)]
+    for key, trusted, untrusted in itertools.product(keys, comments, comments):
+        yield f'sign {key} {hexed(SECRET)} x616263 {trusted} {untrusted} c0 1700000000'
+    for length in range(132):
+        yield f'sign - {hexed(SECRET)} x616263 - - {hexed(bytes(range(length)))} 0'
+    for length in range(0, 43):
+        yield f'sign {hexed(PUBLIC[:length])} {hexed(SECRET)} x - - c0 0'
+    for length in range(150, 160):
+        yield f'sign - {hexed((SECRET + b"xy")[:length])} x - - c0 0'
+    for moment in (0, 1, 9999999999, 2 ** 62):
+        yield f'sign - {hexed(SECRET)} x - - c0 {moment}'
+    sealed = SECRET[:2] + b'Sc' + SECRET[4:]
+    for secret in (sealed, sealed[:-1] + b'\0', SECRET[:2] + b'xx' + SECRET[4:], SECRET[:-1] + b'\0'):
+        yield f'sign - {hexed(secret)} x616263 - - c0 0'
+    for _ in range(count):
+        body = toy.some_data(rng.choice((0, 1, 3, 127, 128, 129, 256, rng.randrange(600))))
+        changed = bytearray(SECRET)
+        if rng.randrange(4) == 0:
+            changed[rng.randrange(158)] ^= 1 << rng.randrange(8)
+        yield (f'sign {rng.choice(keys)} {hexed(bytes(changed))} {data_word(rng, body, output=False)} '
+               f'{rng.choice(comments)} {rng.choice(comments)} c{rng.randrange(256)} {rng.randrange(2 ** 40)}')
+
+
+def all_flags():
+    return [' '.join(flags) for flags in itertools.product('01', repeat=3)]
+
+
+def verifications(rng, count):
+    signature = toy.signature_record(b'abc')
+    legacy = toy.signature_record(b'abc', algorithm=b'Ed')
+    other = b'ED' + toy.OTHER_KEYNUM + signature[10:]
+    wrong = signature[:-1] + bytes([signature[-1] ^ 1])
+    keys = [PUBLIC, PUBLIC[:10] + bytes(32), PUBLIC[:2] + bytes(8) + PUBLIC[10:], b'xx' + PUBLIC[2:], PUBLIC[:41]]
+    boxes = []
+    for record in (signature, legacy, other, wrong):
+        boxes.append('bones:' + hexed(record))
+        boxes.append(text(toy.signature_text(b'abc', record=record)))
+        boxes.append(text(toy.signature_text(b'abc', record=record, trusted=b'', untrusted=b'')))
+        boxes.append(text(toy.signature_text(b'abc', record=record, comment_signature=bytes(64))))
+    for key, box, data, flags in itertools.product(keys, boxes, (b'abc', b'abd', b''), all_flags()):
+        yield f'verify {hexed(key)} {box} {hexed(data)} {flags}'
+    for length in range(0, 80):
+        global_signature = (toy.signature_of(signature[10:] + b't') + b'extra bytes here')[:length]
+        box = toy.signature_text(b'abc', comment_signature=global_signature or b'\0')
+        if not length:
+            lines = box.split(b'\n')
+            box = b'\n'.join(lines[:3] + [b'', b''])
+        for flags in ('0 0 0', '1 1 1'):
+            yield f'verify {hexed(PUBLIC)} {text(box)} x616263 {flags}'
+    for chunk in (1, 2, 3, 4):
+        for fail in range(12):
+            for flags in ('0 1 0', '1 0 0', '1 1 0'):
+                part = f',fail={fail}' if fail else ''
+                yield f'verify {hexed(PUBLIC)} {boxes[1]} x616263,chunk={chunk}{part} {flags}'
+                yield f'verify {hexed(PUBLIC)} {boxes[1]} x7878616263,pos=2,chunk={chunk}{part} {flags}'
+    key_text = text(toy.public_text())
+    for flags in all_flags():
+        for box in boxes:
+            yield f'verify_texts {key_text} {box} x616263 {flags}'
+    for _ in range(count):
+        body = toy.some_data(rng.choice((0, 1, 3, 127, 128, 129, 256, rng.randrange(600))))
+        is_legacy = rng.randrange(3) == 0
+        word = data_word(rng, body, is_legacy)
+        place = next((int(part[4:]) for part in word.split(',') if part.startswith('pos=')), 0)
+        trusted = rng.choice((b't', b'', b'timestamp:1', '\xe9'.encode(), b'x' * 200))
+        record = toy.signature_record(body[place:], algorithm=b'Ed' if is_legacy else b'ED')
+        if rng.randrange(4) == 0:
+            at = rng.randrange(2, 74)
+            record = record[:at] + bytes([record[at] ^ (1 << rng.randrange(8))]) + record[at + 1:]
+        box = toy.signature_text(body, record=record, trusted=trusted)
+        sig = rng.choice((text(box), text(box), 'bones:' + hexed(record)))
+        flags = ' '.join(str(rng.randrange(2)) for _ in range(3))
+        if rng.randrange(2):
+            yield f'verify {hexed(PUBLIC)} {sig} {word} {flags}'
+        else:
+            yield f'verify_texts {key_text} {sig} {word} {flags}'
+
+
+def large_data():
+    for length in (65535, 65536, 65537, 131072, 200000):
+        body = toy.some_data(length)
+        for algorithm in (b'ED', b'Ed'):
+            sig = toy.signature_text(body, record=toy.signature_record(body, algorithm=algorithm))
+            for flags in ('0 1 1', '1 0 1'):
+                yield f'verify {hexed(PUBLIC)} {text(sig)} {hexed(body)} {flags}'
+        yield f'sign {hexed(PUBLIC)} {hexed(SECRET)} {hexed(body)} x74 x63 c0 0'
+
+
+def tables(rng):
+    """Triples that are accepted besides: a comment signature is then that of the toy."""
+    public = bytes(rng.randrange(256) for _ in range(32))
+    record = b'ED' + KEYNUM + bytes(rng.randrange(256) for _ in range(64))
+    comment_signature = bytes(rng.randrange(256) for _ in range(64))
+    box = toy.signature_text(b'abc', record=record, comment_signature=comment_signature)
+    verify = f'verify {hexed(b"Ed" + KEYNUM + public)} {text(box)} x616263 0 0 0'
+    yield verify
+    yield f'table_add {hexed(toy.digest(b"abc"))} {hexed(public)} {hexed(record[10:])}'
+    yield verify
+    yield f'table_add {hexed(record[10:] + b"t")} {hexed(public)} {hexed(comment_signature)}'
+    yield verify
+    yield f'sign {hexed(b"Ed" + KEYNUM + public)} {hexed(SECRET)} x616263 x74 - c0 0'
+    yield 'table_clear'
+    yield verify
+
+
+def all_requests(seed, count):
+    """All requests but those with a table: those of short inputs, and so many of each kind of random one."""
+    rng = random.Random(seed)
+    yield from public_key_texts(rng)
+    yield from signature_texts(rng)
+    yield from secret_key_texts(rng)
+    yield from damaged_texts(rng, 6 * count)
+    yield from records(rng, count // 2)
+    yield from hashes(rng, count)
+    yield from numbers(rng, count // 4)
+    yield from limits(rng, 2 * count)
+    yield from derivations(rng, count // 8)
+    yield from passwords(rng)
+    yield from sealed_keys(rng, count // 8)
+    yield from file_requests()
+    yield from pairs(rng, count // 2)
+    yield from signings(rng, 2 * count)
+    yield from verifications(rng, 4 * count)
+    yield from large_data()

@@ -1,0 +1,219 @@
+//! Runs one job of the library for a benchmark, and prints what came of it. The same jobs run over the Rust
+//! crate, in `bench/beside_rust.rs`:
+//!
+//!     hash FILE ROUNDS         digests of the file's bytes, so many times
+//!     verify PK SIG FILE       a file with the texts of a public key and of a signature
+//!     sign SK FILE             a file with the text of a secret key that was never sealed
+//!     open SK PASSWORD         a sealed secret key
+//!     keys PK ROUNDS           reads a public key's text so many times
+//!     signatures SIG ROUNDS    reads a signature's text so many times
+//!     small PK SIG ROUNDS      verifies the files 0, 1, .. 999 of this folder so many times
+
+#![tactic(auto)]
+
+use minisign::base::devices::random_sources::FixedRandom;
+use minisign::base::devices::sinks::VecSink;
+use minisign::base::devices::sources::{FileSource, SliceSource};
+use minisign::base::prompt::Prompt;
+use minisign::base::toy::ToyScheme;
+use minisign::hash::blake2b::Blake2b;
+use minisign::reading::{read_text, read_to_end};
+use minisign::{PublicKey, PublicKeyBox, SecretKey, SecretKeyBox, SignatureBox, sign, verify};
+use std::process::ExitCode;
+use std::{env, fs, io};
+
+// The random bytes of a signature.
+const ZEROS: [u8; 128] = [0; 128];
+
+// How many small files there are.
+const SMALL_FILES: u64 = 1000;
+
+// Why a job ended without a result.
+#[derive(Drop)]
+enum Stopped {
+    Fault(minisign::PError),
+    Files(io::Error),
+    Usage,
+}
+
+impl From<minisign::PError> for Stopped {
+    fn from(fault: minisign::PError) -> Stopped {
+        Stopped::Fault(fault)
+    }
+}
+
+impl From<io::Error> for Stopped {
+    fn from(error: io::Error) -> Stopped {
+        Stopped::Files(error)
+    }
+}
+
+fn main(rt: HostRuntime) -> io::Result<ExitCode> {
+    let mut arguments = env::args(&rt)?;
+    match run(&rt, &mut arguments) {
+        Ok(result) => {
+            println!(rt; "{result}")?;
+            Ok(ExitCode::SUCCESS)
+        }
+        Err(Stopped::Fault(fault)) => {
+            eprintln!(rt; "error: {fault}")?;
+            Ok(ExitCode::FAILURE)
+        }
+        Err(Stopped::Files(error)) => {
+            eprintln!(rt; "error: {error}")?;
+            Ok(ExitCode::FAILURE)
+        }
+        Err(Stopped::Usage) => {
+            eprintln!(rt; "usage: library_bench JOB ARGUMENTS")?;
+            Ok(ExitCode::from(2))
+        }
+    }
+}
+
+// Runs the job that the arguments name.
+fn run(rt: &HostRuntime, arguments: &mut env::Args) -> Result<u64, Stopped> {
+    let _program = arguments.next();
+    let job = next(arguments)?;
+    match job.as_str() {
+        "hash" => hash(rt, &next(arguments)?, rounds(arguments)?),
+        "verify" => {
+            let (pk, sig) = (next(arguments)?, next(arguments)?);
+            verify_file(rt, &pk, &sig, &next(arguments)?)
+        }
+        "sign" => sign_file(rt, &next(arguments)?, &next(arguments)?),
+        "open" => open(rt, &next(arguments)?, next(arguments)?),
+        "keys" => keys(rt, &next(arguments)?, rounds(arguments)?),
+        "signatures" => signatures(rt, &next(arguments)?, rounds(arguments)?),
+        "small" => {
+            let (pk, sig) = (next(arguments)?, next(arguments)?);
+            small(rt, &pk, &sig, rounds(arguments)?)
+        }
+        _ => Err(Stopped::Usage),
+    }
+}
+
+fn next(arguments: &mut env::Args) -> Result<String, Stopped> {
+    match arguments.next() {
+        Some(argument) => Ok(argument),
+        None => Err(Stopped::Usage),
+    }
+}
+
+fn rounds(arguments: &mut env::Args) -> Result<u64, Stopped> {
+    match next(arguments)?.parse::<u64>() {
+        Ok(rounds) => Ok(rounds),
+        Err(_) => Err(Stopped::Usage),
+    }
+}
+
+fn text_of(rt: &HostRuntime, path: &str) -> Result<String, Stopped> {
+    let mut source = FileSource::new(fs::open(rt, path)?);
+    Ok(read_text(rt.alloc(), &mut source)?)
+}
+
+fn hash(rt: &HostRuntime, path: &str, rounds: u64) -> Result<u64, Stopped> {
+    let mut source = FileSource::new(fs::open(rt, path)?);
+    let data = read_to_end(rt.alloc(), &mut source)?;
+    let mut sum = 0u64;
+    for _ in 0..rounds {
+        let mut digest = [0u8; 64];
+        Blake2b::blake2b(&mut digest, &data);
+        sum = sum.wrapping_add(digest[0] as u64);
+    }
+    Ok(sum)
+}
+
+fn verify_file(rt: &HostRuntime, pk: &str, sig: &str, path: &str) -> Result<u64, Stopped> {
+    let pk_text = text_of(rt, pk)?;
+    let key = PublicKeyBox::from_string(rt.alloc(), &pk_text)?.into_public_key(rt.alloc())?;
+    let signature_box = SignatureBox::from_string(rt.alloc(), &text_of(rt, sig)?)?;
+    verify_with(rt, &key, &signature_box, path)?;
+    Ok(1)
+}
+
+fn verify_with(
+    rt: &HostRuntime,
+    key: &PublicKey,
+    signature_box: &SignatureBox,
+    path: &str,
+) -> Result<(), Stopped> {
+    let mut source = FileSource::new(fs::open(rt, path)?);
+    let mut status = VecSink::new(rt.alloc());
+    let mut out = VecSink::new(rt.alloc());
+    verify(
+        rt.alloc(),
+        &ToyScheme::new(),
+        key,
+        signature_box,
+        &mut source,
+        true,
+        false,
+        false,
+        &mut status,
+        &mut out,
+    )?;
+    Ok(())
+}
+
+fn sign_file(rt: &HostRuntime, sk: &str, path: &str) -> Result<u64, Stopped> {
+    let key_box = SecretKeyBox::from_string(rt.alloc(), &text_of(rt, sk)?)?;
+    let key = key_box.into_unencrypted_secret_key(rt.alloc())?;
+    let mut source = FileSource::new(fs::open(rt, path)?);
+    let signature_box = sign(
+        rt.alloc(),
+        &ToyScheme::new(),
+        None,
+        &key,
+        &mut source,
+        Some("t"),
+        None,
+        &mut FixedRandom::new(&ZEROS),
+        0,
+    )?;
+    Ok(signature_box.to_string(rt.alloc())?.len() as u64)
+}
+
+fn open(rt: &HostRuntime, sk: &str, password: String) -> Result<u64, Stopped> {
+    let key_box = SecretKeyBox::from_string(rt.alloc(), &text_of(rt, sk)?)?;
+    let mut unasked = Prompt::new(SliceSource::new(b""), VecSink::new(rt.alloc()));
+    let key = SecretKey::from_box(rt.alloc(), key_box, Some(password), &mut unasked)?;
+    Ok(key.is_encrypted() as u64)
+}
+
+fn keys(rt: &HostRuntime, pk: &str, rounds: u64) -> Result<u64, Stopped> {
+    let text = text_of(rt, pk)?;
+    let mut sum = 0u64;
+    for _ in 0..rounds {
+        let key_box = PublicKeyBox::from_string(rt.alloc(), &text)?;
+        let key = PublicKey::from_box(rt.alloc(), key_box)?;
+        sum = sum.wrapping_add(key.keynum().len() as u64);
+    }
+    Ok(sum)
+}
+
+fn signatures(rt: &HostRuntime, sig: &str, rounds: u64) -> Result<u64, Stopped> {
+    let text = text_of(rt, sig)?;
+    let mut sum = 0u64;
+    for _ in 0..rounds {
+        let signature_box = SignatureBox::from_string(rt.alloc(), &text)?;
+        sum = sum.wrapping_add(signature_box.keynum().len() as u64);
+    }
+    Ok(sum)
+}
+
+fn small(rt: &HostRuntime, pk: &str, sig: &str, rounds: u64) -> Result<u64, Stopped> {
+    let pk_text = text_of(rt, pk)?;
+    let key = PublicKeyBox::from_string(rt.alloc(), &pk_text)?.into_public_key(rt.alloc())?;
+    let signature_box = SignatureBox::from_string(rt.alloc(), &text_of(rt, sig)?)?;
+    let mut verified = 0u64;
+    for _ in 0..rounds {
+        for number in 0..SMALL_FILES {
+            let Ok(name) = format!(in rt.alloc(); "{number}") else {
+                return Err(Stopped::Usage);
+            };
+            verify_with(rt, &key, &signature_box, &name)?;
+            verified = verified.wrapping_add(1);
+        }
+    }
+    Ok(verified)
+}

@@ -1,0 +1,22 @@
+-- Which key a text gives for signing.
+use Rattle.std.proofs.Common.{◌≡◌, ◌≢◌, List, ℕ, Option, None, Some, Result, Ok, Err, IfSome, inr}
+use Rattle.std.specs.Option.{option_map}
+use Rattle.minisign_base.specs.Fault.{Fault}
+use Rattle.minisign_base.specs.Passages.{PromptPassage}
+use Rattle.minisign.specs.Records.{SecretKeyRecord}
+use Rattle.minisign.specs.SecretKeyText.{SecretKeyText}
+use Rattle.minisign.specs.Sealing.{no_kdf}
+use Rattle.minisign.specs.Opening.{IsOpening}
+use Rattle.minisign.specs.SigningTexts.{IsGiving}
+
+-- one that is sealed: it is opened
+pub opened_key : {R W : Type 0} (p : PromptPassage R W) (given : Option (List ℕ)) (text : List ℕ) (k : SecretKeyRecord) (r : Result SecretKeyRecord Fault)
+    → SecretKeyText text k → k.kdf ≢ no_kdf → IsOpening p given text None r → IsGiving p given text r
+opened_key p given text k (Ok v) read differs h = inr h
+opened_key p given text k (Err e) read differs h = inr (k, read, inr (differs, h))
+
+-- a password that is handed in leaves the prompt as it was
+pub untouched_opening : {P R W : Type 0} (p : PromptPassage R W) (bytes : P → List ℕ) (given : Option P) (text : List ℕ) (bound : Option ℕ) (r : Result SecretKeyRecord Fault)
+    → IsOpening p (option_map bytes given) text bound r → IfSome given (λ _. p.new ≡ p.old)
+untouched_opening p bytes None text bound r h = tt
+untouched_opening p bytes (Some password) text bound r h = h.0

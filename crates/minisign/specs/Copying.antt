@@ -1,0 +1,66 @@
+-- How copying the data of a box that was accepted ends.
+use Rattle.std.specs.Prelude.{◌≡◌, ◌≢◌, ℕ, Bool, true, false, ◌⊎◌, List}
+use Rattle.std.specs.Io.KnownBytes.{IsAtEnd}
+use Rattle.minisign_hash.specs.Blake2b.{blake2b_digest}
+use Rattle.minisign_base.specs.Fault.{Fault}
+use Rattle.minisign_base.specs.Faults.{writing_failed, going_back_failed, data_changed}
+use Rattle.minisign_base.specs.Passages.{RereaderPassage, SinkFails, SinkPassage, SourceFails, Takes, TakesFront}
+use Rattle.minisign.specs.declared.signed_data.SignedData.{SignedData}
+use Rattle.minisign.specs.declared.signed_data.SignedData.TheVariants.{Digest, Kept, Unkept}
+use Rattle.minisign.specs.Reading.{IsReadFault, IsReturned}
+
+-- the output failed
+pub record OutputFails {O : Type 0} (out : SinkPassage O) (e : Fault) : Type 0 where
+  pub fault : e ≡ writing_failed
+  pub rose : SinkFails out
+
+-- going back failed; nothing was copied
+pub record ReturnFails {R O : Type 0} (reader : RereaderPassage R) (out : SinkPassage O) (e : Fault) : Type 0 where
+  pub fault : e ≡ going_back_failed
+  pub rose : SourceFails reader
+  pub uncopied : out.new ≡ out.old
+
+-- the data was copied in part: memory was wanting, the source failed, or the output did
+pub record CopyBreaksOff {R O : Type 0} (reader : RereaderPassage R) (out : SinkPassage O) (second : List ℕ) (e : Fault) : Type 0 where
+  pub front : TakesFront out second
+  pub failed : IsReadFault reader.source reader.old reader.new e ⊎ OutputFails out e
+
+-- the data was copied whole, and it is other data: it has another digest
+pub record DataChanged {O : Type 0} (out : SinkPassage O) (digest second : List ℕ) (e : Fault) : Type 0 where
+  pub all : Takes out second
+  pub fault : e ≡ data_changed
+  pub changed : blake2b_digest 64 second ≢ digest
+
+-- the data was copied whole, and the output failed at its flush
+pub record FlushFails {O : Type 0} (out : SinkPassage O) (digest second : List ℕ) (e : Fault) : Type 0 where
+  pub all : Takes out second
+  pub unchanged : blake2b_digest 64 second ≡ digest
+  pub failed : OutputFails out e
+
+-- a second pass fails, of which Pass says what was ahead in it
+abbrev pub SecondPassFails : {R O : Type 0} → (List ℕ → Type 0) → RereaderPassage R → SinkPassage O → List ℕ → Fault → Type 0
+SecondPassFails Pass reader out digest e =
+    ReturnFails reader out e
+    ⊎ ((second : List ℕ) × Pass second
+    × (CopyBreaksOff reader out second e ⊎ DataChanged out digest second e ⊎ FlushFails out digest second e))
+
+-- kept data was copied in part: the output failed
+pub record KeptFails {O : Type 0} (out : SinkPassage O) (message : List ℕ) (e : Fault) : Type 0 where
+  pub front : TakesFront out message
+  pub failed : OutputFails out e
+
+-- what was to be copied is copied: the kept data, or a second pass with the digest of the first
+abbrev pub CopyingSucceeds : {R O : Type 0} → Bool → SignedData → RereaderPassage R → SinkPassage O → Type 0
+CopyingSucceeds false signed reader out = (reader.new ≡ reader.old) × (out.new ≡ out.old)
+CopyingSucceeds true (Digest digest) reader out =
+    (second : List ℕ) × IsReturned reader.source reader.old reader.new second × Takes out second
+    × (blake2b_digest 64 second ≡ digest) × IsAtEnd (reader.source.ahead reader.new)
+CopyingSucceeds true (Kept bytes) reader out = (reader.new ≡ reader.old) × Takes out bytes.items
+CopyingSucceeds true Unkept reader out = (reader.new ≡ reader.old) × (out.new ≡ out.old)
+
+-- what was to be copied is not
+abbrev pub CopyingFails : {R O : Type 0} → Bool → SignedData → RereaderPassage R → SinkPassage O → Fault → Type 0
+CopyingFails false signed reader out e = ⊥
+CopyingFails true (Digest digest) reader out e = SecondPassFails (IsReturned reader.source reader.old reader.new) reader out digest e
+CopyingFails true (Kept bytes) reader out e = (reader.new ≡ reader.old) × KeptFails out bytes.items e
+CopyingFails true Unkept reader out e = ⊥

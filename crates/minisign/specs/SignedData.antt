@@ -1,0 +1,23 @@
+-- What is held of data that was read, for its signature to be judged.
+use Rattle.std.specs.Prelude.{◌≡◌, ℕ, Bool, true, false, ◌||◌, List, []}
+use Rattle.minisign_hash.specs.Blake2b.{blake2b_digest}
+use Rattle.minisign.specs.declared.signed_data.SignedData.{SignedData}
+use Rattle.minisign.specs.declared.signed_data.SignedData.TheVariants.{Digest, Kept, Unkept}
+use Rattle.minisign.specs.Acceptance.{signed_bytes}
+use Rattle.minisign.specs.Records.{SignatureBoxRecord, is_prehashed}
+
+-- the bytes that are held
+abbrev pub held_bytes : SignedData → List ℕ
+held_bytes (Digest digest) = digest
+held_bytes (Kept bytes) = bytes.items
+held_bytes Unkept = []
+
+-- for a prehashed box the digest of the message is held; for another, where it is allowed, the message
+abbrev pub HoldsSigned : SignedData → SignatureBoxRecord → Bool → List ℕ → Type 0
+HoldsSigned (Digest digest) x legacy message = (is_prehashed x.signature ≡ true) × (digest ≡ blake2b_digest 64 message)
+HoldsSigned (Kept bytes) x legacy message = (is_prehashed x.signature ≡ false) × (bytes.items ≡ message)
+HoldsSigned Unkept x legacy message = (is_prehashed x.signature ≡ false) × (legacy ≡ false)
+
+-- these bytes are those that the signature is over, where such a signature is allowed
+abbrev pub AreSigned : List ℕ → SignatureBoxRecord → Bool → List ℕ → Type 0
+AreSigned bytes x legacy message = (is_prehashed x.signature || legacy) ≡ true → bytes ≡ signed_bytes x message

@@ -1,0 +1,106 @@
+//! Verifying minisign signatures from C, with an Ed25519 of the caller's own: `include/minisign.h` declares
+//! these functions and says what a caller owes.
+
+#![tactic(auto)]
+
+ghost use Rattle.std.specs.Prelude.{◌≡◌, ◌==◌, ◌⊎◌, ◌<◌, ◌++◌, ℕ, Bool, List, [], length};
+ghost use Rattle.minisign_hash.specs.Blake2b.{blake2b_digest};
+ghost use Rattle.minisign.specs.Records.{PublicKeyRecord, SignatureBoxRecord, CommentsRecord};
+ghost use Rattle.minisign.specs.Acceptance.{Verifier};
+ghost use Rattle.minisign_questions.specs.Questions.{AnswersTexts, AreOpen};
+ghost use Rattle.minisign_questions.specs.Numbers.{WritesCut, misuse_number};
+ghost use Rattle.minisign_questions.specs.States.{AreQuestions, GivesNumber, HasAsked, HasEnded, IsAnswer, IsAskingNumber, IsFed, IsMarkedFed, IsVerdictMisuse, feeding_misuse};
+
+use minisign_questions::numbers::write_error_text;
+use minisign_questions::state::{Misuse, Questions, Refusal, State};
+use std::alloc::Global;
+
+/// Writes what an error number means: the text, cut where there is no room for more, and a 0. Answers the
+/// length of the whole text.
+#[unsafe(no_mangle)]
+pub extern "C" fn minisign_error_text(error: u32, text: &mut [u8]) -> usize
+    ensures { (meaning : List ℕ) × (result ≡ length meaning) × WritesCut meaning text.old text.new }
+{
+    write_error_text(error, text)
+}
+
+/// Begins: the state was fed nothing.
+#[unsafe(no_mangle)]
+pub extern "C" fn minisign_init(state: &mut State)
+    ensures { IsFed state.new [] }
+{
+    *state = State::new();
+}
+
+/// Feeds the next bytes of the data.
+#[unsafe(no_mangle)]
+pub extern "C" fn minisign_update(state: &mut State, data: &[u8]) -> u32
+    ensures fed { (m : List ℕ) → IsFed state.old m → (result ≡ 0) × IsFed state.new (m ++ data.now) }
+    ensures begun { result ≡ 0 → IsMarkedFed state.old }
+    ensures refused { 0 < result → (result ≡ misuse_number (feeding_misuse state.old)) × (state.new ≡ state.old) }
+{
+    match state.update(data) {
+        Ok(()) => 0,
+        Err(misuse) => misuse.number(),
+    }
+}
+
+/// Asks what Ed25519 has to answer before it is known whether the two texts vouch for the data.
+#[unsafe(no_mangle)]
+pub extern "C" fn minisign_ask(
+    alloc: Global,
+    state: &mut State,
+    pk_text: &[u8],
+    sig_text: &[u8],
+    allow_legacy: u32,
+    questions: &mut Questions,
+    message: &mut [u8],
+) -> u32
+    // The questions of what the texts read as, about what the state was fed.
+    ensures asked { result ≡ 0 → (pk : PublicKeyRecord) × (x : SignatureBoxRecord) × (c : CommentsRecord)
+        × AreOpen pk_text.now sig_text.now (allow_legacy == 1) pk x c
+        × AreQuestions questions.new message.new pk x c }
+    ensures digest { result ≡ 0 → (m : List ℕ) → IsFed state.old m → questions.new.digest ≡ blake2b_digest 64 m }
+    ensures asking { result ≡ 0 → HasAsked state.new pk_text.now sig_text.now (allow_legacy == 1) }
+
+    ensures begun { result ≡ 0 → IsMarkedFed state.old }
+
+    // Why they were not asked.
+    ensures refused { 0 < result → IsAskingNumber state.old pk_text.now sig_text.now allow_legacy message.old result }
+    ensures kept { 0 < result → (state.new ≡ state.old) × (message.new ≡ message.old) }
+{
+    if allow_legacy > 1 {
+        return Misuse::NoLegacy.number();
+    }
+    match state.ask(
+        alloc,
+        pk_text,
+        sig_text,
+        allow_legacy == 1,
+        questions,
+        message,
+    ) {
+        Ok(()) => 0,
+        Err(refusal) => refusal.number(alloc, questions.signature_key_id, questions.public_key_id),
+    }
+}
+
+/// The verdict from what Ed25519 answered to the two questions, 1 for yes and 0 for no. It ends the state.
+#[unsafe(no_mangle)]
+pub extern "C" fn minisign_verdict(state: &mut State, first: u32, second: u32) -> u32
+    ensures verdict { (pk_text sig_text message : List ℕ) (legacy : Bool) (accepts : Verifier)
+        → HasAsked state.old pk_text sig_text legacy → IsAnswer first → IsAnswer second
+        → AnswersTexts accepts pk_text sig_text message (first == 1) (second == 1)
+        → GivesNumber accepts pk_text sig_text message legacy result }
+    ensures ended { ((result ≡ 0) ⊎ (15 < result)) → HasEnded state.old state.new × IsAnswer first × IsAnswer second }
+    ensures refused { 0 < result → result < 16 → IsVerdictMisuse state.old first second result × (state.new ≡ state.old) }
+{
+    if first > 1 || second > 1 {
+        return Misuse::NoAnswer.number();
+    }
+    match state.verdict(first == 1, second == 1) {
+        Ok(()) => 0,
+        Err(Refusal::WrongUse(misuse)) => misuse.number(),
+        Err(Refusal::Refused(_)) => { if first == 1 { 32 } else { 31 } }
+    }
+}

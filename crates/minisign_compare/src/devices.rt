@@ -1,0 +1,310 @@
+//! Devices that a request describes, which count what is done with them.
+
+ghost use Rattle.std.specs.Prelude.{◌≡◌, ◌≤◌, Some, length};
+
+use crate::refusals::Refusal;
+use crate::words::{bytes_of, number_of};
+use minisign::base::devices::DeviceFault;
+use minisign::base::devices::random_sources::{FixedRandom, RandomSource};
+use minisign::base::devices::sinks::{Sink, VecSink};
+use minisign::base::devices::sources::{Rereader, SliceSource, Source};
+use minisign::base::prompt::Prompt;
+use minisign::reading::read_to_end;
+use std::alloc::Global;
+
+// How many bytes of a counter are made: more than any call draws.
+const COUNTED_BYTES: u16 = 512;
+
+/// Data as a request describes it: `x..[,pos=P][,chunk=C][,fail=N][,second=x..]`, the bytes, the place
+/// where they are begun, the most bytes of a read, the read that fails, and what is there after going back.
+#[derive(Drop)]
+pub struct DataWord {
+    bytes: Vec<u8>,
+    second: Option<Vec<u8>>,
+    place: usize,
+    chunk: usize,
+    failing_read: u64,
+    ghost some_chunk: { 1 ≤ chunk },
+}
+
+impl DataWord {
+    /// Reads the description.
+    pub fn read(alloc: Global, word: &str) -> Result<DataWord, Refusal> {
+        let mut parts = word.split(',');
+        let Some(first) = parts.next() else {
+            return Err(Refusal::BadRequest);
+        };
+        let mut data = DataWord {
+            bytes: bytes_of(alloc, first)?,
+            second: None,
+            place: 0,
+            chunk: usize::MAX,
+            failing_read: 0,
+        };
+        for part in parts {
+            data.refine(alloc, part)?;
+        }
+        Ok(data)
+    }
+
+    // Takes one part behind the bytes.
+    fn refine(&mut self, alloc: Global, part: &str) -> Result<(), Refusal> {
+        match part.split_once('=') {
+            Some(("pos", place)) => self.place = number_of(place)?,
+            Some(("chunk", chunk)) => match number_of::<usize>(chunk)? {
+                0 => return Err(Refusal::BadRequest),
+                chunk => self.chunk = chunk,
+            },
+            Some(("fail", read)) => self.failing_read = number_of(read)?,
+            Some(("second", bytes)) => self.second = Some(bytes_of(alloc, bytes)?),
+            _ => return Err(Refusal::BadRequest),
+        }
+        Ok(())
+    }
+
+    /// The source of the data.
+    pub fn source(&self) -> CountedSource<'_> {
+        CountedSource {
+            rest: from_place(&self.bytes, self.place),
+            marked: None,
+            second: match &self.second {
+                Some(bytes) => Some(bytes.as_slice()),
+                None => None,
+            },
+            place: self.place as u64,
+            chunk: self.chunk,
+            failing_read: self.failing_read,
+            reads: 0,
+            faults: 0,
+        }
+    }
+}
+
+/// A source that counts its reads and the bytes that it gave.
+#[derive(Drop)]
+pub struct CountedSource<'a> {
+    rest: &'a [u8],
+    marked: Option<(&'a [u8], u64)>,
+    second: Option<&'a [u8]>,
+    place: u64,
+    chunk: usize,
+    failing_read: u64,
+    reads: u64,
+    faults: u64,
+    ghost some_chunk: { 1 ≤ chunk },
+}
+
+impl<'a> CountedSource<'a> {
+    /// How many reads were tried.
+    pub fn reads(&self) -> u64
+        ensures { result ≡ self.now.reads }
+    {
+        self.reads
+    }
+
+    /// The number of the byte that is ahead.
+    pub fn place(&self) -> u64
+        ensures { result ≡ self.now.place }
+    {
+        self.place
+    }
+
+    // One more fault.
+    fn fail(&mut self) -> DeviceFault {
+        self.faults = self.faults.saturating_add(1);
+        DeviceFault
+    }
+}
+
+impl<'a> Source for CountedSource<'a> {
+    ghost ahead = { λ s. Some s.rest.now };
+
+    ghost left = { λ s. length s.rest.now };
+
+    ghost faults = { λ s. s.faults };
+
+    fn read(&mut self, buf: &mut [u8]) -> Result<usize, DeviceFault> {
+        self.reads = self.reads.saturating_add(1);
+        if self.reads == self.failing_read {
+            self.faults = self.faults.saturating_add(1);
+            return Err(DeviceFault);
+        }
+        let n = self.rest.len().min(buf.len()).min(self.chunk);
+        let (front, rest) = self.rest.split_at(n);
+        buf[..n].copy_from_slice(front);
+        self.rest = rest;
+        self.place = self.place.saturating_add(n as u64);
+        Ok(n)
+    }
+}
+
+impl<'a> Rereader for CountedSource<'a> {
+    ghost steady = { λ _. ⊥ };
+
+    fn mark(&mut self) -> Result<(), DeviceFault> {
+        self.marked = Some((self.rest, self.place));
+        Ok(())
+    }
+
+    fn back(&mut self) -> Result<(), DeviceFault> {
+        let Some((rest, place)) = self.marked else {
+            self.faults = self.faults.saturating_add(1);
+            return Err(DeviceFault);
+        };
+        self.rest = match self.second {
+            Some(second) => from_place(second, place as usize),
+            None => rest,
+        };
+        self.place = place;
+        Ok(())
+    }
+}
+
+// The bytes from a place on, none where it lies behind them.
+fn from_place(bytes: &[u8], place: usize) -> &[u8] {
+    if place < bytes.len() {
+        &bytes[place..]
+    } else {
+        &[]
+    }
+}
+
+/// A buffer that takes so many bytes and then fails, and whose flush may fail.
+#[derive(Drop)]
+pub struct BoundedSink {
+    taken: VecSink,
+    room: usize,
+    flush_fails: bool,
+    faults: u64,
+}
+
+impl BoundedSink {
+    /// Reads `-` (takes all), `N` (takes so many bytes), `f` or `fN` (as these, and its flush fails).
+    pub fn read(alloc: Global, word: &str) -> Result<BoundedSink, Refusal> {
+        let (flush_fails, room) = match word.strip_prefix("f") {
+            Some(room) => (true, room),
+            None => (false, word),
+        };
+        Ok(BoundedSink {
+            taken: VecSink::new(alloc),
+            room: match room {
+                "" | "-" => usize::MAX,
+                room => number_of(room)?,
+            },
+            flush_fails,
+            faults: 0,
+        })
+    }
+
+    /// The bytes taken so far.
+    pub fn as_slice(&self) -> &[u8] {
+        self.taken.as_slice()
+    }
+}
+
+impl Sink for BoundedSink {
+    ghost taken = { λ s. ⟦<VecSink as Sink>⟧.taken s.taken };
+
+    ghost sink_faults = { λ s. s.faults };
+
+    fn write(&mut self, bytes: &[u8]) -> Result<usize, DeviceFault> {
+        let n = bytes.len().min(self.room);
+        if n > 0 || bytes.is_empty() {
+            let (front, _) = bytes.split_at(n);
+            if let Ok(taken) = self.taken.write(front) {
+                self.room -= taken;
+                return Ok(taken);
+            }
+        }
+        self.faults = self.faults.saturating_add(1);
+        Err(DeviceFault)
+    }
+
+    fn flush(&mut self) -> Result<(), DeviceFault> {
+        if self.flush_fails {
+            self.faults = self.faults.saturating_add(1);
+            return Err(DeviceFault);
+        }
+        Ok(())
+    }
+}
+
+/// Random bytes that are handed in, and a count of those that were drawn.
+#[derive(Drop)]
+pub struct CountedRandom<'a> {
+    random: FixedRandom<'a>,
+    drawn: u64,
+}
+
+impl<'a> CountedRandom<'a> {
+    /// All of the bytes are still to be drawn.
+    pub fn new(bytes: &'a [u8]) -> CountedRandom<'a> {
+        CountedRandom {
+            random: FixedRandom::new(bytes),
+            drawn: 0,
+        }
+    }
+
+    /// How many bytes were drawn.
+    pub fn drawn(&self) -> u64
+        ensures { result ≡ self.now.drawn }
+    {
+        self.drawn
+    }
+}
+
+impl<'a> RandomSource for CountedRandom<'a> {
+    ghost random_ahead = { λ s. ⟦<FixedRandom<'a> as RandomSource>⟧.random_ahead s.random };
+
+    ghost random_faults = { λ s. ⟦<FixedRandom<'a> as RandomSource>⟧.random_faults s.random };
+
+    fn fill(&mut self, buf: &mut [u8]) -> Result<(), DeviceFault> {
+        match self.random.fill(buf) {
+            Ok(()) => {
+                self.drawn = self.drawn.saturating_add(buf.len() as u64);
+                Ok(())
+            }
+            Err(fault) => Err(fault),
+        }
+    }
+}
+
+/// Reads random bytes: `c` and a first byte for a counter that wraps, else a list of bytes.
+pub fn random_bytes(alloc: Global, word: &str) -> Result<Vec<u8>, Refusal> {
+    match word.strip_prefix("c") {
+        Some(first) => counted_bytes(alloc, number_of(first)?),
+        None => bytes_of(alloc, word),
+    }
+}
+
+// A first byte, and each time one more, which wraps.
+fn counted_bytes(alloc: Global, first: u8) -> Result<Vec<u8>, Refusal> {
+    let mut bytes = Vec::new(alloc);
+    let mut next = first;
+    for _ in 0..COUNTED_BYTES {
+        bytes.push(next)?;
+        next = next.wrapping_add(1);
+    }
+    Ok(bytes)
+}
+
+/// A prompt into which lines are typed, and which keeps what it is told.
+pub fn typed_prompt(alloc: Global, typed: &[u8]) -> Prompt<SliceSource<'_>, VecSink> {
+    Prompt::new(SliceSource::new(typed), VecSink::new(alloc))
+}
+
+/// What a prompt was told, and how many lines are left of those that were typed.
+pub fn after_prompt(
+    alloc: Global,
+    prompt: Prompt<SliceSource<'_>, VecSink>,
+) -> Result<(Vec<u8>, u64), Refusal> {
+    let (mut reader, writer) = prompt.into_parts();
+    let rest = read_to_end(alloc, &mut reader)?;
+    let mut left = 0u64;
+    for byte in rest.iter() {
+        if *byte == b'\n' {
+            left = left.saturating_add(1);
+        }
+    }
+    Ok((writer.into_vec(), left))
+}

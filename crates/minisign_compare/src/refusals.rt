@@ -1,0 +1,44 @@
+//! Why a request gets no fields for an answer.
+
+ghost use Rattle.std.specs.Prelude.{◌≡◌};
+ghost use Rattle.minisign_base.specs.Faults.{out_of_memory};
+ghost use Rattle.minisign_compare.specs.declared.refusals.Refusal.TheVariants.{Fault};
+
+use minisign::PError;
+use minisign::base::faults;
+use std::alloc::{AllocError, AllocFailed};
+
+/// Why a request gets no fields for an answer.
+#[derive(Drop)]
+pub enum Refusal {
+    /// The library's call answered a fault.
+    Fault(PError),
+    /// The call has a condition that the request does not meet.
+    OutsideConditions,
+    /// The line is no request.
+    BadRequest,
+}
+
+impl From<PError> for Refusal {
+    ghost from_gives = { λ f e. e ≡ Fault f };
+
+    fn from(fault: PError) -> Refusal {
+        Refusal::Fault(fault)
+    }
+}
+
+impl From<AllocError> for Refusal {
+    ghost from_gives = { λ _ e. e ≡ Fault out_of_memory };
+
+    fn from(_error: AllocError) -> Refusal {
+        Refusal::Fault(faults::out_of_memory())
+    }
+}
+
+impl<T: Drop> From<AllocFailed<T>> for Refusal {
+    ghost from_gives = { λ _ e. e ≡ Fault out_of_memory };
+
+    fn from(_error: AllocFailed<T>) -> Refusal {
+        Refusal::Fault(faults::out_of_memory())
+    }
+}

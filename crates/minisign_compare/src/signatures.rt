@@ -1,0 +1,110 @@
+//! Requests for signatures and their texts.
+
+use crate::refusals::Refusal;
+use crate::replies::{Fields, Reply};
+use crate::words::{Words, bytes_of, text_of};
+use minisign::{SignatureBones, SignatureBox};
+use std::alloc::Global;
+
+/// Answers a request whose name begins with `sig_` or `bones_`.
+pub fn answer(
+    rt: &HostRuntime,
+    name: &str,
+    words: &mut Words,
+    reply: &mut Reply,
+) -> Result<(), Refusal> {
+    let alloc = rt.alloc();
+    match name {
+        "sig_from_string" => from_string(alloc, words, reply),
+        "sig_from_file" => from_file(rt, words, reply),
+        "sig_from_bytes" => from_bytes(alloc, words, reply),
+        "bones_untrusted" => bones_untrusted(alloc, words, reply),
+        "bones_trusted" => bones_trusted(alloc, words, reply),
+        "bones_to_string" => bones_to_string(alloc, words, reply),
+        _ => Err(Refusal::BadRequest),
+    }
+}
+
+fn from_string(alloc: Global, words: &mut Words, reply: &mut Reply) -> Result<(), Refusal> {
+    let text = words.text(alloc)?;
+    words.end()?;
+    let signature_box = SignatureBox::from_string(alloc, text.as_str())?;
+    show(alloc, &signature_box, &mut reply.fields)
+}
+
+fn from_file(rt: &HostRuntime, words: &mut Words, reply: &mut Reply) -> Result<(), Refusal> {
+    let path = words.text(rt.alloc())?;
+    words.end()?;
+    let signature_box = SignatureBox::from_file(rt, rt.alloc(), path.as_str())?;
+    show(rt.alloc(), &signature_box, &mut reply.fields)
+}
+
+fn from_bytes(alloc: Global, words: &mut Words, reply: &mut Reply) -> Result<(), Refusal> {
+    let bones = next_bones(alloc, words)?;
+    words.end()?;
+    reply.fields.bytes("bones", &bones.to_bytes(alloc)?)?;
+    reply.fields.flag("prehashed", bones.is_prehashed())?;
+    Ok(())
+}
+
+fn bones_untrusted(alloc: Global, words: &mut Words, reply: &mut Reply) -> Result<(), Refusal> {
+    let signature_box = SignatureBox::from_bones(next_bones(alloc, words)?);
+    words.end()?;
+    let comment = signature_box.untrusted_comment(alloc)?;
+    reply.fields.bytes("untrusted", comment.as_bytes())?;
+    Ok(())
+}
+
+fn bones_trusted(alloc: Global, words: &mut Words, reply: &mut Reply) -> Result<(), Refusal> {
+    let signature_box = SignatureBox::from_bones(next_bones(alloc, words)?);
+    words.end()?;
+    let comment = signature_box.trusted_comment(alloc)?;
+    reply.fields.bytes("trusted", comment.as_bytes())?;
+    Ok(())
+}
+
+fn bones_to_string(alloc: Global, words: &mut Words, reply: &mut Reply) -> Result<(), Refusal> {
+    let signature_box = SignatureBox::from_bones(next_bones(alloc, words)?);
+    words.end()?;
+    let text = signature_box.to_string(alloc)?;
+    reply.fields.bytes("text", text.as_bytes())?;
+    Ok(())
+}
+
+// The next word as the record of a bare signature.
+fn next_bones(alloc: Global, words: &mut Words) -> Result<SignatureBones, Refusal> {
+    Ok(SignatureBones::from_bytes(&words.bytes(alloc)?)?)
+}
+
+/// A box: of `bones:` and a record, or of a text.
+pub fn box_of(alloc: Global, word: &str) -> Result<SignatureBox, Refusal> {
+    match word.strip_prefix("bones:") {
+        Some(record) => {
+            let bones = SignatureBones::from_bytes(&bytes_of(alloc, record)?)?;
+            Ok(SignatureBox::from_bones(bones))
+        }
+        None => {
+            let text = text_of(alloc, word)?;
+            Ok(SignatureBox::from_string(alloc, text.as_str())?)
+        }
+    }
+}
+
+/// The fields of a signature.
+pub fn show(
+    alloc: Global,
+    signature_box: &SignatureBox,
+    fields: &mut Fields,
+) -> Result<(), Refusal> {
+    let bones = SignatureBones::from(signature_box.try_clone(alloc)?);
+    fields.bytes("bones", &bones.to_bytes(alloc)?)?;
+    fields.bytes("keynum", signature_box.keynum())?;
+    fields.flag("prehashed", signature_box.is_prehashed())?;
+    fields.bytes(
+        "untrusted",
+        signature_box.untrusted_comment(alloc)?.as_bytes(),
+    )?;
+    fields.bytes("trusted", signature_box.trusted_comment(alloc)?.as_bytes())?;
+    fields.bytes("text", signature_box.to_string(alloc)?.as_bytes())?;
+    Ok(())
+}

@@ -1,0 +1,3 @@
+mod OpenedKeys
+mod Refusals
+mod WrittenBoxes

@@ -1,0 +1,218 @@
+//! Sources that cut bytes as finely as they can, fail, or give others when they are read again.
+
+ghost use Rattle.std.specs.Prelude.{⊤, Some, length};
+
+use crate::devices::turn::Turn;
+use minisign_base::devices::DeviceFault;
+use minisign_base::devices::sources::{Rereader, SliceSource, Source};
+
+/// The bytes of a slice, one byte a read.
+#[derive(Drop)]
+pub struct OneByOne<'a> {
+    source: SliceSource<'a>,
+}
+
+impl<'a> OneByOne<'a> {
+    /// All of the slice is ahead.
+    pub fn new(bytes: &'a [u8]) -> OneByOne<'a> {
+        OneByOne {
+            source: SliceSource::new(bytes),
+        }
+    }
+}
+
+impl<'a> Source for OneByOne<'a> {
+    ghost ahead = { λ s. ⟦<SliceSource<'a> as Source>⟧.ahead s.source };
+
+    ghost behind = { λ s. ⟦<SliceSource<'a> as Source>⟧.behind s.source };
+
+    ghost left = { λ s. ⟦<SliceSource<'a> as Source>⟧.left s.source };
+
+    ghost faults = { λ s. ⟦<SliceSource<'a> as Source>⟧.faults s.source };
+
+    fn read(&mut self, buf: &mut [u8]) -> Result<usize, DeviceFault> {
+        let room = buf.len().min(1);
+        self.source.read(&mut buf[..room])
+    }
+}
+
+impl<'a> Rereader for OneByOne<'a> {
+    ghost steady = { λ _. ⊤ };
+
+    fn mark(&mut self) -> Result<(), DeviceFault> {
+        self.source.mark()
+    }
+
+    fn back(&mut self) -> Result<(), DeviceFault> {
+        self.source.back()
+    }
+}
+
+/// The bytes of a slice, one byte a read, until so many reads were made: each later one fails.
+#[derive(Drop)]
+pub struct FailsAfter<'a> {
+    source: OneByOne<'a>,
+    reads: u64,
+    faults: u64,
+}
+
+impl<'a> FailsAfter<'a> {
+    /// All of the slice is ahead, and so many reads are made before one fails.
+    pub fn new(bytes: &'a [u8], reads: u64) -> FailsAfter<'a> {
+        FailsAfter {
+            source: OneByOne::new(bytes),
+            reads,
+            faults: 0,
+        }
+    }
+}
+
+impl<'a> Source for FailsAfter<'a> {
+    ghost ahead = { λ s. ⟦<OneByOne<'a> as Source>⟧.ahead s.source };
+
+    ghost behind = { λ s. ⟦<OneByOne<'a> as Source>⟧.behind s.source };
+
+    ghost left = { λ s. ⟦<OneByOne<'a> as Source>⟧.left s.source };
+
+    ghost faults = { λ s. s.faults };
+
+    fn read(&mut self, buf: &mut [u8]) -> Result<usize, DeviceFault> {
+        if self.reads > 0 {
+            self.reads -= 1;
+            if let Ok(n) = self.source.read(buf) {
+                return Ok(n);
+            }
+        }
+        self.faults = self.faults.saturating_add(1);
+        Err(DeviceFault)
+    }
+}
+
+impl<'a> Rereader for FailsAfter<'a> {
+    ghost steady = { λ _. ⊤ };
+
+    fn mark(&mut self) -> Result<(), DeviceFault> {
+        if let Ok(()) = self.source.mark() {
+            return Ok(());
+        }
+        self.faults = self.faults.saturating_add(1);
+        Err(DeviceFault)
+    }
+
+    fn back(&mut self) -> Result<(), DeviceFault> {
+        if let Ok(()) = self.source.back() {
+            return Ok(());
+        }
+        self.faults = self.faults.saturating_add(1);
+        Err(DeviceFault)
+    }
+}
+
+/// The bytes of a slice, one byte a read. One of its calls fails, and it goes on after that.
+#[derive(Drop)]
+pub struct FailingSource<'a> {
+    source: OneByOne<'a>,
+    turn: Turn,
+    faults: u64,
+}
+
+impl<'a> FailingSource<'a> {
+    /// All of the slice is ahead, and so many calls pass before the one that fails.
+    pub fn new(bytes: &'a [u8], calls: usize) -> FailingSource<'a> {
+        FailingSource {
+            source: OneByOne::new(bytes),
+            turn: Turn::after(calls),
+            faults: 0,
+        }
+    }
+}
+
+impl<'a> Source for FailingSource<'a> {
+    ghost ahead = { λ s. ⟦<OneByOne<'a> as Source>⟧.ahead s.source };
+
+    ghost behind = { λ s. ⟦<OneByOne<'a> as Source>⟧.behind s.source };
+
+    ghost left = { λ s. ⟦<OneByOne<'a> as Source>⟧.left s.source };
+
+    ghost faults = { λ s. s.faults };
+
+    fn read(&mut self, buf: &mut [u8]) -> Result<usize, DeviceFault> {
+        if self.turn.passes() {
+            if let Ok(n) = self.source.read(buf) {
+                return Ok(n);
+            }
+        }
+        self.faults = self.faults.saturating_add(1);
+        Err(DeviceFault)
+    }
+}
+
+impl<'a> Rereader for FailingSource<'a> {
+    ghost steady = { λ _. ⊤ };
+
+    fn mark(&mut self) -> Result<(), DeviceFault> {
+        if self.turn.passes() {
+            if let Ok(()) = self.source.mark() {
+                return Ok(());
+            }
+        }
+        self.faults = self.faults.saturating_add(1);
+        Err(DeviceFault)
+    }
+
+    fn back(&mut self) -> Result<(), DeviceFault> {
+        if self.turn.passes() {
+            if let Ok(()) = self.source.back() {
+                return Ok(());
+            }
+        }
+        self.faults = self.faults.saturating_add(1);
+        Err(DeviceFault)
+    }
+}
+
+/// The bytes of a slice, and those of another one once it went back.
+#[derive(Drop)]
+pub struct Changes<'a> {
+    ahead: &'a [u8],
+    second: &'a [u8],
+}
+
+impl<'a> Changes<'a> {
+    /// All of the first slice is ahead.
+    pub fn new(first: &'a [u8], second: &'a [u8]) -> Changes<'a> {
+        Changes {
+            ahead: first,
+            second,
+        }
+    }
+}
+
+impl<'a> Source for Changes<'a> {
+    ghost ahead = { λ s. Some s.ahead.now };
+
+    ghost left = { λ s. length s.ahead.now };
+
+    ghost faults = { λ _. 0 };
+
+    fn read(&mut self, buf: &mut [u8]) -> Result<usize, DeviceFault> {
+        let n = buf.len().min(self.ahead.len());
+        let (front, rest) = self.ahead.split_at(n);
+        buf[..n].copy_from_slice(front);
+        self.ahead = rest;
+        Ok(n)
+    }
+}
+
+impl<'a> Rereader for Changes<'a> {
+    ghost steady = { λ _. ⊥ };
+
+    fn mark(&mut self) -> Result<(), DeviceFault> {
+        Ok(())
+    }
+
+    fn back(&mut self) -> Result<(), DeviceFault> {
+        self.ahead = self.second;
+        Ok(())
+    }
+}

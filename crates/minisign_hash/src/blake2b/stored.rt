@@ -1,0 +1,62 @@
+//! A hash state as plain numbers, which a program in another language can hold between two calls.
+
+ghost use Rattle.std.specs.Prelude.{◌≡◌, List, ℕ, false, IfSome, IfNone};
+ghost use Rattle.minisign_hash.specs.Fed.{IsFed, has_finalized, output_length};
+ghost use Rattle.minisign_hash.specs.Stored.{WasFed};
+
+use crate::blake2b::{BUFFER_BYTES, Blake2b};
+
+/// What a state for a digest of 64 bytes holds, in 344 bytes with the layout of C. Whoever holds it may
+/// have changed it: `restore` refuses what no state holds, and cannot tell other changes.
+#[repr(C)]
+#[derive(Clone, Copy)]
+pub struct StoredBlake2b {
+    /// The hash of the blocks that were taken in.
+    pub h: [u64; 8],
+    /// The number of bytes taken in, modulo 2^128: its lower 64 bits.
+    pub count_low: u64,
+    /// Its upper 64 bits.
+    pub count_high: u64,
+    /// The number of bytes in the buffer.
+    pub used: u64,
+    /// The last bytes that were fed, which were not taken in yet.
+    pub buffer: [u8; BUFFER_BYTES],
+}
+
+#[tactic(auto, unfolding(crate::specs::Fed::has_finalized, crate::specs::Fed::output_length, crate::specs::Fed::IsFed, crate::specs::Fed::Holds, crate::specs::Stored::WasFed))]
+impl StoredBlake2b {
+    /// What the state holds, which is for a digest of 64 bytes.
+    pub fn store(state: &Blake2b) -> StoredBlake2b
+        requires { output_length state.now ≡ 64 }
+        ensures { (m : List ℕ) → IsFed state.now m → WasFed result m }
+    {
+        StoredBlake2b {
+            h: state.h,
+            count_low: (state.count & 0xffff_ffff_ffff_ffff) as u64,
+            count_high: (state.count >> 64) as u64,
+            used: state.used as u64,
+            buffer: state.buffer,
+        }
+    }
+
+    /// A state for a digest of 64 bytes, not finalized, that was fed what this one was; nothing where more
+    /// bytes are told to be in the buffer than it has.
+    pub fn restore(&self) -> Option<Blake2b>
+        ensures fed { IfSome result (λ b. (m : List ℕ) → WasFed self.now m → IsFed b m) }
+        ensures length { IfSome result (λ b. output_length b ≡ 64) }
+        ensures finalized { IfSome result (λ b. has_finalized b ≡ false) }
+        ensures refused { IfNone result ((m : List ℕ) → ¬ (WasFed self.now m)) }
+    {
+        if self.used > 256 {
+            return None;
+        }
+        Some(Blake2b {
+            h: self.h,
+            count: ((self.count_high as u128) << 64) | (self.count_low as u128),
+            buffer: self.buffer,
+            used: self.used as usize,
+            outlen: 64,
+            finalized: false,
+        })
+    }
+}

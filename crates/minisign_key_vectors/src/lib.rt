@@ -1,0 +1,15 @@
+//! Keys, run as tests: their records, texts and files, sealed ones, and pairs that are made.
+//!
+//! Each expected value comes from outside: from a standard, from Python's hashlib, from the upstream tool, or
+//! worked out by hand from a definition. None is what a crate of this repository answered.
+
+#![tactic(auto)]
+
+#[cfg(test)]
+mod generated;
+#[cfg(test)]
+mod sealed;
+#[cfg(test)]
+mod texts;
+#[cfg(test)]
+mod wanting_memory;

@@ -1,0 +1,120 @@
+-- What a state that a program in another language holds tells: what it was fed, and what was asked of it.
+use Rattle.std.specs.Prelude.{◌≡◌, ◌==◌, ◌⊎◌, ◌<◌, ℕ, Bool, IsTrue, if◌then◌else◌, List, ◌+◌, length, take, Some, MatchResult, Result}
+use Rattle.std.specs.Str.{IsUtf8}
+use Rattle.minisign_hash.specs.Stored.{WasFed}
+use Rattle.minisign_base.specs.Fault.{Fault}
+use Rattle.minisign_base.specs.Faults.{out_of_memory, not_utf8, signature_refused, comment_signature_refused}
+use Rattle.minisign.specs.Records.{PublicKeyRecord, SignatureBoxRecord, CommentsRecord, is_prehashed}
+use Rattle.minisign.specs.Acceptance.{Verifier}
+use Rattle.minisign.specs.SignatureText.{SignatureText}
+use Rattle.minisign.specs.Headline.{TextsRefuse, TextsVouchFor}
+use Rattle.minisign_questions.specs.Questions.{AreOpen, HoldsMessage, IsRefusedUnasked, has_whole_signature}
+use Rattle.minisign_questions.specs.Numbers.{IsNumberOf, misuse_number, named_fault}
+use Rattle.minisign_questions.specs.declared.state.Misuse.{Misuse}
+use Rattle.minisign_questions.specs.declared.state.Misuse.TheVariants.{NotBegun, AlreadyAsked, NotAsked, NoAnswer, NoRoom, NoLegacy}
+use Rattle.minisign_questions.specs.declared.state.Refusal.{Refusal}
+use Rattle.minisign_questions.specs.declared.state.Refusal.TheVariants.{WrongUse, Refused}
+use Rattle.minisign_questions.specs.declared.state.State.{State}
+use Rattle.minisign_questions.specs.declared.state.Questions.{Questions}
+
+-- the marks of a state that is being fed, and of one whose questions were asked: "minisign" and "minisask"
+abbrev pub fed_mark : ℕ
+fed_mark = 7955443211184269677
+
+abbrev pub asked_mark : ℕ
+asked_mark = 7742639332697991533
+
+-- the state was begun and was fed the message, and nothing was asked yet
+pub record IsFed (s : State) (m : List ℕ) : Type 0 where
+  pub mark : s.mark ≡ fed_mark
+  pub fed : WasFed s.hash m
+
+-- the questions of the two texts were asked
+pub record HasAsked (s : State) (pk_text sig_text : List ℕ) (legacy : Bool) : Type 0 where
+  pub mark : s.mark ≡ asked_mark
+  pub key : PublicKeyRecord
+  pub box : SignatureBoxRecord
+  pub comments : CommentsRecord
+  pub asked : AreOpen pk_text sig_text legacy key box comments
+  pub whole : (s.whole == 1) ≡ has_whole_signature comments
+
+-- the questions of the key and the box, of which the message of the second stands in these bytes
+pub record AreQuestions (q : Questions) (bytes : List ℕ) (pk : PublicKeyRecord) (x : SignatureBoxRecord) (c : CommentsRecord) : Type 0 where
+  pub key : q.public_key ≡ pk.key
+  pub legacy : q.legacy ≡ (if is_prehashed x.signature then 0 else 1)
+  pub signature : q.signature ≡ x.signature.signature
+  pub message : HoldsMessage x.signature c bytes q.message_len
+  pub comment_signature : IsTrue (has_whole_signature c) → q.comment_signature ≡ take 64 c.signature
+  pub key_id : q.public_key_id ≡ pk.keynum
+  pub signature_id : q.signature_key_id ≡ x.signature.keynum
+
+-- why a state that ought to be fed is not: it was asked already, or was never begun
+abbrev pub feeding_misuse : State → Misuse
+feeding_misuse s = if s.mark == asked_mark then AlreadyAsked else NotBegun
+
+-- the state was fed nothing, not even no bytes, and this is why
+abbrev pub IsNotFed : State → Misuse → Type 0
+IsNotFed s e = (e ≡ feeding_misuse s) × ((m : List ℕ) → ¬ (IsFed s m))
+
+-- why a state that ought to have asked has not: it is still fed, or was never begun
+abbrev pub verdict_misuse : State → Misuse
+verdict_misuse s = if s.mark == fed_mark then NotAsked else NotBegun
+
+-- asking was refused: the state is used wrongly, a buffer is too short, memory was wanting, a text is no UTF-8,
+-- or the texts are refused whatever the data and the scheme
+abbrev pub IsAskingRefusal : State → List ℕ → List ℕ → Bool → List ℕ → Refusal → Type 0
+IsAskingRefusal s pk_text sig_text legacy bytes (WrongUse m) =
+    IsNotFed s m
+    ⊎ ((m ≡ NoRoom) × (x : SignatureBoxRecord) × (c : CommentsRecord) × SignatureText sig_text x × (x.comments ≡ Some c) × (length bytes < 64 + length c.trusted))
+IsAskingRefusal s pk_text sig_text legacy bytes (Refused e) =
+    (e ≡ out_of_memory)
+    ⊎ ((e ≡ not_utf8) × ¬ (IsUtf8 pk_text × IsUtf8 sig_text))
+    ⊎ IsRefusedUnasked pk_text sig_text legacy e
+
+-- the refusal is a fault of the library, of this kind
+abbrev pub IsFaultOf : (Fault → Type 0) → Refusal → Type 0
+IsFaultOf holds (WrongUse m) = ⊥
+IsFaultOf holds (Refused e) = holds e
+
+-- the verdict on the texts and the message: success exactly where they vouch for it, else the first case that
+-- fails
+abbrev pub GivesVerdict : {T : Type 0} → Verifier → List ℕ → List ℕ → List ℕ → Bool → Result T Refusal → Type 0
+GivesVerdict accepts pk_text sig_text message legacy r =
+    MatchResult r (λ _. TextsVouchFor accepts pk_text sig_text message legacy) (IsFaultOf (TextsRefuse accepts pk_text sig_text message legacy))
+
+-- the state is marked as one that is being fed
+abbrev pub IsMarkedFed : State → Type 0
+IsMarkedFed s = s.mark ≡ fed_mark
+
+-- a state that had asked was ended
+abbrev pub HasEnded : State → State → Type 0
+HasEnded old new = (old.mark ≡ asked_mark) × (new.mark ≡ 0)
+
+-- no success: where the state has not asked, it stays as it was; where it has, the first question was answered
+-- by no, or else the second
+abbrev pub IsVerdictRefusal : State → State → Bool → Refusal → Type 0
+IsVerdictRefusal old new first (WrongUse m) = (m ≡ verdict_misuse old) × (new ≡ old)
+IsVerdictRefusal old new first (Refused e) =
+    HasEnded old new × (e ≡ (if first then comment_signature_refused else signature_refused))
+
+-- an answer: 0 for no, 1 for yes
+abbrev pub IsAnswer : ℕ → Type 0
+IsAnswer n = n < 2
+
+-- the verdict on the texts and the message as a number: 0 exactly where they vouch for it, else that of the first
+-- case that fails
+abbrev pub GivesNumber : Verifier → List ℕ → List ℕ → List ℕ → Bool → ℕ → Type 0
+GivesNumber accepts pk_text sig_text message legacy n =
+    ((n ≡ 0) × TextsVouchFor accepts pk_text sig_text message legacy)
+    ⊎ ((0 < n) × TextsRefuse accepts pk_text sig_text message legacy (named_fault n))
+
+-- the number of a verdict that was refused since the state has not asked, or an answer is none
+abbrev pub IsVerdictMisuse : State → ℕ → ℕ → ℕ → Type 0
+IsVerdictMisuse s first second n =
+    (n ≡ misuse_number (verdict_misuse s)) ⊎ ((n ≡ misuse_number NoAnswer) × ((1 < first) ⊎ (1 < second)))
+
+-- the number of a refusal of asking
+abbrev pub IsAskingNumber : State → List ℕ → List ℕ → ℕ → List ℕ → ℕ → Type 0
+IsAskingNumber s pk_text sig_text legacy bytes n =
+    ((n ≡ misuse_number NoLegacy) × (1 < legacy))
+    ⊎ ((r : Refusal) × IsNumberOf r n × IsAskingRefusal s pk_text sig_text (legacy == 1) bytes r)

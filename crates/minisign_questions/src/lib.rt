@@ -1,0 +1,12 @@
+//! Verifying and signing with a signature scheme that stands outside: what it has to be asked, and what its
+//! answers decide.
+
+#![tactic(auto)]
+
+pub mod asking;
+pub mod numbers;
+pub mod state;
+#[cfg(test)]
+mod tests;
+pub mod texts;
+pub mod verdict;

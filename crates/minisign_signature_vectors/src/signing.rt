@@ -1,0 +1,5 @@
+//! Signing with keys and with their texts.
+
+mod keys;
+mod releases;
+mod texts;

@@ -1,0 +1,5 @@
+//! Texts of signatures.
+
+mod signatures;
+mod sizes;
+pub mod upstream;

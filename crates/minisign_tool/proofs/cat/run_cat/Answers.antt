@@ -1,0 +1,20 @@
+use Rattle.minisign_tool.proofs.cat.run_cat.Goals as goal
+
+pub returns-in-Ok-clause-accepted : goal.returns-in-Ok-clause-accepted
+returns-in-Ok-clause-accepted g c ended =
+    let all = c.in-Ok.ensures.accepted in
+    let read = all.verified in
+    record {
+      verified = record {
+        pk_text = read.pk_text;
+        sig_text = read.sig_text;
+        message = read.message;
+        pk_held = read.pk_held;
+        sig_held = read.sig_held;
+        given = read.given;
+        vouched = read.vouched;
+        said = (_, c.warn.ensures, read.said, c.in-Ok.ensures.calm);
+      };
+      copied = all.copied;
+      copy = all.copy;
+    }

@@ -1,0 +1,61 @@
+//! Lines that are written to a sink.
+
+use minisign_base::devices::sinks::{Sink, VecSink, WriterSink, put_line};
+use minisign_fixtures::outcomes::outcome;
+use std::io;
+use std::io::Write;
+use std::test::Fail;
+
+// A writer that counts its calls, and fails once it was called so often.
+#[derive(Drop)]
+struct Counting {
+    calls: u8,
+    allowed: u8,
+    last: u8,
+}
+
+impl Write for Counting {
+    fn write(&mut self, buf: &[u8]) -> io::Result<usize> {
+        self.calls = self.calls.wrapping_add(1);
+        if self.calls > self.allowed {
+            return Err(io::Error::from(io::ErrorKind::Other));
+        }
+        if let Some(last) = buf.last() {
+            self.last = *last;
+        }
+        Ok(buf.len())
+    }
+
+    fn flush(&mut self) -> io::Result<()> {
+        Ok(())
+    }
+}
+
+#[test]
+fn lines_have_a_label_a_text_and_a_line_feed(rt: HostRuntime) -> Result<(), Fail> {
+    let mut sink = VecSink::new(rt.alloc());
+    for (label, text) in [("error: ", "reading failed"), ("", ""), ("warning", "")] {
+        put_line(rt.alloc(), &mut sink, label.as_bytes(), text.as_bytes())?;
+    }
+    assert_eq!(rt;
+        sink.as_slice(),
+        b"error: reading failed\n\nwarning\n".as_slice()
+    );
+    Ok(())
+}
+
+#[test]
+fn a_line_is_one_write(rt: HostRuntime) -> Result<(), Fail> {
+    let mut writer = Counting {
+        calls: 0,
+        allowed: 1,
+        last: 0,
+    };
+    let mut sink = WriterSink::new(&mut writer);
+    put_line(rt.alloc(), &mut sink, b"a label ", b"a text")?;
+    let answer = put_line(rt.alloc(), &mut sink, b"a label ", b"a text");
+    assert_eq!(rt; outcome(rt.alloc(), &answer).as_str(), "Io: writing failed");
+    assert_eq!(rt; writer.calls, 2);
+    assert_eq!(rt; writer.last, b'\n');
+    Ok(())
+}

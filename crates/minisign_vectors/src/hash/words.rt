@@ -1,0 +1,85 @@
+//! Numbers in little endian bytes, copying, and the comparison of secret bytes.
+
+use minisign_hash::cryptoutil::{
+    WriteExt, copy_memory, read_u64v_le, write_u32_le, write_u64_le, write_u64v_le,
+};
+use minisign_hash::util::fixed_time_eq;
+use std::io;
+use std::test::Fail;
+
+#[test]
+fn numbers_are_little_endian(rt: HostRuntime) {
+    let mut four = [9u8; 4];
+    write_u32_le(&mut four, 0x01020304);
+    assert_eq!(rt; four, [4, 3, 2, 1]);
+    let mut eight = [9u8; 8];
+    write_u64_le(&mut eight, 0x0102030405060708);
+    assert_eq!(rt; eight, [8, 7, 6, 5, 4, 3, 2, 1]);
+    let bytes = [
+        1, 0, 0, 0, 0, 0, 0, 0, 255, 255, 255, 255, 255, 255, 255, 255,
+    ];
+    let mut numbers = [9u64; 2];
+    read_u64v_le(&mut numbers, &bytes);
+    assert_eq!(rt; numbers, [1, 18446744073709551615]);
+    let mut sixteen = [9u8; 16];
+    write_u64v_le(&mut sixteen, &numbers);
+    assert_eq!(rt; sixteen, bytes);
+    let mut three = [9u8; 3];
+    copy_memory(&[1, 2], &mut three);
+    assert_eq!(rt; three, [1, 2, 9]);
+}
+
+#[test]
+fn equal_bytes_are_equal(rt: HostRuntime) {
+    assert!(rt; !fixed_time_eq(&[0; 3], &[0; 4]));
+    assert!(rt; !fixed_time_eq(b"abc", b"abd"));
+    assert!(rt; !fixed_time_eq(b"bbc", b"abc"));
+    assert!(rt; fixed_time_eq(b"abc", b"abc"));
+    assert!(rt; fixed_time_eq(b"", b""));
+}
+
+#[test]
+fn writers_take_numbers(rt: HostRuntime) -> Result<(), Fail> {
+    let mut bytes: Vec<u8> = Vec::new(rt.alloc());
+    bytes.write_u8(0xab)?;
+    bytes.write_u32_le(0x01020304)?;
+    bytes.write_u64_le(0x1112131415161718)?;
+    assert_eq!(rt;
+        bytes.as_slice(),
+        [
+            0xab, 4, 3, 2, 1, 0x18, 0x17, 0x16, 0x15, 0x14, 0x13, 0x12, 0x11
+        ]
+        .as_slice()
+    );
+
+    // Room for five bytes: one, four, and then none.
+    let mut room = [9u8; 5];
+    let mut writer = room.as_mut_slice();
+    assert!(rt; writer.write_u8(1).is_ok());
+    assert!(rt; writer.write_u32_le(2).is_ok());
+    for refused in [
+        writer.write_u8(3),
+        writer.write_u32_le(3),
+        writer.write_u64_le(3),
+    ] {
+        let Err(error) = refused else {
+            panic!(&rt; "a full writer took a number");
+        };
+        assert_eq!(rt; error.kind(), io::ErrorKind::WriteZero);
+    }
+    assert_eq!(rt; room, [1, 2, 0, 0, 0]);
+    Ok(())
+}
+
+// Each byte as each of the eight of a number.
+#[test]
+fn writers_take_every_byte(rt: HostRuntime) -> Result<(), Fail> {
+    for byte in 0..=255u8 {
+        let mut bytes: Vec<u8> = Vec::new(rt.alloc());
+        bytes.write_u8(byte)?;
+        bytes.write_u32_le(u32::from(byte) * 0x01010101)?;
+        bytes.write_u64_le(u64::from(byte) * 0x0101010101010101)?;
+        assert_eq!(rt; bytes.as_slice(), [byte; 13].as_slice());
+    }
+    Ok(())
+}

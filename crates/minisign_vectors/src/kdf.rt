@@ -1,0 +1,6 @@
+//! HMAC, PBKDF2 and scrypt.
+
+mod kept_rows;
+mod key_derivation;
+mod plain;
+mod wanting_memory;

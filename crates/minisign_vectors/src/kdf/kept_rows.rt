@@ -1,0 +1,247 @@
+//! scrypt with every k-th row kept: published vectors for many k, how many rows are kept, and every k from
+//! 1 to N + 1 beside the plain body.
+//!
+//! The block and what becomes of it: RFC 7914, sections 9 and 10. Keys: RFC 7914, section 12, and Python's
+//! hashlib (OpenSSL).
+
+ghost use Rattle.std.specs.Prelude.{◌≡◌, ◌*◌, ◌^◌, ◌<◌, ◌≤◌, IfOk, length, vec_len};
+
+use minisign_fixtures::outcomes::hexadecimal;
+use minisign_fixtures::plain::scrypt::{plain_rom_mix, plain_scrypt};
+use minisign_kdf::kept_rows::Rows;
+use minisign_kdf::params::Params;
+use minisign_kdf::rom_mix::mix_kept;
+use minisign_kdf::scrypt::{KdfError, scrypt_keeping};
+use std::alloc::{AllocError, Global};
+use std::test::Fail;
+
+// A part with r 1.
+const BLOCK: [u8; 128] = [
+    0xf7, 0xce, 0x0b, 0x65, 0x3d, 0x2d, 0x72, 0xa4, 0x10, 0x8c, 0xf5, 0xab, 0xe9, 0x12, 0xff, 0xdd,
+    0x77, 0x76, 0x16, 0xdb, 0xbb, 0x27, 0xa7, 0x0e, 0x82, 0x04, 0xf3, 0xae, 0x2d, 0x0f, 0x6f, 0xad,
+    0x89, 0xf6, 0x8f, 0x48, 0x11, 0xd1, 0xe8, 0x7b, 0xcc, 0x3b, 0xd7, 0x40, 0x0a, 0x9f, 0xfd, 0x29,
+    0x09, 0x4f, 0x01, 0x84, 0x63, 0x95, 0x74, 0xf3, 0x9a, 0xe5, 0xa1, 0x31, 0x52, 0x17, 0xbc, 0xd7,
+    0x89, 0x49, 0x91, 0x44, 0x72, 0x13, 0xbb, 0x22, 0x6c, 0x25, 0xb5, 0x4d, 0xa8, 0x63, 0x70, 0xfb,
+    0xcd, 0x98, 0x43, 0x80, 0x37, 0x46, 0x66, 0xbb, 0x8f, 0xfc, 0xb5, 0xbf, 0x40, 0xc2, 0x54, 0xb0,
+    0x67, 0xd2, 0x7c, 0x51, 0xce, 0x4a, 0xd5, 0xfe, 0xd8, 0x29, 0xc9, 0x0b, 0x50, 0x5a, 0x57, 0x1b,
+    0x7f, 0x4d, 0x1c, 0xad, 0x6a, 0x52, 0x3c, 0xda, 0x77, 0x0e, 0x67, 0xbc, 0xea, 0xaf, 0x7e, 0x89,
+];
+
+// scryptBlockMix of it.
+const MIXED: &str =
+    "a41f859c6608cc993b81cacb020cef05044b2181a2fd337dfd7b1c6396682f29b4393168e3c9e6bcfe6bc5b7a06d96bae424cc102c91745c24ad673dc7618f8120edc975323881a80540f64c162dcd3c21077cfe5f8d5fe2b1a4168f953678b77d3b3d803b60e4ab920996e59b4d53b65d2a225877d5edf5842cb9f14eefe425";
+
+// scryptROMix of it with N 16.
+const ROM_MIXED: &str =
+    "79ccc193629debca047f0b70604bf6b62ce3dd4a9626e355fafc6198e6ea2b46d58413673b99b029d665c357601fb426a0b2f4bba200ee9f0a43d19b571a9c71ef1142e65d5a266fddca832ce59faa7cac0b9cf1be2bffca300d01ee387619c4ae12fd4438f203a0e4e1c47ec314861f4e9087cb33396a6873e8f9d2539a4b8e";
+
+// A buffer of so many words, each of another content.
+fn words(alloc: Global, len: usize) -> Result<Vec<u32>, AllocError>
+    ensures { IfOk result (λ v. vec_len v ≡ len) }
+{
+    vec![in alloc; 0x5c5c5c5cu32; len]
+}
+
+// The bytes of a row with r 1 whose words stand in diagonal order.
+fn bytes_of(row: &[u32]) -> [u8; 128]
+    requires { length row.now ≡ 32 }
+{
+    let mut bytes = [0u8; 128];
+    for block in 0..2usize {
+        for word in 0..16usize {
+            let at = 64 * block + 4 * word;
+            let place = 16 * block + 13 * word % 16;
+            bytes[at..at + 4].copy_from_slice(&row[place].to_le_bytes());
+        }
+    }
+    bytes
+}
+
+// The smallest vector, and how many rows are kept for it.
+#[test]
+fn keys_of_one_part(rt: HostRuntime) -> Result<(), Fail> {
+    let params = Params::new(4, 1, 1)?;
+    for (k, count) in [
+        (1u64, 16u64),
+        (2, 8),
+        (3, 6),
+        (5, 4),
+        (7, 3),
+        (15, 2),
+        (16, 1),
+        (17, 1),
+        (18446744073709551615, 1),
+    ] {
+        let mut key = [0u8; 64];
+        assert_eq!(rt;
+            scrypt_keeping(rt.alloc(), b"", b"", &params, k.max(1), &mut key)?,
+            count
+        );
+        assert_eq!(rt;
+            hexadecimal(rt.alloc(), &key)?.as_str(),
+            "77d6576238657b203b19ca42c18a0497f16b4844e3074ae8dfdffa3fede21442fcd0069ded0948f8326a753a0fc81f17e8d3e0fb2e0d3628cf35e20c38d18906",
+            "k {k}"
+        );
+    }
+    Ok(())
+}
+
+// The vector of several parts.
+#[test]
+fn key_of_several_parts(rt: HostRuntime) -> Result<(), Fail> {
+    let params = Params::new(10, 8, 16)?;
+    let mut key = [0u8; 64];
+    let count = scrypt_keeping(rt.alloc(), b"password", b"NaCl", &params, 100, &mut key)?;
+    assert_eq!(rt; count, 11);
+    assert_eq!(rt;
+        hexadecimal(rt.alloc(), &key)?.as_str(),
+        "fdbabe1c9d3472007856e7190d01e9fe7c6ad7cbc8237830e77376634b3731622eaf30d92e22a3886ff109279d9830dac727afb94a83ee6d8360cbdfa2cc0640"
+    );
+    Ok(())
+}
+
+// The usual cost, with a k that is no divisor of it.
+#[test]
+fn keys_of_the_usual_cost(rt: HostRuntime) -> Result<(), Fail> {
+    let params = Params::new(15, 8, 1)?;
+    for (k, count) in [(3u64, 10923u64), (7, 4682)] {
+        let mut key = [0u8; 64];
+        assert_eq!(rt;
+            scrypt_keeping(rt.alloc(), b"", b"", &params, k.max(1), &mut key)?,
+            count
+        );
+        assert_eq!(rt;
+            hexadecimal(rt.alloc(), &key)?.as_str(),
+            "2c804bf5d0ccb28051f20fb0b99bf7e9a45a67496650536018dd8839d9370748f1ac548a44dde14ef07f306c5fc7fe091054c6374d73d1a4f917a0fbcd8b88b8",
+            "k {k}"
+        );
+    }
+    Ok(())
+}
+
+// Fills rows of the published block and mixes over them: what is mixed, and how many rows are kept.
+fn mixed_over_rows(alloc: Global, n_log2: u8, k: u64) -> Result<([u8; 128], u64), Fail>
+    requires even { 1 ≤ n_log2 }
+    requires cost { n_log2 < 64 }
+    requires kept { 1 ≤ k }
+{
+    let rows = Rows::fill(alloc, &BLOCK, n_log2, k)?;
+    let mut work = words(alloc, 96)?;
+    let mut out = [0xa5u8; 128];
+    mix_kept(rows.words(), n_log2, k, &mut out, &mut work);
+    Ok((out, rows.len()))
+}
+
+#[test]
+fn rows_of_rfc_7914(rt: HostRuntime) -> Result<(), Fail> {
+    for k in 1..18u64 {
+        let (out, count) = mixed_over_rows(rt.alloc(), 4, k)?;
+        assert_eq!(rt; hexadecimal(rt.alloc(), &out)?.as_str(), ROM_MIXED, "k {k}");
+        assert_eq!(rt; count, 16u64.div_ceil(k));
+    }
+    Ok(())
+}
+
+// The rows are the block, and what comes of mixing it.
+#[test]
+fn words_stand_in_diagonal_order(rt: HostRuntime) -> Result<(), Fail> {
+    let rows = Rows::fill(rt.alloc(), &BLOCK, 1, 1)?;
+    assert_eq!(rt; rows.len(), 2);
+    let (first, second) = rows.words().split_at(32);
+    assert_eq!(rt; bytes_of(first), BLOCK);
+    assert_eq!(rt; hexadecimal(rt.alloc(), &bytes_of(second))?.as_str(), MIXED);
+    let rows = Rows::fill(rt.alloc(), &BLOCK, 1, 3)?;
+    assert_eq!(rt; rows.len(), 1);
+    assert_eq!(rt; rows.words(), first);
+    Ok(())
+}
+
+// Rows that no memory can hold are refused before any mixing, and where one is kept, none is mixed.
+#[test]
+fn rows_of_the_greatest_cost(rt: HostRuntime) -> Result<(), Fail> {
+    assert!(rt;
+        matches!(
+            Rows::fill(rt.alloc(), &BLOCK, 63, 1),
+            Err(KdfError::OutOfMemory)
+        )
+    );
+    for k in [9223372036854775808u64, 18446744073709551615] {
+        let rows = Rows::fill(rt.alloc(), &BLOCK, 63, k.max(1))?;
+        assert_eq!(rt; rows.len(), 1);
+        let words = rows.words();
+        assert_eq!(rt; words.len(), 32);
+        assert_eq!(rt; bytes_of(words), BLOCK);
+    }
+    Ok(())
+}
+
+#[test]
+fn keys_of_every_number_are_the_plain_ones(rt: HostRuntime) -> Result<(), Fail> {
+    for n_log2 in 1..7u8 {
+        for (r, p) in [(1u32, 1u32), (2, 1), (3, 2)] {
+            assert!(rt;
+                agrees(rt.alloc(), n_log2, r.clamp(1, 15), p.min(15))?,
+                "at {n_log2}, {r}, {p}"
+            );
+        }
+    }
+    Ok(())
+}
+
+// Whether the key is the plain one for every k from 1 to N + 1.
+fn agrees(alloc: Global, n_log2: u8, r: u32, p: u32) -> Result<bool, Fail>
+    requires n_log2 { n_log2 < 8 }
+    requires r_some { 1 ≤ r }
+    requires r { r < 16 }
+    requires p { p < 16 }
+{
+    let params = Params::new(n_log2, r, p).map_err(|_| "refused")?;
+    let mut plain = [0u8; 104];
+    plain_scrypt(
+        alloc,
+        b"password",
+        b"some salt",
+        n_log2,
+        r as usize,
+        p as usize,
+        &mut plain,
+    )?;
+    let n = 1u64 << n_log2;
+    for k in 1..n + 2 {
+        let mut key = [0u8; 104];
+        let count = scrypt_keeping(alloc, b"password", b"some salt", &params, k, &mut key)?;
+        if key != plain || count != n.div_ceil(k) {
+            return Ok(false);
+        }
+    }
+    Ok(true)
+}
+
+#[test]
+fn rows_of_every_number_are_mixed_as_the_plain_ones(rt: HostRuntime) -> Result<(), Fail> {
+    for n_log2 in 1..7u8 {
+        let plain = plain_rom_mix(rt.alloc(), n_log2, &BLOCK)?;
+        for k in 1..(1u64 << n_log2) + 2 {
+            let (out, _) = mixed_over_rows(rt.alloc(), n_log2, k)?;
+            assert_eq!(rt; out, plain, "at {n_log2}, k {k}");
+        }
+    }
+    Ok(())
+}
+
+// An output that no key can have is refused whatever is kept, and a refusal leaves it.
+#[test]
+fn refusals_do_not_depend_on_the_number(rt: HostRuntime) -> Result<(), Fail> {
+    let params = Params::new(53, 8, 1)?;
+    for k in [1u64, 3, 18446744073709551615] {
+        let refused = scrypt_keeping(rt.alloc(), b"pw", b"salt", &params, k.max(1), &mut []);
+        assert!(rt; refused == Err(KdfError::InvalidOutputLen), "k {k}");
+    }
+    for k in [1u64, 1000] {
+        let mut key = [7u8; 32];
+        let refused = scrypt_keeping(rt.alloc(), b"pw", b"salt", &params, k.max(1), &mut key);
+        assert!(rt; refused == Err(KdfError::OutOfMemory), "k {k}");
+        assert!(rt; key.iter().all(|b| *b == 7), "k {k}");
+    }
+    Ok(())
+}

@@ -1,0 +1,53 @@
+//! Key derivation whose answer is right or is want of memory, whichever growth is refused: with ample memory each test
+//! sees its call succeed, and `tests/refused_memory.py` runs it with each of its requests refused in turn, and counts
+//! them.
+//!
+//! The keys are those of RFC 7914, section 12.
+
+use minisign_kdf::kept_rows::Rows;
+use minisign_kdf::params::Params;
+use minisign_kdf::scrypt::{KdfError, scrypt, scrypt_keeping};
+use std::test::Fail;
+
+// The first bytes of the smallest vector.
+const FRONT: [u8; 8] = [0x77, 0xd6, 0x57, 0x62, 0x38, 0x65, 0x7b, 0x20];
+
+// Two requests: the rows in one, and what they are mixed in.
+#[test]
+fn rows_are_reserved_in_one_request(rt: HostRuntime) {
+    match Rows::fill(rt.alloc(), &[7; 128], 10, 3) {
+        Ok(rows) => assert_eq!(rt; rows.len(), 342),
+        Err(fault) => assert!(rt; fault == KdfError::OutOfMemory),
+    }
+}
+
+#[test]
+fn deriving_a_key(rt: HostRuntime) -> Result<(), Fail> {
+    let params = Params::new(4, 1, 1)?;
+    let mut key = [0xa5u8; 8];
+    match scrypt(rt.alloc(), b"", b"", &params, &mut key) {
+        Ok(()) => assert_eq!(rt; key, FRONT),
+        Err(fault) => {
+            assert!(rt; fault == KdfError::OutOfMemory);
+            assert_eq!(rt; key, [0xa5; 8]);
+        }
+    }
+    Ok(())
+}
+
+#[test]
+fn deriving_a_key_with_every_third_row(rt: HostRuntime) -> Result<(), Fail> {
+    let params = Params::new(4, 1, 1)?;
+    let mut key = [0xa5u8; 8];
+    match scrypt_keeping(rt.alloc(), b"", b"", &params, 3, &mut key) {
+        Ok(count) => {
+            assert_eq!(rt; count, 6);
+            assert_eq!(rt; key, FRONT);
+        }
+        Err(fault) => {
+            assert!(rt; fault == KdfError::OutOfMemory);
+            assert_eq!(rt; key, [0xa5; 8]);
+        }
+    }
+    Ok(())
+}

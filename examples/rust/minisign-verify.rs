@@ -1,0 +1,135 @@
+//! How a Rust updater verifies a file: `minisign-verify PUBLIC_KEY DATA SIGNATURE`, over the proved library and
+//! libsodium's Ed25519.
+//!
+//! It ends with 0 where the texts vouch for the data, and prints the trusted comment; else with 1, or with 2
+//! where a file could not be read. Legacy signatures, which are over the data itself, are refused.
+
+use std::fs::{self, File};
+use std::io::{self, Read, Write};
+use std::process::ExitCode;
+
+/// What minisign.h declares.
+mod minisign {
+    pub const OK: u32 = 0;
+    pub const ERROR_TEXT_BYTES: usize = 128;
+
+    #[repr(C)]
+    pub struct State {
+        opaque: [u64; 64],
+    }
+
+    impl State {
+        /// A state that was fed nothing.
+        pub fn new() -> State {
+            let mut state = State { opaque: [0; 64] };
+            unsafe { minisign_init(&mut state) };
+            state
+        }
+    }
+
+    /// What is written to a state is fed to it.
+    impl std::io::Write for State {
+        fn write(&mut self, data: &[u8]) -> std::io::Result<usize> {
+            unsafe { minisign_update(self, data.as_ptr(), data.len()) };
+            Ok(data.len())
+        }
+
+        fn flush(&mut self) -> std::io::Result<()> {
+            Ok(())
+        }
+    }
+
+    #[repr(C)]
+    pub struct Questions {
+        pub public_key: [u8; 32],
+        pub digest: [u8; 64],
+        pub signature: [u8; 64],
+        pub comment_signature: [u8; 64],
+        pub message_len: u64,
+        pub public_key_id: [u8; 8],
+        pub signature_key_id: [u8; 8],
+        pub legacy: u32,
+        pub reserved: u32,
+    }
+
+    extern "C" {
+        pub fn minisign_init(state: *mut State);
+        pub fn minisign_update(state: *mut State, data: *const u8, len: usize) -> u32;
+        #[rustfmt::skip]
+        pub fn minisign_ask(state: *mut State, pk_text: *const u8, pk_text_len: usize,
+            sig_text: *const u8, sig_text_len: usize, allow_legacy: u32,
+            questions: *mut Questions, message: *mut u8, room: usize) -> u32;
+        pub fn minisign_verdict(state: *mut State, first: u32, second: u32) -> u32;
+        pub fn minisign_error_text(error: u32, text: *mut u8, room: usize) -> usize;
+    }
+}
+
+extern "C" {
+    fn crypto_sign_verify_detached(signature: *const u8, message: *const u8, len: u64, key: *const u8) -> i32;
+}
+
+/// Whether libsodium accepts a signature of 64 bytes under a key of 32, as the library wants it told.
+fn accepts(signature: &[u8; 64], message: &[u8], public_key: &[u8; 32]) -> u32 {
+    let refused = unsafe {
+        crypto_sign_verify_detached(signature.as_ptr(), message.as_ptr(), message.len() as u64, public_key.as_ptr())
+    };
+    (refused == 0) as u32
+}
+
+/// The trusted comment where the texts vouch for all of the data, else the number of the first error.
+fn verify(pk_text: &[u8], sig_text: &[u8], data: &mut impl Read) -> io::Result<Result<Vec<u8>, u32>> {
+    let mut state = minisign::State::new();
+    io::copy(data, &mut state)?;
+    let mut questions = unsafe { std::mem::zeroed::<minisign::Questions>() };
+    let mut message = vec![0; sig_text.len()];
+    let mut error = unsafe {
+        minisign::minisign_ask(
+            &mut state,
+            pk_text.as_ptr(), pk_text.len(),
+            sig_text.as_ptr(), sig_text.len(),
+            0,
+            &mut questions,
+            message.as_mut_ptr(), message.len(),
+        )
+    };
+    if error == minisign::OK {
+        message.truncate(questions.message_len as usize);
+        let first = accepts(&questions.signature, &questions.digest, &questions.public_key);
+        let second = accepts(&questions.comment_signature, &message, &questions.public_key);
+        error = unsafe { minisign::minisign_verdict(&mut state, first, second) };
+    }
+    Ok(if error == minisign::OK { Ok(message.split_off(64)) } else { Err(error) })
+}
+
+/// What an error means.
+fn error_text(error: u32) -> String {
+    let mut text = vec![0; minisign::ERROR_TEXT_BYTES];
+    let len = unsafe { minisign::minisign_error_text(error, text.as_mut_ptr(), text.len()) };
+    text.truncate(len);
+    String::from_utf8_lossy(&text).into_owned()
+}
+
+fn run(arguments: &[String]) -> io::Result<ExitCode> {
+    let [_, pk, data, sig] = arguments else {
+        eprintln!("usage: minisign-verify PUBLIC_KEY DATA SIGNATURE");
+        return Ok(ExitCode::from(2));
+    };
+    match verify(&fs::read(pk)?, &fs::read(sig)?, &mut File::open(data)?)? {
+        Ok(trusted_comment) => {
+            io::stdout().write_all(&[&trusted_comment[..], b"\n"].concat())?;
+            Ok(ExitCode::SUCCESS)
+        }
+        Err(error) => {
+            eprintln!("{}", error_text(error));
+            Ok(ExitCode::from(1))
+        }
+    }
+}
+
+fn main() -> ExitCode {
+    let arguments: Vec<String> = std::env::args().collect();
+    run(&arguments).unwrap_or_else(|error| {
+        eprintln!("{error}");
+        ExitCode::from(2)
+    })
+}

@@ -1,0 +1,198 @@
+/*
+ * minisign.h: verifying minisign signatures with an Ed25519 of your own.
+ *
+ * The library does all of it but Ed25519: it reads the texts of keys and signatures, hashes the data, and says
+ * what has to be asked of Ed25519. You ask a library that you trust, and hand back its answers; the library
+ * gives the verdict. Every function here is proved to do what this page says, for a caller that keeps
+ * "What you owe" below. What Ed25519 answers is yours.
+ *
+ * Verifying, in full, with libsodium:
+ *
+ *     minisign_state state;
+ *     minisign_questions q;
+ *     minisign_init(&state);
+ *     while ((n = fread(piece, 1, sizeof piece, file)) > 0)
+ *         minisign_update(&state, piece, n);
+ *     // A buffer of sig_text_len bytes always has room for the second message.
+ *     error = minisign_ask(&state, pk_text, pk_text_len, sig_text, sig_text_len, 0, &q, message, sig_text_len);
+ *     if (error == MINISIGN_OK) {
+ *         first = crypto_sign_verify_detached(q.signature, q.digest, 64, q.public_key) == 0;
+ *         second = crypto_sign_verify_detached(q.comment_signature, message, q.message_len, q.public_key) == 0;
+ *         error = minisign_verdict(&state, first, second);
+ *     }
+ *     // MINISIGN_OK: the texts vouch for the data, and the trusted comment is the message_len - 64 bytes at
+ *     // message + 64. Any other number: nothing is vouched for, and this is the first reason.
+ *
+ * Only 64-bit machines.
+ *
+ * Linking: libminisign_c.a, which `rt lib` leaves in crates/minisign_c/out, and the archive of the kit that
+ * hands its calls for memory to malloc, realloc and free, c/liblibc_c.a in the kit's folder.
+ */
+#ifndef MINISIGN_H
+#define MINISIGN_H
+
+#include <stddef.h>
+#include <stdint.h>
+
+#ifdef __cplusplus
+extern "C" {
+#endif
+
+/*
+ * What you owe. The library cannot test these; where one is broken, nothing is promised.
+ *
+ * - No pointer is NULL, also where its length is 0. A pointer with a length points to so many bytes, at most
+ *   2^63 - 1, that you may read, and where it is not const also write. A pointer to a struct points to one,
+ *   aligned as your compiler aligns it.
+ * - What a call may write overlaps nothing else that the call was given. No other thread touches what a call
+ *   was given before the call has returned. Different states may be used by different threads at once: the
+ *   library has no variables of its own.
+ * - All memory is yours. The library keeps no pointer beyond a call, and what it takes from malloc during
+ *   one it has given back when the call returns. malloc, realloc and free belong together, and align a
+ *   block of n bytes to every power of two up to 16 that divides n. minisign_ask, the one call that takes
+ *   memory, is not made in a signal handler or in the forked child of a process with threads.
+ * - The bytes of a state are written by the library alone, beginning with minisign_init. A state may be copied
+ *   by assignment or memcpy, to go on from one point twice. It needs no clearing at the end, but holds up to
+ *   256 of the last bytes of the data.
+ * - The answers are those of an Ed25519 on exactly the questions that were asked.
+ *
+ * Wrong use that the state shows is an error number and changes nothing: a state never begun (its first
+ * eight bytes are not those of minisign_init), an update or a question after the questions were asked, a
+ * verdict before.
+ */
+
+/* Numbers of errors. The greater ones are the library's faults, in the order in which verifying tests. */
+enum minisign_error {
+    MINISIGN_OK = 0,
+
+    /* Wrong use. */
+    MINISIGN_NOT_BEGUN = 1,     /* the state was never begun, or was ended by a verdict */
+    MINISIGN_ALREADY_ASKED = 2, /* updated or asked once more after the questions were asked */
+    MINISIGN_NOT_ASKED = 3,     /* a verdict without questions */
+    MINISIGN_NO_ANSWER = 4,     /* an answer that is neither MINISIGN_REFUSED nor MINISIGN_ACCEPTED */
+    MINISIGN_NO_ROOM = 5,       /* a buffer is too short */
+    MINISIGN_NO_LEGACY = 6,     /* allow_legacy is neither 0 nor 1 */
+
+    /* Of minisign_ask alone. */
+    MINISIGN_OUT_OF_MEMORY = 7,
+
+    /* A text is no UTF-8. */
+    MINISIGN_NOT_UTF8 = 8,
+
+    /* The text of the public key. */
+    MINISIGN_MISSING_PUBLIC_KEY_COMMENT = 16, /* no first line */
+    MINISIGN_MISSING_PUBLIC_KEY = 17,         /* no second line */
+    MINISIGN_PUBLIC_KEY_LENGTH = 18,          /* the second line has not 56 bytes */
+    MINISIGN_PUBLIC_KEY_NOT_BASE64 = 19,
+
+    /* The text of a key or of the signature. */
+    MINISIGN_RECORD_TOO_SHORT = 20,           /* the base64 of too few bytes */
+
+    /* The text of the signature. */
+    MINISIGN_MISSING_UNTRUSTED_COMMENT = 21,  /* no first line */
+    MINISIGN_MISSING_SIGNATURE = 22,          /* no second line */
+    MINISIGN_MISSING_TRUSTED_COMMENT = 23,    /* no third line */
+    MINISIGN_MISSING_COMMENT_SIGNATURE = 24,  /* no fourth line */
+    MINISIGN_UNTRUSTED_COMMENT_PREFIX = 25,   /* the first line does not begin with "untrusted comment: " */
+    MINISIGN_SIGNATURE_NOT_BASE64 = 26,       /* the second line or the fourth */
+    MINISIGN_TRUSTED_COMMENT_PREFIX = 27,     /* the third line does not begin with "trusted comment: " */
+    MINISIGN_UNSUPPORTED_ALGORITHM = 28,      /* neither "ED" nor "Ed" */
+
+    /* The verdict. */
+    MINISIGN_DIFFERENT_KEY_IDS = 29,
+    MINISIGN_LEGACY_NOT_ACCEPTED = 30,
+    MINISIGN_SIGNATURE_REFUSED = 31,
+    MINISIGN_COMMENT_SIGNATURE_REFUSED = 32   /* also where it has fewer than 64 bytes */
+};
+
+/*
+ * What an error number means, in English, ended by a 0 byte and cut where there is no room for more: to be
+ * shown to people. Answers the length of the whole text without its 0, as snprintf does. With room 0 nothing
+ * is written. MINISIGN_ERROR_TEXT_BYTES is room enough for each.
+ */
+#define MINISIGN_ERROR_TEXT_BYTES 128
+size_t minisign_error_text(uint32_t error, uint8_t *text, size_t room);
+
+/* A state, for one file: yours, of fixed size, its bytes the library's. */
+typedef struct minisign_state {
+    uint64_t opaque[64];
+} minisign_state;
+
+/* Begins: the state was fed nothing. Whatever it held before is gone. Takes no memory. */
+void minisign_init(minisign_state *state);
+
+/*
+ * Feeds the next len bytes of the data: pieces of any length, 64 KiB and more being the fastest. Takes no
+ * memory, whatever the length of the data.
+ *
+ * MINISIGN_NOT_BEGUN, MINISIGN_ALREADY_ASKED: the state stays as it was.
+ */
+uint32_t minisign_update(minisign_state *state, const uint8_t *data, size_t len);
+
+/* ---- Verifying ---- */
+
+/* What has to be asked of Ed25519, both times under public_key. */
+typedef struct minisign_questions {
+    uint8_t public_key[32];
+    /* The first question: does Ed25519 accept the signature for this message? Its message is the digest, or,
+     * where legacy is 1, all of the data itself, which you hold. */
+    uint8_t digest[64];
+    uint8_t signature[64];
+    /* The second question: and this signature, for the message_len bytes in the buffer? They are the first
+     * signature followed by the trusted comment. Zeros where the text has fewer than 64 bytes here: the
+     * verdict then refuses, whatever the second answer is. */
+    uint8_t comment_signature[64];
+    uint64_t message_len;
+    /* The identifiers, 8 bytes each, shown by minisign as one little endian number. Equal where the
+     * questions were asked; also filled in with MINISIGN_DIFFERENT_KEY_IDS. */
+    uint8_t public_key_id[8];
+    uint8_t signature_key_id[8];
+    /* 1 where the signature is over the data itself ("Ed"), 0 where it is over the digest ("ED"). */
+    uint32_t legacy;
+    uint32_t reserved;
+} minisign_questions;
+
+/*
+ * Asks, once all of the data was fed: from the text of the public key (both lines of a file such as
+ * minisign.pub) and the text of the signature (a file such as data.minisig) what Ed25519 has to answer. The
+ * message of the second question is written to message, of room bytes; room for sig_text_len bytes is always
+ * enough.
+ *
+ * allow_legacy is 1 where signatures over the data itself will do, else 0. Such a question is about the data
+ * and not its digest, so hold it in memory if you allow them. What is asked does not depend on the data but
+ * in the digest: to know before reading any data whether the texts are refused, or whether the signature
+ * is legacy, ask with another state that was fed nothing.
+ *
+ * After an error the state and the message stay as they were, and you may ask again. The errors, in this order:
+ * MINISIGN_NO_LEGACY; MINISIGN_NOT_BEGUN, MINISIGN_ALREADY_ASKED; MINISIGN_NOT_UTF8 of either text; those of
+ * the text of the public key; those of the text of the signature; MINISIGN_DIFFERENT_KEY_IDS,
+ * MINISIGN_LEGACY_NOT_ACCEPTED; MINISIGN_NO_ROOM. MINISIGN_OUT_OF_MEMORY may come at any time, and in place of
+ * any of those between.
+ */
+uint32_t minisign_ask(minisign_state *state, const uint8_t *pk_text, size_t pk_text_len,
+                      const uint8_t *sig_text, size_t sig_text_len, uint32_t allow_legacy,
+                      minisign_questions *questions, uint8_t *message, size_t room);
+
+/* Your answers: any other number is an error, so that a library's "0 for success" is never taken for a yes
+ * or a "-1 for failure" for one. */
+#define MINISIGN_REFUSED 0
+#define MINISIGN_ACCEPTED 1
+
+/*
+ * The verdict, from what Ed25519 answered to the two questions; it ends the state. Takes no memory.
+ *
+ * MINISIGN_OK exactly where the two texts vouch for all of the data that was fed, under the scheme that
+ * answered so: the texts read as a key and a signature of the same identifier, of an algorithm that is
+ * allowed, Ed25519 accepts the signature, and for that signature followed by the trusted comment the other.
+ * Otherwise MINISIGN_SIGNATURE_REFUSED, or else MINISIGN_COMMENT_SIGNATURE_REFUSED: the first of these that
+ * fails.
+ *
+ * MINISIGN_NO_ANSWER, then MINISIGN_NOT_BEGUN, MINISIGN_NOT_ASKED: the state stays as it was.
+ */
+uint32_t minisign_verdict(minisign_state *state, uint32_t first, uint32_t second);
+
+#ifdef __cplusplus
+}
+#endif
+
+#endif
