@@ -24,8 +24,8 @@ pub record PublicKeyText (text : List ℕ) (k : PublicKeyRecord) : Type 0 where
   pub key : EncodesPublicKey (trim key_line) k
 
 -- the first case that fails
-unfoldable pub public_key_fault : List ℕ → Option Fault
-public_key_fault text =
+unfoldable pub public_key_refusal : List ℕ → Option Fault
+public_key_refusal text =
     first_failing (
     record { holds = has_line 0 text; fault = missing_public_key_comment }
     ∷ record { holds = has_line 1 text; fault = missing_encoded_public_key }
@@ -41,8 +41,8 @@ pub record BarePublicKey (text : List ℕ) (k : PublicKeyRecord) : Type 0 where
   pub key : EncodesPublicKey text k
 
 -- the first case that fails
-unfoldable pub bare_public_key_fault : List ℕ → Option Fault
-bare_public_key_fault text =
+unfoldable pub bare_public_key_refusal : List ℕ → Option Fault
+bare_public_key_refusal text =
     first_failing (
     record { holds = length (trim text) == 56; fault = bare_public_key_length }
     ∷ record { holds = is_base64 text; fault = bare_public_key_not_base64 }

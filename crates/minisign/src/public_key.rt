@@ -6,7 +6,7 @@ ghost use Rattle.std.specs.Cmp.Lexicographic.{nat_list_eq_equiv};
 ghost use Rattle.minisign_base.specs.Faults.{out_of_memory, record_too_short};
 ghost use Rattle.minisign.specs.Texts.{IsRefused, IsDecided, base64_of, is_base64, base64_bytes};
 ghost use Rattle.std.specs.Str.{trim};
-ghost use Rattle.minisign.specs.PublicKeyText.{EncodesPublicKey, PublicKeyText, BarePublicKey, public_key_fault, bare_public_key_fault, public_key_text};
+ghost use Rattle.minisign.specs.PublicKeyText.{EncodesPublicKey, PublicKeyText, BarePublicKey, public_key_refusal, bare_public_key_refusal, public_key_text};
 ghost use Rattle.minisign.specs.TextFiles.{IsTextFileFault};
 ghost use Rattle.minisign.specs.Texts.{IsSecondLine};
 
@@ -75,8 +75,8 @@ impl PublicKey {
         ensures exact { (k : PublicKeyRecord) → PublicKeyText public_key_box k →
             MatchResult result (λ v. v ≡ k) (λ e. e ≡ out_of_memory) }
         ensures refused { IfErr result (λ e. (e ≡ out_of_memory)
-            ⊎ IsRefused (PublicKeyText public_key_box) (public_key_fault public_key_box) e) }
-        ensures decided { IsDecided (PublicKeyText public_key_box) (public_key_fault public_key_box) }
+            ⊎ IsRefused (PublicKeyText public_key_box) (public_key_refusal public_key_box) e) }
+        ensures decided { IsDecided (PublicKeyText public_key_box) (public_key_refusal public_key_box) }
     {
         read_text(alloc, public_key_box.as_str())
     }
@@ -90,7 +90,7 @@ impl PublicKey {
     pub fn from_file<F: Files>(files: &F, alloc: Global, path: &str) -> Result<PublicKey>
         ensures read { IfOk result (λ k. (text : List ℕ) × PublicKeyText text k) }
         ensures refused { IfErr result (λ e. IsTextFileFault e
-            ⊎ ((text : List ℕ) × IsRefused (PublicKeyText text) (public_key_fault text) e)) }
+            ⊎ ((text : List ℕ) × IsRefused (PublicKeyText text) (public_key_refusal text) e)) }
     {
         let text = read_text_file(files, alloc, path)?;
         PublicKey::from_box(alloc, PublicKeyBox::from(text))
@@ -105,8 +105,8 @@ impl PublicKey {
         ensures exact { (k : PublicKeyRecord) → BarePublicKey text.now k →
             MatchResult result (λ v. v ≡ k) (λ e. e ≡ out_of_memory) }
         ensures refused { IfErr result (λ e. (e ≡ out_of_memory)
-            ⊎ IsRefused (BarePublicKey text.now) (bare_public_key_fault text.now) e) }
-        ensures decided { IsDecided (BarePublicKey text.now) (bare_public_key_fault text.now) }
+            ⊎ IsRefused (BarePublicKey text.now) (bare_public_key_refusal text.now) e) }
+        ensures decided { IsDecided (BarePublicKey text.now) (bare_public_key_refusal text.now) }
     {
         read_bare(alloc, text)
     }
@@ -174,7 +174,7 @@ impl PublicKey {
 // Reads a public key text.
 pub(crate) fn read_text(alloc: Global, text: &str) -> Result<PublicKey>
     ensures read { IfOk result (PublicKeyText text.now) }
-    ensures refused { IfErr result (λ e. (e ≡ out_of_memory) ⊎ (public_key_fault text.now ≡ Some e)) }
+    ensures refused { IfErr result (λ e. (e ≡ out_of_memory) ⊎ (public_key_refusal text.now ≡ Some e)) }
 {
     let line = key_line(text)?;
     read_key_line(alloc, line)
@@ -183,7 +183,7 @@ pub(crate) fn read_text(alloc: Global, text: &str) -> Result<PublicKey>
 // Reads the bare base64 of a key.
 fn read_bare(alloc: Global, text: &str) -> Result<PublicKey>
     ensures read { IfOk result (BarePublicKey text.now) }
-    ensures refused { IfErr result (λ e. (e ≡ out_of_memory) ⊎ (bare_public_key_fault text.now ≡ Some e)) }
+    ensures refused { IfErr result (λ e. (e ≡ out_of_memory) ⊎ (bare_public_key_refusal text.now ≡ Some e)) }
 {
     if text.trim().len() != ENCODED_BYTES {
         return Err(faults::bare_public_key_length());
@@ -197,7 +197,7 @@ fn read_bare(alloc: Global, text: &str) -> Result<PublicKey>
 // The second line of a text that may hold a public key.
 fn key_line(text: &str) -> Result<&str>
     ensures line { IfOk result (λ l. IsSecondLine text.now l.now) }
-    ensures refused { IfErr result (λ e. public_key_fault text.now ≡ Some e) }
+    ensures refused { IfErr result (λ e. public_key_refusal text.now ≡ Some e) }
 {
     let mut lines = text.lines();
     let Some(_) = next_line(&mut lines) else {
@@ -213,7 +213,7 @@ fn key_line(text: &str) -> Result<&str>
 fn read_key_line(alloc: Global, line: &str) -> Result<PublicKey>
     ensures read { IfOk result (λ k. (length line.now ≡ 56) × EncodesPublicKey (trim line.now) k) }
     ensures refused { IfErr result (λ e. (e ≡ out_of_memory)
-        ⊎ ((text : List ℕ) → IsSecondLine text line.now → public_key_fault text ≡ Some e)) }
+        ⊎ ((text : List ℕ) → IsSecondLine text line.now → public_key_refusal text ≡ Some e)) }
 {
     if line.len() != ENCODED_BYTES {
         return Err(faults::public_key_line_length());

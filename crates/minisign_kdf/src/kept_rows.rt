@@ -47,7 +47,7 @@ impl Rows {
         requires kept { 1 ≤ k }
         ensures rows { let r = length block.now / 128 in
             IfOk result (λ v. v ≡ record { r = r; n = 2 ^ n_log2; k = k; rows = kept_rows r (2 ^ n_log2) k block.now }) }
-        ensures fault { IfErr result (λ e. e ≡ KdfError.OutOfMemory) }
+        ensures refused { IfErr result (λ e. e ≡ KdfError.OutOfMemory) }
     {
         let r = block.len() / 128;
         let mut words = room_for_rows(alloc, r, n_log2, k)?;
@@ -90,7 +90,7 @@ pub(crate) fn room_for_rows(
     requires cost { n_log2 < 64 }
     requires kept { 1 ≤ k }
     ensures room { IfOk result (λ v. 32 * r * div_ceil (2 ^ n_log2) k ≤ vec_capacity v) }
-    ensures fault { IfErr result (λ e. e ≡ KdfError.OutOfMemory) }
+    ensures refused { IfErr result (λ e. e ≡ KdfError.OutOfMemory) }
 {
     let Some(len) = (32 * r).checked_mul(kept_count(n_log2, k)) else {
         return Err(KdfError::OutOfMemory);

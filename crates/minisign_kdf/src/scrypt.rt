@@ -91,7 +91,7 @@ pub fn scrypt(
 ) -> Result<(), KdfError>
     ensures fits { OnOk result (IsTrue (is_key_length (length out.old))) }
     ensures derived { OnOk result (out.new ≡ scrypt password.now salt.now (2 ^ params.now.n_log2) params.now.r params.now.p (length out.old)) }
-    ensures fault { IfErr result (λ e. e ≡ (if is_key_length (length out.old) then KdfError.OutOfMemory else KdfError.InvalidOutputLen)) }
+    ensures refused { IfErr result (λ e. e ≡ (if is_key_length (length out.old) then KdfError.OutOfMemory else KdfError.InvalidOutputLen)) }
     ensures unchanged { OnErr result (out.new ≡ out.old) }
 {
     scrypt_keeping(alloc, password, salt, params, 1, out)?;
@@ -126,7 +126,7 @@ pub fn scrypt_keeping(
     ensures fits { OnOk result (IsTrue (is_key_length (length out.old))) }
     ensures derived { OnOk result (out.new ≡ scrypt password.now salt.now (2 ^ params.now.n_log2) params.now.r params.now.p (length out.old)) }
     ensures count { IfOk result (λ n. n ≡ div_ceil (2 ^ params.now.n_log2) k) }
-    ensures fault { IfErr result (λ e. e ≡ (if is_key_length (length out.old) then KdfError.OutOfMemory else KdfError.InvalidOutputLen)) }
+    ensures refused { IfErr result (λ e. e ≡ (if is_key_length (length out.old) then KdfError.OutOfMemory else KdfError.InvalidOutputLen)) }
     ensures unchanged { OnErr result (out.new ≡ out.old) }
 {
     check_len(out.len())?;
