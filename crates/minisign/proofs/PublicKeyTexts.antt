@@ -15,14 +15,14 @@ use Rattle.minisign_base.specs.Fault.{Fault}
 use Rattle.minisign_base.specs.Identifiers.{identifier_text}
 use Rattle.minisign_base.specs.Faults.{missing_public_key_comment, missing_encoded_public_key, public_key_line_length, public_key_line_not_base64, bare_public_key_length, bare_public_key_not_base64, record_too_short}
 use Rattle.minisign.specs.Records.{PublicKeyRecord, ReadsPublicKey, public_key_bytes}
-use Rattle.minisign.specs.Texts.{IsBase64Of, IsDecided, IsSecondLine, base64_of, base64_bytes, is_base64, untrusted_comment_label}
+use Rattle.minisign.specs.Texts.{IsBase64Of, IsDecided, HasSecondLine, base64_of, base64_bytes, is_base64, untrusted_comment_label}
 use Rattle.minisign.specs.PublicKeyText.{EncodesPublicKey, PublicKeyText, BarePublicKey, public_key_refusal, bare_public_key_refusal, public_key_label, public_key_text}
 use Rattle.minisign.proofs.Base64Texts.{bytes_read, is_read, reads, one_decoding}
 use Rattle.minisign.proofs.Letters.{AllGraphic, graphic_base64, graphic_identifier, trim_graphic}
 use Rattle.minisign.proofs.WrittenLines.{IsOneLine, AllShown, lines_line, lines_last, shown_append, shown_codes, shown_graphic, shown_one_line, length_base64_key}
 use Rattle.minisign.proofs.RecordFields.{joined_fields, one_public_key}
 
-one_second_line : (text a b : List ℕ) → IsSecondLine text a → IsSecondLine text b → a ≡ b
+one_second_line : (text a b : List ℕ) → HasSecondLine text a → HasSecondLine text b → a ≡ b
 one_second_line text a b h j = let same : h.first ∷ a ∷ h.later ≡ j.first ∷ b ∷ j.later = sym h.cut ∙ j.cut in cc same
 
 -- bytes that a key is read from
@@ -132,7 +132,7 @@ pub no_key_line : (text a : List ℕ) → lines text ≡ a ∷ [] → public_key
 unfolding public_key_refusal
 no_key_line text a e = rw e refl
 
-module _ (text b : List ℕ) (second : IsSecondLine text b) where
+module _ (text b : List ℕ) (second : HasSecondLine text b) where
   pub other_length : length b ≢ 56 → public_key_refusal text ≡ Some public_key_line_length
   unfolding public_key_refusal
   other_length differs = rw (second.cut, ne_eqb _ 56 differs) refl

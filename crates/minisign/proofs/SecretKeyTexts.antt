@@ -19,12 +19,12 @@ stored_length bytes k reads =
     omega (arith, reads.algorithm_length, reads.kdf_length, reads.checksum_algorithm_length, reads.salt_length, reads.operations_limit_length, reads.memory_limit_length, reads.keynum_length, reads.secret_length, reads.checksum_length, simp length-append at (ap length reads.front.1))
 
 -- two lines at least
-record IsSecondLine (text y : List ℕ) : Type 0 where
+record HasSecondLine (text y : List ℕ) : Type 0 where
   some : has_line 0 text ≡ true
   more : has_line 1 text ≡ true
   at : line_at 1 text ≡ y
 
-second_line : (text x y : List ℕ) (rest : List (List ℕ)) → lines text ≡ x ∷ y ∷ rest → IsSecondLine text y
+second_line : (text x y : List ℕ) (rest : List (List ℕ)) → lines text ≡ x ∷ y ∷ rest → HasSecondLine text y
 second_line text x y rest cut =
     record { some = rw cut refl; more = rw cut refl; at = rw cut refl }
 

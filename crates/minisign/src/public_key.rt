@@ -8,7 +8,7 @@ ghost use Rattle.minisign.specs.Texts.{IsRefused, IsDecided, base64_of, is_base6
 ghost use Rattle.std.specs.Str.{trim};
 ghost use Rattle.minisign.specs.PublicKeyText.{EncodesPublicKey, PublicKeyText, BarePublicKey, public_key_refusal, bare_public_key_refusal, public_key_text};
 ghost use Rattle.minisign.specs.TextFiles.{IsTextFileFault};
-ghost use Rattle.minisign.specs.Texts.{IsSecondLine};
+ghost use Rattle.minisign.specs.Texts.{HasSecondLine};
 
 use crate::fields::split_field;
 use crate::keynum::KeynumPK;
@@ -196,7 +196,7 @@ fn read_bare(alloc: Global, text: &str) -> Result<PublicKey>
 
 // The second line of a text that may hold a public key.
 fn key_line(text: &str) -> Result<&str>
-    ensures line { IfOk result (λ l. IsSecondLine text.now l.now) }
+    ensures line { IfOk result (λ l. HasSecondLine text.now l.now) }
     ensures refused { IfErr result (λ e. public_key_refusal text.now ≡ Some e) }
 {
     let mut lines = text.lines();
@@ -213,7 +213,7 @@ fn key_line(text: &str) -> Result<&str>
 fn read_key_line(alloc: Global, line: &str) -> Result<PublicKey>
     ensures read { IfOk result (λ k. (length line.now ≡ 56) × EncodesPublicKey (trim line.now) k) }
     ensures refused { IfErr result (λ e. (e ≡ out_of_memory)
-        ⊎ ((text : List ℕ) → IsSecondLine text line.now → public_key_refusal text ≡ Some e)) }
+        ⊎ ((text : List ℕ) → HasSecondLine text line.now → public_key_refusal text ≡ Some e)) }
 {
     if line.len() != ENCODED_BYTES {
         return Err(faults::public_key_line_length());

@@ -2,7 +2,7 @@
 
 ghost use Rattle.std.specs.Prelude.{◌≡◌, ◌+◌, ◌*◌, ◌/◌, ◌%◌, ◌^◌, ◌<◌, ◌≤◌, IfErr, IfOk, IsTrue, Some, codes, OnErr, OnOk, if◌then◌else◌, is_ok, length, vec_capacity, vec_len};
 ghost use Rattle.std.specs.Int.{div_ceil};
-ghost use Rattle.minisign_kdf.specs.Blocks.{block, joined};
+ghost use Rattle.minisign_kdf.specs.Blocks.{block, joined_lists};
 ghost use Rattle.minisign_kdf.specs.Pbkdf2.{longest_key};
 ghost use Rattle.minisign_kdf.specs.Scrypt.{is_key_length, rom_mix, scrypt};
 
@@ -200,7 +200,7 @@ fn mix_parts(
     requires parts_len { length parts.old ≡ 128 * r * p }
     requires room { 32 * r * div_ceil (2 ^ n_log2) k ≤ vec_capacity rows.old }
     requires work_len { length work.old ≡ 96 * r }
-    ensures { parts.new ≡ joined (λ i. rom_mix r (2 ^ n_log2) (block (128 * r) parts.old i)) p }
+    ensures { parts.new ≡ joined_lists (λ i. rom_mix r (2 ^ n_log2) (block (128 * r) parts.old i)) p }
 {
     let len = 128 * r;
     'parts: for i in 0..p {
