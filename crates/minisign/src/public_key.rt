@@ -1,11 +1,12 @@
 //! A public key, which vouches for what was signed with its secret key.
 
-ghost use Rattle.std.specs.Prelude.{◌≡◌, ◌<◌, ◌⊎◌, List, ℕ, true, false, Some, drop, length, string_bytes, MatchResult, IfOk, IfErr, IfSome, IfNone, bytes_eq};
+ghost use Rattle.std.specs.Prelude.{◌≡◌, ◌<◌, ◌⊎◌, List, ℕ, true, false, Some, length, string_bytes, MatchResult, IsOk, IfOk, IfErr, IfSome, IfNone, bytes_eq};
 ghost use Rattle.std.specs.Cmp.{on_per, on_equiv, partial_equiv_from_equiv};
 ghost use Rattle.std.specs.Cmp.Lexicographic.{nat_list_eq_equiv};
 ghost use Rattle.minisign_base.specs.Faults.{out_of_memory, record_too_short};
 ghost use Rattle.minisign.specs.Texts.{IsRefused, IsDecided, base64_of, is_base64, base64_bytes};
 ghost use Rattle.std.specs.Str.{trim};
+ghost use Rattle.minisign.specs.Records.{own_public_key};
 ghost use Rattle.minisign.specs.PublicKeyText.{EncodesPublicKey, PublicKeyText, BarePublicKey, public_key_refusal, bare_public_key_refusal, public_key_text};
 ghost use Rattle.minisign.specs.TextFiles.{IsTextFileFault};
 ghost use Rattle.minisign.specs.Texts.{HasSecondLine};
@@ -112,20 +113,21 @@ impl PublicKey {
     }
 
     /// The public key of a secret key: its algorithm, its identifier and the last 32 bytes of its
-    /// secret, as they stand in a sealed key too. Takes no memory.
-    pub fn from_secret_key(sk: &SecretKey) -> PublicKey
-        ensures { result ≡ record { algorithm = sk.now.algorithm; keynum = sk.now.keynum; key = drop 32 sk.now.secret } }
+    /// secret, as they stand in a sealed key too. Never refuses, and takes no memory.
+    pub fn from_secret_key(sk: &SecretKey) -> Result<PublicKey>
+        ensures succeeds { IsOk result }
+        ensures key { IfOk result (λ v. v ≡ own_public_key sk.now) }
     {
         let (_, public_half) = sk.keynum_sk.sk.split_at(32);
         let mut pk = [0u8; 32];
         pk.copy_from_slice(public_half);
-        PublicKey {
+        Ok(PublicKey {
             sig_alg: sk.sig_alg,
             keynum_pk: KeynumPK {
                 keynum: sk.keynum_sk.keynum,
                 pk,
             },
-        }
+        })
     }
 
     /// The text of the key, two lines: `untrusted comment: minisign public key: ` and the identifier,

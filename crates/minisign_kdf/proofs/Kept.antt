@@ -9,7 +9,7 @@ use Rattle.std.specs.Int.{div_ceil}
 use Rattle.std.specs.List.{range_with_len}
 use Rattle.minisign_kdf.specs.Kept.{kept_rows, remade_row, rom_mix_from}
 use Rattle.minisign_kdf.specs.Scrypt.{block_mix, mixed_part, rom_mix, row_at}
-use Rattle.minisign_kdf.proofs.Rows.{mixed_part_same}
+use Rattle.minisign_kdf.proofs.RowMixing.{mixed_part_same}
 
 -- mixing i times, and then j times
 pub row_at-add : (r : ℕ) (b : List ℕ) (i j : ℕ) → row_at r (row_at r b i) j ≡ row_at r b (i + j)

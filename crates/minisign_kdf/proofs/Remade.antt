@@ -12,7 +12,7 @@ use Rattle.minisign_kdf.specs.Kept.{kept_rows, remade_row, rom_mix_from, rows_of
 use Rattle.minisign_kdf.specs.Scrypt.{block_mix, integerify, mixed_part, row_at}
 use Rattle.minisign_kdf.proofs.Blocks.{block_front, block_new, block_whole, row_before}
 use Rattle.minisign_kdf.proofs.Kept.{quotient_kept, row_at-add, some_kept}
-use Rattle.minisign_kdf.proofs.Rows.{mod_64, row_at_none}
+use Rattle.minisign_kdf.proofs.RowMixing.{mod_64, row_at_none}
 
 -- ---- rows of words
 

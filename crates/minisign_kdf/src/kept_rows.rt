@@ -9,8 +9,8 @@ ghost use Rattle.minisign_kdf.specs.Kept.{KeptRows, kept_rows, rows_of};
 ghost use Rattle.minisign_kdf.specs.Scrypt.{row_at};
 
 use crate::block_mix::mix_times;
+use crate::errors::KdfError;
 use crate::order::load_part;
-use crate::scrypt::KdfError;
 use std::alloc::{AllocError, Global};
 use std::marker::Model;
 

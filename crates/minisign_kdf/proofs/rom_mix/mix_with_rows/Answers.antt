@@ -3,7 +3,7 @@ use Rattle.std.specs.Int.{div_ceil}
 use Rattle.minisign_kdf.specs.Kept.{remade_row, rows_of}
 use Rattle.minisign_kdf.specs.Scrypt.{mixed_part}
 use Rattle.minisign_kdf.proofs.Remade.{last_row_mixed, mixed_from}
-use Rattle.minisign_kdf.proofs.Rows.{even_power, mixed_part_none, step_next}
+use Rattle.minisign_kdf.proofs.RowMixing.{even_power, mixed_part_none, step_next}
 use Rattle.minisign_kdf.proofs.rom_mix.mix_with_rows.Goals as goal
 
 pub turns-init : goal.turns-init
