@@ -10,7 +10,7 @@ use Rattle.minisign_base.proofs.DeviceFacts.{AppendsFront-after}
 use Rattle.minisign.specs.Records.{SecretKeyRecord}
 use Rattle.minisign_base.specs.Faults.{out_of_memory, writing_failed, wrong_password}
 use Rattle.minisign.specs.Sealing.{checksum_refusal, kdf_refusal, password_refusal, work_refusal, xored_key}
-use Rattle.minisign.specs.SecretKeyText.{SecretKeyText, secret_key_fault}
+use Rattle.minisign.specs.SecretKeyText.{SecretKeyText, secret_key_refusal}
 use Rattle.minisign.specs.Opening.{HasAskedAndSaid, HasAskedAndNotSaid, IsOpenedAsking, IsOpening, RefusesKey, IsToldRefusal, RefusesAsking, asking_text, deriving_text, done_text}
 use Rattle.minisign.proofs.Openings.{any_password, kdf_held, opened_text, opening_outcome}
 use Rattle.minisign.specs.Texts.{IsRefused}
@@ -148,7 +148,7 @@ closed_opening p None text bound e same refused = nothing_asked p text bound e s
 
 -- so is one that reads as no key
 pub unread_opening : {R W : Type 0} (p : PromptPassage R W) (given : Option (List ℕ)) (text : List ℕ) (bound : Option ℕ) (e : Fault)
-    → p.new ≡ p.old → (e ≡ out_of_memory) ⊎ IsRefused (SecretKeyText text) (secret_key_fault text) e → IsOpening p given text bound (Err e)
+    → p.new ≡ p.old → (e ≡ out_of_memory) ⊎ IsRefused (SecretKeyText text) (secret_key_refusal text) e → IsOpening p given text bound (Err e)
 unread_opening p given text bound e same (inl memory) = closed_opening p given text bound e same (inl memory)
 unread_opening p given text bound e same (inr unread) = closed_opening p given text bound e same (inr (inl unread))
 

@@ -2,8 +2,8 @@
 -- read as their fields, and the signature is accepted for its message and refused for another. The bytes
 -- were computed by another program, over Python's Blake2b.
 use Rattle.std.proofs.Common.{◌≡◌, ℕ, false, List, [], ◌∷◌, ◌++◌, None, Some, codes, replicate, refl}
-use Rattle.minisign_hash.specs.Blake2b.{blake2b_digest, block, compress, first_state, iv, last_state, mix, mixed, round, rounds, sigma, state_after, work_vector}
-use Rattle.minisign_hash.specs.Words.{bytes_of, word_at, words_of}
+use Rattle.minisign_hash.specs.Blake2b.{blake2b_digest, block, compress, first_state, iv, last_state, mix, mixed_words, round, rounds, sigma, state_after, work_vector}
+use Rattle.minisign_hash.specs.Words.{bytes_of_words64, word_at, words64_of}
 use Rattle.minisign_base.specs.Faults.{signature_refused}
 use Rattle.minisign_base.specs.Toy.{fold_of, toy_accepts}
 use Rattle.minisign.specs.Records.{PublicKeyRecord, SignatureRecord, SignatureBoxRecord, ReadsPublicKey, ReadsSignature}
@@ -34,9 +34,9 @@ pub reads_signature : ReadsSignature (codes "ED" ++ identifier ++ replicate 32 0
 reads_signature = record { algorithm_length = refl; keynum_length = refl; signature_length = refl; front = ([], refl) }
 
 pub accepted : first_refusal toy_accepts key box (codes "abc") false ≡ None
-unfolding blake2b_digest last_state state_after block first_state compress work_vector rounds round mix mixed iv sigma words_of word_at bytes_of fold_of
+unfolding blake2b_digest last_state state_after block first_state compress work_vector rounds round mix mixed_words iv sigma words64_of word_at bytes_of_words64 fold_of
 accepted = refl
 
 pub refused : first_refusal toy_accepts key box [] false ≡ Some signature_refused
-unfolding blake2b_digest last_state state_after block first_state compress work_vector rounds round mix mixed iv sigma words_of word_at bytes_of fold_of
+unfolding blake2b_digest last_state state_after block first_state compress work_vector rounds round mix mixed_words iv sigma words64_of word_at bytes_of_words64 fold_of
 refused = refl

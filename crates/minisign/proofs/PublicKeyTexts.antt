@@ -15,14 +15,14 @@ use Rattle.minisign_base.specs.Fault.{Fault}
 use Rattle.minisign_base.specs.Identifiers.{identifier_text}
 use Rattle.minisign_base.specs.Faults.{missing_public_key_comment, missing_encoded_public_key, public_key_line_length, public_key_line_not_base64, bare_public_key_length, bare_public_key_not_base64, record_too_short}
 use Rattle.minisign.specs.Records.{PublicKeyRecord, ReadsPublicKey, public_key_bytes}
-use Rattle.minisign.specs.Texts.{IsBase64Of, IsDecided, IsSecondLine, base64_of, base64_bytes, is_base64, untrusted_comment_label}
-use Rattle.minisign.specs.PublicKeyText.{EncodesPublicKey, PublicKeyText, BarePublicKey, public_key_fault, bare_public_key_fault, public_key_label, public_key_text}
+use Rattle.minisign.specs.Texts.{IsBase64Of, IsDecided, HasSecondLine, base64_of, base64_bytes, is_base64, untrusted_comment_label}
+use Rattle.minisign.specs.PublicKeyText.{EncodesPublicKey, PublicKeyText, BarePublicKey, public_key_refusal, bare_public_key_refusal, public_key_label, public_key_text}
 use Rattle.minisign.proofs.Base64Texts.{bytes_read, is_read, reads, one_decoding}
 use Rattle.minisign.proofs.Letters.{AllGraphic, graphic_base64, graphic_identifier, trim_graphic}
 use Rattle.minisign.proofs.WrittenLines.{IsOneLine, AllShown, lines_line, lines_last, shown_append, shown_codes, shown_graphic, shown_one_line, length_base64_key}
 use Rattle.minisign.proofs.RecordFields.{joined_fields, one_public_key}
 
-one_second_line : (text a b : List ℕ) → IsSecondLine text a → IsSecondLine text b → a ≡ b
+one_second_line : (text a b : List ℕ) → HasSecondLine text a → HasSecondLine text b → a ≡ b
 one_second_line text a b h j = let same : h.first ∷ a ∷ h.later ≡ j.first ∷ b ∷ j.later = sym h.cut ∙ j.cut in cc same
 
 -- bytes that a key is read from
@@ -43,9 +43,9 @@ one_encoded text k l h j =
     one_public_key h.bytes k l h.reads (subst (λ b. ReadsPublicKey b l) (one_decoding text j.bytes h.bytes j.base64 h.base64) j.reads)
 
 -- no case fails where a key is read
-pub no_fault : (text : List ℕ) (k : PublicKeyRecord) → PublicKeyText text k → public_key_fault text ≡ None
-unfolding public_key_fault
-no_fault text k h =
+pub no_refusal : (text : List ℕ) (k : PublicKeyRecord) → PublicKeyText text k → public_key_refusal text ≡ None
+unfolding public_key_refusal
+no_refusal text k h =
     let tests = encodes_tests (trim h.key_line) k h.key in
     rw (h.second.cut, eq-eqb _ 56 h.key_line_length, tests.0, tests.1) refl
 
@@ -77,8 +77,8 @@ pub tested : (holds : Bool) (others : Option Fault) (e : Fault) → cond holds o
 tested true others e h = (refl, h)
 tested false others e h = cc h
 
-read_where_none_fails : (text : List ℕ) (ls : List (List ℕ)) → lines text ≡ ls → public_key_fault text ≡ None → (k : PublicKeyRecord) × PublicKeyText text k
-unfolding public_key_fault
+read_where_none_fails : (text : List ℕ) (ls : List (List ℕ)) → lines text ≡ ls → public_key_refusal text ≡ None → (k : PublicKeyRecord) × PublicKeyText text k
+unfolding public_key_refusal
 read_where_none_fails text [] e h = let no = rw e at h in cc no
 read_where_none_fails text (a ∷ []) e h = let no = rw e at h in cc no
 read_where_none_fails text (a ∷ b ∷ later) e h =
@@ -94,21 +94,21 @@ read_where_none_fails text (a ∷ b ∷ later) e h =
       },
     )
 
-pub decided : (text : List ℕ) → IsDecided (PublicKeyText text) (public_key_fault text)
+pub decided : (text : List ℕ) → IsDecided (PublicKeyText text) (public_key_refusal text)
 decided text = record {
-  none_fails = (read_where_none_fails text (lines text) refl, λ read. no_fault text read.0 read.1);
+  none_fails = (read_where_none_fails text (lines text) refl, λ read. no_refusal text read.0 read.1);
   one_value = one_public_key_text text;
 }
 
 -- the same of bare base64
-no_bare_fault : (text : List ℕ) (k : PublicKeyRecord) → BarePublicKey text k → bare_public_key_fault text ≡ None
-unfolding bare_public_key_fault
-no_bare_fault text k h =
+no_bare_refusal : (text : List ℕ) (k : PublicKeyRecord) → BarePublicKey text k → bare_public_key_refusal text ≡ None
+unfolding bare_public_key_refusal
+no_bare_refusal text k h =
     let tests = encodes_tests text k h.key in
     rw (eq-eqb _ 56 h.trimmed_length, tests.0, tests.1) refl
 
-bare_where_none_fails : (text : List ℕ) → bare_public_key_fault text ≡ None → (k : PublicKeyRecord) × BarePublicKey text k
-unfolding bare_public_key_fault
+bare_where_none_fails : (text : List ℕ) → bare_public_key_refusal text ≡ None → (k : PublicKeyRecord) × BarePublicKey text k
+unfolding bare_public_key_refusal
 bare_where_none_fails text h =
     let length_test = tested _ _ _ h in
     let base64_test = tested _ _ _ length_test.1 in
@@ -117,32 +117,32 @@ bare_where_none_fails text h =
       record { trimmed_length = eqb-true (length (trim text)) 56 length_test.0; key = encodes_key text base64_test.0 record_test.0 },
     )
 
-pub bare_decided : (text : List ℕ) → IsDecided (BarePublicKey text) (bare_public_key_fault text)
+pub bare_decided : (text : List ℕ) → IsDecided (BarePublicKey text) (bare_public_key_refusal text)
 bare_decided text = record {
-  none_fails = (bare_where_none_fails text, λ read. no_bare_fault text read.0 read.1);
+  none_fails = (bare_where_none_fails text, λ read. no_bare_refusal text read.0 read.1);
   one_value = λ k l h j. one_encoded text k l h.key j.key;
 }
 
 -- the case that fails at each line
-pub no_comment_line : (text : List ℕ) → lines text ≡ [] → public_key_fault text ≡ Some missing_public_key_comment
-unfolding public_key_fault
+pub no_comment_line : (text : List ℕ) → lines text ≡ [] → public_key_refusal text ≡ Some missing_public_key_comment
+unfolding public_key_refusal
 no_comment_line text e = rw e refl
 
-pub no_key_line : (text a : List ℕ) → lines text ≡ a ∷ [] → public_key_fault text ≡ Some missing_encoded_public_key
-unfolding public_key_fault
+pub no_key_line : (text a : List ℕ) → lines text ≡ a ∷ [] → public_key_refusal text ≡ Some missing_encoded_public_key
+unfolding public_key_refusal
 no_key_line text a e = rw e refl
 
-module _ (text b : List ℕ) (second : IsSecondLine text b) where
-  pub other_length : length b ≢ 56 → public_key_fault text ≡ Some public_key_line_length
-  unfolding public_key_fault
+module _ (text b : List ℕ) (second : HasSecondLine text b) where
+  pub other_length : length b ≢ 56 → public_key_refusal text ≡ Some public_key_line_length
+  unfolding public_key_refusal
   other_length differs = rw (second.cut, ne_eqb _ 56 differs) refl
 
-  pub no_base64 : length b ≡ 56 → is_base64 (trim b) ≡ false → public_key_fault text ≡ Some public_key_line_not_base64
-  unfolding public_key_fault
+  pub no_base64 : length b ≡ 56 → is_base64 (trim b) ≡ false → public_key_refusal text ≡ Some public_key_line_not_base64
+  unfolding public_key_refusal
   no_base64 same other = rw (second.cut, eq-eqb _ 56 same, other) refl
 
-  pub too_short : length b ≡ 56 → is_base64 (trim b) ≡ true → length (base64_bytes (trim b)) < 42 → public_key_fault text ≡ Some record_too_short
-  unfolding public_key_fault
+  pub too_short : length b ≡ 56 → is_base64 (trim b) ≡ true → length (base64_bytes (trim b)) < 42 → public_key_refusal text ≡ Some record_too_short
+  unfolding public_key_refusal
   too_short same base64 short = rw (second.cut, eq-eqb _ 56 same, base64, lt-leb 42 _ short) refl
 
 shown_label : AllShown (untrusted_comment_label ++ public_key_label)
@@ -181,16 +181,16 @@ module _ (k : PublicKeyRecord) (bare : BarePublicKey (base64_of (public_key_byte
     key = subst (λ (t : List ℕ). EncodesPublicKey t k) (sym stays) bare.key;
   }
 
-pub other_bare_length : (text : List ℕ) → length (trim text) ≢ 56 → bare_public_key_fault text ≡ Some bare_public_key_length
-unfolding bare_public_key_fault
+pub other_bare_length : (text : List ℕ) → length (trim text) ≢ 56 → bare_public_key_refusal text ≡ Some bare_public_key_length
+unfolding bare_public_key_refusal
 other_bare_length text differs = rw (ne_eqb _ 56 differs) refl
 
-pub no_bare_base64 : (text : List ℕ) → length (trim text) ≡ 56 → is_base64 text ≡ false → bare_public_key_fault text ≡ Some bare_public_key_not_base64
-unfolding bare_public_key_fault
+pub no_bare_base64 : (text : List ℕ) → length (trim text) ≡ 56 → is_base64 text ≡ false → bare_public_key_refusal text ≡ Some bare_public_key_not_base64
+unfolding bare_public_key_refusal
 no_bare_base64 text same other = rw (eq-eqb _ 56 same, other) refl
 
-pub bare_too_short : (text : List ℕ) → length (trim text) ≡ 56 → is_base64 text ≡ true → length (base64_bytes text) < 42 → bare_public_key_fault text ≡ Some record_too_short
-unfolding bare_public_key_fault
+pub bare_too_short : (text : List ℕ) → length (trim text) ≡ 56 → is_base64 text ≡ true → length (base64_bytes text) < 42 → bare_public_key_refusal text ≡ Some record_too_short
+unfolding bare_public_key_refusal
 bare_too_short text same base64 short = rw (eq-eqb _ 56 same, base64, lt-leb 42 _ short) refl
 
 -- the written text, letter by letter

@@ -6,7 +6,7 @@ use Rattle.std.proofs.lemmas.Simd.{length-zip2}
 use Rattle.std.specs.Simd.Lanes.{zip2}
 use Rattle.minisign.proofs.Xor.{xor_halves, xor_twice}
 use Rattle.minisign.specs.Records.{SecretKeyRecord}
-use Rattle.minisign.specs.Sealing.{key_numbers, key_xor, sealed_part, stream_of, with_sealed_part, xored_key}
+use Rattle.minisign.specs.Sealing.{key_numbers, key_xor, sealed_part, stream_of, key_with_part, xored_key}
 
 -- the fields that are sealed have their lengths
 pub record HasSealedLengths (k : SecretKeyRecord) : Type 0 where
@@ -20,7 +20,7 @@ with_fields k a b c = record k { keynum = a; secret = b; checksum = c }
 
 -- a part of three fields, cut again
 cut_fields : (k : SecretKeyRecord) (a b c : List ℕ) → length a ≡ 8 → length b ≡ 64 → length c ≡ 32
-    → with_sealed_part k (a ++ b ++ c) ≡ with_fields k a b c
+    → key_with_part k (a ++ b ++ c) ≡ with_fields k a b c
 cut_fields k a b c la lb lc =
     let whole : a ++ b ++ c ≡ a ++ (b ++ c) = append_assoc a b c in
     let len : length (a ++ b) ≡ 72 = length-append a b ∙ omega (arith, la, lb) in
@@ -40,7 +40,7 @@ xored_fields k a b c len la lb lc =
     xor_halves (k.keynum ++ k.secret) k.checksum (a ++ b) c
     (length-append k.keynum k.secret ∙ omega (arith, len.keynum, len.secret, la, lb) ∙ sym (length-append a b))
     ∙ ap (λ (l : List ℕ). l ++ zip2 bit_xor k.checksum c) (xor_halves k.keynum k.secret a b (len.keynum ∙ sym la)) in
-    ap (with_sealed_part k) halves
+    ap (key_with_part k) halves
     ∙ cut_fields k (zip2 bit_xor k.keynum a) (zip2 bit_xor k.secret b) (zip2 bit_xor k.checksum c)
     (length-zip2 bit_xor k.keynum a (len.keynum ∙ sym la) ∙ len.keynum)
     (length-zip2 bit_xor k.secret b (len.secret ∙ sym lb) ∙ len.secret)

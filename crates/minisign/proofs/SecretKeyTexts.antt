@@ -7,7 +7,7 @@ use Rattle.std.specs.Str.Lines.{lines}
 use Rattle.minisign_base.specs.Fault.{Fault}
 use Rattle.minisign_base.specs.Faults.{out_of_memory, secret_key_not_base64, record_too_short}
 use Rattle.minisign.specs.Records.{SecretKeyRecord, ReadsSecretKey}
-use Rattle.minisign.specs.SecretKeyText.{SecretKeyText, secret_key_fault}
+use Rattle.minisign.specs.SecretKeyText.{SecretKeyText, secret_key_refusal}
 use Rattle.minisign.specs.Texts.{IsBase64Of, IsDecided, IsRefused, base64_bytes, has_line, is_base64, line_at}
 use Rattle.minisign.proofs.Base64Texts.{bytes_read, is_read, one_decoding, reads}
 use Rattle.minisign.proofs.PublicKeyTexts.{tested}
@@ -19,12 +19,12 @@ stored_length bytes k reads =
     omega (arith, reads.algorithm_length, reads.kdf_length, reads.checksum_algorithm_length, reads.salt_length, reads.operations_limit_length, reads.memory_limit_length, reads.keynum_length, reads.secret_length, reads.checksum_length, simp length-append at (ap length reads.front.1))
 
 -- two lines at least
-record IsSecondLine (text y : List ℕ) : Type 0 where
+record HasSecondLine (text y : List ℕ) : Type 0 where
   some : has_line 0 text ≡ true
   more : has_line 1 text ≡ true
   at : line_at 1 text ≡ y
 
-second_line : (text x y : List ℕ) (rest : List (List ℕ)) → lines text ≡ x ∷ y ∷ rest → IsSecondLine text y
+second_line : (text x y : List ℕ) (rest : List (List ℕ)) → lines text ≡ x ∷ y ∷ rest → HasSecondLine text y
 second_line text x y rest cut =
     record { some = rw cut refl; more = rw cut refl; at = rw cut refl }
 
@@ -36,7 +36,7 @@ read_text text x y bytes rest k cut encoded stored =
     record { bytes = bytes; second_line = second.more; encoded = rw second.at encoded; stored = stored }
 
 -- a text whose second line is no base64
-pub not_base64_text : (text x y : List ℕ) (rest : List (List ℕ)) → lines text ≡ x ∷ y ∷ rest → is_base64 y ≡ false → IsRefused (SecretKeyText text) (secret_key_fault text) secret_key_not_base64
+pub not_base64_text : (text x y : List ℕ) (rest : List (List ℕ)) → lines text ≡ x ∷ y ∷ rest → is_base64 y ≡ false → IsRefused (SecretKeyText text) (secret_key_refusal text) secret_key_not_base64
 not_base64_text text x y rest cut failed =
     let second = second_line text x y rest cut in
     let no : is_base64 (line_at 1 text) ≡ false = ap is_base64 second.at ∙ failed in
@@ -47,7 +47,7 @@ not_base64_text text x y rest cut failed =
 
 -- a text whose second line is the base64 of too few bytes
 short_text : (text x y bytes : List ℕ) (rest : List (List ℕ)) → lines text ≡ x ∷ y ∷ rest → IsBase64Of y bytes → length bytes < 158
-    → IsRefused (SecretKeyText text) (secret_key_fault text) record_too_short
+    → IsRefused (SecretKeyText text) (secret_key_refusal text) record_too_short
 short_text text x y bytes rest cut encoded short =
     let second = second_line text x y rest cut in
     let read : is_base64 (line_at 1 text) ≡ true = ap is_base64 second.at ∙ is_read y bytes encoded in
@@ -62,7 +62,7 @@ short_text text x y bytes rest cut encoded short =
 -- what reading the record says of the text
 pub text_outcome : (text x y bytes : List ℕ) (rest : List (List ℕ)) (r : Result SecretKeyRecord Fault) → lines text ≡ x ∷ y ∷ rest → IsBase64Of y bytes
     → MatchResult r (ReadsSecretKey bytes) (λ e. (e ≡ record_too_short) × (length bytes < 158))
-    → MatchResult r (SecretKeyText text) (λ e. (e ≡ out_of_memory) ⊎ IsRefused (SecretKeyText text) (secret_key_fault text) e)
+    → MatchResult r (SecretKeyText text) (λ e. (e ≡ out_of_memory) ⊎ IsRefused (SecretKeyText text) (secret_key_refusal text) e)
 text_outcome text x y bytes rest (Ok k) cut encoded stored = read_text text x y bytes rest k cut encoded stored
 text_outcome text x y bytes rest (Err e) cut encoded (is, short) = inr (rw is (short_text text x y bytes rest cut encoded short))
 
@@ -142,17 +142,17 @@ key_in_front bytes long =
     }
 
 -- no case fails where a key is read
-no_fault : (text : List ℕ) (ls : List (List ℕ)) (k : SecretKeyRecord) → lines text ≡ ls → SecretKeyText text k → secret_key_fault text ≡ None
-no_fault text [] k e h = let no = rw e at h.second_line in cc no
-no_fault text (a ∷ []) k e h = let no = rw e at h.second_line in cc no
-no_fault text (a ∷ b ∷ later) k e h =
+no_refusal : (text : List ℕ) (ls : List (List ℕ)) (k : SecretKeyRecord) → lines text ≡ ls → SecretKeyText text k → secret_key_refusal text ≡ None
+no_refusal text [] k e h = let no = rw e at h.second_line in cc no
+no_refusal text (a ∷ []) k e h = let no = rw e at h.second_line in cc no
+no_refusal text (a ∷ b ∷ later) k e h =
     let second = second_line text a b later e in
     let base64 : is_base64 (line_at 1 text) ≡ true = is_read (line_at 1 text) h.bytes h.encoded in
     let decoded : base64_bytes (line_at 1 text) ≡ h.bytes = bytes_read (line_at 1 text) h.bytes h.encoded in
     let long : nat_le 158 (length h.bytes) ≡ true = le-leb 158 (length h.bytes) (stored_length h.bytes k h.stored) in
     rw (second.some, second.more, base64, decoded, long) refl
 
-read_where_none_fails : (text : List ℕ) (ls : List (List ℕ)) → lines text ≡ ls → secret_key_fault text ≡ None → (k : SecretKeyRecord) × SecretKeyText text k
+read_where_none_fails : (text : List ℕ) (ls : List (List ℕ)) → lines text ≡ ls → secret_key_refusal text ≡ None → (k : SecretKeyRecord) × SecretKeyText text k
 read_where_none_fails text [] e h = let no = rw e at h in cc no
 read_where_none_fails text (a ∷ []) e h = let no = rw e at h in cc no
 read_where_none_fails text (a ∷ b ∷ later) e h =
@@ -169,8 +169,8 @@ read_where_none_fails text (a ∷ b ∷ later) e h =
     )
 
 -- no case fails exactly where a text reads as a key, and it reads as one at most
-pub decided : (text : List ℕ) → IsDecided (SecretKeyText text) (secret_key_fault text)
+pub decided : (text : List ℕ) → IsDecided (SecretKeyText text) (secret_key_refusal text)
 decided text = record {
-  none_fails = (read_where_none_fails text (lines text) refl, λ read. no_fault text (lines text) read.0 refl read.1);
+  none_fails = (read_where_none_fails text (lines text) refl, λ read. no_refusal text (lines text) read.0 refl read.1);
   one_value = λ k l read again. one_key_text text l k again read;
 }

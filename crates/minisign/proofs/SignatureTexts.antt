@@ -13,7 +13,7 @@ use Rattle.std.proofs.lemmas.Slice.Eq.{starts_is, bytes_eq-Decides}
 use Rattle.minisign_base.specs.Faults.{missing_untrusted_comment, missing_signature, missing_trusted_comment, missing_global_signature, untrusted_comment_prefix, signature_not_base64, record_too_short, trusted_comment_prefix, unsupported_signature_algorithm}
 use Rattle.minisign.specs.Records.{CommentsRecord, SignatureRecord, SignatureBoxRecord, ReadsSignature, IsKnownAlgorithm, signature_bytes, legacy_algorithm, prehashed_algorithm}
 use Rattle.minisign.specs.Texts.{IsBase64Of, IsDecided, base64_of, base64_bytes, is_base64, line_at, untrusted_comment_label}
-use Rattle.minisign.specs.SignatureText.{AreOneLine, EncodesSignature, SignatureText, HasFourLines, KeepsComments, comments_read_back, signature_text, is_known_algorithm, signature_tests, signature_fault, trusted_comment_label}
+use Rattle.minisign.specs.SignatureText.{AreOneLine, EncodesSignature, SignatureText, HasFourLines, KeepsComments, comments_read_back, signature_text, is_known_algorithm, signature_tests, signature_refusal, trusted_comment_label}
 use Rattle.minisign.proofs.Base64Texts.{bytes_read, is_read, reads, one_decoding}
 use Rattle.base64.specs.GeneralPurpose.{IsBytes}
 use Rattle.base64.proofs.EngineFacts.{front_bytes}
@@ -83,9 +83,9 @@ lines_before (a ∷ b ∷ c ∷ []) h = cc h
 lines_before (a ∷ b ∷ c ∷ d ∷ later) h = (refl, refl, refl)
 
 -- no case fails where a box is read
-pub no_fault : (text : List ℕ) (x : SignatureBoxRecord) → SignatureText text x → signature_fault text ≡ None
-unfolding signature_fault
-no_fault text x h =
+pub no_refusal : (text : List ℕ) (x : SignatureBoxRecord) → SignatureText text x → signature_refusal text ≡ None
+unfolding signature_refusal
+no_refusal text x h =
     let before = lines_before (lines text) h.four_lines in
     let signature = encodes_tests (trim (line_at 1 text)) x.signature h.signature in
     rw (
@@ -128,8 +128,8 @@ signature_in_front bytes l = record {
   front = (drop 64 (drop 8 (drop 2 bytes)), joined_fields bytes _ _ _ _ _ _ (sym (take-append-drop 2 bytes)) (sym (take-append-drop 8 (drop 2 bytes))) (sym (take-append-drop 64 (drop 8 (drop 2 bytes)))));
 }
 
-read_where_none_fails : (text : List ℕ) → signature_fault text ≡ None → (x : SignatureBoxRecord) × SignatureText text x
-unfolding signature_fault signature_in
+read_where_none_fails : (text : List ℕ) → signature_refusal text ≡ None → (x : SignatureBoxRecord) × SignatureText text x
+unfolding signature_refusal signature_in
 read_where_none_fails text h =
     let (_, (_, (_, (fourth, (untrusted, (base64, (long, (trusted, (algorithm, (signed, _)))))))))) = all_hold (signature_tests text) h in
     let bytes : List ℕ = base64_bytes (trim (line_at 1 text)) in
@@ -151,60 +151,60 @@ read_where_none_fails text h =
       },
     )
 
-pub decided : (text : List ℕ) → IsDecided (SignatureText text) (signature_fault text)
+pub decided : (text : List ℕ) → IsDecided (SignatureText text) (signature_refusal text)
 decided text = record {
-  none_fails = (read_where_none_fails text, λ read. no_fault text read.0 read.1);
+  none_fails = (read_where_none_fails text, λ read. no_refusal text read.0 read.1);
   one_value = one_signature_text text;
 }
 
 -- the case that fails where lines are missing
-pub no_first_line : (text : List ℕ) → lines text ≡ [] → signature_fault text ≡ Some missing_untrusted_comment
-unfolding signature_fault
+pub no_first_line : (text : List ℕ) → lines text ≡ [] → signature_refusal text ≡ Some missing_untrusted_comment
+unfolding signature_refusal
 no_first_line text e = rw e refl
 
-pub no_second_line : (text a : List ℕ) → lines text ≡ a ∷ [] → signature_fault text ≡ Some missing_signature
-unfolding signature_fault
+pub no_second_line : (text a : List ℕ) → lines text ≡ a ∷ [] → signature_refusal text ≡ Some missing_signature
+unfolding signature_refusal
 no_second_line text a e = rw e refl
 
-pub no_third_line : (text a b : List ℕ) → lines text ≡ a ∷ b ∷ [] → signature_fault text ≡ Some missing_trusted_comment
-unfolding signature_fault
+pub no_third_line : (text a b : List ℕ) → lines text ≡ a ∷ b ∷ [] → signature_refusal text ≡ Some missing_trusted_comment
+unfolding signature_refusal
 no_third_line text a b e = rw e refl
 
-pub no_fourth_line : (text a b c : List ℕ) → lines text ≡ a ∷ b ∷ c ∷ [] → signature_fault text ≡ Some missing_global_signature
-unfolding signature_fault
+pub no_fourth_line : (text a b c : List ℕ) → lines text ≡ a ∷ b ∷ c ∷ [] → signature_refusal text ≡ Some missing_global_signature
+unfolding signature_refusal
 no_fourth_line text a b c e = rw e refl
 
 -- the case that fails in one of four lines
 module _ (text a b c d : List ℕ) (four : HasFourLines text a b c d) where
-  pub other_label : starts_with eqb a untrusted_comment_label ≡ false → signature_fault text ≡ Some untrusted_comment_prefix
-  unfolding signature_fault
+  pub other_label : starts_with eqb a untrusted_comment_label ≡ false → signature_refusal text ≡ Some untrusted_comment_prefix
+  unfolding signature_refusal
   other_label label = rw (four.cut, label) refl
 
   module _ (label : starts_with eqb a untrusted_comment_label ≡ true) where
-    pub no_base64 : is_base64 (trim b) ≡ false → signature_fault text ≡ Some signature_not_base64
-    unfolding signature_fault
+    pub no_base64 : is_base64 (trim b) ≡ false → signature_refusal text ≡ Some signature_not_base64
+    unfolding signature_refusal
     no_base64 other = rw (four.cut, label, other) refl
 
-    pub too_short : is_base64 (trim b) ≡ true → length (base64_bytes (trim b)) < 74 → signature_fault text ≡ Some record_too_short
-    unfolding signature_fault
+    pub too_short : is_base64 (trim b) ≡ true → length (base64_bytes (trim b)) < 74 → signature_refusal text ≡ Some record_too_short
+    unfolding signature_refusal
     too_short base64 short = rw (four.cut, label, base64, lt-leb 74 _ short) refl
 
     module _ (s : SignatureRecord) (encodes : EncodesSignature (trim b) s) where
-      pub other_trusted_label : starts_with eqb c trusted_comment_label ≡ false → signature_fault text ≡ Some trusted_comment_prefix
-      unfolding signature_fault
+      pub other_trusted_label : starts_with eqb c trusted_comment_label ≡ false → signature_refusal text ≡ Some trusted_comment_prefix
+      unfolding signature_refusal
       other_trusted_label trusted =
           let signature = encodes_tests (trim b) s encodes in
           rw (four.cut, label, signature.0, signature.1, trusted) refl
 
       module _ (trusted : starts_with eqb c trusted_comment_label ≡ true) where
-        pub unknown : is_known_algorithm s.algorithm ≡ false → signature_fault text ≡ Some unsupported_signature_algorithm
-        unfolding signature_fault
+        pub unknown : is_known_algorithm s.algorithm ≡ false → signature_refusal text ≡ Some unsupported_signature_algorithm
+        unfolding signature_refusal
         unknown other =
             let signature = encodes_tests (trim b) s encodes in
             rw (four.cut, label, signature.0, signature.1, trusted, signature.2, other) refl
 
-        pub no_comment_base64 : is_known_algorithm s.algorithm ≡ true → is_base64 (trim d) ≡ false → signature_fault text ≡ Some signature_not_base64
-        unfolding signature_fault
+        pub no_comment_base64 : is_known_algorithm s.algorithm ≡ true → is_base64 (trim d) ≡ false → signature_refusal text ≡ Some signature_not_base64
+        unfolding signature_refusal
         no_comment_base64 algorithm other =
             let signature = encodes_tests (trim b) s encodes in
             rw (four.cut, label, signature.0, signature.1, trusted, signature.2, algorithm, other) refl

@@ -26,7 +26,7 @@ refused_text accepts pk sig message legacy e memory (inr (inl refused)) = record
   unvouched = λ v. refused.unread v.key v.key_read;
 }
 refused_text accepts pk sig message legacy e memory (inr (inr (read, refused))) = record {
-  first_case = inr (inl (key_texts.no_fault pk read.0 read.1, refused.first_case));
+  first_case = inr (inl (key_texts.no_refusal pk read.0 read.1, refused.first_case));
   unvouched = λ v. refused.unread v.box v.box_read;
 }
 

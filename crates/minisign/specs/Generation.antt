@@ -40,12 +40,12 @@ abbrev pub secret_of : (List ℕ → List ℕ) → List ℕ → List ℕ
 secret_of public_of seed = seed ++ public_of seed
 
 -- the key with the checksum that its other fields call for
-abbrev pub with_checksum : SecretKeyRecord → SecretKeyRecord
-with_checksum k = record k { checksum = checksum_of k }
+abbrev pub key_with_checksum : SecretKeyRecord → SecretKeyRecord
+key_with_checksum k = record k { checksum = checksum_of k }
 
 -- the secret key of an identifier and 64 secret bytes that is not to be sealed
 unfoldable pub unsealed_key : List ℕ → List ℕ → SecretKeyRecord
-unsealed_key keynum secret = with_checksum (record {
+unsealed_key keynum secret = key_with_checksum (record {
   algorithm = legacy_algorithm;
   kdf = no_kdf;
   checksum_algorithm = blake2b_algorithm;

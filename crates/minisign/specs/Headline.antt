@@ -11,8 +11,8 @@ use Rattle.minisign.specs.Acceptance.{Flags, Verifier, Vouches, VouchesUnderEach
 use Rattle.minisign.specs.Sealing.{Opens, password_refusal, scrypt_kdf, xored_key}
 use Rattle.minisign.specs.SecretKeyText.{SecretKeyText}
 use Rattle.minisign.specs.Signing.{AreLines, ChosenComments, IsGenuine}
-use Rattle.minisign.specs.PublicKeyText.{PublicKeyText, public_key_fault}
-use Rattle.minisign.specs.SignatureText.{SignatureText, signature_fault}
+use Rattle.minisign.specs.PublicKeyText.{PublicKeyText, public_key_refusal}
+use Rattle.minisign.specs.SignatureText.{SignatureText, signature_refusal}
 
 -- == Verifying ==
 
@@ -29,8 +29,8 @@ pub record TextsVouchFor (accepts : Verifier) (pk_text sig_text message : List �
 -- the box vouches for the message under the key
 abbrev pub IsFirstCase : Verifier → List ℕ → List ℕ → List ℕ → Bool → Fault → Type 0
 IsFirstCase accepts pk_text sig_text message legacy e =
-    (public_key_fault pk_text ≡ Some e)
-    ⊎ ((public_key_fault pk_text ≡ None) × (signature_fault sig_text ≡ Some e))
+    (public_key_refusal pk_text ≡ Some e)
+    ⊎ ((public_key_refusal pk_text ≡ None) × (signature_refusal sig_text ≡ Some e))
     ⊎ ((key : PublicKeyRecord) × (box : SignatureBoxRecord) × PublicKeyText pk_text key × SignatureText sig_text box
     × (first_refusal accepts key box message legacy ≡ Some e))
 

@@ -8,14 +8,14 @@ use Rattle.minisign_base.specs.Passages.{PromptPassage}
 use Rattle.minisign_base.specs.Faults.{out_of_memory, writing_failed, wrong_password}
 use Rattle.minisign_base.specs.Prompts.{HasReadLine, IsAskingFault, password_of, reader_passage, written_after}
 use Rattle.minisign.specs.Records.{SecretKeyRecord}
-use Rattle.minisign.specs.SecretKeyText.{SecretKeyText, secret_key_fault}
+use Rattle.minisign.specs.SecretKeyText.{SecretKeyText, secret_key_refusal}
 use Rattle.minisign.specs.Texts.{IsRefused}
 use Rattle.minisign.specs.Sealing.{IsUnencrypted, Opens, checksum_refusal, kdf_refusal, opening_refusal, scrypt_kdf, unencrypted_refusal, work_refusal, xored_key}
 use Rattle.minisign.specs.TextFiles.{IsTextFileFault}
 
 -- the text reads as no key, or as one that is refused, and this is why
 abbrev pub RefusesKey : List ℕ → (SecretKeyRecord → Option Fault) → Fault → Type 0
-RefusesKey text refusal e = IsRefused (SecretKeyText text) (secret_key_fault text) e ⊎ ((k : SecretKeyRecord) × SecretKeyText text k × (refusal k ≡ Some e))
+RefusesKey text refusal e = IsRefused (SecretKeyText text) (secret_key_refusal text) e ⊎ ((k : SecretKeyRecord) × SecretKeyText text k × (refusal k ≡ Some e))
 
 -- the text reads as a key that opens under the password within the bound, and this is the key opened
 pub record IsOpened (text password : List ℕ) (bound : Option ℕ) (opened : SecretKeyRecord) : Type 0 where

@@ -7,7 +7,7 @@ use Rattle.minisign_base.specs.Faults.{missing_public_key_comment, missing_encod
 use Rattle.minisign_base.specs.Identifiers.{identifier_text}
 use Rattle.minisign.specs.Lines.{line}
 use Rattle.minisign.specs.Records.{PublicKeyRecord, ReadsPublicKey, public_key_bytes}
-use Rattle.minisign.specs.Texts.{IsBase64Of, base64_of, base64_bytes, is_base64, has_line, line_at, IsSecondLine, first_failing, untrusted_comment_label}
+use Rattle.minisign.specs.Texts.{IsBase64Of, base64_of, base64_bytes, is_base64, has_line, line_at, HasSecondLine, first_failing, untrusted_comment_label}
 
 -- the text is the base64 of bytes that begin with the record of the key, which has 42
 pub record EncodesPublicKey (text : List ℕ) (k : PublicKeyRecord) : Type 0 where
@@ -19,13 +19,13 @@ pub record EncodesPublicKey (text : List ℕ) (k : PublicKeyRecord) : Type 0 whe
 -- trimmed, encodes the key; later lines do not matter
 pub record PublicKeyText (text : List ℕ) (k : PublicKeyRecord) : Type 0 where
   pub key_line : List ℕ
-  pub second : IsSecondLine text key_line
+  pub second : HasSecondLine text key_line
   pub key_line_length : length key_line ≡ 56
   pub key : EncodesPublicKey (trim key_line) k
 
 -- the first case that fails
-unfoldable pub public_key_fault : List ℕ → Option Fault
-public_key_fault text =
+unfoldable pub public_key_refusal : List ℕ → Option Fault
+public_key_refusal text =
     first_failing (
     record { holds = has_line 0 text; fault = missing_public_key_comment }
     ∷ record { holds = has_line 1 text; fault = missing_encoded_public_key }
@@ -41,8 +41,8 @@ pub record BarePublicKey (text : List ℕ) (k : PublicKeyRecord) : Type 0 where
   pub key : EncodesPublicKey text k
 
 -- the first case that fails
-unfoldable pub bare_public_key_fault : List ℕ → Option Fault
-bare_public_key_fault text =
+unfoldable pub bare_public_key_refusal : List ℕ → Option Fault
+bare_public_key_refusal text =
     first_failing (
     record { holds = length (trim text) == 56; fault = bare_public_key_length }
     ∷ record { holds = is_base64 text; fault = bare_public_key_not_base64 }

@@ -1,5 +1,5 @@
 -- The records that keys and signatures are stored as: fields of fixed lengths, joined in their order.
-use Rattle.std.specs.Prelude.{◌≡◌, ℕ, Bool, ◌<◌, ◌≤◌, List, ◌++◌, length, take, Option, ◌⊎◌, codes, bytes_eq, false}
+use Rattle.std.specs.Prelude.{◌≡◌, ℕ, Bool, ◌<◌, ◌≤◌, List, ◌++◌, length, take, drop, Option, ◌⊎◌, codes, bytes_eq, false}
 use Rattle.std.specs.Fmt.{digits}
 use Rattle.std.specs.List.{flat_map}
 use Rattle.minisign_base.specs.Fault.{Fault}
@@ -105,6 +105,10 @@ pub record ReadsSecretKey (bytes : List ℕ) (k : SecretKeyRecord) : Type 0 wher
   pub secret_length : length k.secret ≡ 64
   pub checksum_length : length k.checksum ≡ 32
   pub front : (rest : List ℕ) × (bytes ≡ secret_key_bytes k ++ rest)
+
+-- the public key of a secret key: its algorithm, its identifier and the last 32 bytes of its secret
+abbrev pub own_public_key : SecretKeyRecord → PublicKeyRecord
+own_public_key k = record { algorithm = k.algorithm; keynum = k.keynum; key = drop 32 k.secret }
 
 -- how secret bytes are shown: each in lower hexadecimal with no leading zeros
 abbrev pub secret_text : List ℕ → List ℕ

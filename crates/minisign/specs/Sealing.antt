@@ -33,12 +33,12 @@ abbrev pub sealed_part : SecretKeyRecord → List ℕ
 sealed_part k = k.keynum ++ k.secret ++ k.checksum
 
 -- the key with other bytes there: 8 of identifier, 64 of secret, 32 of checksum
-abbrev pub with_sealed_part : SecretKeyRecord → List ℕ → SecretKeyRecord
-with_sealed_part k part = record k { keynum = take 8 part; secret = take 64 (drop 8 part); checksum = take 32 (drop 72 part) }
+abbrev pub key_with_part : SecretKeyRecord → List ℕ → SecretKeyRecord
+key_with_part k part = record k { keynum = take 8 part; secret = take 64 (drop 8 part); checksum = take 32 (drop 72 part) }
 
 -- the key with those bytes xored with a stream of as many
 unfoldable pub key_xor : SecretKeyRecord → List ℕ → SecretKeyRecord
-key_xor k stream = with_sealed_part k (zip2 bit_xor (sealed_part k) stream)
+key_xor k stream = key_with_part k (zip2 bit_xor (sealed_part k) stream)
 
 -- the parameters that the key's limits lead to
 unfoldable pub key_numbers : SecretKeyRecord → Numbers

@@ -25,8 +25,8 @@ secret_key_text_tests text =
     ∷ []
 
 -- the first case that fails
-abbrev pub secret_key_fault : List ℕ → Option Fault
-secret_key_fault text = first_failing (secret_key_text_tests text)
+abbrev pub secret_key_refusal : List ℕ → Option Fault
+secret_key_refusal text = first_failing (secret_key_text_tests text)
 
 unfoldable pub default_secret_key_comment : List ℕ
 default_secret_key_comment = codes "rsign encrypted secret key"

@@ -53,8 +53,8 @@ signature_tests text =
     ∷ []
 
 -- the first case that fails
-unfoldable pub signature_fault : List ℕ → Option Fault
-signature_fault text = first_failing (signature_tests text)
+unfoldable pub signature_refusal : List ℕ → Option Fault
+signature_refusal text = first_failing (signature_tests text)
 
 -- the text that is written for a signature with comments
 abbrev pub signature_text : SignatureRecord → CommentsRecord → List ℕ

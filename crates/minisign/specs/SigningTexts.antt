@@ -6,7 +6,7 @@ use Rattle.minisign_base.specs.Passages.{PromptPassage, RandomPassage, SourcePas
 use Rattle.minisign.specs.Records.{CommentsRecord, SecretKeyRecord, SignatureBoxRecord}
 use Rattle.minisign.specs.Texts.{IsRefused}
 use Rattle.minisign.specs.Sealing.{no_kdf, checksum_refusal}
-use Rattle.minisign.specs.SecretKeyText.{SecretKeyText, secret_key_fault}
+use Rattle.minisign.specs.SecretKeyText.{SecretKeyText, secret_key_refusal}
 use Rattle.minisign.specs.SignatureText.{signature_text}
 use Rattle.minisign.specs.Signing.{ChosenComments, IsSigned, OpenedSigningFails, Signer}
 use Rattle.minisign.specs.Opening.{IsOpening, IsUnencryptedText}
@@ -20,7 +20,7 @@ GivesKey p password text key =
 -- prompt is as it was; or as another that was not opened
 abbrev pub GivesNoKey : {R W : Type 0} → PromptPassage R W → Option (List ℕ) → List ℕ → Fault → Type 0
 GivesNoKey p password text e =
-    (((e ≡ out_of_memory) ⊎ IsRefused (SecretKeyText text) (secret_key_fault text) e) × (p.new ≡ p.old))
+    (((e ≡ out_of_memory) ⊎ IsRefused (SecretKeyText text) (secret_key_refusal text) e) × (p.new ≡ p.old))
     ⊎ ((k : SecretKeyRecord) × SecretKeyText text k
     × (((k.kdf ≡ no_kdf) × (checksum_refusal k corrupted_key ≡ Some e) × (p.new ≡ p.old))
     ⊎ ((k.kdf ≢ no_kdf) × IsOpening p password text None (Err e))))

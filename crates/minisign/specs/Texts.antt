@@ -32,7 +32,7 @@ abbrev pub line_at : ℕ → List ℕ → List ℕ
 line_at n text = slice_index_or (lines text) n []
 
 -- a text has this second line
-pub record IsSecondLine (text second : List ℕ) : Type 0 where
+pub record HasSecondLine (text second : List ℕ) : Type 0 where
   pub first : List ℕ
   pub later : List (List ℕ)
   pub cut : lines text ≡ first ∷ second ∷ later

@@ -37,7 +37,7 @@ pub record SecondPass {R : Type 0} (reader : RereaderPassage R) (second : List �
 
 -- the output holds a copy that the box vouches for, as it does for the message: the two have one digest, or are
 -- the same where the data itself is signed and over a steady source that tells its bytes
-pub record Copied {R O : Type 0} (accepts : Verifier) (pk : PublicKeyRecord) (x : SignatureBoxRecord) (legacy : Bool)
+pub record HasCopy {R O : Type 0} (accepts : Verifier) (pk : PublicKeyRecord) (x : SignatureBoxRecord) (legacy : Bool)
     (reader : RereaderPassage R) (out : SinkPassage O) (message : List ℕ) : Type 0 where
   pub copy : List ℕ
   pub all : Takes out copy
@@ -58,7 +58,7 @@ pub record VerifyingSucceeds {R W O : Type 0} (accepts : Verifier) (pk : PublicK
   pub mark : is_reread flags.output x ≡ false → reader.source.behind reader.new ≡ reader.source.behind reader.old
   pub said : Takes status (wanted_status flags.quiet x)
   pub status_calm : SinkIsCalm status
-  pub copied : flags.output ≡ true → Copied accepts pk x flags.legacy reader out message
+  pub copied : flags.output ≡ true → HasCopy accepts pk x flags.legacy reader out message
   pub uncopied : flags.output ≡ false → out.new ≡ out.old
   pub out_calm : SinkIsCalm out
 

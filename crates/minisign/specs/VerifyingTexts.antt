@@ -5,8 +5,8 @@ use Rattle.minisign_base.specs.Faults.{out_of_memory}
 use Rattle.minisign_base.specs.Passages.{RereaderPassage, SinkPassage}
 use Rattle.minisign.specs.Records.{PublicKeyRecord, SignatureBoxRecord}
 use Rattle.minisign.specs.Acceptance.{Flags, Verifier}
-use Rattle.minisign.specs.PublicKeyText.{PublicKeyText, public_key_fault}
-use Rattle.minisign.specs.SignatureText.{SignatureText, signature_fault}
+use Rattle.minisign.specs.PublicKeyText.{PublicKeyText, public_key_refusal}
+use Rattle.minisign.specs.SignatureText.{SignatureText, signature_refusal}
 use Rattle.minisign.specs.Texts.{IsRefused}
 use Rattle.minisign.specs.Verifying.{VerifyingFails, VerifyingSucceeds}
 
@@ -19,8 +19,8 @@ pub record ReadTexts (pk_text sig_text : List ℕ) (key : PublicKeyRecord) (box 
 abbrev pub TextsFail : List ℕ → List ℕ → Fault → Type 0
 TextsFail pk_text sig_text e =
     (e ≡ out_of_memory)
-    ⊎ IsRefused (PublicKeyText pk_text) (public_key_fault pk_text) e
-    ⊎ (((key : PublicKeyRecord) × PublicKeyText pk_text key) × IsRefused (SignatureText sig_text) (signature_fault sig_text) e)
+    ⊎ IsRefused (PublicKeyText pk_text) (public_key_refusal pk_text) e
+    ⊎ (((key : PublicKeyRecord) × PublicKeyText pk_text key) × IsRefused (SignatureText sig_text) (signature_refusal sig_text) e)
 
 -- a text is refused before anything is read, said or copied
 pub record StopsAtTexts {R W O : Type 0} (pk_text sig_text : List ℕ) (reader : RereaderPassage R) (status : SinkPassage W) (out : SinkPassage O) (e : Fault) : Type 0 where

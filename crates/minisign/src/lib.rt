@@ -36,8 +36,14 @@ pub use constants::{
     SIG_DEFAULT_SKFILE, SIG_SUFFIX,
 };
 pub use keypair::KeyPair;
+pub use minisign_base;
 pub use minisign_base as base;
-pub use minisign_base::{ErrorKind, PError, Result};
+pub use minisign_base::{
+    DeviceFault, ErrorKind, FileSource, FixedRandom, PError, Params, Prompt, RandomSource,
+    ReaderSource, Rereader, Result, Scheme, Sink, SliceSource, Source, SourceRandom, ToyScheme,
+    Triple, VecSink, WriterSink,
+};
+pub use minisign_hash;
 pub use minisign_hash as hash;
 pub use public_key::PublicKey;
 pub use public_key_box::PublicKeyBox;

@@ -4,7 +4,7 @@ ghost use Rattle.std.specs.Prelude.{◌≡◌, ◌≤◌, ◌⊎◌, ℕ, List, 
 ghost use Rattle.std.specs.Option.{option_map};
 ghost use Rattle.minisign_base.specs.Faults.{out_of_memory, writing_failed, wrong_password};
 ghost use Rattle.minisign.specs.Records.{SecretKeyRecord};
-ghost use Rattle.minisign.specs.SecretKeyText.{SecretKeyText, secret_key_fault};
+ghost use Rattle.minisign.specs.SecretKeyText.{SecretKeyText, secret_key_refusal};
 ghost use Rattle.minisign.specs.Texts.{IsDecided};
 ghost use Rattle.minisign.specs.Headline.{OpeningHeadline};
 ghost use Rattle.minisign.specs.Sealing.{checksum_refusal, is_encrypted, kdf_refusal, password_refusal, unencrypted_refusal, work_refusal, xored_key};
@@ -145,7 +145,7 @@ impl SecretKey {
         ensures one_reading { IfOk result (λ v. (other : SecretKeyRecord) → SecretKeyText sk_box other → other ≡ v) }
 
         // Whether a text reads as a key, sealed or not, and as which.
-        ensures decided { IsDecided (SecretKeyText sk_box) (secret_key_fault sk_box) }
+        ensures decided { IsDecided (SecretKeyText sk_box) (secret_key_refusal sk_box) }
     {
         SecretKey::unencrypted_from_text(alloc, sk_box.as_str())
     }

@@ -1,14 +1,15 @@
 //! A public key, which vouches for what was signed with its secret key.
 
-ghost use Rattle.std.specs.Prelude.{◌≡◌, ◌<◌, ◌⊎◌, List, ℕ, true, false, Some, drop, length, string_bytes, MatchResult, IfOk, IfErr, IfSome, IfNone, bytes_eq};
+ghost use Rattle.std.specs.Prelude.{◌≡◌, ◌<◌, ◌⊎◌, List, ℕ, true, false, Some, length, string_bytes, MatchResult, IsOk, IfOk, IfErr, IfSome, IfNone, bytes_eq};
 ghost use Rattle.std.specs.Cmp.{on_per, on_equiv, partial_equiv_from_equiv};
 ghost use Rattle.std.specs.Cmp.Lexicographic.{nat_list_eq_equiv};
 ghost use Rattle.minisign_base.specs.Faults.{out_of_memory, record_too_short};
 ghost use Rattle.minisign.specs.Texts.{IsRefused, IsDecided, base64_of, is_base64, base64_bytes};
 ghost use Rattle.std.specs.Str.{trim};
-ghost use Rattle.minisign.specs.PublicKeyText.{EncodesPublicKey, PublicKeyText, BarePublicKey, public_key_fault, bare_public_key_fault, public_key_text};
+ghost use Rattle.minisign.specs.Records.{own_public_key};
+ghost use Rattle.minisign.specs.PublicKeyText.{EncodesPublicKey, PublicKeyText, BarePublicKey, public_key_refusal, bare_public_key_refusal, public_key_text};
 ghost use Rattle.minisign.specs.TextFiles.{IsTextFileFault};
-ghost use Rattle.minisign.specs.Texts.{IsSecondLine};
+ghost use Rattle.minisign.specs.Texts.{HasSecondLine};
 
 use crate::fields::split_field;
 use crate::keynum::KeynumPK;
@@ -75,8 +76,8 @@ impl PublicKey {
         ensures exact { (k : PublicKeyRecord) → PublicKeyText public_key_box k →
             MatchResult result (λ v. v ≡ k) (λ e. e ≡ out_of_memory) }
         ensures refused { IfErr result (λ e. (e ≡ out_of_memory)
-            ⊎ IsRefused (PublicKeyText public_key_box) (public_key_fault public_key_box) e) }
-        ensures decided { IsDecided (PublicKeyText public_key_box) (public_key_fault public_key_box) }
+            ⊎ IsRefused (PublicKeyText public_key_box) (public_key_refusal public_key_box) e) }
+        ensures decided { IsDecided (PublicKeyText public_key_box) (public_key_refusal public_key_box) }
     {
         read_text(alloc, public_key_box.as_str())
     }
@@ -90,7 +91,7 @@ impl PublicKey {
     pub fn from_file<F: Files>(files: &F, alloc: Global, path: &str) -> Result<PublicKey>
         ensures read { IfOk result (λ k. (text : List ℕ) × PublicKeyText text k) }
         ensures refused { IfErr result (λ e. IsTextFileFault e
-            ⊎ ((text : List ℕ) × IsRefused (PublicKeyText text) (public_key_fault text) e)) }
+            ⊎ ((text : List ℕ) × IsRefused (PublicKeyText text) (public_key_refusal text) e)) }
     {
         let text = read_text_file(files, alloc, path)?;
         PublicKey::from_box(alloc, PublicKeyBox::from(text))
@@ -105,27 +106,28 @@ impl PublicKey {
         ensures exact { (k : PublicKeyRecord) → BarePublicKey text.now k →
             MatchResult result (λ v. v ≡ k) (λ e. e ≡ out_of_memory) }
         ensures refused { IfErr result (λ e. (e ≡ out_of_memory)
-            ⊎ IsRefused (BarePublicKey text.now) (bare_public_key_fault text.now) e) }
-        ensures decided { IsDecided (BarePublicKey text.now) (bare_public_key_fault text.now) }
+            ⊎ IsRefused (BarePublicKey text.now) (bare_public_key_refusal text.now) e) }
+        ensures decided { IsDecided (BarePublicKey text.now) (bare_public_key_refusal text.now) }
     {
         read_bare(alloc, text)
     }
 
     /// The public key of a secret key: its algorithm, its identifier and the last 32 bytes of its
-    /// secret, as they stand in a sealed key too. Takes no memory.
-    pub fn from_secret_key(sk: &SecretKey) -> PublicKey
-        ensures { result ≡ record { algorithm = sk.now.algorithm; keynum = sk.now.keynum; key = drop 32 sk.now.secret } }
+    /// secret, as they stand in a sealed key too. Never refuses, and takes no memory.
+    pub fn from_secret_key(sk: &SecretKey) -> Result<PublicKey>
+        ensures succeeds { IsOk result }
+        ensures key { IfOk result (λ v. v ≡ own_public_key sk.now) }
     {
         let (_, public_half) = sk.keynum_sk.sk.split_at(32);
         let mut pk = [0u8; 32];
         pk.copy_from_slice(public_half);
-        PublicKey {
+        Ok(PublicKey {
             sig_alg: sk.sig_alg,
             keynum_pk: KeynumPK {
                 keynum: sk.keynum_sk.keynum,
                 pk,
             },
-        }
+        })
     }
 
     /// The text of the key, two lines: `untrusted comment: minisign public key: ` and the identifier,
@@ -174,7 +176,7 @@ impl PublicKey {
 // Reads a public key text.
 pub(crate) fn read_text(alloc: Global, text: &str) -> Result<PublicKey>
     ensures read { IfOk result (PublicKeyText text.now) }
-    ensures refused { IfErr result (λ e. (e ≡ out_of_memory) ⊎ (public_key_fault text.now ≡ Some e)) }
+    ensures refused { IfErr result (λ e. (e ≡ out_of_memory) ⊎ (public_key_refusal text.now ≡ Some e)) }
 {
     let line = key_line(text)?;
     read_key_line(alloc, line)
@@ -183,7 +185,7 @@ pub(crate) fn read_text(alloc: Global, text: &str) -> Result<PublicKey>
 // Reads the bare base64 of a key.
 fn read_bare(alloc: Global, text: &str) -> Result<PublicKey>
     ensures read { IfOk result (BarePublicKey text.now) }
-    ensures refused { IfErr result (λ e. (e ≡ out_of_memory) ⊎ (bare_public_key_fault text.now ≡ Some e)) }
+    ensures refused { IfErr result (λ e. (e ≡ out_of_memory) ⊎ (bare_public_key_refusal text.now ≡ Some e)) }
 {
     if text.trim().len() != ENCODED_BYTES {
         return Err(faults::bare_public_key_length());
@@ -196,8 +198,8 @@ fn read_bare(alloc: Global, text: &str) -> Result<PublicKey>
 
 // The second line of a text that may hold a public key.
 fn key_line(text: &str) -> Result<&str>
-    ensures line { IfOk result (λ l. IsSecondLine text.now l.now) }
-    ensures refused { IfErr result (λ e. public_key_fault text.now ≡ Some e) }
+    ensures line { IfOk result (λ l. HasSecondLine text.now l.now) }
+    ensures refused { IfErr result (λ e. public_key_refusal text.now ≡ Some e) }
 {
     let mut lines = text.lines();
     let Some(_) = next_line(&mut lines) else {
@@ -213,7 +215,7 @@ fn key_line(text: &str) -> Result<&str>
 fn read_key_line(alloc: Global, line: &str) -> Result<PublicKey>
     ensures read { IfOk result (λ k. (length line.now ≡ 56) × EncodesPublicKey (trim line.now) k) }
     ensures refused { IfErr result (λ e. (e ≡ out_of_memory)
-        ⊎ ((text : List ℕ) → IsSecondLine text line.now → public_key_fault text ≡ Some e)) }
+        ⊎ ((text : List ℕ) → HasSecondLine text line.now → public_key_refusal text ≡ Some e)) }
 {
     if line.len() != ENCODED_BYTES {
         return Err(faults::public_key_line_length());

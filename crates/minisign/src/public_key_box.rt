@@ -2,7 +2,7 @@
 
 ghost use Rattle.std.specs.Prelude.{◌≡◌, ◌⊎◌, Some, MatchResult, IfOk, IfErr, string_bytes};
 ghost use Rattle.minisign_base.specs.Faults.{out_of_memory};
-ghost use Rattle.minisign.specs.PublicKeyText.{PublicKeyText, public_key_fault};
+ghost use Rattle.minisign.specs.PublicKeyText.{PublicKeyText, public_key_refusal};
 ghost use Rattle.minisign.specs.Records.{PublicKeyRecord};
 ghost use Rattle.minisign.specs.Texts.{IsRefused};
 
@@ -65,7 +65,7 @@ impl PublicKeyBox {
         ensures exact { (k : PublicKeyRecord) → PublicKeyText self k →
             MatchResult result (λ v. v ≡ k) (λ e. e ≡ out_of_memory) }
         ensures refused { IfErr result (λ e. (e ≡ out_of_memory)
-            ⊎ IsRefused (PublicKeyText self) (public_key_fault self) e) }
+            ⊎ IsRefused (PublicKeyText self) (public_key_refusal self) e) }
     {
         PublicKey::from_box(alloc, self)
     }

@@ -89,7 +89,7 @@ fn feed<S: Source>(
     ensures fed { OnOk result ((message : List ℕ) × ReadsWhole S.Source source.old source.new message
         × ((m : List ℕ) → IsFed hasher.old m → IsFed hasher.new (m ++ message))) }
     ensures length { output_length hasher.new ≡ output_length hasher.old }
-    ensures fault { OnErr result (Rose (S.faults source.old) (S.faults source.new)) }
+    ensures refused { OnErr result (Rose (S.faults source.old) (S.faults source.new)) }
     ensures given { HasGiven (S.ahead source.old) (S.ahead source.new) }
 {
     'pieces: loop {

@@ -12,7 +12,7 @@ use crate::constants::{KDF_ALG, MEMLIMIT, OPSLIMIT};
 use crate::secret_key::SecretKey;
 use minisign_base::helpers::{load_u64_le, raw_scrypt_params, store_u64_le};
 use minisign_base::{Params, Result, faults};
-use minisign_kdf::scrypt::scrypt_keeping;
+use minisign_kdf::scrypt_keeping;
 use std::alloc::Global;
 
 // The greatest memory limit of a key that is sealed or opened, in bytes.

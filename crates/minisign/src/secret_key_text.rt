@@ -5,7 +5,7 @@ ghost use Rattle.std.specs.Str.Iter.{LacksByte};
 ghost use Rattle.std.specs.Option.{option_map};
 ghost use Rattle.minisign_base.specs.Faults.{out_of_memory};
 ghost use Rattle.minisign.specs.Records.{SecretKeyRecord};
-ghost use Rattle.minisign.specs.SecretKeyText.{SecretKeyText, secret_key_fault, secret_key_text};
+ghost use Rattle.minisign.specs.SecretKeyText.{SecretKeyText, secret_key_refusal, secret_key_text};
 ghost use Rattle.minisign.specs.Texts.{IsRefused};
 
 use crate::constants::{COMMENT_PREFIX, SECRETKEY_DEFAULT_COMMENT};
@@ -18,7 +18,7 @@ use std::alloc::Global;
 impl SecretKey {
     // Reads the second line of the text, which nothing is trimmed off; the first one is not looked at.
     pub(crate) fn from_text(alloc: Global, text: &str) -> Result<SecretKey>
-        ensures outcome { MatchResult result (SecretKeyText text.now) (λ e. (e ≡ out_of_memory) ⊎ IsRefused (SecretKeyText text.now) (secret_key_fault text.now) e) }
+        ensures outcome { MatchResult result (SecretKeyText text.now) (λ e. (e ≡ out_of_memory) ⊎ IsRefused (SecretKeyText text.now) (secret_key_refusal text.now) e) }
         ensures one_reading { IfOk result (λ v. (other : SecretKeyRecord) → SecretKeyText text.now other → other ≡ v) }
     {
         let mut lines = text.lines();

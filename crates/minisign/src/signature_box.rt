@@ -4,7 +4,7 @@ ghost use Rattle.std.specs.Prelude.{◌≡◌, ◌≢◌, ◌⊎◌, ◌<◌, �
 ghost use Rattle.std.specs.Str.{trim};
 ghost use Rattle.minisign_base.specs.Faults.{out_of_memory, record_too_short, signature_box_incomplete, signature_not_base64, trusted_comment_absent, trusted_comment_prefix, unsupported_signature_algorithm, untrusted_comment_prefix};
 ghost use Rattle.minisign.specs.Records.{CommentsRecord, SignatureBoxRecord, SignatureRecord, IsKnownAlgorithm};
-ghost use Rattle.minisign.specs.SignatureText.{AreOneLine, EncodesSignature, HasFourLines, SignatureText, KeepsComments, box_read_back, comments_read_back, is_known_algorithm, signature_fault, signature_text, trusted_comment_label};
+ghost use Rattle.minisign.specs.SignatureText.{AreOneLine, EncodesSignature, HasFourLines, SignatureText, KeepsComments, box_read_back, comments_read_back, is_known_algorithm, signature_refusal, signature_text, trusted_comment_label};
 ghost use Rattle.minisign.specs.TextFiles.{IsTextFileFault};
 ghost use Rattle.minisign.specs.Texts.{IsBase64Of, IsDecided, IsRefused, base64_bytes, is_base64, untrusted_comment_label};
 
@@ -85,8 +85,8 @@ impl SignatureBox {
         ensures exact { (x : SignatureBoxRecord) → SignatureText text.now x →
             MatchResult result (λ y. y ≡ x) (λ e. e ≡ out_of_memory) }
         ensures refused { IfErr result (λ e. (e ≡ out_of_memory)
-            ⊎ IsRefused (SignatureText text.now) (signature_fault text.now) e) }
-        ensures decided { IsDecided (SignatureText text.now) (signature_fault text.now) }
+            ⊎ IsRefused (SignatureText text.now) (signature_refusal text.now) e) }
+        ensures decided { IsDecided (SignatureText text.now) (signature_refusal text.now) }
     {
         read_text(alloc, text)
     }
@@ -97,7 +97,7 @@ impl SignatureBox {
         ensures exact { (x : SignatureBoxRecord) → SignatureText (string_bytes text) x →
             MatchResult result (λ y. y ≡ x) (λ e. e ≡ out_of_memory) }
         ensures refused { IfErr result (λ e. (e ≡ out_of_memory)
-            ⊎ IsRefused (SignatureText (string_bytes text)) (signature_fault (string_bytes text)) e) }
+            ⊎ IsRefused (SignatureText (string_bytes text)) (signature_refusal (string_bytes text)) e) }
     {
         read_text(alloc, text.as_str())
     }
@@ -111,7 +111,7 @@ impl SignatureBox {
     pub fn from_file<F: Files>(files: &F, alloc: Global, path: &str) -> Result<SignatureBox>
         ensures read { IfOk result (λ x. (text : List ℕ) × SignatureText text x) }
         ensures refused { IfErr result (λ e. IsTextFileFault e
-            ⊎ ((text : List ℕ) × IsRefused (SignatureText text) (signature_fault text) e)) }
+            ⊎ ((text : List ℕ) × IsRefused (SignatureText text) (signature_refusal text) e)) }
     {
         let text = read_text_file(files, alloc, path)?;
         SignatureBox::from_string(alloc, text.as_str())
@@ -253,7 +253,7 @@ struct TextLines<'a> {
 // Reads a signature text.
 fn read_text(alloc: Global, text: &str) -> Result<SignatureBox>
     ensures read { IfOk result (SignatureText text.now) }
-    ensures refused { IfErr result (λ e. (e ≡ out_of_memory) ⊎ (signature_fault text.now ≡ Some e)) }
+    ensures refused { IfErr result (λ e. (e ≡ out_of_memory) ⊎ (signature_refusal text.now ≡ Some e)) }
 {
     let lines = four_lines(text)?;
     read_lines(alloc, lines)
@@ -262,7 +262,7 @@ fn read_text(alloc: Global, text: &str) -> Result<SignatureBox>
 fn four_lines(text: &str) -> Result<TextLines<'_>>
     ensures lines { IfOk result (λ l. HasFourLines text.now l.untrusted_comment.now l.signature.now
         l.trusted_comment.now l.global_sig.now) }
-    ensures refused { IfErr result (λ e. signature_fault text.now ≡ Some e) }
+    ensures refused { IfErr result (λ e. signature_refusal text.now ≡ Some e) }
 {
     let mut lines = text.lines();
     let Some(untrusted_comment) = next_line(&mut lines) else {
@@ -291,7 +291,7 @@ fn read_lines(alloc: Global, lines: TextLines) -> Result<SignatureBox>
         lines.entry.signature.now lines.entry.trusted_comment.now lines.entry.global_sig.now → SignatureText text x) }
     ensures refused { IfErr result (λ e. (e ≡ out_of_memory) ⊎ ((text : List ℕ) → HasFourLines text
         lines.entry.untrusted_comment.now lines.entry.signature.now lines.entry.trusted_comment.now
-        lines.entry.global_sig.now → signature_fault text ≡ Some e)) }
+        lines.entry.global_sig.now → signature_refusal text ≡ Some e)) }
 {
     let untrusted_comment = untrusted_comment_in(lines.untrusted_comment)?;
     let signature = decode_signature(alloc, lines.signature.trim())?;

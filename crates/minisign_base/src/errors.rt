@@ -11,8 +11,7 @@ ghost use Rattle.minisign_base.specs.declared.errors.ErrorKind.TheVariants.{Veri
 use crate::faults;
 use crate::identifiers::Identifier;
 use base64::DecodeAllocError;
-use minisign_kdf::params::InvalidParams;
-use minisign_kdf::scrypt::{InvalidOutputLen, KdfError};
+use minisign_kdf::{InvalidOutputLen, InvalidParams, KdfError};
 use std::alloc::{AllocError, AllocFailed};
 use std::marker::Model;
 use std::string::FromUtf8Error;

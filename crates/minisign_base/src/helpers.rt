@@ -14,7 +14,7 @@ use crate::devices::sources::Source;
 use crate::errors::Result;
 use crate::faults;
 use crate::prompt::{LINE_BYTES, Prompt};
-use minisign_kdf::params::Params;
+use minisign_kdf::Params;
 use std::alloc::Global;
 use std::time::{Clock, SystemTime, UNIX_EPOCH};
 

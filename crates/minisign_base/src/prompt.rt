@@ -120,7 +120,7 @@ fn next_byte<R: Source>(source: &mut R) -> Result<Option<u8>>
         (λ b. Consumes (R.ahead source.old) (R.ahead source.new) (b ∷ [])
         × (R.left source.new + 1 ≡ R.left source.old))) }
     ensures calm { OnOk result (R.faults source.new ≡ R.faults source.old) }
-    ensures fault { IfErr result (λ e. (e ≡ reading_failed) × Rose (R.faults source.old) (R.faults source.new)) }
+    ensures refused { IfErr result (λ e. (e ≡ reading_failed) × Rose (R.faults source.old) (R.faults source.new)) }
     ensures kept { OnErr result (StaysOrHides (R.ahead source.old) (R.ahead source.new)) }
 {
     let mut byte = [0u8; 1];

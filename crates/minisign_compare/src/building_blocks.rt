@@ -13,8 +13,7 @@ use minisign::base::helpers::{
 };
 use minisign::hash::blake2b::Blake2b;
 use minisign::hash::util::fixed_time_eq;
-use minisign_kdf::params::Params;
-use minisign_kdf::scrypt::scrypt;
+use minisign_kdf::{Params, scrypt};
 use std::alloc::Global;
 use std::io;
 use std::time::{Clock, Duration};

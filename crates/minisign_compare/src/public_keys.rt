@@ -60,7 +60,7 @@ fn from_bytes(alloc: Global, words: &mut Words, reply: &mut Reply) -> Result<(),
 fn from_secret_key(alloc: Global, words: &mut Words, reply: &mut Reply) -> Result<(), Refusal> {
     let bytes = words.bytes(alloc)?;
     words.end()?;
-    let key = PublicKey::from_secret_key(&SecretKey::from_bytes(&bytes)?);
+    let key = PublicKey::from_secret_key(&SecretKey::from_bytes(&bytes)?)?;
     show(alloc, &key, &mut reply.fields)
 }
 

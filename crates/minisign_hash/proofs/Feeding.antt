@@ -2,7 +2,7 @@
 use Rattle.std.proofs.Common.{◌≡◌, ℕ, zero, suc, ◌+◌, ◌-◌, ◌*◌, ◌/◌, ◌%◌, ◌^◌, ◌<◌, ◌≤◌, true, false, List, [], ◌++◌, length, take, drop, replicate, refl, sym, ap, ◌∙◌, arith, length-append, length-drop}
 use Rattle.std.proofs.lemmas.List.{append-nil, drop-append-le, drop-drop, drop_all, drop_at, length-take-le, take-append-le, take_all}
 use Rattle.minisign_hash.specs.Blake2b.{block, block_count, compress, last_state, state_after}
-use Rattle.minisign_hash.specs.Words.{words_of}
+use Rattle.minisign_hash.specs.Words.{words64_of}
 use Rattle.minisign_hash.specs.Fed.{HeldAfter}
 
 -- state_after reads only the blocks that it counts
@@ -58,7 +58,7 @@ block_ahead m blocks behind i k ahead fits =
 
 -- one block more
 pub state_next : (n : ℕ) (m blocks behind : List ℕ) (i k : ℕ) (h g : List ℕ) (t : ℕ) → drop (128 * i) m ≡ blocks ++ behind → 128 * k + 128 ≤ length blocks
-    → h ≡ state_after n m (i + k) → t ≡ 128 * (i + k + 1) % 2 ^ 128 → g ≡ compress h (words_of (take 128 (drop (128 * k) blocks))) t false
+    → h ≡ state_after n m (i + k) → t ≡ 128 * (i + k + 1) % 2 ^ 128 → g ≡ compress h (words64_of (take 128 (drop (128 * k) blocks))) t false
     → g ≡ state_after n m (i + (k + 1))
 unfolding state_after
 state_next n m blocks behind i k h g t ahead fits eh et eg =
@@ -80,7 +80,7 @@ held_taken n g count k b used m i s none len whole ec ek eg =
 -- what is left behind whole blocks is the last block
 pub last_taken : (n : ℕ) (h m blocks last : List ℕ) (i k : ℕ) → drop (128 * i) m ≡ blocks ++ last → length m ≡ 128 * i + length (blocks ++ last)
     → length blocks % 128 ≡ 0 → length last ≤ 128 → (0 < length m → 0 < length last) → h ≡ state_after n m (i + length blocks / 128)
-    → k ≡ length m % 2 ^ 128 → compress h (words_of (last ++ replicate (128 - length last) 0)) k true ≡ last_state n m
+    → k ≡ length m % 2 ^ 128 → compress h (words64_of (last ++ replicate (128 - length last) 0)) k true ≡ last_state n m
 unfolding last_state
 last_taken n h m blocks last i k ahead len whole fits some eh ek =
     let j : ℕ = i + length blocks / 128 in

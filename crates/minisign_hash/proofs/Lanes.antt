@@ -4,7 +4,7 @@ use Rattle.std.proofs.lemmas.List.{drop-drop, drop-take, take-take}
 use Rattle.std.proofs.lemmas.Simd.{below_from_Fits, chunk-fits, get_or_wider, length-chunk, pick_l_whole}
 use Rattle.std.specs.Int.{from_le_bytes}
 use Rattle.std.specs.Simd.Lanes.{Each1, chunk, digits_l, number_l, zip2}
-use Rattle.minisign_hash.specs.Blake2b.{add64, mix, mixed, xor_rotated}
+use Rattle.minisign_hash.specs.Blake2b.{add64, mix, mixed_words, rotated_xor}
 use Rattle.minisign_hash.specs.Words.{word_at}
 use Rattle.minisign_hash.proofs.Lists.{eight_of}
 
@@ -22,7 +22,7 @@ pub shifts_rotate : (n : ℕ) (x y : List ℕ) → 0 < n → n < 64 → length x
     → zip2 bit_or
     (zip2 (λ a k. a / 2 ^ k) (zip2 bit_xor x y) (n ∷ n ∷ n ∷ n ∷ []))
     (zip2 (λ a k. a * 2 ^ k % 2 ^ 64) (zip2 bit_xor x y) ((64 - n) ∷ (64 - n) ∷ (64 - n) ∷ (64 - n) ∷ []))
-    ≡ zip2 (xor_rotated n) x y
+    ≡ zip2 (rotated_xor n) x y
 shifts_rotate n x y low high lx ly =
     let right : n % 64 ≡ n = omega arith in
     let left : (64 - n) % 64 ≡ 64 - n = omega arith in
@@ -34,14 +34,14 @@ row v i = slice_index v i ∷ slice_index v (i + 1) ∷ slice_index v (i + 2) �
 
 -- G in four lanes is G on the four columns
 pub lanes_mixed : (v x y a d c b a' d' c' b' : List ℕ) → length v ≡ 16 → length x ≡ 4 → length y ≡ 4
-    → a ≡ zip2 add64 (zip2 add64 (row v 0) (row v 4)) x → d ≡ zip2 (xor_rotated 32) (row v 12) a
-    → c ≡ zip2 add64 (row v 8) d → b ≡ zip2 (xor_rotated 24) (row v 4) c
-    → a' ≡ zip2 add64 (zip2 add64 a b) y → d' ≡ zip2 (xor_rotated 16) d a'
-    → c' ≡ zip2 add64 c d' → b' ≡ zip2 (xor_rotated 63) b c'
+    → a ≡ zip2 add64 (zip2 add64 (row v 0) (row v 4)) x → d ≡ zip2 (rotated_xor 32) (row v 12) a
+    → c ≡ zip2 add64 (row v 8) d → b ≡ zip2 (rotated_xor 24) (row v 4) c
+    → a' ≡ zip2 add64 (zip2 add64 a b) y → d' ≡ zip2 (rotated_xor 16) d a'
+    → c' ≡ zip2 add64 c d' → b' ≡ zip2 (rotated_xor 63) b c'
     → row a' 0 ++ (row b' 0 ++ (row c' 0 ++ row d' 0))
     ≡ mix (mix (mix (mix v 0 4 8 12 (slice_index x 0) (slice_index y 0)) 1 5 9 13 (slice_index x 1) (slice_index y 1))
     2 6 10 14 (slice_index x 2) (slice_index y 2)) 3 7 11 15 (slice_index x 3) (slice_index y 3)
-unfolding mix mixed
+unfolding mix mixed_words
 lanes_mixed v x y a d c b a' d' c' b' lv lx ly ea ed ec eb ea' ed' ec' eb' =
     rw (eb', ec', ed', ea', eb, ec, ed, ea, sixteen_of v lv, four_of x lx, four_of y ly) refl
 

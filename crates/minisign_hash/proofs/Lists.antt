@@ -5,7 +5,7 @@ use Rattle.std.specs.List.{flat_map, list_all}
 use Rattle.std.proofs.lemmas.List.{append-nil, take_more}
 use Rattle.std.proofs.lemmas.Bool.{ltb-true}
 use Rattle.std.proofs.lemmas.List.Concat.{flat_map-append}
-use Rattle.minisign_hash.specs.Words.{bytes_of}
+use Rattle.minisign_hash.specs.Words.{bytes_of_words64}
 use Rattle.std.proofs.lemmas.Simd.{pick_l_whole}
 
 pub eight_of : (xs : List ℕ) → length xs ≡ 8 → xs ≡ slice_index xs 0 ∷ slice_index xs 1 ∷ slice_index xs 2 ∷ slice_index xs 3
@@ -13,9 +13,9 @@ pub eight_of : (xs : List ℕ) → length xs ≡ 8 → xs ≡ slice_index xs 0 �
 eight_of xs h = sym (pick_l_whole 0 xs 8 h)
 
 -- the bytes of one word more
-pub bytes_of_more : (xs : List ℕ) (i : ℕ) → i < length xs → bytes_of (take (i + 1) xs) ≡ bytes_of (take i xs) ++ to_le_bytes w64 (slice_index xs i)
-unfolding bytes_of
-bytes_of_more xs i h =
+pub bytes_of_words64_more : (xs : List ℕ) (i : ℕ) → i < length xs → bytes_of_words64 (take (i + 1) xs) ≡ bytes_of_words64 (take i xs) ++ to_le_bytes w64 (slice_index xs i)
+unfolding bytes_of_words64
+bytes_of_words64_more xs i h =
     let f : ℕ → List ℕ = to_le_bytes w64 in
     let x : ℕ = slice_index xs i in
     ap (flat_map f) (take_more xs i 0 h) ∙ flat_map-append f (take i xs) (x ∷ []) ∙ ap (λ (l : List ℕ). flat_map f (take i xs) ++ l) (append-nil (f x))

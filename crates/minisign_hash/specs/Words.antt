@@ -8,9 +8,9 @@ unfoldable pub word_at : List ℕ → ℕ → ℕ
 word_at bytes i = from_le_bytes w64 (take 8 (drop (8 * i) bytes))
 
 -- the words that the bytes are, eight bytes a word
-unfoldable pub words_of : List ℕ → List ℕ
-words_of bytes = map (word_at bytes) (range_with_len 0 (length bytes / 8))
+unfoldable pub words64_of : List ℕ → List ℕ
+words64_of bytes = map (word_at bytes) (range_with_len 0 (length bytes / 8))
 
 -- the bytes of the words, eight bytes a word, the lowest first
-unfoldable pub bytes_of : List ℕ → List ℕ
-bytes_of words = flat_map (to_le_bytes w64) words
+unfoldable pub bytes_of_words64 : List ℕ → List ℕ
+bytes_of_words64 words = flat_map (to_le_bytes w64) words

@@ -3,7 +3,7 @@
 ghost use Rattle.std.specs.Prelude.{◌≡◌, ◌+◌, ◌*◌, ◌≤◌, ◌++◌, ◌∷◌, [], length, drop, OnOk};
 ghost use Rattle.std.specs.Int.{w32, w64, to_le_bytes};
 ghost use Rattle.std.specs.Io.KnownBytes.{Appends};
-ghost use Rattle.minisign_hash.specs.Words.{bytes_of, word_at, words_of};
+ghost use Rattle.minisign_hash.specs.Words.{bytes_of_words64, word_at, words64_of};
 
 use std::io;
 use std::io::Write;
@@ -46,7 +46,7 @@ impl<W: Write> WriteExt for W {
 #[inline(always)]
 pub fn write_u64v_le(dst: &mut [u8], input: &[u64])
     requires { length dst.old ≡ 8 * length input.now }
-    ensures { dst.new ≡ bytes_of input.now }
+    ensures { dst.new ≡ bytes_of_words64 input.now }
 {
     'words: for i in 0..input.len() {
         write_u64_le(&mut dst[8 * i..8 * i + 8], input[i]);
@@ -78,7 +78,7 @@ pub fn write_u32_le(dst: &mut [u8], input: u32)
 #[inline(always)]
 pub fn read_u64v_le(dst: &mut [u64], input: &[u8])
     requires { 8 * length dst.old ≡ length input.now }
-    ensures { dst.new ≡ words_of input.now }
+    ensures { dst.new ≡ words64_of input.now }
 {
     'words: for i in 0..dst.len() {
         dst[i] = read_word(input, i);

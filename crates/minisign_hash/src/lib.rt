@@ -1,7 +1,7 @@
 //! Blake2b without key (RFC 7693), fed in pieces, and words of 32 and 64 bits in little endian bytes.
 //!
 //! ```rust
-//! use minisign_hash::blake2b::Blake2b;
+//! use minisign_hash::Blake2b;
 //!
 //! let mut digest = [0u8; 64];
 //! let mut hasher = Blake2b::new(64);
@@ -10,7 +10,7 @@
 //! hasher.finalize(&mut digest);
 //! ```
 //!
-//! No call takes memory, and none fails but those of `cryptoutil::WriteExt`, where the writer does.
+//! No call takes memory, and none fails but those of `WriteExt`, where the writer does.
 
 #![tactic(auto)]
 
@@ -18,3 +18,14 @@ pub mod blake2b;
 pub mod constants;
 pub mod cryptoutil;
 pub mod util;
+
+pub use blake2b::Blake2b;
+pub use blake2b::stored::StoredBlake2b;
+pub use constants::{
+    BLAKE2B_BLOCKBYTES, BLAKE2B_KEYBYTES, BLAKE2B_OUTBYTES, BLAKE2B_PERSONALBYTES,
+    BLAKE2B_SALTBYTES,
+};
+pub use cryptoutil::{
+    WriteExt, copy_memory, read_u64v_le, write_u32_le, write_u64_le, write_u64v_le,
+};
+pub use util::fixed_time_eq;

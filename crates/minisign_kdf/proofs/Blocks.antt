@@ -6,8 +6,8 @@ use Rattle.std.proofs.Math.Seq.{drop-append-add}
 use Rattle.std.proofs.lemmas.Bool.{cases_lt}
 use Rattle.std.proofs.lemmas.List.{drop_at, drop-append-le, length-take-le, take_all, take-append-le}
 use Rattle.std.specs.Simd.Lanes.{zip2}
-use Rattle.minisign_kdf.specs.Blocks.{block, joined}
-use Rattle.minisign_kdf.proofs.Joined.{joined_next, length-joined}
+use Rattle.minisign_kdf.specs.Blocks.{block, joined_lists}
+use Rattle.minisign_kdf.proofs.Joined.{joined_lists_next, length-joined_lists}
 
 -- a block before the i-th lies before it whole
 pub row_before : (len i k : ℕ) → k < i → len * k + len ≤ len * i
@@ -54,16 +54,16 @@ length_end len n m xs lx some em =
     length-take-le (length xs - m) (drop m xs) (omega arith) ∙ omega arith
 
 -- a member of a joined list
-pub block-joined : (f : ℕ → List ℕ) (len n i : ℕ) → ((j : ℕ) → length (f j) ≡ len) → i < n → block len (joined f n) i ≡ f i
-block-joined f len zero i each lt = absurd (omega arith)
-block-joined f len (suc n) i each lt =
-    let front : length (joined f n) ≡ len * n = length-joined f len n each ∙ grind arith in
-    ap (λ (l : List ℕ). block len l i) (ap (joined f) (sym (add-one n)) ∙ joined_next f n)
+pub block-joined_lists : (f : ℕ → List ℕ) (len n i : ℕ) → ((j : ℕ) → length (f j) ≡ len) → i < n → block len (joined_lists f n) i ≡ f i
+block-joined_lists f len zero i each lt = absurd (omega arith)
+block-joined_lists f len (suc n) i each lt =
+    let front : length (joined_lists f n) ≡ len * n = length-joined_lists f len n each ∙ grind arith in
+    ap (λ (l : List ℕ). block len l i) (ap (joined_lists f) (sym (add-one n)) ∙ joined_lists_next f n)
     ∙ (elim (cases_lt i n) [
-      | inl before ↦ block_front len n i (joined f n) (f n) front before ∙ block-joined f len n i each before
+      | inl before ↦ block_front len n i (joined_lists f n) (f n) front before ∙ block-joined_lists f len n i each before
       | inr past ↦
           let e : i ≡ n = omega arith in
-          rw e (block_new len n (joined f n) (f n) front (each n))
+          rw e (block_new len n (joined_lists f n) (f n) front (each n))
     ])
 
 take-zip2 : (f : ℕ → ℕ → ℕ) (n : ℕ) (xs ys : List ℕ) → take n (zip2 f xs ys) ≡ zip2 f (take n xs) (take n ys)
@@ -89,13 +89,13 @@ zip2-append f (x ∷ a) [] c d e = absurd (omega arith)
 zip2-append f (x ∷ a) (y ∷ b) c d e = ap (λ (l : List ℕ). f x y ∷ l) (zip2-append f a b c d (omega arith))
 
 -- lists joined from blocks of one length, taken member by member
-pub joined-zip2 : (f : ℕ → ℕ → ℕ) (g h : ℕ → List ℕ) (len n : ℕ) → ((j : ℕ) → length (g j) ≡ len) → ((j : ℕ) → length (h j) ≡ len)
-    → joined (λ j. zip2 f (g j) (h j)) n ≡ zip2 f (joined g n) (joined h n)
-unfolding joined
-joined-zip2 f g h len zero lg lh = refl
-joined-zip2 f g h len (suc n) lg lh =
-    let front : length (joined g n) ≡ length (joined h n) = length-joined g len n lg ∙ sym (length-joined h len n lh) in
-    ap (joined (λ (j : ℕ). zip2 f (g j) (h j))) (sym (add-one n)) ∙ joined_next (λ (j : ℕ). zip2 f (g j) (h j)) n
-    ∙ ap (λ (l : List ℕ). l ++ zip2 f (g n) (h n)) (joined-zip2 f g h len n lg lh)
-    ∙ sym (zip2-append f (joined g n) (joined h n) (g n) (h n) front)
-    ∙ (λ t. zip2 f ((sym (joined_next g n) ∙ ap (joined g) (add-one n)) t) ((sym (joined_next h n) ∙ ap (joined h) (add-one n)) t))
+pub joined_lists-zip2 : (f : ℕ → ℕ → ℕ) (g h : ℕ → List ℕ) (len n : ℕ) → ((j : ℕ) → length (g j) ≡ len) → ((j : ℕ) → length (h j) ≡ len)
+    → joined_lists (λ j. zip2 f (g j) (h j)) n ≡ zip2 f (joined_lists g n) (joined_lists h n)
+unfolding joined_lists
+joined_lists-zip2 f g h len zero lg lh = refl
+joined_lists-zip2 f g h len (suc n) lg lh =
+    let front : length (joined_lists g n) ≡ length (joined_lists h n) = length-joined_lists g len n lg ∙ sym (length-joined_lists h len n lh) in
+    ap (joined_lists (λ (j : ℕ). zip2 f (g j) (h j))) (sym (add-one n)) ∙ joined_lists_next (λ (j : ℕ). zip2 f (g j) (h j)) n
+    ∙ ap (λ (l : List ℕ). l ++ zip2 f (g n) (h n)) (joined_lists-zip2 f g h len n lg lh)
+    ∙ sym (zip2-append f (joined_lists g n) (joined_lists h n) (g n) (h n) front)
+    ∙ (λ t. zip2 f ((sym (joined_lists_next g n) ∙ ap (joined_lists g) (add-one n)) t) ((sym (joined_lists_next h n) ∙ ap (joined_lists h) (add-one n)) t))

@@ -3,8 +3,8 @@
 use Rattle.std.proofs.Common.{◌≡◌, ℕ, zero, suc, ◌+◌, ◌*◌, ◌%◌, ◌^◌, ◌<◌, List, [], ◌∷◌, ◌++◌, length, map, slice_index, bit_xor, lit<, refl, ap, ◌∙◌}
 use Rattle.std.specs.List.{range_with_len}
 use Rattle.std.specs.Simd.Lanes.{number_l, zip2}
-use Rattle.minisign_kdf.specs.Diagonal.{standard_order, transposed}
-use Rattle.minisign_kdf.specs.Salsa20.{add32, bytes_of, column_round, double_round, quarter_at, row_round, salsa_words}
+use Rattle.minisign_kdf.specs.Diagonal.{standard_order, transposed_square}
+use Rattle.minisign_kdf.specs.Salsa20.{add32, bytes_of_words32, column_round, double_round, quarter_at, row_round, salsa_words}
 use Rattle.minisign_kdf.proofs.Bytes.{low_words}
 use Rattle.minisign_kdf.proofs.Sixteen.{sixteen_of}
 
@@ -24,14 +24,14 @@ pub length-standard_order : (xs : List ℕ) → length (standard_order xs) ≡ 1
 unfolding standard_order
 length-standard_order xs = refl
 
-pub length-transposed : (xs : List ℕ) → length (transposed xs) ≡ 16
-unfolding transposed
-length-transposed xs = refl
+pub length-transposed_square : (xs : List ℕ) → length (transposed_square xs) ≡ 16
+unfolding transposed_square
+length-transposed_square xs = refl
 
 -- the round on the rows is that on the columns of the transposed square
-pub row_round-transposed : (xs : List ℕ) → length xs ≡ 16 → row_round xs ≡ transposed (column_round (transposed xs))
-unfolding row_round column_round quarter_at transposed
-row_round-transposed xs l = rw (sixteen_of xs l) refl
+pub row_round-transposed_square : (xs : List ℕ) → length xs ≡ 16 → row_round xs ≡ transposed_square (column_round (transposed_square xs))
+unfolding row_round column_round quarter_at transposed_square
+row_round-transposed_square xs l = rw (sixteen_of xs l) refl
 
 -- eight rounds on the words of a block in diagonal order, and the input words added, are the standard's
 pub salsa_words-ordered : (xs ys : List ℕ) → length xs ≡ 16 → length ys ≡ 16
@@ -43,7 +43,7 @@ salsa_words-ordered xs ys lx ly e =
 
 -- the low 64 bits of a block stand at the places 0 and 13
 pub low_bits_places : (xs : List ℕ) → slice_index xs 0 < 2 ^ 32 → slice_index xs 13 < 2 ^ 32
-    → number_l 256 (bytes_of (standard_order xs)) % 2 ^ 64 ≡ slice_index xs 0 + slice_index xs 13 * 2 ^ 32 % 2 ^ 64
+    → number_l 256 (bytes_of_words32 (standard_order xs)) % 2 ^ 64 ≡ slice_index xs 0 + slice_index xs 13 * 2 ^ 32 % 2 ^ 64
 unfolding standard_order
 low_bits_places xs f0 f13 =
     low_words (slice_index xs 0) (slice_index xs 13) (map (λ w. slice_index xs (13 * w % 16)) (range_with_len 2 14)) f0 f13

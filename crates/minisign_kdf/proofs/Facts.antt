@@ -2,7 +2,7 @@
 -- spec does not check.
 use Rattle.std.proofs.Common.{◌≡◌, ℕ, List, [], ◌∷◌, codes, refl}
 use Rattle.sha2.specs.Sha256.{compress, digest_bytes, first_words, hash_after, rounds, schedule, sha256}
-use Rattle.minisign_kdf.specs.Blocks.{joined}
+use Rattle.minisign_kdf.specs.Blocks.{joined_lists}
 use Rattle.minisign_kdf.specs.Hmac.{hmac, key_block}
 use Rattle.minisign_kdf.specs.Salsa20.{column_round, quarter_at, quarter_round, row_round, salsa_words, salsa20_8}
 use Rattle.minisign_kdf.specs.Scrypt.{block_mix, mixed_block}
@@ -50,5 +50,5 @@ pub block_mix_of_vector : block_mix 1 vector ≡
     0x21 ∷ 0x07 ∷ 0x7c ∷ 0xfe ∷ 0x5f ∷ 0x8d ∷ 0x5f ∷ 0xe2 ∷ 0xb1 ∷ 0xa4 ∷ 0x16 ∷ 0x8f ∷ 0x95 ∷ 0x36 ∷ 0x78 ∷ 0xb7 ∷
     0x7d ∷ 0x3b ∷ 0x3d ∷ 0x80 ∷ 0x3b ∷ 0x60 ∷ 0xe4 ∷ 0xab ∷ 0x92 ∷ 0x09 ∷ 0x96 ∷ 0xe5 ∷ 0x9b ∷ 0x4d ∷ 0x53 ∷ 0xb6 ∷
     0x5d ∷ 0x2a ∷ 0x22 ∷ 0x58 ∷ 0x77 ∷ 0xd5 ∷ 0xed ∷ 0xf5 ∷ 0x84 ∷ 0x2c ∷ 0xb9 ∷ 0xf1 ∷ 0x4e ∷ 0xef ∷ 0xe4 ∷ 0x25 ∷ []
-unfolding block_mix mixed_block joined salsa20_8 salsa_words column_round row_round quarter_at quarter_round
+unfolding block_mix mixed_block joined_lists salsa20_8 salsa_words column_round row_round quarter_at quarter_round
 block_mix_of_vector = refl

@@ -8,8 +8,8 @@ use Rattle.std.proofs.lemmas.List.FromFn.{get_or-range_with_len, length-map-rang
 use Rattle.std.specs.Int.{div_ceil}
 use Rattle.std.specs.List.{range_with_len}
 use Rattle.minisign_kdf.specs.Kept.{kept_rows, remade_row, rom_mix_from}
-use Rattle.minisign_kdf.specs.Scrypt.{block_mix, mixed_with, rom_mix, row_at}
-use Rattle.minisign_kdf.proofs.Rows.{mixed_with_same}
+use Rattle.minisign_kdf.specs.Scrypt.{block_mix, mixed_part, rom_mix, row_at}
+use Rattle.minisign_kdf.proofs.RowMixing.{mixed_part_same}
 
 -- mixing i times, and then j times
 pub row_at-add : (r : ℕ) (b : List ℕ) (i j : ℕ) → row_at r (row_at r b i) j ≡ row_at r b (i + j)
@@ -89,5 +89,5 @@ rom_mix_from-kept_rows r n k b some rows =
     ap (λ (m : ℕ). row_at r (get_or kept m []) (n - k * m)) last
     ∙ ap (λ (l : List ℕ). row_at r l (n - k * (c - 1))) (kept_row r n k b (c - 1) within)
     ∙ row_at-add r b (k * (c - 1)) (n - k * (c - 1)) ∙ ap (row_at r b) up in
-    mixed_with_same r n (remade_row r k kept) (row_at r b) _ n (omega arith) (remade r n k b some)
-    ∙ ap (λ (l : List ℕ). mixed_with r n (row_at r b) l n) start
+    mixed_part_same r n (remade_row r k kept) (row_at r b) _ n (omega arith) (remade r n k b some)
+    ∙ ap (λ (l : List ℕ). mixed_part r n (row_at r b) l n) start

@@ -8,7 +8,7 @@ pub mod Keys
 pub mod Mixing
 pub mod Derivation
 pub mod ParamsFacts
-pub mod Rows
+pub mod RowMixing
 pub mod Parts
 pub mod Kept
 pub mod Remade

@@ -9,10 +9,10 @@ use Rattle.std.specs.Simd.Lanes.{zip2}
 use Rattle.minisign_kdf.specs.Blocks.{block}
 use Rattle.minisign_kdf.specs.Diagonal.{diagonal_bytes}
 use Rattle.minisign_kdf.specs.Kept.{kept_rows, remade_row, rom_mix_from, rows_of}
-use Rattle.minisign_kdf.specs.Scrypt.{block_mix, integerify, mixed_with, row_at}
+use Rattle.minisign_kdf.specs.Scrypt.{block_mix, integerify, mixed_part, row_at}
 use Rattle.minisign_kdf.proofs.Blocks.{block_front, block_new, block_whole, row_before}
 use Rattle.minisign_kdf.proofs.Kept.{quotient_kept, row_at-add, some_kept}
-use Rattle.minisign_kdf.proofs.Rows.{mod_64, row_at_none}
+use Rattle.minisign_kdf.proofs.RowMixing.{mod_64, row_at_none}
 
 -- ---- rows of words
 
@@ -84,7 +84,7 @@ last_row_mixed r n k words =
 
 -- scryptROMix over the kept rows, step by step
 pub mixed_from : (r n k : ℕ) (words y : List ℕ) → 1 ≤ k → 1 ≤ n
-    → y ≡ mixed_with r n (remade_row r k (rows_of r (div_ceil n k) words)) (last_row_mixed r n k words) n → y ≡ rom_mix_from r n k (rows_of r (div_ceil n k) words)
+    → y ≡ mixed_part r n (remade_row r k (rows_of r (div_ceil n k) words)) (last_row_mixed r n k words) n → y ≡ rom_mix_from r n k (rows_of r (div_ceil n k) words)
 unfolding rom_mix_from
 mixed_from r n k words y some rows ey =
     let c : ℕ = div_ceil n k in
@@ -93,4 +93,4 @@ mixed_from r n k words y some rows ey =
     let within : c - 1 < c = (let some_row : 0 < c = some_kept n k some rows in omega arith) in
     let start : row_at r (get_or kept (length kept - 1) []) (n - k * (length kept - 1)) ≡ last_row_mixed r n k words =
     ap (λ (m : ℕ). row_at r (get_or kept m []) (n - k * m)) count ∙ ap (λ (l : List ℕ). row_at r l (n - k * (c - 1))) (row_of r c words (c - 1) within) in
-    ey ∙ ap (λ (l : List ℕ). mixed_with r n (remade_row r k kept) l n) (sym start)
+    ey ∙ ap (λ (l : List ℕ). mixed_part r n (remade_row r k kept) l n) (sym start)

@@ -7,5 +7,5 @@ abbrev pub block : ℕ → List ℕ → ℕ → List ℕ
 block n xs i = take n (drop (n * i) xs)
 
 -- f 0, f 1, .., f (n - 1) joined
-unfoldable pub joined : (ℕ → List ℕ) → ℕ → List ℕ
-joined f n = flat_map f (range_with_len 0 n)
+unfoldable pub joined_lists : (ℕ → List ℕ) → ℕ → List ℕ
+joined_lists f n = flat_map f (range_with_len 0 n)

@@ -2,8 +2,8 @@
 -- stands at place 13 * w mod 16. The rows of scryptROMix are kept and mixed in this order.
 use Rattle.std.specs.Prelude.{ℕ, ◌+◌, ◌*◌, ◌/◌, ◌%◌, List, ◌++◌, length, map, slice_index}
 use Rattle.std.specs.List.{range_with_len}
-use Rattle.minisign_kdf.specs.Blocks.{block, joined}
-use Rattle.minisign_kdf.specs.Salsa20.{bytes_of}
+use Rattle.minisign_kdf.specs.Blocks.{block, joined_lists}
+use Rattle.minisign_kdf.specs.Salsa20.{bytes_of_words32}
 use Rattle.minisign_kdf.specs.declared.salsa.Block.{Block}
 
 -- the words that stand in diagonal order, in the order of RFC 7914
@@ -12,11 +12,11 @@ standard_order x = map (λ w. slice_index x (13 * w % 16)) (range_with_len 0 16)
 
 -- the bytes of blocks whose words stand in diagonal order
 unfoldable pub diagonal_bytes : List ℕ → List ℕ
-diagonal_bytes xs = joined (λ i. bytes_of (standard_order (block 16 xs i))) (length xs / 16)
+diagonal_bytes xs = joined_lists (λ i. bytes_of_words32 (standard_order (block 16 xs i))) (length xs / 16)
 
 -- sixteen words as a square of four rows of four, with its rows and columns swapped
-unfoldable pub transposed : List ℕ → List ℕ
-transposed x = map (λ w. slice_index x (4 * (w % 4) + w / 4)) (range_with_len 0 16)
+unfoldable pub transposed_square : List ℕ → List ℕ
+transposed_square x = map (λ w. slice_index x (4 * (w % 4) + w / 4)) (range_with_len 0 16)
 
 -- the words of a block as they stand, and in the order of RFC 7914
 abbrev pub placed_words : Block → List ℕ

@@ -1,7 +1,7 @@
 -- What the faults of key derivation are called.
 use Rattle.std.specs.Prelude.{ℕ, List, codes}
-use Rattle.minisign_kdf.specs.declared.scrypt.KdfError.{KdfError}
-use Rattle.minisign_kdf.specs.declared.scrypt.KdfError.TheVariants.{OutOfMemory, InvalidOutputLen}
+use Rattle.minisign_kdf.specs.declared.errors.KdfError.{KdfError}
+use Rattle.minisign_kdf.specs.declared.errors.KdfError.TheVariants.{OutOfMemory, InvalidOutputLen}
 
 abbrev pub error_text : KdfError → List ℕ
 error_text OutOfMemory = codes "out of memory"

@@ -4,7 +4,7 @@ use Rattle.std.specs.Int.{div_ceil}
 use Rattle.std.specs.List.{range_with_len}
 use Rattle.minisign_kdf.specs.Blocks.{block}
 use Rattle.minisign_kdf.specs.Diagonal.{diagonal_bytes}
-use Rattle.minisign_kdf.specs.Scrypt.{mixed_with, row_at}
+use Rattle.minisign_kdf.specs.Scrypt.{mixed_part, row_at}
 
 -- kept rows, with the block size r and n for N: the rows are bytes in the order of the RFC
 pub record KeptRows : Type 0 where
@@ -29,4 +29,4 @@ remade_row r k rows j = row_at r (slice_index_or rows (j / k) []) (j % k)
 unfoldable pub rom_mix_from : ℕ → ℕ → ℕ → List (List ℕ) → List ℕ
 rom_mix_from r n k rows =
     let last = length rows - 1 in
-    mixed_with r n (remade_row r k rows) (row_at r (slice_index_or rows last []) (n - k * last)) n
+    mixed_part r n (remade_row r k rows) (row_at r (slice_index_or rows last []) (n - k * last)) n

@@ -1,7 +1,7 @@
 -- PBKDF2 (RFC 8018, section 5.2) with one iteration of HMAC with SHA-256.
 use Rattle.std.specs.Prelude.{ℕ, ◌+◌, ◌-◌, ◌*◌, ◌/◌, ◌^◌, List, ◌++◌, take}
 use Rattle.std.specs.Int.{w32, to_be_bytes}
-use Rattle.minisign_kdf.specs.Blocks.{joined}
+use Rattle.minisign_kdf.specs.Blocks.{joined_lists}
 use Rattle.minisign_kdf.specs.Hmac.{hmac}
 
 -- the greatest length of a derived key: 2 ^ 32 - 1 blocks of 32 bytes
@@ -14,4 +14,4 @@ derived_block password salt i = hmac password (salt ++ to_be_bytes w32 i)
 
 -- T_1, .., T_l joined and cut to len bytes, l being len / 32 rounded up
 unfoldable pub pbkdf2 : List ℕ → List ℕ → ℕ → List ℕ
-pbkdf2 password salt len = take len (joined (λ i. derived_block password salt (i + 1)) ((len + 31) / 32))
+pbkdf2 password salt len = take len (joined_lists (λ i. derived_block password salt (i + 1)) ((len + 31) / 32))

@@ -2,7 +2,7 @@
 -- the RFC calls B, has 2 * r blocks.
 use Rattle.std.specs.Prelude.{ℕ, zero, suc, ◌+◌, ◌-◌, ◌*◌, ◌%◌, List, ◌++◌, Bool, ◌&&◌, bit_xor, nat_le}
 use Rattle.std.specs.Simd.Lanes.{zip2, number_l}
-use Rattle.minisign_kdf.specs.Blocks.{block, joined}
+use Rattle.minisign_kdf.specs.Blocks.{block, joined_lists}
 use Rattle.minisign_kdf.specs.Pbkdf2.{longest_key, pbkdf2}
 use Rattle.minisign_kdf.specs.Salsa20.{salsa20_8}
 
@@ -13,7 +13,7 @@ mixed_block r b (suc i) = salsa20_8 (zip2 bit_xor (mixed_block r b i) (block 64 
 
 -- scryptBlockMix: Y_0, Y_2, .., Y_(2r-2), Y_1, Y_3, .., Y_(2r-1) (section 4)
 unfoldable pub block_mix : ℕ → List ℕ → List ℕ
-block_mix r b = joined (λ i. mixed_block r b (2 * i)) r ++ joined (λ i. mixed_block r b (2 * i + 1)) r
+block_mix r b = joined_lists (λ i. mixed_block r b (2 * i)) r ++ joined_lists (λ i. mixed_block r b (2 * i + 1)) r
 
 -- V_i: scryptBlockMix applied i times to B (section 5)
 unfoldable pub row_at : ℕ → List ℕ → ℕ → List ℕ
@@ -25,15 +25,15 @@ unfoldable pub integerify : ℕ → List ℕ → ℕ
 integerify r x = number_l 256 (block 64 x (2 * r - 1))
 
 -- x after t times j = Integerify(X) mod N, X = scryptBlockMix(X xor V_j), with n for N (section 5)
-unfoldable pub mixed_with : ℕ → ℕ → (ℕ → List ℕ) → List ℕ → ℕ → List ℕ
-mixed_with r n v x zero = x
-mixed_with r n v x (suc t) =
-    let y = mixed_with r n v x t in
+unfoldable pub mixed_part : ℕ → ℕ → (ℕ → List ℕ) → List ℕ → ℕ → List ℕ
+mixed_part r n v x zero = x
+mixed_part r n v x (suc t) =
+    let y = mixed_part r n v x t in
     block_mix r (zip2 bit_xor y (v (integerify r y % n)))
 
 -- scryptROMix: X begins as scryptBlockMix applied N times to B, and is mixed N times (section 5)
 unfoldable pub rom_mix : ℕ → ℕ → List ℕ → List ℕ
-rom_mix r n b = mixed_with r n (row_at r b) (row_at r b n) n
+rom_mix r n b = mixed_part r n (row_at r b) (row_at r b n) n
 
 -- the lengths that a derived key can have (section 2)
 abbrev pub is_key_length : ℕ → Bool
@@ -43,4 +43,4 @@ is_key_length len = nat_le 1 len && nat_le len longest_key
 unfoldable pub scrypt : List ℕ → List ℕ → ℕ → ℕ → ℕ → ℕ → List ℕ
 scrypt password salt n r p len =
     let b = pbkdf2 password salt (p * 128 * r) in
-    pbkdf2 password (joined (λ i. rom_mix r n (block (128 * r) b i)) p) len
+    pbkdf2 password (joined_lists (λ i. rom_mix r n (block (128 * r) b i)) p) len

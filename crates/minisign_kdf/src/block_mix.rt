@@ -3,7 +3,7 @@
 ghost use Rattle.std.specs.Prelude.{◌≡◌, ◌+◌, ◌-◌, ◌*◌, ◌%◌, ◌≤◌, length, bit_xor};
 ghost use Rattle.std.specs.Simd.Lanes.{zip2};
 ghost use Rattle.minisign_kdf.specs.Diagonal.{block_words, diagonal_bytes, placed_words};
-ghost use Rattle.minisign_kdf.specs.Salsa20.{bytes_of, salsa20_8};
+ghost use Rattle.minisign_kdf.specs.Salsa20.{bytes_of_words32, salsa20_8};
 ghost use Rattle.minisign_kdf.specs.Scrypt.{block_mix, row_at};
 
 use crate::salsa::{Block, salsa20_8, xor_of};
@@ -80,7 +80,7 @@ pub(crate) fn xor_block_mix(r: usize, from: &[u32], row: &[u32], into: &mut [u32
 // Salsa20/8 of a block xored with another.
 #[inline(always)]
 fn mix_block(x: Block, block: Block) -> Block
-    ensures { bytes_of (block_words result) ≡ salsa20_8 (zip2 bit_xor (bytes_of (block_words x)) (bytes_of (block_words block))) }
+    ensures { bytes_of_words32 (block_words result) ≡ salsa20_8 (zip2 bit_xor (bytes_of_words32 (block_words x)) (bytes_of_words32 (block_words block))) }
 {
     salsa20_8(xor_of(x, block))
 }

@@ -9,8 +9,8 @@ ghost use Rattle.minisign_kdf.specs.Kept.{KeptRows, kept_rows, rows_of};
 ghost use Rattle.minisign_kdf.specs.Scrypt.{row_at};
 
 use crate::block_mix::mix_times;
+use crate::errors::KdfError;
 use crate::order::load_part;
-use crate::scrypt::KdfError;
 use std::alloc::{AllocError, Global};
 use std::marker::Model;
 
@@ -47,7 +47,7 @@ impl Rows {
         requires kept { 1 ≤ k }
         ensures rows { let r = length block.now / 128 in
             IfOk result (λ v. v ≡ record { r = r; n = 2 ^ n_log2; k = k; rows = kept_rows r (2 ^ n_log2) k block.now }) }
-        ensures fault { IfErr result (λ e. e ≡ KdfError.OutOfMemory) }
+        ensures refused { IfErr result (λ e. e ≡ KdfError.OutOfMemory) }
     {
         let r = block.len() / 128;
         let mut words = room_for_rows(alloc, r, n_log2, k)?;
@@ -90,7 +90,7 @@ pub(crate) fn room_for_rows(
     requires cost { n_log2 < 64 }
     requires kept { 1 ≤ k }
     ensures room { IfOk result (λ v. 32 * r * div_ceil (2 ^ n_log2) k ≤ vec_capacity v) }
-    ensures fault { IfErr result (λ e. e ≡ KdfError.OutOfMemory) }
+    ensures refused { IfErr result (λ e. e ≡ KdfError.OutOfMemory) }
 {
     let Some(len) = (32 * r).checked_mul(kept_count(n_log2, k)) else {
         return Err(KdfError::OutOfMemory);

@@ -5,11 +5,20 @@
 #![tactic(auto)]
 
 mod block_mix;
+pub mod errors;
 pub mod hmac;
 pub mod kept_rows;
+pub mod key_derivation;
 mod order;
 pub mod params;
 pub mod pbkdf2;
 pub mod rom_mix;
 mod salsa;
-pub mod scrypt;
+
+pub use errors::{InvalidOutputLen, InvalidParams, KdfError};
+pub use hmac::hmac_sha256;
+pub use kept_rows::Rows;
+pub use key_derivation::{scrypt, scrypt_keeping};
+pub use params::Params;
+pub use pbkdf2::pbkdf2_once;
+pub use rom_mix::mix_kept;

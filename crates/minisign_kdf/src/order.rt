@@ -2,7 +2,7 @@
 
 ghost use Rattle.std.specs.Prelude.{◌≡◌, ◌+◌, ◌*◌, ◌%◌, length};
 ghost use Rattle.minisign_kdf.specs.Diagonal.{diagonal_bytes, standard_order};
-ghost use Rattle.minisign_kdf.specs.Salsa20.{bytes_of};
+ghost use Rattle.minisign_kdf.specs.Salsa20.{bytes_of_words32};
 
 // How many words a block has.
 const BLOCK_WORDS: usize = 16;
@@ -23,7 +23,7 @@ pub(crate) fn load_part(bytes: &[u8], words: &mut [u32])
 fn load_block(bytes: &[u8], words: &mut [u32])
     requires bytes_len { length bytes.now ≡ 64 }
     requires words_len { length words.old ≡ 16 }
-    ensures { bytes_of (standard_order words.new) ≡ bytes.now }
+    ensures { bytes_of_words32 (standard_order words.new) ≡ bytes.now }
 {
     let mut plain = [0u32; 16];
     load_words(bytes, &mut plain);
@@ -33,7 +33,7 @@ fn load_block(bytes: &[u8], words: &mut [u32])
 // Reads words, low byte first.
 fn load_words(bytes: &[u8], words: &mut [u32])
     requires { length bytes.now ≡ 4 * length words.old }
-    ensures { bytes_of words.new ≡ bytes.now }
+    ensures { bytes_of_words32 words.new ≡ bytes.now }
 {
     'words: for i in 0..words.len() {
         words[i] = u32::from_le_bytes([
@@ -82,7 +82,7 @@ fn in_standard_order(x: &[u32]) -> [u32; 16]
 // Writes words, low byte first.
 fn store_words(words: &[u32], bytes: &mut [u8])
     requires { length bytes.old ≡ 4 * length words.now }
-    ensures { bytes.new ≡ bytes_of words.now }
+    ensures { bytes.new ≡ bytes_of_words32 words.now }
 {
     'words: for i in 0..words.len() {
         bytes[4 * i..4 * i + 4].copy_from_slice(&words[i].to_le_bytes());

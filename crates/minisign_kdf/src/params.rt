@@ -1,9 +1,9 @@
 //! The parameters of scrypt (RFC 7914, section 2).
 
-ghost use Rattle.std.specs.Prelude.{◌≡◌, ◌↔◌, ◌*◌, ◌^◌, ◌<◌, ◌≤◌, IsOk, IfOk, Some, codes, is_ok, nat_lt};
+ghost use Rattle.std.specs.Prelude.{◌≡◌, ◌↔◌, ◌*◌, ◌^◌, ◌<◌, ◌≤◌, IsOk, IfOk, is_ok, nat_lt};
 ghost use Rattle.minisign_kdf.specs.Params.{IsAccepted, Numbers, is_accepted};
 
-use std::fmt;
+use crate::errors::InvalidParams;
 use std::marker::Model;
 
 /// Parameters of scrypt that can be used: the cost N as its logarithm to base 2, the block size r and
@@ -23,18 +23,6 @@ impl Model for Params {
     ghost inverse = { λ v. record { n_log2 = v.n_log2; r = v.r; p = v.p } };
 
     ghost invariant = { λ v. IsAccepted (record { n_log2 = v.n_log2; r = v.r; p = v.p }) };
-}
-
-/// Parameters that scrypt can't be used with.
-#[derive(Clone, Copy, Debug, PartialEq)]
-pub struct InvalidParams;
-
-impl fmt::Display for InvalidParams {
-    ghost output = { λ _. Some (codes "invalid scrypt parameters") };
-
-    fn fmt<W: fmt::Write>(&self, f: &mut fmt::Formatter<W>) -> fmt::Result {
-        f.write_str("invalid scrypt parameters")
-    }
 }
 
 impl Params {

@@ -1,7 +1,7 @@
 //! PBKDF2 (RFC 8018, section 5.2) with one iteration of HMAC with SHA-256.
 
 ghost use Rattle.std.specs.Prelude.{◌≡◌, ◌+◌, ◌*◌, ◌^◌, ◌≤◌, length};
-ghost use Rattle.minisign_kdf.specs.Blocks.{joined};
+ghost use Rattle.minisign_kdf.specs.Blocks.{joined_lists};
 ghost use Rattle.minisign_kdf.specs.Pbkdf2.{derived_block, longest_key, pbkdf2};
 
 use crate::hmac::hmac_sha256;
@@ -28,7 +28,7 @@ pub fn pbkdf2_once(password: &[u8], salt: &[u8], out: &mut [u8])
 // Fills `out` with whole blocks, from T_1 on.
 fn write_blocks(password: &[u8], salt: &[u8], count: u32, out: &mut [u8])
     requires { length out.old ≡ 32 * count }
-    ensures { out.new ≡ joined (λ i. derived_block password.now salt.now (i + 1)) count }
+    ensures { out.new ≡ joined_lists (λ i. derived_block password.now salt.now (i + 1)) count }
 {
     'whole: for i in 0..count {
         let at = BLOCK_LEN * i as usize;

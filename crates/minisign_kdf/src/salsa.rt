@@ -4,7 +4,7 @@
 ghost use Rattle.std.specs.Prelude.{◌≡◌, ◌<◌, length, map, bit_xor};
 ghost use Rattle.std.specs.Int.{w32, rotate_left};
 ghost use Rattle.std.specs.Simd.Lanes.{zip2};
-ghost use Rattle.minisign_kdf.specs.Diagonal.{block_words, placed_words, transposed};
+ghost use Rattle.minisign_kdf.specs.Diagonal.{block_words, placed_words, transposed_square};
 ghost use Rattle.minisign_kdf.specs.Salsa20.{add32, column_round, double_round, row_round, salsa_words};
 
 use std::simd::u32x4;
@@ -111,7 +111,7 @@ fn row_round(x: Block) -> Block
 // The block with its rows and columns, in the standard's order, swapped.
 #[inline(always)]
 fn transposed(x: Block) -> Block
-    ensures { block_words result ≡ transposed (block_words x) }
+    ensures { block_words result ≡ transposed_square (block_words x) }
 {
     let a = x.a;
     let b = u32x4::from_array(x.d)

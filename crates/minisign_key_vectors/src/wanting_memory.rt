@@ -123,7 +123,7 @@ fn opened_in_parts(alloc: Global) -> Result<bool> {
 // Whether the texts of both keys come out again as they were read.
 fn written_again(alloc: Global) -> Result<bool> {
     let secret = SecretKey::from_bytes(&secret_record(&[0, 0], &CHECKSUM))?;
-    let pk_text = PublicKey::from_secret_key(&secret)
+    let pk_text = PublicKey::from_secret_key(&secret)?
         .to_box(alloc)?
         .into_string();
     let sk_box = SecretKeyBox::from_string(alloc, SECRET_TEXT)?;

@@ -6,7 +6,7 @@ use Rattle.minisign.specs.Records.{PublicKeyRecord, SignatureBoxRecord}
 use Rattle.minisign.specs.Acceptance.{Flags, Verifier, status_lines}
 use Rattle.minisign.specs.Headline.{CopyIsVouchedFor, TextsVouchFor}
 use Rattle.minisign.specs.Reading.{IsAhead}
-use Rattle.minisign.specs.Verifying.{Copied, SayingFails}
+use Rattle.minisign.specs.Verifying.{HasCopy, SayingFails}
 use Rattle.minisign.specs.VerifyingTexts.{ReadTexts, TextsFail, VerifyingTextsFails}
 use Rattle.minisign_tool.specs.TextFiles.{EitherFails, ReadsBoth}
 
@@ -48,7 +48,7 @@ pub record FilesVouch {P Q R : Type 0} (accepts : Verifier) (pk_file : SourcePas
 pub record FilesVouchForCopy {P Q R O : Type 0} (accepts : Verifier) (pk_file : SourcePassage P) (sig_file : SourcePassage Q)
     (reader : RereaderPassage R) (out : SinkPassage O) (Said : List ℕ → Type 0) : Type 0 where
   pub verified : FilesVouch accepts pk_file sig_file reader Said
-  pub copied : Copied accepts verified.vouched.key verified.vouched.box false reader out verified.message
+  pub copied : HasCopy accepts verified.vouched.key verified.vouched.box false reader out verified.message
   pub copy : CopyIsVouchedFor accepts verified.pk_text verified.sig_text false out
 
 -- a file gave no text, with no data read, or verifying with the texts failed

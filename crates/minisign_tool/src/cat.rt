@@ -6,7 +6,7 @@ ghost use Rattle.minisign_base.specs.Passages.{Takes, rereader_passage, sink_pas
 ghost use Rattle.minisign.specs.Acceptance.{status_lines};
 ghost use Rattle.minisign.specs.Headline.{CopyIsVouchedFor, TextsVouchFor};
 ghost use Rattle.minisign.specs.Reading.{IsAhead};
-ghost use Rattle.minisign.specs.Verifying.{Copied};
+ghost use Rattle.minisign.specs.Verifying.{HasCopy};
 ghost use Rattle.minisign.specs.VerifyingTexts.{VerifyingTextsFails};
 ghost use Rattle.minisign_tool.specs.Report.{EndsWithFault, SaysAfterWarning};
 ghost use Rattle.minisign_tool.specs.Verify.{FilesFailToCopy, FilesVouchForCopy, SaysFront, says_and_copies};
@@ -93,7 +93,7 @@ pub fn copy_data<S: Scheme, R: Rereader, O: Sink, W: Sink>(
     ensures accepted { OnOk result ((message : List ℕ) × IsAhead (R.ahead data_reader.old) message
         × ((vouched : TextsVouchFor (S.accepts scheme.now) pk_text.now sig_text.now message false)
         × Appends (W.taken errors.old) (W.taken errors.new) (status_lines vouched.box)
-        × Copied (S.accepts scheme.now) vouched.key vouched.box false
+        × HasCopy (S.accepts scheme.now) vouched.key vouched.box false
         (rereader_passage R.Source R.steady data_reader.old data_reader.new) (sink_passage O.Sink out.old out.new) message
         × CopyIsVouchedFor (S.accepts scheme.now) pk_text.now sig_text.now false (sink_passage O.Sink out.old out.new))) }
     ensures calm { OnOk result (W.sink_faults errors.new ≡ W.sink_faults errors.old) }

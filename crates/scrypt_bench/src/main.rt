@@ -6,8 +6,7 @@
 
 ghost use Rattle.std.specs.Prelude.{◌≤◌};
 
-use minisign_kdf::params::Params;
-use minisign_kdf::scrypt::scrypt_keeping;
+use minisign_kdf::{Params, scrypt_keeping};
 use std::process::ExitCode;
 use std::time::Instant;
 use std::{env, io};

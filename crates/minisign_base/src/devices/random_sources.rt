@@ -94,7 +94,7 @@ impl<S: Source> RandomSource for SourceRandom<S> {
     fn fill(&mut self, buf: &mut [u8]) -> Result<(), DeviceFault>
         ensures fill { HasFilled ⟦<SourceRandom<S> as RandomSource>⟧.random_ahead ⟦<SourceRandom<S> as RandomSource>⟧.random_faults self.old self.new buf.new result }
         ensures source_calm { OnOk result (S.faults self.new.source ≡ S.faults self.old.source) }
-        ensures source_fault { OnErr result (Rose (S.faults self.old.source) (S.faults self.new.source)
+        ensures refused { OnErr result (Rose (S.faults self.old.source) (S.faults self.new.source)
             ⊎ IsAtEnd (S.ahead self.new.source)) }
     {
         match fill_from(&mut self.source, buf) {

@@ -158,7 +158,7 @@ pub fn put_line<S: Sink>(
 pub fn put_and_flush<S: Sink>(sink: &mut S, bytes: &[u8]) -> Result<(), DeviceFault>
     ensures bytes { OnOk result (Appends (S.taken sink.old) (S.taken sink.new) bytes.now) }
     ensures calm { OnOk result (S.sink_faults sink.new ≡ S.sink_faults sink.old) }
-    ensures fault { OnErr result (Rose (S.sink_faults sink.old) (S.sink_faults sink.new)) }
+    ensures refused { OnErr result (Rose (S.sink_faults sink.old) (S.sink_faults sink.new)) }
     ensures front { OnErr result (AppendsFront (S.taken sink.old) (S.taken sink.new) bytes.now) }
 {
     put_all(sink, bytes)?;
@@ -172,7 +172,7 @@ pub fn put_and_flush<S: Sink>(sink: &mut S, bytes: &[u8]) -> Result<(), DeviceFa
 pub fn put_all<S: Sink>(sink: &mut S, bytes: &[u8]) -> Result<(), DeviceFault>
     ensures bytes { OnOk result (Appends (S.taken sink.old) (S.taken sink.new) bytes.now) }
     ensures calm { OnOk result (S.sink_faults sink.new ≡ S.sink_faults sink.old) }
-    ensures fault { OnErr result (Rose (S.sink_faults sink.old) (S.sink_faults sink.new)) }
+    ensures refused { OnErr result (Rose (S.sink_faults sink.old) (S.sink_faults sink.new)) }
     ensures front { OnErr result (AppendsFront (S.taken sink.old) (S.taken sink.new) bytes.now) }
 {
     let mut at = 0;

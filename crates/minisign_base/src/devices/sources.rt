@@ -171,7 +171,7 @@ impl<R: Read> Rereader for ReaderSource<R> {
     // Always a fault. No byte is told after it.
     fn mark(&mut self) -> Result<(), DeviceFault>
         ensures fails { IsErr result }
-        ensures fault { Rose (⟦<ReaderSource<R> as Source>⟧.faults self.old) (⟦<ReaderSource<R> as Source>⟧.faults self.new) }
+        ensures refused { Rose (⟦<ReaderSource<R> as Source>⟧.faults self.old) (⟦<ReaderSource<R> as Source>⟧.faults self.new) }
         ensures hides { IsNone (⟦<ReaderSource<R> as Source>⟧.ahead self.new) }
     {
         let no_way_back = self.faults.raise();
@@ -181,7 +181,7 @@ impl<R: Read> Rereader for ReaderSource<R> {
     // Always a fault. No byte is told after it.
     fn back(&mut self) -> Result<(), DeviceFault>
         ensures fails { IsErr result }
-        ensures fault { Rose (⟦<ReaderSource<R> as Source>⟧.faults self.old) (⟦<ReaderSource<R> as Source>⟧.faults self.new) }
+        ensures refused { Rose (⟦<ReaderSource<R> as Source>⟧.faults self.old) (⟦<ReaderSource<R> as Source>⟧.faults self.new) }
         ensures hides { IsNone (⟦<ReaderSource<R> as Source>⟧.ahead self.new) }
     {
         self.mark()
@@ -253,7 +253,7 @@ impl<F: Read + Seek> Rereader for FileSource<F> {
 pub fn fill_from<S: Source>(source: &mut S, buf: &mut [u8]) -> Result<(), DeviceFault>
     ensures bytes { OnOk result (Consumes (S.ahead source.old) (S.ahead source.new) buf.new) }
     ensures calm { OnOk result (S.faults source.new ≡ S.faults source.old) }
-    ensures fault { OnErr result (Rose (S.faults source.old) (S.faults source.new)
+    ensures refused { OnErr result (Rose (S.faults source.old) (S.faults source.new)
         ⊎ IsAtEnd (S.ahead source.new)) }
     ensures given { OnErr result (HasGiven (S.ahead source.old) (S.ahead source.new)) }
 {

@@ -4,7 +4,7 @@
 ghost use Rattle.std.specs.Prelude.{◌≡◌, ◌*◌, ◌^◌, ◌<◌, ◌≤◌, IfOk, length, vec_len};
 ghost use Rattle.minisign_kdf.specs.Pbkdf2.{longest_key};
 
-use minisign_kdf::pbkdf2::pbkdf2_once;
+use minisign_kdf::pbkdf2_once;
 use std::alloc::{AllocError, Global};
 
 /// scrypt with N 2^`n_log2`, for `n_log2` below 8, r below 64 and p below 16.

@@ -355,7 +355,7 @@ fn unsealed_pairs_sign_and_are_read_again(rt: HostRuntime) -> std::result::Resul
     assert!(rt; !pair.sk.is_encrypted());
     let copy = pair.clone()?;
     assert!(rt; copy.pk == pair.pk && copy.sk == pair.sk);
-    let made = PublicKey::from_secret_key(&pair.sk);
+    let made = PublicKey::from_secret_key(&pair.sk)?;
     let encoded = made.to_base64(alloc)?;
     assert_eq!(rt; encoded.as_str(), pair.pk.to_base64(alloc)?.as_str());
     let text = text_of(alloc, &pair.sk)?;

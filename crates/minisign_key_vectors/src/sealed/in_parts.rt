@@ -9,8 +9,7 @@ use minisign_base::prompt::Prompt;
 use minisign_base::toy::ToyScheme;
 use minisign_fixtures::keys::{CHECKSUM, secret_record};
 use minisign_fixtures::outcomes::{counted, is_record, outcome};
-use minisign_kdf::params::Params;
-use minisign_kdf::scrypt::scrypt;
+use minisign_kdf::{Params, scrypt};
 use std::alloc::Global;
 use std::test::Fail;
 

@@ -62,7 +62,7 @@ fn the_public_half_of_a_secret_key(rt: HostRuntime) -> std::result::Result<(), F
     let alloc = rt.alloc();
     for kdf in [b"\0\0", b"Sc"] {
         let secret = SecretKey::from_bytes(&secret_record(kdf, &[0; 32]))?;
-        let public = PublicKey::from_secret_key(&secret);
+        let public = PublicKey::from_secret_key(&secret)?;
         assert!(rt;
             is_record(
                 &public.to_bytes(alloc),

@@ -82,7 +82,7 @@ fn signed(alloc: Global, sk_text: &str) -> Result<bool> {
 // Whether a box that is made with a public key to test, and with the comments by default, has its own.
 fn made(alloc: Global) -> Result<bool> {
     let secret = SecretKey::from_bytes(&secret_record(&[0, 0], &CHECKSUM))?;
-    let public = PublicKey::from_secret_key(&secret);
+    let public = PublicKey::from_secret_key(&secret)?;
     let signature_box = sign(
         alloc,
         &ToyScheme::new(),

@@ -20,7 +20,7 @@ fn signed(
     moment: u64,
 ) -> Result<SignatureBox> {
     let secret = SecretKey::from_bytes(&secret_record(&[0, 0], &CHECKSUM))?;
-    let public = PublicKey::from_secret_key(&secret);
+    let public = PublicKey::from_secret_key(&secret)?;
     sign(
         alloc,
         &ToyScheme::new(),

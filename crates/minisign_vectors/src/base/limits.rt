@@ -3,8 +3,7 @@
 use minisign_base::errors::PError;
 use minisign_base::helpers::{load_u64_le, raw_scrypt_params, store_u64_le};
 use minisign_fixtures::outcomes::outcome;
-use minisign_kdf::params::InvalidParams;
-use minisign_kdf::scrypt::{InvalidOutputLen, KdfError};
+use minisign_kdf::{InvalidOutputLen, InvalidParams, KdfError};
 use std::test::Fail;
 
 #[test]

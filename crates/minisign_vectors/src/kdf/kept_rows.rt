@@ -8,10 +8,7 @@ ghost use Rattle.std.specs.Prelude.{◌≡◌, ◌*◌, ◌^◌, ◌<◌, ◌≤
 
 use minisign_fixtures::outcomes::hexadecimal;
 use minisign_fixtures::plain::scrypt::{plain_rom_mix, plain_scrypt};
-use minisign_kdf::kept_rows::Rows;
-use minisign_kdf::params::Params;
-use minisign_kdf::rom_mix::mix_kept;
-use minisign_kdf::scrypt::{KdfError, scrypt_keeping};
+use minisign_kdf::{KdfError, Params, Rows, mix_kept, scrypt_keeping};
 use std::alloc::{AllocError, Global};
 use std::test::Fail;
 

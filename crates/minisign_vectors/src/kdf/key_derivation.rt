@@ -4,10 +4,7 @@
 //! scrypt: RFC 7914, section 12. The tables without a section hold values of Python's hashlib (OpenSSL).
 
 use minisign_fixtures::outcomes::hexadecimal;
-use minisign_kdf::hmac::hmac_sha256;
-use minisign_kdf::params::Params;
-use minisign_kdf::pbkdf2::pbkdf2_once;
-use minisign_kdf::scrypt::{KdfError, scrypt};
+use minisign_kdf::{KdfError, Params, hmac_sha256, pbkdf2_once, scrypt};
 use std::alloc::Global;
 use std::test::Fail;
 

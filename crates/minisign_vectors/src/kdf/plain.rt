@@ -3,8 +3,7 @@
 ghost use Rattle.std.specs.Prelude.{◌<◌, ◌≤◌};
 
 use minisign_fixtures::plain::scrypt::plain_scrypt;
-use minisign_kdf::params::Params;
-use minisign_kdf::scrypt::scrypt;
+use minisign_kdf::{Params, scrypt};
 use std::alloc::Global;
 use std::test::Fail;
 

@@ -4,9 +4,7 @@
 //!
 //! The keys are those of RFC 7914, section 12.
 
-use minisign_kdf::kept_rows::Rows;
-use minisign_kdf::params::Params;
-use minisign_kdf::scrypt::{KdfError, scrypt, scrypt_keeping};
+use minisign_kdf::{KdfError, Params, Rows, scrypt, scrypt_keeping};
 use std::test::Fail;
 
 // The first bytes of the smallest vector.

@@ -1,9 +1,9 @@
 use Rattle.std.proofs.Common.{refl, lit<}
-use Rattle.minisign_hash.specs.Words.{words_of}
+use Rattle.minisign_hash.specs.Words.{words64_of}
 use Rattle.minisign_hash.proofs.blake2b.read_words.Goals as goal
 
 pub returns : goal.returns
-unfolding words_of
+unfolding words64_of
 returns c =
     rw (
       c.read_row.ensures 0 (lit< tt),

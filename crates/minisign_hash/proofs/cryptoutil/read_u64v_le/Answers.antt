@@ -1,8 +1,8 @@
 use Rattle.std.proofs.Common.{◌/◌, length, arith}
 use Rattle.std.proofs.lemmas.List.FromFn.{fill_by_all}
-use Rattle.minisign_hash.specs.Words.{word_at, words_of}
+use Rattle.minisign_hash.specs.Words.{word_at, words64_of}
 use Rattle.minisign_hash.proofs.cryptoutil.read_u64v_le.Goals as goal
 
 pub returns : goal.returns
-unfolding words_of
+unfolding words64_of
 returns c = fill_by_all (word_at c.args.input.now) c.words.dst (length c.args.input.now / 8) 0 (omega arith) (λ k lt. c.words.invariant k (omega arith))

@@ -1,7 +1,7 @@
 use Rattle.std.proofs.Common.{◌≡◌, ℕ, List, ◌-◌, ◌%◌, sym, ap, ◌∙◌, arith}
 use Rattle.minisign_kdf.specs.Diagonal.{diagonal_bytes}
 use Rattle.minisign_kdf.specs.Scrypt.{row_at}
-use Rattle.minisign_kdf.proofs.Rows.{row_at_more, row_at_none}
+use Rattle.minisign_kdf.proofs.RowMixing.{row_at_more, row_at_none}
 use Rattle.minisign_kdf.proofs.block_mix.begin_mixing.Goals as goal
 
 pub returns-then-times-eq1 : goal.returns-then-times-eq1

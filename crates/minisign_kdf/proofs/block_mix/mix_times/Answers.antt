@@ -1,7 +1,7 @@
 use Rattle.std.proofs.Common.{◌≡◌, ℕ, List, ◌+◌, ◌-◌, ◌*◌, ◌%◌, ap, ◌∙◌, arith}
 use Rattle.minisign_kdf.specs.Diagonal.{diagonal_bytes}
 use Rattle.minisign_kdf.specs.Scrypt.{row_at}
-use Rattle.minisign_kdf.proofs.Rows.{row_at_more}
+use Rattle.minisign_kdf.proofs.RowMixing.{row_at_more}
 use Rattle.minisign_kdf.proofs.block_mix.mix_times.Goals as goal
 
 pub pairs-init : goal.pairs-init

@@ -2,9 +2,9 @@ use Rattle.std.proofs.Common.{◌≡◌, ℕ, List, ◌+◌, ◌-◌, ◌*◌, l
 use Rattle.std.specs.Simd.Lanes.{zip2}
 use Rattle.std.proofs.lemmas.Simd.{length-zip2}
 use Rattle.minisign_kdf.specs.Diagonal.{block_words, diagonal_bytes}
-use Rattle.minisign_kdf.specs.Salsa20.{bytes_of}
+use Rattle.minisign_kdf.specs.Salsa20.{bytes_of_words32}
 use Rattle.minisign_kdf.specs.Scrypt.{mixed_block}
-use Rattle.minisign_kdf.proofs.Joined.{joined_none}
+use Rattle.minisign_kdf.proofs.Joined.{joined_lists_none}
 use Rattle.minisign_kdf.proofs.Mixing.{before, before_next, before_first, mixed_next, written_all, written_next, xored_block}
 use Rattle.minisign_kdf.proofs.Ordered.{diagonal_bytes-none}
 use Rattle.minisign_kdf.proofs.block_mix.xor_block_mix.Goals as goal
@@ -16,8 +16,8 @@ pairs-init c =
     let len : length (zip2 bit_xor from row) ≡ 32 * c.args.r = length-zip2 bit_xor from row (omega arith) ∙ c.requires.from_len in (
       before_first c.args.r (zip2 bit_xor from row) _ 16 (32 * c.args.r - 16) len c.requires.some refl refl
           (xored_block from row _ (32 * c.args.r - 16) _ _ (omega arith) (omega arith) (omega arith) c.load_xored-x.ensures),
-      diagonal_bytes-none ∙ sym (joined_none _),
-      diagonal_bytes-none ∙ sym (joined_none _),
+      diagonal_bytes-none ∙ sym (joined_lists_none _),
+      diagonal_bytes-none ∙ sym (joined_lists_none _),
     )
 
 pub pairs-preserved : goal.pairs-preserved
@@ -31,11 +31,11 @@ pairs-preserved c =
     let b : List ℕ = diagonal_bytes xs in
     let i = c.pairs.i in
     let (at, even, odd) = c.pairs.invariant in
-    let first : bytes_of (block_words c.mix_block-x.result) ≡ mixed_block r b (2 * i) =
-    mixed_next r xs (bytes_of (block_words c.pairs.x)) (bytes_of (block_words c.mix_block-x.result)) _ (2 * i) 16 (32 * i) len (omega arith) at refl (omega arith)
+    let first : bytes_of_words32 (block_words c.mix_block-x.result) ≡ mixed_block r b (2 * i) =
+    mixed_next r xs (bytes_of_words32 (block_words c.pairs.x)) (bytes_of_words32 (block_words c.mix_block-x.result)) _ (2 * i) 16 (32 * i) len (omega arith) at refl (omega arith)
     (xored_block from row _ (32 * i) _ _ same (omega arith) (omega arith) c.load_xored.ensures) c.mix_block-x.ensures in
-    let second : bytes_of (block_words c.mix_block-x-in-pairs.result) ≡ mixed_block r b (2 * i + 1) =
-    mixed_next r xs (bytes_of (block_words c.mix_block-x.result)) (bytes_of (block_words c.mix_block-x-in-pairs.result)) _ (2 * i + 1) 16 (32 * i + 16) len (omega arith) (first ∙ sym (before_next r b (2 * i))) refl (omega arith)
+    let second : bytes_of_words32 (block_words c.mix_block-x-in-pairs.result) ≡ mixed_block r b (2 * i + 1) =
+    mixed_next r xs (bytes_of_words32 (block_words c.mix_block-x.result)) (bytes_of_words32 (block_words c.mix_block-x-in-pairs.result)) _ (2 * i + 1) 16 (32 * i + 16) len (omega arith) (first ∙ sym (before_next r b (2 * i))) refl (omega arith)
     (xored_block from row _ (32 * i + 16) _ _ same (omega arith) (omega arith) c.load_xored-in-pairs.ensures) c.mix_block-x-in-pairs.ensures in
     let e : 2 * (i + 1) ≡ 2 * i + 1 + 1 = omega arith in (
       second ∙ sym (before_next r b (2 * i + 1)) ∙ ap (before r b) (sym e),

@@ -1,6 +1,6 @@
 use Rattle.std.proofs.Common.{rules, ◌*◌, ◌<◌, ◌^◌, slice_index, ℕ, sym, ap, ◌∙◌, arith}
 use Rattle.std.proofs.lemmas.List.{take_all}
-use Rattle.minisign_kdf.specs.Salsa20.{bytes_of}
+use Rattle.minisign_kdf.specs.Salsa20.{bytes_of_words32}
 use Rattle.minisign_kdf.proofs.Bytes.{read_next}
 use Rattle.minisign_kdf.proofs.order.load_words.Goals as goal
 
@@ -11,4 +11,4 @@ words-preserved c =
 
 pub returns : goal.returns
 returns c =
-    ap bytes_of (sym (take_all c.words.i c.words.words (omega arith))) ∙ c.words.invariant ∙ take_all (4 * c.words.i) c.args.bytes.now (omega arith)
+    ap bytes_of_words32 (sym (take_all c.words.i c.words.words (omega arith))) ∙ c.words.invariant ∙ take_all (4 * c.words.i) c.args.bytes.now (omega arith)

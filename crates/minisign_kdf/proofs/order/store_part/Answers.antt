@@ -1,7 +1,7 @@
 use Rattle.std.proofs.Common.{◌*◌, sym, ap, ◌∙◌, arith}
 use Rattle.std.proofs.lemmas.List.{take_all}
 use Rattle.minisign_kdf.specs.Diagonal.{diagonal_bytes}
-use Rattle.minisign_kdf.specs.Salsa20.{bytes_of}
+use Rattle.minisign_kdf.specs.Salsa20.{bytes_of_words32}
 use Rattle.minisign_kdf.proofs.Ordered.{diagonal_bytes-none, stored_next}
 use Rattle.minisign_kdf.proofs.order.store_part.Goals as goal
 
@@ -11,7 +11,7 @@ block-init c = sym diagonal_bytes-none
 pub block-preserved : goal.block-preserved
 block-preserved c =
     stored_next c.args.words.now c.block.bytes c.store_words.new.bytes c.block.i _ _ c.block.invariant (omega arith) (omega arith) (omega arith) (omega arith)
-    (c.store_words.ensures ∙ ap bytes_of c.in_standard_order-plain.ensures)
+    (c.store_words.ensures ∙ ap bytes_of_words32 c.in_standard_order-plain.ensures)
 
 pub returns : goal.returns
 returns c =

@@ -1,6 +1,6 @@
 use Rattle.std.proofs.Common.{◌*◌, sym, ap, ◌∙◌, arith}
 use Rattle.std.proofs.lemmas.List.{take_all}
-use Rattle.minisign_kdf.specs.Salsa20.{bytes_of}
+use Rattle.minisign_kdf.specs.Salsa20.{bytes_of_words32}
 use Rattle.minisign_kdf.proofs.Bytes.{stored_next}
 use Rattle.minisign_kdf.proofs.order.store_words.Goals as goal
 
@@ -10,4 +10,4 @@ words-preserved c =
 
 pub returns : goal.returns
 returns c =
-    sym (take_all (4 * c.words.i) c.words.bytes (omega arith)) ∙ c.words.invariant ∙ ap bytes_of (take_all c.words.i c.args.words.now (omega arith))
+    sym (take_all (4 * c.words.i) c.words.bytes (omega arith)) ∙ c.words.invariant ∙ ap bytes_of_words32 (take_all c.words.i c.args.words.now (omega arith))

@@ -1,13 +1,13 @@
 use Rattle.std.proofs.Common.{◌≡◌, ℕ, ◌+◌, ◌*◌, sym, ap, ◌∙◌, arith}
 use Rattle.std.proofs.lemmas.List.{take_all}
-use Rattle.minisign_kdf.specs.Blocks.{joined}
+use Rattle.minisign_kdf.specs.Blocks.{joined_lists}
 use Rattle.minisign_kdf.specs.Pbkdf2.{derived_block}
-use Rattle.minisign_kdf.proofs.Joined.{joined_none}
+use Rattle.minisign_kdf.proofs.Joined.{joined_lists_none}
 use Rattle.minisign_kdf.proofs.Parts.{appended_next}
 use Rattle.minisign_kdf.proofs.pbkdf2.write_blocks.Goals as goal
 
 pub whole-init : goal.whole-init
-whole-init c = sym (joined_none _)
+whole-init c = sym (joined_lists_none _)
 
 pub whole-preserved : goal.whole-preserved
 whole-preserved c =
@@ -17,4 +17,4 @@ whole-preserved c =
 pub returns : goal.returns
 returns c =
     let e : c.whole.i ≡ c.args.count = omega arith in
-    sym (take_all (32 * c.whole.i) c.whole.out (omega arith)) ∙ c.whole.invariant ∙ ap (joined (λ (j : ℕ). derived_block c.args.password.now c.args.salt.now (j + 1))) e
+    sym (take_all (32 * c.whole.i) c.whole.out (omega arith)) ∙ c.whole.invariant ∙ ap (joined_lists (λ (j : ℕ). derived_block c.args.password.now c.args.salt.now (j + 1))) e

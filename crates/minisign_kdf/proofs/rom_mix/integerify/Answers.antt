@@ -1,5 +1,5 @@
 use Rattle.std.proofs.Common.{rules, ℕ, ◌<◌, ◌^◌, slice_index}
-use Rattle.minisign_kdf.proofs.Rows.{integerify_low}
+use Rattle.minisign_kdf.proofs.RowMixing.{integerify_low}
 use Rattle.minisign_kdf.proofs.rom_mix.integerify.Goals as goal
 
 pub returns : goal.returns

@@ -3,7 +3,7 @@ use Rattle.std.specs.Simd.Lanes.{zip2}
 use Rattle.minisign_kdf.specs.Diagonal.{diagonal_bytes}
 use Rattle.minisign_kdf.specs.Scrypt.{block_mix, row_at}
 use Rattle.minisign_kdf.proofs.Ordered.{diagonal_bytes-xor}
-use Rattle.minisign_kdf.proofs.Rows.{row_at_none}
+use Rattle.minisign_kdf.proofs.RowMixing.{row_at_none}
 use Rattle.minisign_kdf.proofs.rom_mix.mix_with_remade.Goals as goal
 
 pub returns-then-times-eq0 : goal.returns-then-times-eq0

@@ -1,10 +1,10 @@
 use Rattle.std.proofs.Common.{◌≡◌, length, refl, arith}
-use Rattle.minisign_kdf.specs.Diagonal.{standard_order, transposed}
+use Rattle.minisign_kdf.specs.Diagonal.{standard_order, transposed_square}
 use Rattle.minisign_kdf.proofs.Sixteen.{four_of}
 use Rattle.minisign_kdf.proofs.salsa.transposed.Goals as goal
 
 pub returns : goal.returns
-unfolding standard_order transposed
+unfolding standard_order transposed_square
 returns c =
     let x = c.args.x in
     let la : length x.a ≡ 4 = omega arith in

@@ -3,7 +3,7 @@ use Rattle.std.proofs.lemmas.List.{length-take-le}
 use Rattle.minisign_kdf.specs.Scrypt.{rom_mix}
 use Rattle.minisign_kdf.proofs.Blocks.{row_before}
 use Rattle.minisign_kdf.proofs.Parts.{changed_all, changed_next, changed_none}
-use Rattle.minisign_kdf.proofs.scrypt.mix_parts.Goals as goal
+use Rattle.minisign_kdf.proofs.key_derivation.mix_parts.Goals as goal
 
 pub parts-init : goal.parts-init
 parts-init c = (changed_none _ _ _, omega arith)

@@ -1,7 +1,7 @@
 use Rattle.std.proofs.Common.{◌*◌, ◌<◌, sym, ◌∙◌, arith}
 use Rattle.minisign_kdf.proofs.Derivation.{scrypt_is}
 use Rattle.minisign_kdf.proofs.ParamsFacts.{n_log2_small}
-use Rattle.minisign_kdf.proofs.scrypt.derive.Goals as goal
+use Rattle.minisign_kdf.proofs.key_derivation.derive.Goals as goal
 
 pub mix_parts-requires-clause-cost : goal.mix_parts-requires-clause-cost
 mix_parts-requires-clause-cost c =

@@ -1,7 +1,7 @@
 use Rattle.std.proofs.Common.{◌^◌, ◌≤◌, vec_capacity}
 use Rattle.minisign_kdf.specs.Scrypt.{rom_mix}
 use Rattle.minisign_kdf.proofs.Parts.{AreChanged}
-use Rattle.minisign_kdf.proofs.scrypt.mix_parts.Given as goal
+use Rattle.minisign_kdf.proofs.key_derivation.mix_parts.Given as goal
 
 abbrev pub invariant-parts : goal.invariant-parts
 invariant-parts l =

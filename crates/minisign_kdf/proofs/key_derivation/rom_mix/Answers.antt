@@ -1,7 +1,7 @@
 use Rattle.std.proofs.Common.{◌≡◌, ℕ, ◌*◌, ◌/◌, ◌^◌, length, ap, ◌∙◌, arith}
 use Rattle.std.specs.Int.{div_ceil}
 use Rattle.minisign_kdf.specs.Kept.{rows_of}
-use Rattle.minisign_kdf.proofs.scrypt.rom_mix.Goals as goal
+use Rattle.minisign_kdf.proofs.key_derivation.rom_mix.Goals as goal
 
 pub mix_kept-requires-clause-rows_len : goal.mix_kept-requires-clause-rows_len
 mix_kept-requires-clause-rows_len c =

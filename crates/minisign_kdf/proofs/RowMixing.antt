@@ -5,7 +5,7 @@ use Rattle.std.proofs.lemmas.List.{get_or-drop, get_or-take}
 use Rattle.std.proofs.lemmas.Nat.{mod-pow-add}
 use Rattle.std.specs.Simd.Lanes.{zip2}
 use Rattle.minisign_kdf.specs.Diagonal.{diagonal_bytes}
-use Rattle.minisign_kdf.specs.Scrypt.{block_mix, integerify, mixed_with, row_at}
+use Rattle.minisign_kdf.specs.Scrypt.{block_mix, integerify, mixed_part, row_at}
 use Rattle.minisign_kdf.proofs.Diagonal.{low_bits_places}
 use Rattle.minisign_kdf.proofs.Ordered.{block-diagonal_bytes}
 
@@ -45,13 +45,13 @@ row_at_more r m b x z ex ez = rw add-one (ez ∙ ap (block_mix r) ex)
 
 -- ---- the second loop
 
-pub mixed_with_none : (r n : ℕ) (v : ℕ → List ℕ) (x : List ℕ) → mixed_with r n v x 0 ≡ x
-unfolding mixed_with
-mixed_with_none r n v x = refl
+pub mixed_part_none : (r n : ℕ) (v : ℕ → List ℕ) (x : List ℕ) → mixed_part r n v x 0 ≡ x
+unfolding mixed_part
+mixed_part_none r n v x = refl
 
 -- one more step
-pub step_next : (r n t : ℕ) (v : ℕ → List ℕ) (x0 x z : List ℕ) → x ≡ mixed_with r n v x0 t → z ≡ block_mix r (zip2 bit_xor x (v (integerify r x % n))) → z ≡ mixed_with r n v x0 (t + 1)
-unfolding mixed_with
+pub step_next : (r n t : ℕ) (v : ℕ → List ℕ) (x0 x z : List ℕ) → x ≡ mixed_part r n v x0 t → z ≡ block_mix r (zip2 bit_xor x (v (integerify r x % n))) → z ≡ mixed_part r n v x0 (t + 1)
+unfolding mixed_part
 step_next r n t v x0 x z ex ez = rw add-one (ez ∙ ap (λ (l : List ℕ). block_mix r (zip2 bit_xor l (v (integerify r l % n)))) ex)
 
 -- steps in pairs
@@ -62,11 +62,11 @@ even_power k some =
     omega arith
 
 -- only the rows below n count
-pub mixed_with_same : (r n : ℕ) (v w : ℕ → List ℕ) (x : List ℕ) (t : ℕ) → 0 < n → ((j : ℕ) → j < n → v j ≡ w j) → mixed_with r n v x t ≡ mixed_with r n w x t
-unfolding mixed_with
-mixed_with_same r n v w x zero some same = refl
-mixed_with_same r n v w x (suc t) some same =
-    let before : mixed_with r n v x t ≡ mixed_with r n w x t = mixed_with_same r n v w x t some same in
-    let j : ℕ = integerify r (mixed_with r n v x t) % n in
-    ap (λ (l : List ℕ). block_mix r (zip2 bit_xor (mixed_with r n v x t) l)) (same j (mod-lt _ some))
+pub mixed_part_same : (r n : ℕ) (v w : ℕ → List ℕ) (x : List ℕ) (t : ℕ) → 0 < n → ((j : ℕ) → j < n → v j ≡ w j) → mixed_part r n v x t ≡ mixed_part r n w x t
+unfolding mixed_part
+mixed_part_same r n v w x zero some same = refl
+mixed_part_same r n v w x (suc t) some same =
+    let before : mixed_part r n v x t ≡ mixed_part r n w x t = mixed_part_same r n v w x t some same in
+    let j : ℕ = integerify r (mixed_part r n v x t) % n in
+    ap (λ (l : List ℕ). block_mix r (zip2 bit_xor (mixed_part r n v x t) l)) (same j (mod-lt _ some))
     ∙ ap (λ (l : List ℕ). block_mix r (zip2 bit_xor l (w (integerify r l % n)))) before

@@ -1,74 +1,20 @@
 //! scrypt (RFC 7914, section 6).
 
-ghost use Rattle.std.specs.Prelude.{◌≡◌, ◌+◌, ◌*◌, ◌/◌, ◌%◌, ◌^◌, ◌<◌, ◌≤◌, IfErr, IfOk, IsTrue, Some, codes, OnErr, OnOk, if◌then◌else◌, is_ok, length, vec_capacity, vec_len};
+ghost use Rattle.std.specs.Prelude.{◌≡◌, ◌+◌, ◌*◌, ◌/◌, ◌%◌, ◌^◌, ◌<◌, ◌≤◌, IfErr, IfOk, IsTrue, OnErr, OnOk, if◌then◌else◌, is_ok, length, vec_capacity, vec_len};
 ghost use Rattle.std.specs.Int.{div_ceil};
-ghost use Rattle.minisign_kdf.specs.Blocks.{block, joined};
+ghost use Rattle.minisign_kdf.specs.Blocks.{block, joined_lists};
 ghost use Rattle.minisign_kdf.specs.Pbkdf2.{longest_key};
 ghost use Rattle.minisign_kdf.specs.Scrypt.{is_key_length, rom_mix, scrypt};
 
+use crate::errors::{InvalidOutputLen, KdfError};
 use crate::kept_rows::{keep_rows, kept_count, room_for_rows, zeros};
 use crate::params::Params;
 use crate::pbkdf2::pbkdf2_once;
 use crate::rom_mix::mix_kept;
 use std::alloc::{AllocError, Global};
-use std::fmt;
 
 // The greatest length of a derived key: 2^32 - 1 blocks of 32 bytes.
 const LONGEST_KEY: usize = 137438953440;
-
-/// The output is empty or longer than 137438953440 bytes.
-#[derive(Clone, Copy, Debug, PartialEq)]
-pub struct InvalidOutputLen;
-
-impl fmt::Display for InvalidOutputLen {
-    ghost output = { λ _. Some (codes "invalid output length") };
-
-    fn fmt<W: fmt::Write>(&self, f: &mut fmt::Formatter<W>) -> fmt::Result {
-        f.write_str("invalid output length")
-    }
-}
-
-/// Why no key was derived.
-#[derive(Clone, Copy, Debug, PartialEq)]
-pub enum KdfError {
-    /// A growth was refused.
-    OutOfMemory,
-    /// The output is empty or longer than 137438953440 bytes.
-    InvalidOutputLen,
-}
-
-impl fmt::Display for KdfError {
-    ghost use Rattle.minisign_kdf.specs.Faults.{error_text};
-
-    ghost output = { λ e. Some (error_text e) };
-
-    fn fmt<W: fmt::Write>(&self, f: &mut fmt::Formatter<W>) -> fmt::Result {
-        match self {
-            KdfError::OutOfMemory => f.write_str("out of memory"),
-            KdfError::InvalidOutputLen => f.write_str("invalid output length"),
-        }
-    }
-}
-
-impl From<AllocError> for KdfError {
-    ghost use Rattle.minisign_kdf.specs.declared.scrypt.KdfError.TheVariants.{OutOfMemory};
-
-    ghost from_gives = { λ _ e. e ≡ OutOfMemory };
-
-    fn from(_: AllocError) -> KdfError {
-        KdfError::OutOfMemory
-    }
-}
-
-impl From<InvalidOutputLen> for KdfError {
-    ghost use Rattle.minisign_kdf.specs.declared.scrypt.KdfError.TheVariants.{InvalidOutputLen};
-
-    ghost from_gives = { λ _ e. e ≡ InvalidOutputLen };
-
-    fn from(_: InvalidOutputLen) -> KdfError {
-        KdfError::InvalidOutputLen
-    }
-}
 
 /// Derives a key that fills `out` from a password and a salt, by scrypt (RFC 7914, section 6):
 /// `scrypt_keeping` with every row kept, which is the fastest.
@@ -91,7 +37,7 @@ pub fn scrypt(
 ) -> Result<(), KdfError>
     ensures fits { OnOk result (IsTrue (is_key_length (length out.old))) }
     ensures derived { OnOk result (out.new ≡ scrypt password.now salt.now (2 ^ params.now.n_log2) params.now.r params.now.p (length out.old)) }
-    ensures fault { IfErr result (λ e. e ≡ (if is_key_length (length out.old) then KdfError.OutOfMemory else KdfError.InvalidOutputLen)) }
+    ensures refused { IfErr result (λ e. e ≡ (if is_key_length (length out.old) then KdfError.OutOfMemory else KdfError.InvalidOutputLen)) }
     ensures unchanged { OnErr result (out.new ≡ out.old) }
 {
     scrypt_keeping(alloc, password, salt, params, 1, out)?;
@@ -126,7 +72,7 @@ pub fn scrypt_keeping(
     ensures fits { OnOk result (IsTrue (is_key_length (length out.old))) }
     ensures derived { OnOk result (out.new ≡ scrypt password.now salt.now (2 ^ params.now.n_log2) params.now.r params.now.p (length out.old)) }
     ensures count { IfOk result (λ n. n ≡ div_ceil (2 ^ params.now.n_log2) k) }
-    ensures fault { IfErr result (λ e. e ≡ (if is_key_length (length out.old) then KdfError.OutOfMemory else KdfError.InvalidOutputLen)) }
+    ensures refused { IfErr result (λ e. e ≡ (if is_key_length (length out.old) then KdfError.OutOfMemory else KdfError.InvalidOutputLen)) }
     ensures unchanged { OnErr result (out.new ≡ out.old) }
 {
     check_len(out.len())?;
@@ -200,7 +146,7 @@ fn mix_parts(
     requires parts_len { length parts.old ≡ 128 * r * p }
     requires room { 32 * r * div_ceil (2 ^ n_log2) k ≤ vec_capacity rows.old }
     requires work_len { length work.old ≡ 96 * r }
-    ensures { parts.new ≡ joined (λ i. rom_mix r (2 ^ n_log2) (block (128 * r) parts.old i)) p }
+    ensures { parts.new ≡ joined_lists (λ i. rom_mix r (2 ^ n_log2) (block (128 * r) parts.old i)) p }
 {
     let len = 128 * r;
     'parts: for i in 0..p {

@@ -1,0 +1,72 @@
+//! What key derivation refuses, and which of its faults a refusal further down becomes.
+
+ghost use Rattle.std.specs.Prelude.{◌≡◌, Some, codes};
+
+use std::alloc::AllocError;
+use std::fmt;
+
+/// Parameters that scrypt can't be used with.
+#[derive(Clone, Copy, Debug, PartialEq)]
+pub struct InvalidParams;
+
+impl fmt::Display for InvalidParams {
+    ghost output = { λ _. Some (codes "invalid scrypt parameters") };
+
+    fn fmt<W: fmt::Write>(&self, f: &mut fmt::Formatter<W>) -> fmt::Result {
+        f.write_str("invalid scrypt parameters")
+    }
+}
+
+/// The output is empty or longer than 137438953440 bytes.
+#[derive(Clone, Copy, Debug, PartialEq)]
+pub struct InvalidOutputLen;
+
+impl fmt::Display for InvalidOutputLen {
+    ghost output = { λ _. Some (codes "invalid output length") };
+
+    fn fmt<W: fmt::Write>(&self, f: &mut fmt::Formatter<W>) -> fmt::Result {
+        f.write_str("invalid output length")
+    }
+}
+
+/// Why no key was derived.
+#[derive(Clone, Copy, Debug, PartialEq)]
+pub enum KdfError {
+    /// A growth was refused.
+    OutOfMemory,
+    /// The output is empty or longer than 137438953440 bytes.
+    InvalidOutputLen,
+}
+
+impl fmt::Display for KdfError {
+    ghost use Rattle.minisign_kdf.specs.Faults.{error_text};
+
+    ghost output = { λ e. Some (error_text e) };
+
+    fn fmt<W: fmt::Write>(&self, f: &mut fmt::Formatter<W>) -> fmt::Result {
+        match self {
+            KdfError::OutOfMemory => f.write_str("out of memory"),
+            KdfError::InvalidOutputLen => f.write_str("invalid output length"),
+        }
+    }
+}
+
+impl From<AllocError> for KdfError {
+    ghost use Rattle.minisign_kdf.specs.declared.errors.KdfError.TheVariants.{OutOfMemory};
+
+    ghost from_gives = { λ _ e. e ≡ OutOfMemory };
+
+    fn from(_: AllocError) -> KdfError {
+        KdfError::OutOfMemory
+    }
+}
+
+impl From<InvalidOutputLen> for KdfError {
+    ghost use Rattle.minisign_kdf.specs.declared.errors.KdfError.TheVariants.{InvalidOutputLen};
+
+    ghost from_gives = { λ _ e. e ≡ InvalidOutputLen };
+
+    fn from(_: InvalidOutputLen) -> KdfError {
+        KdfError::InvalidOutputLen
+    }
+}
