@@ -16,6 +16,9 @@ pub trait Source {
     // The bytes that going back to the mark would put ahead, where that is known.
     ghost behind: { Self → Option (List ℕ) } = { λ _. None };
 
+    // The bytes given since the place was last marked or gone back to, where the source tells them.
+    ghost since: { Self → Option (List ℕ) } = { λ _. None };
+
     // Whether a place is marked. Reads leave that.
     ghost is_marked: { Self → Bool } = { λ _. false };
 
@@ -29,7 +32,7 @@ pub trait Source {
     /// how many. The answer is 0 only where `buf` is empty or no byte is left. After a fault the
     /// bytes ahead are those before the call, or are told no more.
     fn read(&mut self, buf: &mut [u8]) -> Result<usize, DeviceFault>
-        ensures { HasRead ahead behind is_marked left faults self.old self.new buf.new result };
+        ensures { HasRead ahead behind since is_marked left faults self.old self.new buf.new result };
 }
 
 /// A source that can be read again from a place that was marked.
@@ -40,12 +43,12 @@ pub trait Rereader: Source {
     /// Remembers the place. The bytes ahead stay; after a fault they stay or are told no more, and no
     /// place is marked.
     fn mark(&mut self) -> Result<(), DeviceFault>
-        ensures { HasMarked steady Self.ahead Self.behind Self.is_marked Self.faults self.old self.new result };
+        ensures { HasMarked steady Self.ahead Self.behind Self.since Self.is_marked Self.faults self.old self.new result };
 
     /// Returns to the place that was marked last. Without a mark it is a fault. After a fault no place
     /// is marked.
     fn back(&mut self) -> Result<(), DeviceFault>
-        ensures { HasGoneBack Self.ahead Self.behind Self.is_marked Self.faults self.old self.new result };
+        ensures { HasGoneBack Self.ahead Self.behind Self.since Self.is_marked Self.faults self.old self.new result };
 }
 
 /// The bytes of a slice. It fails only in `back` without a mark.
@@ -86,7 +89,7 @@ impl<'a> Source for SliceSource<'a> {
     // As many bytes as there is room for, or are left, and never a fault.
     fn read(&mut self, buf: &mut [u8]) -> Result<usize, DeviceFault>
         ensures gives { IsOkAnd result (λ n. n ≡ min (length buf.new) (⟦<SliceSource<'a> as Source>⟧.left self.old)) }
-        ensures read { HasRead ⟦<SliceSource<'a> as Source>⟧.ahead ⟦<SliceSource<'a> as Source>⟧.behind ⟦<SliceSource<'a> as Source>⟧.is_marked ⟦<SliceSource<'a> as Source>⟧.left ⟦<SliceSource<'a> as Source>⟧.faults
+        ensures read { HasRead ⟦<SliceSource<'a> as Source>⟧.ahead ⟦<SliceSource<'a> as Source>⟧.behind ⟦<SliceSource<'a> as Source>⟧.since ⟦<SliceSource<'a> as Source>⟧.is_marked ⟦<SliceSource<'a> as Source>⟧.left ⟦<SliceSource<'a> as Source>⟧.faults
             self.old self.new buf.new result }
     {
         let n = buf.len().min(self.rest.len());
@@ -103,7 +106,7 @@ impl<'a> Rereader for SliceSource<'a> {
     // Never a fault.
     fn mark(&mut self) -> Result<(), DeviceFault>
         ensures succeeds { IsOk result }
-        ensures mark { HasMarked ⟦<SliceSource<'a> as Rereader>⟧.steady ⟦<SliceSource<'a> as Source>⟧.ahead ⟦<SliceSource<'a> as Source>⟧.behind ⟦<SliceSource<'a> as Source>⟧.is_marked ⟦<SliceSource<'a> as Source>⟧.faults
+        ensures mark { HasMarked ⟦<SliceSource<'a> as Rereader>⟧.steady ⟦<SliceSource<'a> as Source>⟧.ahead ⟦<SliceSource<'a> as Source>⟧.behind ⟦<SliceSource<'a> as Source>⟧.since ⟦<SliceSource<'a> as Source>⟧.is_marked ⟦<SliceSource<'a> as Source>⟧.faults
             self.old self.new result }
     {
         self.marked = Some(self.rest);
@@ -113,7 +116,7 @@ impl<'a> Rereader for SliceSource<'a> {
     // A fault exactly where nothing was marked. The bytes ahead then stay.
     fn back(&mut self) -> Result<(), DeviceFault>
         ensures succeeds { IsOk result ↔ IsTrue (⟦<SliceSource<'a> as Source>⟧.is_marked self.old) }
-        ensures back { HasGoneBack ⟦<SliceSource<'a> as Source>⟧.ahead ⟦<SliceSource<'a> as Source>⟧.behind ⟦<SliceSource<'a> as Source>⟧.is_marked ⟦<SliceSource<'a> as Source>⟧.faults self.old self.new result }
+        ensures back { HasGoneBack ⟦<SliceSource<'a> as Source>⟧.ahead ⟦<SliceSource<'a> as Source>⟧.behind ⟦<SliceSource<'a> as Source>⟧.since ⟦<SliceSource<'a> as Source>⟧.is_marked ⟦<SliceSource<'a> as Source>⟧.faults self.old self.new result }
         ensures stays_marked { ⟦<SliceSource<'a> as Source>⟧.behind self.new ≡ ⟦<SliceSource<'a> as Source>⟧.behind self.old }
         ensures kept { OnErr result (⟦<SliceSource<'a> as Source>⟧.ahead self.new ≡ ⟦<SliceSource<'a> as Source>⟧.ahead self.old) }
     {
