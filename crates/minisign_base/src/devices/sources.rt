@@ -1,7 +1,7 @@
 //! What bytes are read from.
 
-ghost use Rattle.std.specs.Prelude.{Bool, true, false, IsTrue, Option, ◌≡◌, ◌==◌, ℕ, ◌+◌, ◌-◌, ◌<◌, ◌≤◌, ◌^◌, ◌↔◌, min, List, length, take, Some, None, IsOk, IsErr, IsOkAnd, IsNone, IfOk, IfSome, OnOk, OnErr, if◌then◌else◌, ⊤, ◌⊎◌};
-ghost use Rattle.std.specs.Option.{is_some, option_map};
+ghost use Rattle.std.specs.Prelude.{Bool, true, false, IsTrue, Option, ◌≡◌, ◌==◌, ℕ, ◌+◌, ◌-◌, ◌<◌, ◌≤◌, ◌^◌, ◌↔◌, min, List, [], length, take, drop, Some, None, IsOk, IsErr, IsOkAnd, IsNone, IfOk, IfSome, OnOk, OnErr, if◌then◌else◌, ⊤, ◌⊎◌};
+ghost use Rattle.std.specs.Option.{is_some};
 ghost use Rattle.std.specs.Io.KnownBytes.{Consumes, IsAtEnd};
 ghost use Rattle.minisign_base.specs.Devices.{Rose, most_faults, HasGiven, HasRead, HasMarked, HasGoneBack};
 
@@ -54,9 +54,13 @@ pub trait Rereader: Source {
 /// The bytes of a slice. It fails only in `back` without a mark.
 #[derive(Debug, Drop)]
 pub struct SliceSource<'a> {
-    rest: &'a [u8],
-    marked: Option<&'a [u8]>,
+    // The bytes from the place on that was last marked or gone back to, or from the beginning on.
+    bytes: &'a [u8],
+    // How many of them were given.
+    given: usize,
+    is_marked: bool,
     faults: FaultCount,
+    ghost within: { given ≤ length bytes.now },
 }
 
 impl<'a> SliceSource<'a> {
@@ -64,38 +68,44 @@ impl<'a> SliceSource<'a> {
     pub fn new(bytes: &'a [u8]) -> SliceSource<'a>
         ensures ahead { ⟦<SliceSource<'a> as Source>⟧.ahead result ≡ Some bytes.now }
         ensures behind { ⟦<SliceSource<'a> as Source>⟧.behind result ≡ None }
+        ensures since { ⟦<SliceSource<'a> as Source>⟧.since result ≡ Some [] }
         ensures unmarked { ⟦<SliceSource<'a> as Source>⟧.is_marked result ≡ false }
         ensures faults { ⟦<SliceSource<'a> as Source>⟧.faults result ≡ 0 }
     {
         SliceSource {
-            rest: bytes,
-            marked: None,
+            bytes,
+            given: 0,
+            is_marked: false,
             faults: FaultCount(0),
         }
     }
 }
 
 impl<'a> Source for SliceSource<'a> {
-    ghost ahead = { λ s. Some s.rest.now };
+    ghost ahead = { λ s. Some (drop s.given s.bytes.now) };
 
-    ghost behind = { λ s. option_map (λ m. m.now) s.marked };
+    ghost behind = { λ s. (if s.is_marked then Some s.bytes.now else None) };
 
-    ghost is_marked = { λ s. is_some s.marked };
+    ghost since = { λ s. Some (take s.given s.bytes.now) };
 
-    ghost left = { λ s. length s.rest.now };
+    ghost is_marked = { λ s. s.is_marked };
+
+    ghost left = { λ s. length s.bytes.now - s.given };
 
     ghost faults = { λ s. s.faults.0 };
 
     // As many bytes as there is room for, or are left, and never a fault.
+    #[tactic(auto, using(crate::proofs::GivenParts::rest_given, crate::proofs::GivenParts::front_given))]
     fn read(&mut self, buf: &mut [u8]) -> Result<usize, DeviceFault>
         ensures gives { IsOkAnd result (λ n. n ≡ min (length buf.new) (⟦<SliceSource<'a> as Source>⟧.left self.old)) }
         ensures read { HasRead ⟦<SliceSource<'a> as Source>⟧.ahead ⟦<SliceSource<'a> as Source>⟧.behind ⟦<SliceSource<'a> as Source>⟧.since ⟦<SliceSource<'a> as Source>⟧.is_marked ⟦<SliceSource<'a> as Source>⟧.left ⟦<SliceSource<'a> as Source>⟧.faults
             self.old self.new buf.new result }
     {
-        let n = buf.len().min(self.rest.len());
-        let (front, rest) = self.rest.split_at(n);
+        let (_, rest) = self.bytes.split_at(self.given);
+        let n = buf.len().min(rest.len());
+        let (front, _) = rest.split_at(n);
         buf[..n].copy_from_slice(front);
-        self.rest = rest;
+        self.given += n;
         Ok(n)
     }
 }
@@ -109,7 +119,10 @@ impl<'a> Rereader for SliceSource<'a> {
         ensures mark { HasMarked ⟦<SliceSource<'a> as Rereader>⟧.steady ⟦<SliceSource<'a> as Source>⟧.ahead ⟦<SliceSource<'a> as Source>⟧.behind ⟦<SliceSource<'a> as Source>⟧.since ⟦<SliceSource<'a> as Source>⟧.is_marked ⟦<SliceSource<'a> as Source>⟧.faults
             self.old self.new result }
     {
-        self.marked = Some(self.rest);
+        let (_, rest) = self.bytes.split_at(self.given);
+        self.given = 0;
+        self.bytes = rest;
+        self.is_marked = true;
         Ok(())
     }
 
@@ -120,13 +133,11 @@ impl<'a> Rereader for SliceSource<'a> {
         ensures stays_marked { ⟦<SliceSource<'a> as Source>⟧.behind self.new ≡ ⟦<SliceSource<'a> as Source>⟧.behind self.old }
         ensures kept { OnErr result (⟦<SliceSource<'a> as Source>⟧.ahead self.new ≡ ⟦<SliceSource<'a> as Source>⟧.ahead self.old) }
     {
-        match self.marked {
-            Some(marked) => {
-                self.rest = marked;
-                Ok(())
-            }
-            None => Err(self.faults.raise()),
+        if !self.is_marked {
+            return Err(self.faults.raise());
         }
+        self.given = 0;
+        Ok(())
     }
 }
 

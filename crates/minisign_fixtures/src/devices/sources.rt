@@ -1,6 +1,6 @@
 //! Sources that cut bytes as finely as they can, fail, or give others when they are read again.
 
-ghost use Rattle.std.specs.Prelude.{⊤, Some, length};
+ghost use Rattle.std.specs.Prelude.{⊤};
 
 use crate::devices::turn::Turn;
 use minisign_base::devices::DeviceFault;
@@ -25,6 +25,8 @@ impl<'a> Source for OneByOne<'a> {
     ghost ahead = { λ s. ⟦<SliceSource<'a> as Source>⟧.ahead s.source };
 
     ghost behind = { λ s. ⟦<SliceSource<'a> as Source>⟧.behind s.source };
+
+    ghost since = { λ s. ⟦<SliceSource<'a> as Source>⟧.since s.source };
 
     ghost is_marked = { λ s. ⟦<SliceSource<'a> as Source>⟧.is_marked s.source };
 
@@ -75,6 +77,8 @@ impl<'a> Source for FailsAfter<'a> {
     ghost ahead = { λ s. ⟦<OneByOne<'a> as Source>⟧.ahead s.source };
 
     ghost behind = { λ s. ⟦<OneByOne<'a> as Source>⟧.behind s.source };
+
+    ghost since = { λ s. ⟦<OneByOne<'a> as Source>⟧.since s.source };
 
     ghost is_marked = { λ s. s.marked };
 
@@ -145,6 +149,8 @@ impl<'a> Source for FailingSource<'a> {
 
     ghost behind = { λ s. ⟦<OneByOne<'a> as Source>⟧.behind s.source };
 
+    ghost since = { λ s. ⟦<OneByOne<'a> as Source>⟧.since s.source };
+
     ghost is_marked = { λ s. s.marked };
 
     ghost left = { λ s. ⟦<OneByOne<'a> as Source>⟧.left s.source };
@@ -192,7 +198,7 @@ impl<'a> Rereader for FailingSource<'a> {
 /// The bytes of a slice, and those of another one once it went back. It fails only in `back` without a mark.
 #[derive(Drop)]
 pub struct Changes<'a> {
-    ahead: &'a [u8],
+    source: SliceSource<'a>,
     second: &'a [u8],
     marked: bool,
     faults: u64,
@@ -202,7 +208,7 @@ impl<'a> Changes<'a> {
     /// All of the first slice is ahead.
     pub fn new(first: &'a [u8], second: &'a [u8]) -> Changes<'a> {
         Changes {
-            ahead: first,
+            source: SliceSource::new(first),
             second,
             marked: false,
             faults: 0,
@@ -211,20 +217,22 @@ impl<'a> Changes<'a> {
 }
 
 impl<'a> Source for Changes<'a> {
-    ghost ahead = { λ s. Some s.ahead.now };
+    ghost ahead = { λ s. ⟦<SliceSource<'a> as Source>⟧.ahead s.source };
+
+    ghost since = { λ s. ⟦<SliceSource<'a> as Source>⟧.since s.source };
 
     ghost is_marked = { λ s. s.marked };
 
-    ghost left = { λ s. length s.ahead.now };
+    ghost left = { λ s. ⟦<SliceSource<'a> as Source>⟧.left s.source };
 
     ghost faults = { λ s. s.faults };
 
     fn read(&mut self, buf: &mut [u8]) -> Result<usize, DeviceFault> {
-        let n = buf.len().min(self.ahead.len());
-        let (front, rest) = self.ahead.split_at(n);
-        buf[..n].copy_from_slice(front);
-        self.ahead = rest;
-        Ok(n)
+        if let Ok(n) = self.source.read(buf) {
+            return Ok(n);
+        }
+        self.faults = self.faults.saturating_add(1);
+        Err(DeviceFault)
     }
 }
 
@@ -232,8 +240,13 @@ impl<'a> Rereader for Changes<'a> {
     ghost steady = { λ _. ⊥ };
 
     fn mark(&mut self) -> Result<(), DeviceFault> {
-        self.marked = true;
-        Ok(())
+        if let Ok(()) = self.source.mark() {
+            self.marked = true;
+            return Ok(());
+        }
+        self.marked = false;
+        self.faults = self.faults.saturating_add(1);
+        Err(DeviceFault)
     }
 
     fn back(&mut self) -> Result<(), DeviceFault> {
@@ -241,7 +254,7 @@ impl<'a> Rereader for Changes<'a> {
             self.faults = self.faults.saturating_add(1);
             return Err(DeviceFault);
         }
-        self.ahead = self.second;
+        self.source = SliceSource::new(self.second);
         Ok(())
     }
 }
