@@ -1,5 +1,5 @@
 -- What follows after a refusal, and after one draw and then another.
-use Rattle.std.proofs.Common.{ℕ, List, ◌++◌, Option, None, Some, Result, Ok, Err, OnErr, append_assoc, ap, sym, ◌∙◌}
+use Rattle.std.proofs.Common.{◌≡◌, ℕ, List, ◌++◌, Option, None, Some, Result, Ok, Err, IsErrAnd, IfErr, OnErr, append_assoc, ap, sym, subst, ◌∙◌}
 use Rattle.std.specs.Io.KnownBytes.{Consumes}
 use Rattle.minisign_base.specs.Devices.{HasGiven}
 
@@ -7,6 +7,11 @@ use Rattle.minisign_base.specs.Devices.{HasGiven}
 pub on_err_of : {T E : Type 0} (r : Result T E) (P : Type 0) → P → OnErr r P
 on_err_of (Ok x) P h = tt
 on_err_of (Err e) P h = h
+
+-- what holds of a fault holds of the answer that passes it up
+pub passed_up : {T E : Type 0} (r : Result T E) (e : E) (P : E → Type 0) → IsErrAnd r (λ y. y ≡ e) → P e → IfErr r P
+passed_up (Ok x) e P is h = tt
+passed_up (Err y) e P is h = subst P (sym is) h
 
 -- what was given of the front, and then more of it
 pub given_behind : (old mid new : Option (List ℕ)) (a : List ℕ) → Consumes old mid a → HasGiven mid new → HasGiven old new

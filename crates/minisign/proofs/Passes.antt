@@ -1,5 +1,5 @@
 -- The passes over data, as a caller of the whole sees them.
-use Rattle.std.proofs.Common.{◌≡◌, ◌≢◌, ℕ, Bool, true, false, List, Option, None, Some, IfSome, IsSome, OnOk, IfErr, IsTrue, inl, inr, ⊎_elim, refl, sym, ap, subst, ◌∙◌}
+use Rattle.std.proofs.Common.{◌≡◌, ◌≢◌, ◌⊎◌, ℕ, Bool, true, false, List, Option, None, Some, IfSome, IsSome, OnOk, IfErr, IsTrue, inl, inr, ⊎_elim, refl, sym, ap, subst, ◌∙◌, length, arith}
 use Rattle.std.proofs.lemmas.Bool.{true≢false}
 use Rattle.std.proofs.lemmas.Slice.Eq.{bytes_eq-Decides}
 use Rattle.std.specs.Io.KnownBytes.{IsAtEnd}
@@ -8,16 +8,17 @@ use Rattle.std.specs.declared.result.Result.TheVariants.{Ok, Err}
 use Rattle.minisign_hash.specs.Blake2b.{blake2b_digest}
 use Rattle.minisign_base.specs.Devices.{Rose, HasGiven}
 use Rattle.minisign_base.specs.Fault.{Fault}
+use Rattle.minisign_base.specs.Faults.{going_back_failed, out_of_memory, reading_failed}
 use Rattle.minisign_base.specs.Members.{SourceOf}
-use Rattle.minisign_base.specs.Passages.{SinkIsCalm, SinkPassage, Takes, TakesFront, rereader_passage}
+use Rattle.minisign_base.specs.Passages.{RereaderPassage, SinkIsCalm, SinkPassage, SourceGives, Takes, TakesFront, rereader_passage}
 use Rattle.minisign.specs.declared.signed_data.SignedData.{SignedData}
 use Rattle.minisign.specs.declared.signed_data.SignedData.TheVariants.{Digest, Kept, Unkept}
 use Rattle.minisign.specs.Reading.{IsAhead, IsReturned, IsReadFault}
 use Rattle.minisign.specs.Records.{PublicKeyRecord, SignatureBoxRecord, is_prehashed, prehashed_algorithm}
-use Rattle.minisign.specs.Acceptance.{Verifier, Vouches, signed_bytes}
+use Rattle.minisign.specs.Acceptance.{Flags, Refuses, Verifier, Vouches, signed_bytes}
 use Rattle.minisign.specs.SignedData.{AreSigned, HoldsSigned, held_bytes}
 use Rattle.minisign.specs.Copying.{CopyingFails, CopyingSucceeds, SecondPassFails}
-use Rattle.minisign.specs.Verifying.{FirstPass, SecondPass, VerifyingFails, VerifyingSucceeds, is_reread, wanted_status}
+use Rattle.minisign.specs.Verifying.{FirstPass, MarkFails, SecondPass, VerifyingFails, VerifyingSucceeds, is_reread, wanted_status}
 
 -- what is ahead after going back to where this was ahead
 what_was_marked : (first behind returned : Option (List ℕ)) (second : List ℕ) → behind ≡ first → IfSome behind (λ xs. returned ≡ Some xs) → IsAhead returned second
@@ -51,6 +52,26 @@ held_signed Unkept x legacy message holds allowed = absurd (true≢false (sym al
 pub judged_signed : (bytes : List ℕ) (signed : SignedData) (x : SignatureBoxRecord) (legacy : Bool) (message : List ℕ) → bytes ≡ held_bytes signed
     → HoldsSigned signed x legacy message → AreSigned bytes x legacy message
 judged_signed bytes signed x legacy message is holds allowed = is ∙ held_signed signed x legacy message holds allowed
+
+-- a failing mark is not told as a failing read
+unlike_reading : going_back_failed ≢ reading_failed
+unfolding going_back_failed reading_failed
+unlike_reading same = let lengths : 17 ≡ 14 = ap (λ f. length f.text) same in omega (arith, lengths)
+
+-- where a mark fails nothing is told as a failing read
+pub mark_is_no_read : {R : Type 0} (again other : Bool) (reader : RereaderPassage R) (e : Fault) → MarkFails again reader e
+    → other ≡ true → e ≡ reading_failed → reader.source.is_marked reader.new ≡ true
+mark_is_no_read again other reader e fails wanted fault = absurd (unlike_reading (sym fails.fault ∙ fault))
+
+-- the first pass was made, and then memory was wanting or the box is refused
+pub judging_fails : {R W O : Type 0} (accepts : Verifier) (pk : PublicKeyRecord) (x : SignatureBoxRecord) (flags : Flags)
+    (reader : RereaderPassage R) (status : SinkPassage W) (out : SinkPassage O) (message : List ℕ) (e : Fault)
+    → out.new ≡ out.old → status.new ≡ status.old → SourceGives reader → FirstPass (is_reread flags.output x) reader message
+    → ((e ≡ out_of_memory) ⊎ Refuses accepts pk x message flags.legacy e) → VerifyingFails accepts pk x flags reader status out e
+judging_fails accepts pk x flags reader status out message e uncopied unsaid given pass (inl memory) =
+    inl (uncopied, given, inl (record { failed = inr (inl memory); marked = λ again fault. pass.stays_marked again; unsaid = unsaid }))
+judging_fails accepts pk x flags reader status out message e uncopied unsaid given pass (inr refuses) =
+    inl (uncopied, given, inr (message, pass, inl (record { refuses = refuses; unsaid = unsaid })))
 
 -- nothing vouches where a box is neither prehashed nor allowed
 unallowed : (accepts : Verifier) (pk : PublicKeyRecord) (x : SignatureBoxRecord) (message : List ℕ) (legacy : Bool)
@@ -90,14 +111,14 @@ module _ {R : Type 0} (source : SourceOf R) (steady : R → Type 0) (old mid new
       → ((second : List ℕ) → Pass second → Seen second) → source.faults mid ≡ source.faults old → digest ≡ same
       → SecondPassFails Pass (rereader_passage source steady mid new) out digest e → SecondPassFails Seen (rereader_passage source steady old new) out same e
   second_pass_fails Pass Seen out digest same e seen calm equal = ⊎_elim
-      (λ back. inl (record { fault = back.fault; rose = subst (λ n. Rose n (source.faults new)) calm back.rose; uncopied = back.uncopied }))
+      (λ back. inl (record { fault = back.fault; rose = subst (λ n. Rose n (source.faults new)) calm back.rose; unmarked = back.unmarked; uncopied = back.uncopied }))
       (λ (second, pass, ended). inr (
         second,
         seen second pass,
-        ⊎_elim (λ broken. inl (record { front = broken.front; failed = ⊎_elim (λ failed. inl (read_fault e calm failed)) inr broken.failed }))
+        ⊎_elim (λ broken. inl (record { front = broken.front; read = broken.read; given = broken.given; read_front = broken.read_front; failed = ⊎_elim (λ failed. inl (read_fault e calm failed)) inr broken.failed; marked = broken.marked }))
             (λ copied. inr (⊎_elim
-            (λ other. inl (record { all = other.all; fault = other.fault; changed = subst (λ d. blake2b_digest 64 second ≢ d) equal other.changed }))
-            (λ flushed. inr (record { all = flushed.all; unchanged = flushed.unchanged ∙ equal; failed = flushed.failed }))
+            (λ other. inl (record { given = other.given; all = other.all; fault = other.fault; changed = subst (λ d. blake2b_digest 64 second ≢ d) equal other.changed }))
+            (λ flushed. inr (record { given = flushed.given; all = flushed.all; unchanged = flushed.unchanged ∙ equal; failed = flushed.failed }))
             copied))
             ended,
       ))

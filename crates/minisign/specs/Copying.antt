@@ -7,32 +7,40 @@ use Rattle.minisign_base.specs.Faults.{writing_failed, going_back_failed, data_c
 use Rattle.minisign_base.specs.Passages.{RereaderPassage, SinkFails, SinkPassage, SourceFails, Takes, TakesFront}
 use Rattle.minisign.specs.declared.signed_data.SignedData.{SignedData}
 use Rattle.minisign.specs.declared.signed_data.SignedData.TheVariants.{Digest, Kept, Unkept}
-use Rattle.minisign.specs.Reading.{IsReadFault, IsReturned}
+use Rattle.minisign.specs.Reading.{IsReadFault, IsReturned, WereGiven}
 
 -- the output failed
 pub record OutputFails {O : Type 0} (out : SinkPassage O) (e : Fault) : Type 0 where
   pub fault : e ≡ writing_failed
   pub rose : SinkFails out
 
--- going back failed; nothing was copied
+-- going back failed, so that no place is marked; nothing was copied
 pub record ReturnFails {R O : Type 0} (reader : RereaderPassage R) (out : SinkPassage O) (e : Fault) : Type 0 where
   pub fault : e ≡ going_back_failed
   pub rose : SourceFails reader
+  pub unmarked : reader.source.is_marked reader.new ≡ false
   pub uncopied : out.new ≡ out.old
 
--- the data was copied in part: memory was wanting, the source failed, or the output did
+-- the data was copied in part, which is a beginning of what the second pass gave: memory was wanting, the source
+-- failed at a read, which leaves its place marked, or the output did
 pub record CopyBreaksOff {R O : Type 0} (reader : RereaderPassage R) (out : SinkPassage O) (second : List ℕ) (e : Fault) : Type 0 where
   pub front : TakesFront out second
+  pub read : List ℕ
+  pub given : WereGiven (reader.source.since reader.new) read
+  pub read_front : TakesFront out read
   pub failed : IsReadFault reader.source reader.old reader.new e ⊎ OutputFails out e
+  pub marked : reader.source.is_marked reader.new ≡ true
 
--- the data was copied whole, and it is other data: it has another digest
-pub record DataChanged {O : Type 0} (out : SinkPassage O) (digest second : List ℕ) (e : Fault) : Type 0 where
+-- what the second pass gave was copied whole, and it is other data: it has another digest
+pub record DataChanged {R O : Type 0} (reader : RereaderPassage R) (out : SinkPassage O) (digest second : List ℕ) (e : Fault) : Type 0 where
+  pub given : WereGiven (reader.source.since reader.new) second
   pub all : Takes out second
   pub fault : e ≡ data_changed
   pub changed : blake2b_digest 64 second ≢ digest
 
--- the data was copied whole, and the output failed at its flush
-pub record FlushFails {O : Type 0} (out : SinkPassage O) (digest second : List ℕ) (e : Fault) : Type 0 where
+-- what the second pass gave was copied whole, and the output failed at its flush
+pub record FlushFails {R O : Type 0} (reader : RereaderPassage R) (out : SinkPassage O) (digest second : List ℕ) (e : Fault) : Type 0 where
+  pub given : WereGiven (reader.source.since reader.new) second
   pub all : Takes out second
   pub unchanged : blake2b_digest 64 second ≡ digest
   pub failed : OutputFails out e
@@ -42,7 +50,7 @@ abbrev pub SecondPassFails : {R O : Type 0} → (List ℕ → Type 0) → Reread
 SecondPassFails Pass reader out digest e =
     ReturnFails reader out e
     ⊎ ((second : List ℕ) × Pass second
-    × (CopyBreaksOff reader out second e ⊎ DataChanged out digest second e ⊎ FlushFails out digest second e))
+    × (CopyBreaksOff reader out second e ⊎ DataChanged reader out digest second e ⊎ FlushFails reader out digest second e))
 
 -- kept data was copied in part: the output failed
 pub record KeptFails {O : Type 0} (out : SinkPassage O) (message : List ℕ) (e : Fault) : Type 0 where

@@ -10,6 +10,11 @@ use Rattle.minisign_base.specs.Members.{SourceOf}
 abbrev pub IsAhead : Option (List ℕ) → List ℕ → Type 0
 IsAhead ahead bytes = IfSome ahead (λ xs. xs ≡ bytes)
 
+-- these were the bytes given since the place was last marked or gone back to; where a source does not tell them,
+-- nothing is said of them
+abbrev pub WereGiven : Option (List ℕ) → List ℕ → Type 0
+WereGiven since bytes = IfSome since (λ xs. xs ≡ bytes)
+
 -- the source was read to its end without a fault, and gave this message; its mark stays
 pub record ReadsWhole {R : Type 0} (source : SourceOf R) (old new : R) (message : List ℕ) : Type 0 where
   pub given : IsAhead (source.ahead old) message

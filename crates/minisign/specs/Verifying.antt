@@ -4,7 +4,7 @@ use Rattle.std.specs.Io.KnownBytes.{IsAtEnd}
 use Rattle.minisign_hash.specs.Blake2b.{blake2b_digest}
 use Rattle.minisign_base.specs.Devices.{StaysOrHides}
 use Rattle.minisign_base.specs.Fault.{Fault}
-use Rattle.minisign_base.specs.Faults.{writing_failed, going_back_failed}
+use Rattle.minisign_base.specs.Faults.{writing_failed, reading_failed, going_back_failed}
 use Rattle.minisign_base.specs.Passages.{IsSteady, RereaderPassage, SinkFails, SinkIsCalm, SinkPassage, SourceFails, SourceGives, SourceIsCalm, Takes}
 use Rattle.minisign.specs.Records.{PublicKeyRecord, SignatureBoxRecord, is_prehashed}
 use Rattle.minisign.specs.Acceptance.{Flags, Refuses, Verifier, Vouches, signed_bytes, status_lines}
@@ -26,6 +26,7 @@ pub record FirstPass {R : Type 0} (again : Bool) (reader : RereaderPassage R) (m
   pub calm : SourceIsCalm reader
   pub mark : again ≡ false → reader.source.behind reader.new ≡ reader.source.behind reader.old
   pub marked : again ≡ true → IsSteady reader → reader.source.behind reader.new ≡ reader.source.ahead reader.old
+  pub stays_marked : again ≡ true → reader.source.is_marked reader.new ≡ true
 
 -- the place was gone back to, and this was ahead then: over a steady source what was ahead at first, of which
 -- some bytes at the front were given since
@@ -62,16 +63,19 @@ pub record VerifyingSucceeds {R W O : Type 0} (accepts : Verifier) (pk : PublicK
   pub uncopied : flags.output ≡ false → out.new ≡ out.old
   pub out_calm : SinkIsCalm out
 
--- the place could not be marked; nothing was read
+-- the place could not be marked, so that none is; nothing was read
 pub record MarkFails {R : Type 0} (again : Bool) (reader : RereaderPassage R) (e : Fault) : Type 0 where
   pub wanted : again ≡ true
   pub fault : e ≡ going_back_failed
   pub rose : SourceFails reader
+  pub unmarked : reader.source.is_marked reader.new ≡ false
   pub unread : StaysOrHides (reader.source.ahead reader.old) (reader.source.ahead reader.new)
 
--- the place could not be marked, memory was wanting, or the data could not be read; nothing was said
+-- the place could not be marked, memory was wanting, or the data could not be read, whose place is marked where
+-- it is to be read again; nothing was said
 pub record BreaksOff {R W : Type 0} (again : Bool) (reader : RereaderPassage R) (status : SinkPassage W) (e : Fault) : Type 0 where
   pub failed : MarkFails again reader e ⊎ IsReadFault reader.source reader.old reader.new e
+  pub marked : again ≡ true → e ≡ reading_failed → reader.source.is_marked reader.new ≡ true
   pub unsaid : status.new ≡ status.old
 
 -- the box does not vouch for the message, and this is why; nothing was said

@@ -1,15 +1,15 @@
 //! Copying the data of a box that was accepted: the data that was kept, or a second pass over the source
 //! that has to give the digest of the first.
 
-ghost use Rattle.std.specs.Prelude.{◌≡◌, ℕ, ◌<◌, ◌++◌, ◌⊎◌, List, false, length, IfSome, IfOk, IfErr, OnOk, OnErr};
+ghost use Rattle.std.specs.Prelude.{◌≡◌, ℕ, ◌<◌, ◌++◌, ◌⊎◌, List, true, false, length, IfSome, IfOk, IfErr, OnOk, OnErr};
 ghost use Rattle.std.specs.Io.KnownBytes.{Appends, IsAtEnd, Keeps};
 ghost use Rattle.minisign_hash.specs.Blake2b.{blake2b_digest};
 ghost use Rattle.minisign_hash.specs.Fed.{IsFed, has_finalized, output_length};
-ghost use Rattle.minisign_base.specs.Devices.{Rose, HasGiven, AppendsFront};
+ghost use Rattle.minisign_base.specs.Devices.{Rose, HasGiven, AppendsFront, BeginsAnew};
 ghost use Rattle.minisign_base.specs.Faults.{going_back_failed};
 ghost use Rattle.minisign_base.specs.Passages.{rereader_passage, sink_passage};
 ghost use Rattle.minisign.specs.Copying.{CopyingFails, CopyingSucceeds, KeptFails, OutputFails, SecondPassFails};
-ghost use Rattle.minisign.specs.Reading.{IsAhead, IsReadFault, IsReturned, ReadsWhole};
+ghost use Rattle.minisign.specs.Reading.{IsAhead, IsReadFault, IsReturned, ReadsWhole, WereGiven};
 
 use crate::reading::piece_buffer;
 use crate::signed_data::SignedData;
@@ -79,13 +79,18 @@ fn copy_again<R: Rereader, O: Sink>(
 
 // Copies all that is ahead, and answers its Blake2b digest of 64 bytes.
 fn copy_hashed<S: Source, O: Sink>(alloc: Global, source: &mut S, out: &mut O) -> Result<[u8; 64]>
+    requires { BeginsAnew (S.since source.old) }
     ensures copied { IfOk result (λ d. (message : List ℕ) × ReadsWhole S.Source source.old source.new message
-        × Appends (O.taken out.old) (O.taken out.new) message × (d ≡ blake2b_digest 64 message)) }
+        × Appends (O.taken out.old) (O.taken out.new) message × (d ≡ blake2b_digest 64 message)
+        × WereGiven (S.since source.new) message) }
     ensures calm { OnOk result (O.sink_faults out.new ≡ O.sink_faults out.old) }
     ensures refused { IfErr result (λ e. IsReadFault S.Source source.old source.new e ⊎ OutputFails (sink_passage O.Sink out.old out.new) e) }
     ensures front { OnErr result ((message : List ℕ) × IsAhead (S.ahead source.old) message
         × AppendsFront (O.taken out.old) (O.taken out.new) message) }
+    ensures read_front { OnErr result ((read : List ℕ) × WereGiven (S.since source.new) read
+        × AppendsFront (O.taken out.old) (O.taken out.new) read) }
     ensures given { HasGiven (S.ahead source.old) (S.ahead source.new) }
+    ensures marked { S.is_marked source.new ≡ S.is_marked source.old }
 {
     let mut buf = piece_buffer(alloc)?;
     let mut hasher = Blake2b::new(64);
@@ -104,15 +109,20 @@ fn copy_pieces<S: Source, O: Sink>(
 ) -> Result<()>
     requires some { 0 < length buf.old }
     requires open { has_finalized hasher.old ≡ false }
+    requires anew { BeginsAnew (S.since source.old) }
     ensures fed { OnOk result ((message : List ℕ) × ReadsWhole S.Source source.old source.new message
         × Appends (O.taken out.old) (O.taken out.new) message
-        × ((m : List ℕ) → IsFed hasher.old m → IsFed hasher.new (m ++ message))) }
+        × ((m : List ℕ) → IsFed hasher.old m → IsFed hasher.new (m ++ message))
+        × WereGiven (S.since source.new) message) }
     ensures length { output_length hasher.new ≡ output_length hasher.old }
     ensures calm { OnOk result (O.sink_faults out.new ≡ O.sink_faults out.old) }
     ensures refused { IfErr result (λ e. IsReadFault S.Source source.old source.new e ⊎ OutputFails (sink_passage O.Sink out.old out.new) e) }
     ensures front { OnErr result ((message : List ℕ) × IsAhead (S.ahead source.old) message
         × AppendsFront (O.taken out.old) (O.taken out.new) message) }
+    ensures read_front { OnErr result ((read : List ℕ) × WereGiven (S.since source.new) read
+        × AppendsFront (O.taken out.old) (O.taken out.new) read) }
     ensures given { HasGiven (S.ahead source.old) (S.ahead source.new) }
+    ensures marked { S.is_marked source.new ≡ S.is_marked source.old }
 {
     'pieces: loop {
         match source.read(buf) {
@@ -132,7 +142,10 @@ fn copy_pieces<S: Source, O: Sink>(
 fn go_back<R: Rereader>(data_reader: &mut R) -> Result<()>
     ensures returned { OnOk result (IfSome (R.behind data_reader.old) (λ xs. R.ahead data_reader.new ≡ Some xs)) }
     ensures calm { OnOk result (R.faults data_reader.new ≡ R.faults data_reader.old) }
-    ensures refused { IfErr result (λ e. (e ≡ going_back_failed) × Rose (R.faults data_reader.old) (R.faults data_reader.new)) }
+    ensures marked { OnOk result (R.is_marked data_reader.new ≡ true) }
+    ensures anew { OnOk result (BeginsAnew (R.since data_reader.new)) }
+    ensures refused { IfErr result (λ e. (e ≡ going_back_failed) × Rose (R.faults data_reader.old) (R.faults data_reader.new)
+        × (R.is_marked data_reader.new ≡ false)) }
 {
     match data_reader.back() {
         Ok(()) => Ok(()),

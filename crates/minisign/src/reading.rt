@@ -51,6 +51,7 @@ pub fn read_to_end<S: Source>(alloc: Global, source: &mut S) -> Result<Vec<u8>>
     ensures bytes { IfOk result (λ v. ReadsWhole S.Source source.old source.new v.items) }
     ensures refused { IfErr result (IsReadFault S.Source source.old source.new) }
     ensures given { HasGiven (S.ahead source.old) (S.ahead source.new) }
+    ensures marked { S.is_marked source.new ≡ S.is_marked source.old }
 {
     let mut buf = piece_buffer(alloc)?;
     let mut kept = Vec::new(alloc);
@@ -65,6 +66,7 @@ pub(crate) fn prehash<S: Source>(alloc: Global, source: &mut S) -> Result<[u8; 6
         × (d ≡ blake2b_digest 64 message)) }
     ensures refused { IfErr result (IsReadFault S.Source source.old source.new) }
     ensures given { HasGiven (S.ahead source.old) (S.ahead source.new) }
+    ensures marked { S.is_marked source.new ≡ S.is_marked source.old }
 {
     let mut buf = piece_buffer(alloc)?;
     let mut hasher = Blake2b::new(64);
@@ -91,6 +93,7 @@ fn feed<S: Source>(
     ensures length { output_length hasher.new ≡ output_length hasher.old }
     ensures refused { OnErr result (Rose (S.faults source.old) (S.faults source.new)) }
     ensures given { HasGiven (S.ahead source.old) (S.ahead source.new) }
+    ensures marked { S.is_marked source.new ≡ S.is_marked source.old }
 {
     'pieces: loop {
         let n = source.read(buf)?;
@@ -108,6 +111,7 @@ fn keep<S: Source>(source: &mut S, buf: &mut [u8], kept: &mut Vec<u8>) -> Result
         × (kept.new.items ≡ kept.old.items ++ message)) }
     ensures refused { IfErr result (IsReadFault S.Source source.old source.new) }
     ensures given { HasGiven (S.ahead source.old) (S.ahead source.new) }
+    ensures marked { S.is_marked source.new ≡ S.is_marked source.old }
 {
     'pieces: loop {
         match source.read(buf) {

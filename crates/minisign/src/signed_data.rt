@@ -47,6 +47,7 @@ pub(crate) fn read_signed_data<R: Source>(
         × HoldsSigned d signature_box.now allow_legacy message) }
     ensures refused { IfErr result (IsReadFault R.Source data_reader.old data_reader.new) }
     ensures given { HasGiven (R.ahead data_reader.old) (R.ahead data_reader.new) }
+    ensures marked { R.is_marked data_reader.new ≡ R.is_marked data_reader.old }
 {
     if !signature_box.is_prehashed() && allow_legacy {
         return Ok(SignedData::Kept(read_to_end(alloc, data_reader)?));

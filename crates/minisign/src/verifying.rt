@@ -2,7 +2,7 @@
 
 ghost use Rattle.std.specs.Prelude.{◌≡◌, ℕ, List, true, false, ◌⊎◌, IfOk, IfErr, OnOk, OnErr};
 ghost use Rattle.minisign_base.specs.Devices.{Rose, HasGiven};
-ghost use Rattle.minisign_base.specs.Faults.{out_of_memory, writing_failed};
+ghost use Rattle.minisign_base.specs.Faults.{out_of_memory, reading_failed, writing_failed};
 ghost use Rattle.minisign_base.specs.Passages.{Takes, TakesFront, rereader_passage, sink_passage};
 ghost use Rattle.minisign.specs.Reading.{IsReadFault};
 ghost use Rattle.minisign.specs.Records.{PublicKeyRecord, SignatureBoxRecord};
@@ -102,6 +102,7 @@ fn read_data<R: Rereader>(
     ensures refused { IfErr result (λ e.
         MarkFails (is_reread output signature_box.now) (rereader_passage R.Source R.steady data_reader.old data_reader.new) e
         ⊎ IsReadFault R.Source data_reader.old data_reader.new e) }
+    ensures read_marked { IfErr result (λ e. is_reread output signature_box.now ≡ true → e ≡ reading_failed → R.is_marked data_reader.new ≡ true) }
     ensures given { HasGiven (R.ahead data_reader.old) (R.ahead data_reader.new) }
 {
     mark_place(data_reader, output && signature_box.is_prehashed())?;
@@ -114,6 +115,7 @@ fn mark_place<R: Rereader>(data_reader: &mut R, again: bool) -> Result<()>
     ensures calm { OnOk result (R.faults data_reader.new ≡ R.faults data_reader.old) }
     ensures unmarked { again ≡ false → data_reader.new ≡ data_reader.old }
     ensures marked { again ≡ true → R.steady data_reader.old → OnOk result (R.behind data_reader.new ≡ R.ahead data_reader.old) }
+    ensures is_marked { again ≡ true → OnOk result (R.is_marked data_reader.new ≡ true) }
     ensures refused { IfErr result (MarkFails again (rereader_passage R.Source R.steady data_reader.old data_reader.new)) }
 {
     if !again {

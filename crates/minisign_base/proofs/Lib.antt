@@ -1,6 +1,7 @@
 pub mod DeviceFacts
 mod Filled
 mod Folding
+mod GivenParts
 pub mod LeastCost
 pub mod Facts
 mod PromptLines

@@ -1,8 +1,8 @@
 -- What calls on a device do to the bytes that it tells and to its count of faults. Each kind of call has a
 -- record over the members of the device's trait, the device at the call (old) and at the return (new), and
 -- the answer.
-use Rattle.std.specs.Prelude.{◌≡◌, ℕ, ◌+◌, ◌-◌, ◌^◌, ◌<◌, ◌≤◌, min, List, ◌++◌, length, take, Option, Some, IfSome, Result, IfOk, OnOk, OnErr}
-use Rattle.std.specs.Io.KnownBytes.{Appends, Consumes, IsAtEnd, Keeps}
+use Rattle.std.specs.Prelude.{◌≡◌, ℕ, ◌+◌, ◌-◌, ◌^◌, ◌<◌, ◌≤◌, min, Bool, true, false, List, [], ◌++◌, length, take, Option, Some, IfSome, Result, IsErr, IfOk, OnOk, OnErr}
+use Rattle.std.specs.Io.KnownBytes.{append_known, Appends, Consumes, IsAtEnd, Keeps}
 
 -- the greatest value of a count
 abbrev pub most_faults : ℕ
@@ -16,6 +16,10 @@ Rose old new = min (old + 1) most_faults ≤ new
 abbrev pub StaysOrHides : Option (List ℕ) → Option (List ℕ) → Type 0
 StaysOrHides old new = IfSome new (λ ys. old ≡ Some ys)
 
+-- what is told began anew: nothing
+abbrev pub BeginsAnew : Option (List ℕ) → Type 0
+BeginsAnew new = IfSome new (λ ys. ys ≡ [])
+
 -- what is still told lost some bytes at its front
 abbrev pub HasGiven : Option (List ℕ) → Option (List ℕ) → Type 0
 HasGiven old new = IfSome new (λ ys. IfSome old (λ xs. (front : List ℕ) × (xs ≡ front ++ ys)))
@@ -25,8 +29,8 @@ abbrev pub AppendsFront : Option (List ℕ) → Option (List ℕ) → List ℕ �
 AppendsFront old new bs = (n : ℕ) × IfSome old (λ xs. new ≡ Some (xs ++ take n bs))
 
 -- a read moved the next n bytes to the front of the buffer, 0 only where there is no room or no byte is
--- left, or failed
-pub record HasRead {S E : Type 0} (ahead_of behind_of : S → Option (List ℕ)) (left_of faults_of : S → ℕ)
+-- left, or failed; a place that is marked stays marked
+pub record HasRead {S E : Type 0} (ahead_of behind_of since_of : S → Option (List ℕ)) (is_marked_of : S → Bool) (left_of faults_of : S → ℕ)
     (old new : S) (buffer : List ℕ) (answer : Result ℕ E) : Type 0 where
   pub bound : IfOk answer (λ n. n ≤ length buffer)
   pub bytes : IfOk answer (λ n. Consumes (ahead_of old) (ahead_of new) (take n buffer))
@@ -37,22 +41,34 @@ pub record HasRead {S E : Type 0} (ahead_of behind_of : S → Option (List ℕ))
   pub fault : OnErr answer (Rose (faults_of old) (faults_of new))
   pub kept : OnErr answer (StaysOrHides (ahead_of old) (ahead_of new))
   pub err_left : OnErr answer (left_of new ≤ left_of old)
+  pub marked : is_marked_of new ≡ is_marked_of old
+  pub since : IfOk answer (λ n. since_of new ≡ append_known (since_of old) (take n buffer))
+  pub since_kept : OnErr answer (StaysOrHides (since_of old) (since_of new))
 
--- a steady source remembers the bytes ahead, which stay
-pub record HasMarked {S A E : Type 0} (steady_of : S → Type 0) (ahead_of behind_of : S → Option (List ℕ)) (faults_of : S → ℕ)
+-- a steady source remembers the bytes ahead, which stay; a place is marked now, or after a fault none is
+pub record HasMarked {S A E : Type 0} (steady_of : S → Type 0) (ahead_of behind_of since_of : S → Option (List ℕ)) (is_marked_of : S → Bool)
+    (faults_of : S → ℕ)
     (old new : S) (answer : Result A E) : Type 0 where
   pub bytes : OnOk answer (ahead_of new ≡ ahead_of old)
   pub mark : steady_of old → OnOk answer (behind_of new ≡ ahead_of old)
   pub calm : OnOk answer (faults_of new ≡ faults_of old)
   pub fault : OnErr answer (Rose (faults_of old) (faults_of new))
   pub kept : OnErr answer (StaysOrHides (ahead_of old) (ahead_of new))
+  pub marked : OnOk answer (is_marked_of new ≡ true)
+  pub unmarked : OnErr answer (is_marked_of new ≡ false)
+  pub since : OnOk answer (BeginsAnew (since_of new))
 
--- the bytes that were remembered are ahead again
-pub record HasGoneBack {S A E : Type 0} (ahead_of behind_of : S → Option (List ℕ)) (faults_of : S → ℕ)
+-- the bytes that were remembered are ahead again, which cannot be where no place is marked; the place stays
+-- marked, or after a fault none is
+pub record HasGoneBack {S A E : Type 0} (ahead_of behind_of since_of : S → Option (List ℕ)) (is_marked_of : S → Bool) (faults_of : S → ℕ)
     (old new : S) (answer : Result A E) : Type 0 where
+  pub needs_mark : is_marked_of old ≡ false → IsErr answer
   pub bytes : OnOk answer (IfSome (behind_of old) (λ xs. ahead_of new ≡ Some xs))
   pub calm : OnOk answer (faults_of new ≡ faults_of old)
   pub fault : OnErr answer (Rose (faults_of old) (faults_of new))
+  pub marked : OnOk answer (is_marked_of new ≡ true)
+  pub unmarked : OnErr answer (is_marked_of new ≡ false)
+  pub since : OnOk answer (BeginsAnew (since_of new))
 
 -- the buffer was filled with the next bytes
 pub record HasFilled {S A E : Type 0} (ahead_of : S → Option (List ℕ)) (faults_of : S → ℕ)

@@ -7,7 +7,7 @@ use Rattle.minisign_base.specs.declared.devices.random_sources.RandomSource as r
 use Rattle.minisign_base.specs.declared.devices.sinks.Sink as sink
 use Rattle.minisign_base.specs.declared.devices.sources.Source as source
 
--- a source: `ahead`, `behind`, `left` and `faults`
+-- a source: `ahead`, `behind`, `since`, `is_marked`, `left` and `faults`
 abbrev pub SourceOf : Type 0 → Type 1
 SourceOf S = source.Ghosts S
 

@@ -1,6 +1,7 @@
 //! Devices that a request describes, which count what is done with them.
 
 ghost use Rattle.std.specs.Prelude.{◌≡◌, ◌≤◌, Some, length};
+ghost use Rattle.std.specs.Option.{is_some};
 
 use crate::refusals::Refusal;
 use crate::words::{bytes_of, number_of};
@@ -118,6 +119,8 @@ impl<'a> CountedSource<'a> {
 
 impl<'a> Source for CountedSource<'a> {
     ghost ahead = { λ s. Some s.rest.now };
+
+    ghost is_marked = { λ s. is_some s.marked };
 
     ghost left = { λ s. length s.rest.now };
 

@@ -1,9 +1,9 @@
 //! What bytes are read from.
 
-ghost use Rattle.std.specs.Prelude.{Option, ◌≡◌, ◌==◌, ℕ, ◌+◌, ◌-◌, ◌<◌, ◌≤◌, ◌^◌, ◌↔◌, min, List, length, take, Some, None, IsSome, IsOk, IsErr, IsOkAnd, IsNone, IfOk, IfSome, OnOk, OnErr, if◌then◌else◌, ⊤, ◌⊎◌};
-ghost use Rattle.std.specs.Option.{option_map};
+ghost use Rattle.std.specs.Prelude.{Bool, true, false, IsTrue, Option, ◌≡◌, ◌==◌, ℕ, ◌+◌, ◌-◌, ◌<◌, ◌≤◌, ◌^◌, ◌↔◌, min, List, [], length, take, drop, Some, None, IsOk, IsErr, IsOkAnd, IsNone, IfOk, IfSome, OnOk, OnErr, if◌then◌else◌, ⊤, ◌⊎◌};
+ghost use Rattle.std.specs.Option.{is_some};
 ghost use Rattle.std.specs.Io.KnownBytes.{Consumes, IsAtEnd};
-ghost use Rattle.minisign_base.specs.Devices.{Rose, HasGiven, HasRead, HasMarked, HasGoneBack};
+ghost use Rattle.minisign_base.specs.Devices.{Rose, most_faults, HasGiven, HasRead, HasMarked, HasGoneBack};
 
 use super::{DeviceFault, FaultCount};
 use std::io::{Read, Seek, SeekFrom};
@@ -16,6 +16,12 @@ pub trait Source {
     // The bytes that going back to the mark would put ahead, where that is known.
     ghost behind: { Self → Option (List ℕ) } = { λ _. None };
 
+    // The bytes given since the place was last marked or gone back to, where the source tells them.
+    ghost since: { Self → Option (List ℕ) } = { λ _. None };
+
+    // Whether a place is marked. Reads leave that.
+    ghost is_marked: { Self → Bool } = { λ _. false };
+
     // How many bytes it can still give.
     ghost left: { Self → ℕ };
 
@@ -26,7 +32,7 @@ pub trait Source {
     /// how many. The answer is 0 only where `buf` is empty or no byte is left. After a fault the
     /// bytes ahead are those before the call, or are told no more.
     fn read(&mut self, buf: &mut [u8]) -> Result<usize, DeviceFault>
-        ensures { HasRead ahead behind left faults self.old self.new buf.new result };
+        ensures { HasRead ahead behind since is_marked left faults self.old self.new buf.new result };
 }
 
 /// A source that can be read again from a place that was marked.
@@ -34,21 +40,27 @@ pub trait Rereader: Source {
     // Going back brings the bytes that were ahead at the mark.
     ghost steady: { Self → Type 0 };
 
-    /// Remembers the place. The bytes ahead stay; after a fault they stay or are told no more.
+    /// Remembers the place. The bytes ahead stay; after a fault they stay or are told no more, and no
+    /// place is marked.
     fn mark(&mut self) -> Result<(), DeviceFault>
-        ensures { HasMarked steady Self.ahead Self.behind Self.faults self.old self.new result };
+        ensures { HasMarked steady Self.ahead Self.behind Self.since Self.is_marked Self.faults self.old self.new result };
 
-    /// Returns to the place that was marked last. Without a mark it is a fault.
+    /// Returns to the place that was marked last. Without a mark it is a fault. After a fault no place
+    /// is marked.
     fn back(&mut self) -> Result<(), DeviceFault>
-        ensures { HasGoneBack Self.ahead Self.behind Self.faults self.old self.new result };
+        ensures { HasGoneBack Self.ahead Self.behind Self.since Self.is_marked Self.faults self.old self.new result };
 }
 
 /// The bytes of a slice. It fails only in `back` without a mark.
 #[derive(Debug, Drop)]
 pub struct SliceSource<'a> {
-    rest: &'a [u8],
-    marked: Option<&'a [u8]>,
+    // The bytes from the place on that was last marked or gone back to, or from the beginning on.
+    bytes: &'a [u8],
+    // How many of them were given.
+    given: usize,
+    is_marked: bool,
     faults: FaultCount,
+    ghost within: { given ≤ length bytes.now },
 }
 
 impl<'a> SliceSource<'a> {
@@ -56,35 +68,44 @@ impl<'a> SliceSource<'a> {
     pub fn new(bytes: &'a [u8]) -> SliceSource<'a>
         ensures ahead { ⟦<SliceSource<'a> as Source>⟧.ahead result ≡ Some bytes.now }
         ensures behind { ⟦<SliceSource<'a> as Source>⟧.behind result ≡ None }
+        ensures since { ⟦<SliceSource<'a> as Source>⟧.since result ≡ Some [] }
+        ensures unmarked { ⟦<SliceSource<'a> as Source>⟧.is_marked result ≡ false }
         ensures faults { ⟦<SliceSource<'a> as Source>⟧.faults result ≡ 0 }
     {
         SliceSource {
-            rest: bytes,
-            marked: None,
+            bytes,
+            given: 0,
+            is_marked: false,
             faults: FaultCount(0),
         }
     }
 }
 
 impl<'a> Source for SliceSource<'a> {
-    ghost ahead = { λ s. Some s.rest.now };
+    ghost ahead = { λ s. Some (drop s.given s.bytes.now) };
 
-    ghost behind = { λ s. option_map (λ m. m.now) s.marked };
+    ghost behind = { λ s. (if s.is_marked then Some s.bytes.now else None) };
 
-    ghost left = { λ s. length s.rest.now };
+    ghost since = { λ s. Some (take s.given s.bytes.now) };
+
+    ghost is_marked = { λ s. s.is_marked };
+
+    ghost left = { λ s. length s.bytes.now - s.given };
 
     ghost faults = { λ s. s.faults.0 };
 
     // As many bytes as there is room for, or are left, and never a fault.
+    #[tactic(auto, using(crate::proofs::GivenParts::rest_given, crate::proofs::GivenParts::front_given))]
     fn read(&mut self, buf: &mut [u8]) -> Result<usize, DeviceFault>
         ensures gives { IsOkAnd result (λ n. n ≡ min (length buf.new) (⟦<SliceSource<'a> as Source>⟧.left self.old)) }
-        ensures read { HasRead ⟦<SliceSource<'a> as Source>⟧.ahead ⟦<SliceSource<'a> as Source>⟧.behind ⟦<SliceSource<'a> as Source>⟧.left ⟦<SliceSource<'a> as Source>⟧.faults
+        ensures read { HasRead ⟦<SliceSource<'a> as Source>⟧.ahead ⟦<SliceSource<'a> as Source>⟧.behind ⟦<SliceSource<'a> as Source>⟧.since ⟦<SliceSource<'a> as Source>⟧.is_marked ⟦<SliceSource<'a> as Source>⟧.left ⟦<SliceSource<'a> as Source>⟧.faults
             self.old self.new buf.new result }
     {
-        let n = buf.len().min(self.rest.len());
-        let (front, rest) = self.rest.split_at(n);
+        let (_, rest) = self.bytes.split_at(self.given);
+        let n = buf.len().min(rest.len());
+        let (front, _) = rest.split_at(n);
         buf[..n].copy_from_slice(front);
-        self.rest = rest;
+        self.given += n;
         Ok(n)
     }
 }
@@ -95,27 +116,28 @@ impl<'a> Rereader for SliceSource<'a> {
     // Never a fault.
     fn mark(&mut self) -> Result<(), DeviceFault>
         ensures succeeds { IsOk result }
-        ensures mark { HasMarked ⟦<SliceSource<'a> as Rereader>⟧.steady ⟦<SliceSource<'a> as Source>⟧.ahead ⟦<SliceSource<'a> as Source>⟧.behind ⟦<SliceSource<'a> as Source>⟧.faults
+        ensures mark { HasMarked ⟦<SliceSource<'a> as Rereader>⟧.steady ⟦<SliceSource<'a> as Source>⟧.ahead ⟦<SliceSource<'a> as Source>⟧.behind ⟦<SliceSource<'a> as Source>⟧.since ⟦<SliceSource<'a> as Source>⟧.is_marked ⟦<SliceSource<'a> as Source>⟧.faults
             self.old self.new result }
     {
-        self.marked = Some(self.rest);
+        let (_, rest) = self.bytes.split_at(self.given);
+        self.given = 0;
+        self.bytes = rest;
+        self.is_marked = true;
         Ok(())
     }
 
     // A fault exactly where nothing was marked. The bytes ahead then stay.
     fn back(&mut self) -> Result<(), DeviceFault>
-        ensures succeeds { IsOk result ↔ IsSome (⟦<SliceSource<'a> as Source>⟧.behind self.old) }
-        ensures back { HasGoneBack ⟦<SliceSource<'a> as Source>⟧.ahead ⟦<SliceSource<'a> as Source>⟧.behind ⟦<SliceSource<'a> as Source>⟧.faults self.old self.new result }
+        ensures succeeds { IsOk result ↔ IsTrue (⟦<SliceSource<'a> as Source>⟧.is_marked self.old) }
+        ensures back { HasGoneBack ⟦<SliceSource<'a> as Source>⟧.ahead ⟦<SliceSource<'a> as Source>⟧.behind ⟦<SliceSource<'a> as Source>⟧.since ⟦<SliceSource<'a> as Source>⟧.is_marked ⟦<SliceSource<'a> as Source>⟧.faults self.old self.new result }
         ensures stays_marked { ⟦<SliceSource<'a> as Source>⟧.behind self.new ≡ ⟦<SliceSource<'a> as Source>⟧.behind self.old }
         ensures kept { OnErr result (⟦<SliceSource<'a> as Source>⟧.ahead self.new ≡ ⟦<SliceSource<'a> as Source>⟧.ahead self.old) }
     {
-        match self.marked {
-            Some(marked) => {
-                self.rest = marked;
-                Ok(())
-            }
-            None => Err(self.faults.raise()),
+        if !self.is_marked {
+            return Err(self.faults.raise());
         }
+        self.given = 0;
+        Ok(())
     }
 }
 
@@ -201,6 +223,7 @@ impl<F: Read + Seek> FileSource<F> {
     /// All from the file's place on is ahead, and nothing is marked.
     pub fn new(file: F) -> FileSource<F>
         ensures ahead { ⟦<FileSource<F> as Source>⟧.ahead result ≡ None }
+        ensures unmarked { ⟦<FileSource<F> as Source>⟧.is_marked result ≡ false }
         ensures left { ⟦<FileSource<F> as Source>⟧.left result ≡ 2 ^ 63 - 1 }
         ensures faults { ⟦<FileSource<F> as Source>⟧.faults result ≡ 0 }
     {
@@ -209,10 +232,21 @@ impl<F: Read + Seek> FileSource<F> {
             marked: None,
         }
     }
+
+    // One more fault, and no place is marked.
+    fn lose_mark(&mut self) -> DeviceFault
+        ensures unmarked { self.new.marked ≡ None }
+        ensures raised { self.new.reader.faults.0 ≡ min (self.old.reader.faults.0 + 1) most_faults }
+    {
+        self.marked = None;
+        self.reader.faults.raise()
+    }
 }
 
 impl<F: Read + Seek> Source for FileSource<F> {
     ghost ahead = { λ _. None };
+
+    ghost is_marked = { λ s. is_some s.marked };
 
     ghost left = { λ s. ⟦<ReaderSource<F> as Source>⟧.left s.reader };
 
@@ -232,11 +266,12 @@ impl<F: Read + Seek> Rereader for FileSource<F> {
                 self.marked = Some(place);
                 Ok(())
             }
-            Err(_) => Err(self.reader.faults.raise()),
+            Err(_) => Err(self.lose_mark()),
         }
     }
 
-    // Where nothing is marked, or the file is not at the marked place after seeking it, that is a fault.
+    // Where nothing is marked, the file is left where it is. It is a fault too where the file is not at the
+    // marked place after seeking it.
     fn back(&mut self) -> Result<(), DeviceFault> {
         if let Some(marked) = self.marked {
             if let Ok(place) = self.reader.reader.seek(SeekFrom::Start(marked)) {
@@ -245,7 +280,7 @@ impl<F: Read + Seek> Rereader for FileSource<F> {
                 }
             }
         }
-        Err(self.reader.faults.raise())
+        Err(self.lose_mark())
     }
 }
 

@@ -1,6 +1,6 @@
 //! Sources that cut bytes as finely as they can, fail, or give others when they are read again.
 
-ghost use Rattle.std.specs.Prelude.{⊤, Some, length};
+ghost use Rattle.std.specs.Prelude.{⊤};
 
 use crate::devices::turn::Turn;
 use minisign_base::devices::DeviceFault;
@@ -25,6 +25,10 @@ impl<'a> Source for OneByOne<'a> {
     ghost ahead = { λ s. ⟦<SliceSource<'a> as Source>⟧.ahead s.source };
 
     ghost behind = { λ s. ⟦<SliceSource<'a> as Source>⟧.behind s.source };
+
+    ghost since = { λ s. ⟦<SliceSource<'a> as Source>⟧.since s.source };
+
+    ghost is_marked = { λ s. ⟦<SliceSource<'a> as Source>⟧.is_marked s.source };
 
     ghost left = { λ s. ⟦<SliceSource<'a> as Source>⟧.left s.source };
 
@@ -52,6 +56,7 @@ impl<'a> Rereader for OneByOne<'a> {
 #[derive(Drop)]
 pub struct FailsAfter<'a> {
     source: OneByOne<'a>,
+    marked: bool,
     reads: u64,
     faults: u64,
 }
@@ -61,6 +66,7 @@ impl<'a> FailsAfter<'a> {
     pub fn new(bytes: &'a [u8], reads: u64) -> FailsAfter<'a> {
         FailsAfter {
             source: OneByOne::new(bytes),
+            marked: false,
             reads,
             faults: 0,
         }
@@ -71,6 +77,10 @@ impl<'a> Source for FailsAfter<'a> {
     ghost ahead = { λ s. ⟦<OneByOne<'a> as Source>⟧.ahead s.source };
 
     ghost behind = { λ s. ⟦<OneByOne<'a> as Source>⟧.behind s.source };
+
+    ghost since = { λ s. ⟦<OneByOne<'a> as Source>⟧.since s.source };
+
+    ghost is_marked = { λ s. s.marked };
 
     ghost left = { λ s. ⟦<OneByOne<'a> as Source>⟧.left s.source };
 
@@ -93,16 +103,21 @@ impl<'a> Rereader for FailsAfter<'a> {
 
     fn mark(&mut self) -> Result<(), DeviceFault> {
         if let Ok(()) = self.source.mark() {
+            self.marked = true;
             return Ok(());
         }
+        self.marked = false;
         self.faults = self.faults.saturating_add(1);
         Err(DeviceFault)
     }
 
     fn back(&mut self) -> Result<(), DeviceFault> {
-        if let Ok(()) = self.source.back() {
-            return Ok(());
+        if self.marked {
+            if let Ok(()) = self.source.back() {
+                return Ok(());
+            }
         }
+        self.marked = false;
         self.faults = self.faults.saturating_add(1);
         Err(DeviceFault)
     }
@@ -112,6 +127,7 @@ impl<'a> Rereader for FailsAfter<'a> {
 #[derive(Drop)]
 pub struct FailingSource<'a> {
     source: OneByOne<'a>,
+    marked: bool,
     turn: Turn,
     faults: u64,
 }
@@ -121,6 +137,7 @@ impl<'a> FailingSource<'a> {
     pub fn new(bytes: &'a [u8], calls: usize) -> FailingSource<'a> {
         FailingSource {
             source: OneByOne::new(bytes),
+            marked: false,
             turn: Turn::after(calls),
             faults: 0,
         }
@@ -131,6 +148,10 @@ impl<'a> Source for FailingSource<'a> {
     ghost ahead = { λ s. ⟦<OneByOne<'a> as Source>⟧.ahead s.source };
 
     ghost behind = { λ s. ⟦<OneByOne<'a> as Source>⟧.behind s.source };
+
+    ghost since = { λ s. ⟦<OneByOne<'a> as Source>⟧.since s.source };
+
+    ghost is_marked = { λ s. s.marked };
 
     ghost left = { λ s. ⟦<OneByOne<'a> as Source>⟧.left s.source };
 
@@ -153,54 +174,65 @@ impl<'a> Rereader for FailingSource<'a> {
     fn mark(&mut self) -> Result<(), DeviceFault> {
         if self.turn.passes() {
             if let Ok(()) = self.source.mark() {
+                self.marked = true;
                 return Ok(());
             }
         }
+        self.marked = false;
         self.faults = self.faults.saturating_add(1);
         Err(DeviceFault)
     }
 
     fn back(&mut self) -> Result<(), DeviceFault> {
-        if self.turn.passes() {
+        if self.turn.passes() && self.marked {
             if let Ok(()) = self.source.back() {
                 return Ok(());
             }
         }
+        self.marked = false;
         self.faults = self.faults.saturating_add(1);
         Err(DeviceFault)
     }
 }
 
-/// The bytes of a slice, and those of another one once it went back.
+/// The bytes of a slice, and those of another one once it went back. It fails only in `back` without a mark.
 #[derive(Drop)]
 pub struct Changes<'a> {
-    ahead: &'a [u8],
+    source: SliceSource<'a>,
     second: &'a [u8],
+    marked: bool,
+    faults: u64,
 }
 
 impl<'a> Changes<'a> {
     /// All of the first slice is ahead.
     pub fn new(first: &'a [u8], second: &'a [u8]) -> Changes<'a> {
         Changes {
-            ahead: first,
+            source: SliceSource::new(first),
             second,
+            marked: false,
+            faults: 0,
         }
     }
 }
 
 impl<'a> Source for Changes<'a> {
-    ghost ahead = { λ s. Some s.ahead.now };
+    ghost ahead = { λ s. ⟦<SliceSource<'a> as Source>⟧.ahead s.source };
 
-    ghost left = { λ s. length s.ahead.now };
+    ghost since = { λ s. ⟦<SliceSource<'a> as Source>⟧.since s.source };
 
-    ghost faults = { λ _. 0 };
+    ghost is_marked = { λ s. s.marked };
+
+    ghost left = { λ s. ⟦<SliceSource<'a> as Source>⟧.left s.source };
+
+    ghost faults = { λ s. s.faults };
 
     fn read(&mut self, buf: &mut [u8]) -> Result<usize, DeviceFault> {
-        let n = buf.len().min(self.ahead.len());
-        let (front, rest) = self.ahead.split_at(n);
-        buf[..n].copy_from_slice(front);
-        self.ahead = rest;
-        Ok(n)
+        if let Ok(n) = self.source.read(buf) {
+            return Ok(n);
+        }
+        self.faults = self.faults.saturating_add(1);
+        Err(DeviceFault)
     }
 }
 
@@ -208,11 +240,21 @@ impl<'a> Rereader for Changes<'a> {
     ghost steady = { λ _. ⊥ };
 
     fn mark(&mut self) -> Result<(), DeviceFault> {
-        Ok(())
+        if let Ok(()) = self.source.mark() {
+            self.marked = true;
+            return Ok(());
+        }
+        self.marked = false;
+        self.faults = self.faults.saturating_add(1);
+        Err(DeviceFault)
     }
 
     fn back(&mut self) -> Result<(), DeviceFault> {
-        self.ahead = self.second;
+        if !self.marked {
+            self.faults = self.faults.saturating_add(1);
+            return Err(DeviceFault);
+        }
+        self.source = SliceSource::new(self.second);
         Ok(())
     }
 }

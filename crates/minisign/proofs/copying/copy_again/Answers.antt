@@ -1,13 +1,13 @@
-use Rattle.std.proofs.Common.{◌≡◌, inr, sym, ◌∙◌, subst}
+use Rattle.std.proofs.Common.{◌≡◌, inl, inr, sym, ◌∙◌, subst}
 use Rattle.std.proofs.lemmas.Result.{IfErr-weaker}
 use Rattle.minisign_hash.specs.Blake2b.{blake2b_digest}
 use Rattle.minisign_base.specs.Devices.{Rose}
-use Rattle.minisign.proofs.Copies.{all_kept, not_different}
+use Rattle.minisign.proofs.Copies.{all_kept, different, not_different}
 use Rattle.minisign.proofs.copying.copy_again.Goals as goal
 
 pub returns-clause-refused : goal.returns-clause-refused
 returns-clause-refused g c =
-    let (second, read, all, digest) = c.in_ok-second.ensures.copied in
+    let (second, read, all, digest, since) = c.in_ok-second.ensures.copied in
     let equal = not_different c.in_ok-second.second c.args.digest.now c.if-ne.ensures in
     let same : blake2b_digest 64 second ≡ c.args.digest.now = sym digest ∙ equal in
     let taken = all_kept (g.O.Sink.taken c.args.out.now) (g.O.Sink.taken c.copy_hashed.new.out) (g.O.Sink.taken c.flush.new.out) second all c.flush.ensures.bytes in
@@ -15,8 +15,23 @@ returns-clause-refused g c =
       second,
       record { returned = c.go_back.new.data_reader; given = read.given; same = c.in_ok-go_back.ensures.returned; left = c.copy_hashed.ensures.given },
       inr (inr (record {
+        given = since;
         all = taken;
         unchanged = same;
         failed = record { fault = failed.fault; rose = subst (λ n. Rose n (g.O.Sink.sink_faults c.flush.new.out)) c.in_ok-second.ensures.calm failed.rose };
       })),
     )) c.flush.ensures.refused
+
+pub returns-then-ne-clause-refused : goal.returns-then-ne-clause-refused
+returns-then-ne-clause-refused g c =
+    let (second, read, all, digest, since) = c.in_ok-second.ensures.copied in
+    inr (
+      second,
+      record { returned = c.go_back.new.data_reader; given = read.given; same = c.in_ok-go_back.ensures.returned; left = c.copy_hashed.ensures.given },
+      inr (inl (record {
+        given = since;
+        all = all;
+        fault = c.data_changed.ensures;
+        changed = λ same. different _ _ c.if-ne.ensures (digest ∙ same);
+      })),
+    )

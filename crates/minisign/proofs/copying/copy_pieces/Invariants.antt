@@ -1,18 +1,21 @@
 use Rattle.std.proofs.Common.{◌≡◌, ℕ, List, ◌++◌, false}
 use Rattle.std.specs.Io.KnownBytes.{Appends, Consumes}
 use Rattle.minisign_hash.specs.Fed.{IsFed, has_finalized, output_length}
+use Rattle.minisign.specs.Reading.{WereGiven}
 use Rattle.minisign.proofs.copying.copy_pieces.Given as goal
 
 abbrev pub invariant-pieces : goal.invariant-pieces
 invariant-pieces g l = record {
   calm : g.S.Source.faults l.source ≡ g.S.Source.faults l.fn.source;
   out_calm : g.O.Sink.sink_faults l.out ≡ g.O.Sink.sink_faults l.fn.out;
+  marked : g.S.Source.is_marked l.source ≡ g.S.Source.is_marked l.fn.source;
   mark : g.S.Source.behind l.source ≡ g.S.Source.behind l.fn.source;
   unfinished : has_finalized l.hasher ≡ false;
   size : output_length l.hasher ≡ output_length l.fn.hasher;
   given : (done : List ℕ) × Consumes (g.S.Source.ahead l.fn.source) (g.S.Source.ahead l.source) done
       × Appends (g.O.Sink.taken l.fn.out) (g.O.Sink.taken l.out) done
-      × ((m : List ℕ) → IsFed l.fn.hasher m → IsFed l.hasher (m ++ done));
+      × ((m : List ℕ) → IsFed l.fn.hasher m → IsFed l.hasher (m ++ done))
+      × WereGiven (g.S.Source.since l.source) done;
 }
 
 abbrev pub decreases-pieces : goal.decreases-pieces

@@ -7,6 +7,7 @@ pieces-preserved g c =
     let (done, given, fed) = c.pieces.invariant.given in
     record {
       calm = c.in_ok-n.ensures.calm ∙ c.pieces.invariant.calm;
+      marked = c.in_ok-n.ensures.marked ∙ c.pieces.invariant.marked;
       mark = c.in_ok-n.ensures.mark ∙ c.pieces.invariant.mark;
       unfinished = c.update.ensures.finalized;
       size = c.update.ensures.length ∙ c.pieces.invariant.size;

@@ -7,6 +7,7 @@ pieces-preserved g c =
     let (done, given, kept) = c.pieces.invariant.given in
     record {
       calm = c.in-Ok.ensures.calm ∙ c.pieces.invariant.calm;
+      marked = c.in-Ok.ensures.marked ∙ c.pieces.invariant.marked;
       mark = c.in-Ok.ensures.mark ∙ c.pieces.invariant.mark;
       given = (
         _,

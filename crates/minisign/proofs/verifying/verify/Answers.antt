@@ -1,8 +1,9 @@
-use Rattle.std.proofs.Common.{◌∙◌}
+use Rattle.std.proofs.Common.{inl, inr, refl, ⊎_elim, ◌∙◌}
+use Rattle.minisign_base.specs.Passages.{rereader_passage, sink_passage}
 use Rattle.minisign_base.proofs.DeviceFacts.{AppendsFront-keeps}
-use Rattle.minisign.proofs.Beginnings.{on_err_of}
+use Rattle.minisign.proofs.Beginnings.{on_err_of, passed_up}
 use Rattle.minisign.proofs.Copies.{front_of_all, keeps_same}
-use Rattle.minisign.proofs.Passes.{copying_fails, copying_succeeds, judged_signed}
+use Rattle.minisign.proofs.Passes.{copying_fails, copying_succeeds, judged_signed, judging_fails}
 use Rattle.minisign.proofs.verifying.verify.Goals as goal
 
 pub returns-in_err-signed-clause-said_front : goal.returns-in_err-signed-clause-said_front
@@ -10,6 +11,19 @@ returns-in_err-signed-clause-said_front g c = on_err_of _ _ (AppendsFront-keeps 
 
 pub returns-in_err-judge-clause-said_front : goal.returns-in_err-judge-clause-said_front
 returns-in_err-judge-clause-said_front g c = on_err_of _ _ (AppendsFront-keeps _ _ _ (keeps_same _))
+
+pub returns-in_err-judge-clause-refused : goal.returns-in_err-judge-clause-refused
+returns-in_err-judge-clause-refused g c =
+    let (message, holds, pass) = c.in_ok-signed.ensures.held in
+    let same = judged_signed _ c.in_ok-signed.signed c.args.signature_box.now c.args.allow_legacy message c.as_bytes.ensures holds in
+    passed_up _ _ _ c.from_residual-in_err-judge.ensures.1 (
+    judging_fails (g.S.Scheme.accepts c.args.scheme.now) c.args.pk.now c.args.signature_box.now
+    (record { quiet = c.args.quiet; output = c.args.output; legacy = c.args.allow_legacy })
+    (rereader_passage g.R.Source g.R.Rereader.steady c.args.data_reader.now c.read_data.new.data_reader)
+    (sink_passage g.W.Sink c.args.status.now c.args.status.now) (sink_passage g.O.Sink c.args.out.now c.args.out.now)
+    message _ refl refl c.in_ok-signed.ensures.given pass
+    (⊎_elim inl (λ refuses. inr (refuses message same)) c.in_err-judge.ensures.refused)
+    )
 
 pub returns-clause-accepted : goal.returns-clause-accepted
 returns-clause-accepted g c =
