@@ -5,6 +5,7 @@
 
 #![tactic(auto)]
 
+pub mod calls;
 mod comment_signature;
 mod constants;
 mod copying;
@@ -12,7 +13,9 @@ mod drawing;
 mod fields;
 pub mod keynum;
 pub mod keypair;
+mod memory;
 mod opening;
+pub mod options;
 pub mod parts;
 pub mod public_key;
 pub mod public_key_box;
@@ -31,6 +34,7 @@ mod texts;
 pub mod verifying;
 pub mod verifying_texts;
 
+pub use calls::{verify_bytes, verify_with};
 pub use constants::{
     DEFAULT_COMMENT, SIG_DEFAULT_CONFIG_DIR, SIG_DEFAULT_CONFIG_DIR_ENV_VAR, SIG_DEFAULT_PKFILE,
     SIG_DEFAULT_SKFILE, SIG_SUFFIX,
@@ -39,6 +43,7 @@ pub use keypair::KeyPair;
 pub use minisign_base as base;
 pub use minisign_base::{ErrorKind, PError, Result};
 pub use minisign_hash as hash;
+pub use options::VerifyOptions;
 pub use public_key::PublicKey;
 pub use public_key_box::PublicKeyBox;
 pub use secret_key::SecretKey;
