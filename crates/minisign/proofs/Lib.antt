@@ -25,3 +25,4 @@ pub mod DefaultComments
 pub mod Passes
 pub mod VouchedTexts
 pub mod Commented
+pub mod PasswordKeys

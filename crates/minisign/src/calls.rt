@@ -2,7 +2,7 @@
 
 ghost use Rattle.std.specs.Prelude.{◌≡◌, ◌⊎◌, List, ℕ, true, false, Some, string_bytes, IfOk, IfErr, OnOk, MatchResult};
 ghost use Rattle.minisign_base.specs.Passages.{rereader_passage, sink_passage};
-ghost use Rattle.minisign.specs.Calls.{IsCommentOf, IsCommentVerdict};
+ghost use Rattle.minisign.specs.Calls.{CopiesExactly, CopyIsVouchedWith, CopyingBreaksOff, IsCommentOf, IsCommentVerdict, IsFileVerdict, NothingIsCopied};
 ghost use Rattle.minisign.specs.Headline.{CopyIsVouchedFor, VerifiesExactly};
 ghost use Rattle.minisign.specs.VerifyingTexts.{ReadTexts, TextsFail, VerifyingTextsFails, VerifyingTextsSucceeds};
 
@@ -10,13 +10,16 @@ use crate::memory::{MemorySource, NoSink};
 use crate::options::VerifyOptions;
 use crate::public_key::PublicKey;
 use crate::public_key_box::PublicKeyBox;
+use crate::reading::read_text_file;
 use crate::signature_box::SignatureBox;
 use crate::verifying::verify;
-use minisign_base::Result;
 use minisign_base::devices::sinks::Sink;
-use minisign_base::devices::sources::Rereader;
+use minisign_base::devices::sources::{FileSource, Rereader};
 use minisign_base::scheme::Scheme;
+use minisign_base::{Result, faults};
 use std::alloc::Global;
+use std::fs;
+use std::rt::Files;
 
 /// Verifies that the texts of a public key and of a signature vouch for all the data ahead of `data_reader`, as
 /// `verify_texts` does, with options in place of three flags, and returns the trusted comment, which was signed
@@ -120,5 +123,109 @@ pub fn verify_bytes<S: Scheme>(
         VerifyOptions::SILENT,
         &mut NoSink,
         &mut NoSink,
+    )
+}
+
+/// Verifies that the text of a public key and the signature text in the file at `sig_path` vouch for the data in
+/// the file at `data_path`, and returns the trusted comment, which was signed with the data. The paths are taken
+/// as they stand. The data is read in pieces of 64 KiB, so that memory does not grow with it.
+///
+/// Refused are, in this order: a signature file that cannot be opened or read, `reading_failed`; one that is
+/// not UTF-8, `not_utf8`; a data file that cannot be opened, `reading_failed`; a text, as `verify_bytes` says; a
+/// data file that cannot be read, `reading_failed`; and what `verify_bytes` refuses of the data. It may run out of
+/// memory at any time.
+///
+/// ```
+/// let comment = verify_file(&rt, rt.alloc(), &scheme, PUBLIC_KEY, "update.tar.minisig", "update.tar")?;
+/// ```
+pub fn verify_file<F: Files, S: Scheme>(
+    files: &F,
+    alloc: Global,
+    scheme: &S,
+    pk_text: &str,
+    sig_path: &str,
+    data_path: &str,
+) -> Result<String>
+    ensures { IsFileVerdict string_bytes (S.accepts scheme.now) pk_text.now result }
+{
+    let sig_text = read_text_file(files, alloc, sig_path)?;
+    match fs::open(files, data_path) {
+        Ok(file) => verify_source(
+            alloc,
+            scheme,
+            pk_text,
+            sig_text.as_str(),
+            &mut FileSource::new(file),
+        ),
+        Err(_) => Err(faults::reading_failed()),
+    }
+}
+
+// Verifies all that is ahead, says nothing and copies nothing.
+fn verify_source<S: Scheme, R: Rereader>(
+    alloc: Global,
+    scheme: &S,
+    pk_text: &str,
+    sig_text: &str,
+    data_reader: &mut R,
+) -> Result<String>
+    ensures { IsFileVerdict string_bytes (S.accepts scheme.now) pk_text.now result }
+{
+    verify_with(
+        alloc,
+        scheme,
+        pk_text,
+        sig_text,
+        data_reader,
+        VerifyOptions::SILENT,
+        &mut NoSink,
+        &mut NoSink,
+    )
+}
+
+/// Copies all the data ahead of `data_reader` to `out`, where the texts of a public key and of a signature vouch
+/// for it, and returns the trusted comment, which was signed with the data.
+///
+/// The data is read twice in pieces of 64 KiB, so that memory does not grow with it, and nothing is copied before
+/// it is vouched for. Refused are, in this order: a text, and what `verify_bytes` refuses of the data, with `out`
+/// untouched; a `data_reader` that fails, or cannot go back; a second reading that has another digest,
+/// `data_changed`, where nobody may rely on what `out` holds; an `out` that fails. On success `out` is flushed.
+///
+/// ```
+/// let comment = copy_verified(alloc, &scheme, PUBLIC_KEY, signature, &mut download, &mut installed)?;
+/// ```
+pub fn copy_verified<S: Scheme, R: Rereader, O: Sink>(
+    alloc: Global,
+    scheme: &S,
+    pk_text: &str,
+    sig_text: &str,
+    data_reader: &mut R,
+    out: &mut O,
+) -> Result<String>
+    // Where no device fails: success exactly where the texts vouch for the data, and otherwise the first failing
+    // case.
+    ensures headline { CopiesExactly string_bytes (S.accepts scheme.now) pk_text.now sig_text.now
+        (rereader_passage R.Source R.steady data_reader.old data_reader.new) (sink_passage O.Sink out.old out.new) result }
+
+    // What the output took is itself vouched for, whatever a second reading gave.
+    ensures copied { IfOk result (λ t. CopyIsVouchedWith (S.accepts scheme.now) pk_text.now sig_text.now
+        (rereader_passage R.Source R.steady data_reader.old data_reader.new) (sink_passage O.Sink out.old out.new) (string_bytes t)) }
+
+    // Why it was refused.
+    ensures refused { IfErr result (λ e.
+        NothingIsCopied (S.accepts scheme.now) pk_text.now sig_text.now
+        (rereader_passage R.Source R.steady data_reader.old data_reader.new) (sink_passage O.Sink out.old out.new) e
+        ⊎ CopyingBreaksOff (S.accepts scheme.now) pk_text.now sig_text.now
+        (rereader_passage R.Source R.steady data_reader.old data_reader.new) (sink_passage O.Sink out.old out.new) e) }
+{
+    verify_with(
+        alloc,
+        scheme,
+        pk_text,
+        sig_text,
+        data_reader,
+        VerifyOptions::COPYING,
+        &mut NoSink,
+        out,
     )
 }

@@ -11,6 +11,7 @@ mod constants;
 mod copying;
 mod drawing;
 mod fields;
+pub mod key_calls;
 pub mod keynum;
 pub mod keypair;
 mod memory;
@@ -34,11 +35,12 @@ mod texts;
 pub mod verifying;
 pub mod verifying_texts;
 
-pub use calls::{verify_bytes, verify_with};
+pub use calls::{copy_verified, verify_bytes, verify_file, verify_with};
 pub use constants::{
     DEFAULT_COMMENT, SIG_DEFAULT_CONFIG_DIR, SIG_DEFAULT_CONFIG_DIR_ENV_VAR, SIG_DEFAULT_PKFILE,
     SIG_DEFAULT_SKFILE, SIG_SUFFIX,
 };
+pub use key_calls::{open_with_password, sign_bytes};
 pub use keypair::KeyPair;
 pub use minisign_base as base;
 pub use minisign_base::{ErrorKind, PError, Result};
