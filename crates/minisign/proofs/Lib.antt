@@ -24,3 +24,5 @@ pub mod SignedTexts
 pub mod DefaultComments
 pub mod Passes
 pub mod VouchedTexts
+pub mod Commented
+pub mod PasswordKeys

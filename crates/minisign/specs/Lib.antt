@@ -18,3 +18,4 @@ pub mod Generation
 pub mod NewPassword
 pub mod Opening
 pub mod SigningTexts
+pub mod Calls

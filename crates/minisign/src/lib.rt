@@ -5,14 +5,18 @@
 
 #![tactic(auto)]
 
+pub mod calls;
 mod comment_signature;
 mod constants;
 mod copying;
 mod drawing;
 mod fields;
+pub mod key_calls;
 pub mod keynum;
 pub mod keypair;
+mod memory;
 mod opening;
+pub mod options;
 pub mod parts;
 pub mod public_key;
 pub mod public_key_box;
@@ -31,10 +35,12 @@ mod texts;
 pub mod verifying;
 pub mod verifying_texts;
 
+pub use calls::{copy_verified, verify_bytes, verify_file, verify_with};
 pub use constants::{
     DEFAULT_COMMENT, SIG_DEFAULT_CONFIG_DIR, SIG_DEFAULT_CONFIG_DIR_ENV_VAR, SIG_DEFAULT_PKFILE,
     SIG_DEFAULT_SKFILE, SIG_SUFFIX,
 };
+pub use key_calls::{open_with_password, sign_bytes};
 pub use keypair::KeyPair;
 pub use minisign_base;
 pub use minisign_base as base;
@@ -45,6 +51,7 @@ pub use minisign_base::{
 };
 pub use minisign_hash;
 pub use minisign_hash as hash;
+pub use options::VerifyOptions;
 pub use public_key::PublicKey;
 pub use public_key_box::PublicKeyBox;
 pub use secret_key::SecretKey;

@@ -1,0 +1,194 @@
+-- The comment that was signed, beside the verdict of verifying with texts.
+use Rattle.std.proofs.Common.{◌≡◌, ◌≢◌, ◌⊎◌, ℕ, Bool, List, ap, inl, inr, ⊎_elim, subst, sym, true, false, ◌∙◌, refl, [], Option, None, Some, IfOk, IfErr, IfSome, OnOk}
+use Rattle.std.proofs.lemmas.Bool.{cases_Bool, true≢false}
+use Rattle.std.proofs.lemmas.Slice.Eq.{bytes_eq-Decides}
+use Rattle.std.specs.Prelude.{◌&&◌, ⊤, IsSome, bytes_eq, codes}
+use Rattle.std.specs.declared.result.Result.{Result}
+use Rattle.std.specs.declared.result.Result.TheVariants.{Ok, Err}
+use Rattle.minisign_base.specs.Fault.{Fault}
+use Rattle.minisign_base.specs.Faults.{out_of_memory}
+use Rattle.minisign_base.specs.declared.errors.ErrorKind.{ErrorKind}
+use Rattle.minisign_base.specs.declared.errors.ErrorKind.TheVariants.{Encoding, EncryptedKey, Generate, Hash, Io, KDF, Misc, OutOfMemory, RNG, Sign, Verify}
+use Rattle.minisign_base.specs.Passages.{RereaderPassage, SinkPassage}
+use Rattle.minisign.specs.Acceptance.{Flags, Refuses, Verifier, Vouches}
+use Rattle.minisign.specs.Calls.{CopyIsVouchedWith, CopyingBreaksOff, IsCommentOf, IsCommentVerdict, IsFileVerdict, NothingIsCopied, TextsVouchWith}
+use Rattle.minisign.specs.Headline.{IsVerdict, TextsRefuse, TextsVouchFor}
+use Rattle.minisign.specs.Reading.{IsAhead, ReadingFails}
+use Rattle.minisign.specs.Records.{PublicKeyRecord, SignatureBoxRecord, is_prehashed, prehashed_algorithm}
+use Rattle.minisign.specs.Verifying.{MarkFails, OutputRefused}
+use Rattle.minisign.specs.VerifyingTexts.{ReadTexts, TextsFail, VerifyingTextsFails, VerifyingTextsSucceeds}
+use Rattle.minisign.proofs.PublicKeyTexts.{one_public_key_text}
+use Rattle.minisign.proofs.SignatureTexts.{one_signature_text}
+use Rattle.minisign.proofs.VouchedTexts.{text_verdict}
+
+abbrev is_memory_kind : ErrorKind → Bool
+is_memory_kind OutOfMemory = true
+is_memory_kind Generate = false
+is_memory_kind Sign = false
+is_memory_kind Verify = false
+is_memory_kind Io = false
+is_memory_kind Misc = false
+is_memory_kind Hash = false
+is_memory_kind KDF = false
+is_memory_kind RNG = false
+is_memory_kind Encoding = false
+is_memory_kind EncryptedKey = false
+
+memory_kind : (k : ErrorKind) → is_memory_kind k ≡ true → k ≡ OutOfMemory
+memory_kind OutOfMemory is = refl
+memory_kind Generate is = absurd (true≢false (sym is))
+memory_kind Sign is = absurd (true≢false (sym is))
+memory_kind Verify is = absurd (true≢false (sym is))
+memory_kind Io is = absurd (true≢false (sym is))
+memory_kind Misc is = absurd (true≢false (sym is))
+memory_kind Hash is = absurd (true≢false (sym is))
+memory_kind KDF is = absurd (true≢false (sym is))
+memory_kind RNG is = absurd (true≢false (sym is))
+memory_kind Encoding is = absurd (true≢false (sym is))
+memory_kind EncryptedKey is = absurd (true≢false (sym is))
+
+-- a fault is want of memory or another
+pub memory_or_other : (e : Fault) → (e ≡ out_of_memory) ⊎ (e ≢ out_of_memory)
+unfolding out_of_memory
+memory_or_other e =
+    let tested = bytes_eq-Decides e.text (codes "out of memory") in
+    ⊎_elim
+    (λ kind. ⊎_elim
+    (λ same. inl (λ i. record { kind = memory_kind e.kind kind i; text = tested.0 same i }))
+    (λ other. inr (λ is. true≢false (sym (tested.1 (ap (λ (f : Fault). f.text) is)) ∙ other)))
+    (cases_Bool (bytes_eq e.text (codes "out of memory"))))
+    (λ other. inr (λ is. true≢false (sym (ap (λ (f : Fault). is_memory_kind f.kind) is) ∙ other)))
+    (cases_Bool (is_memory_kind e.kind))
+
+-- the comment of the text is the one that was signed, where the texts vouch for the message
+pub signed_comment : (accepts : Verifier) (pk sig message : List ℕ) (legacy : Bool) (comment : List ℕ)
+    → TextsVouchFor accepts pk sig message legacy → IsCommentOf sig comment → TextsVouchWith accepts pk sig message legacy comment
+signed_comment accepts pk sig message legacy comment vouched said = record {
+  vouched = vouched;
+  comments = said.comments;
+  both = ap (λ x. x.comments) (one_signature_text sig vouched.box said.box vouched.box_read said.box_read) ∙ said.both;
+  trusted = said.trusted;
+}
+
+-- the verdict, and the comment where it is a good one
+pub comment_verdict : {T : Type 0} (bytes : T → List ℕ) (accepts : Verifier) (pk sig message : List ℕ) (legacy : Bool) (r : Result T Fault)
+    → (IfErr r (λ e. e ≢ out_of_memory) → IsVerdict accepts pk sig message legacy r) → IfOk r (λ t. IsCommentOf sig (bytes t))
+    → IsCommentVerdict bytes accepts pk sig message legacy r
+comment_verdict bytes accepts pk sig message legacy (Ok t) verdict said = signed_comment accepts pk sig message legacy (bytes t) (verdict tt) said
+comment_verdict bytes accepts pk sig message legacy (Err e) verdict said = ⊎_elim inl (λ other. inr (verdict other)) (memory_or_other e)
+
+-- a text is refused, whatever the message
+text_refusal : (accepts : Verifier) (pk sig message : List ℕ) (legacy : Bool) (e : Fault) → TextsFail pk sig e
+    → (e ≡ out_of_memory) ⊎ TextsRefuse accepts pk sig message legacy e
+text_refusal accepts pk sig message legacy e fails =
+    ⊎_elim inl (λ other. inr (text_verdict {T = ⊤} accepts pk sig message legacy (Err e) e refl fails other)) (memory_or_other e)
+
+-- the box that the texts read as is refused
+box_refusal : (accepts : Verifier) (pk sig message : List ℕ) (legacy : Bool) (key : PublicKeyRecord) (box : SignatureBoxRecord) (e : Fault)
+    → ReadTexts pk sig key box → Refuses accepts key box message legacy e → TextsRefuse accepts pk sig message legacy e
+box_refusal accepts pk sig message legacy key box e read refused = record {
+  first_case = inr (inr (key, box, read.key_read, read.box_read, refused.first));
+  unvouched = λ v. refused.unacceptable (
+      subst (λ k. Vouches accepts k box message legacy) (one_public_key_text pk _ _ v.key_read read.key_read)
+      (subst (λ x. Vouches accepts v.key x message legacy) (one_signature_text sig _ _ v.box_read read.box_read) v.vouches)
+      );
+}
+
+-- some message is ahead, where nothing is known of it
+some_ahead : (known : Option (List ℕ)) → (message : List ℕ) × IsAhead known message
+some_ahead None = ([], tt)
+some_ahead (Some xs) = (xs, refl)
+
+both_wanted : (a b : Bool) → (a && b) ≡ true → a ≡ true
+both_wanted true b h = refl
+both_wanted false b h = absurd (true≢false (sym h))
+
+-- why nothing was copied where nothing is said
+abbrev StopsBefore : {R O : Type 0} → Verifier → List ℕ → List ℕ → Bool → RereaderPassage R → SinkPassage O → Fault → Type 0
+StopsBefore accepts pk sig output reader out e =
+    (out.new ≡ out.old)
+    × ((e ≡ out_of_memory) ⊎ ((output ≡ true) × MarkFails true reader e) ⊎ ReadingFails reader.source reader.old reader.new e
+    ⊎ ((message : List ℕ) × IsAhead (reader.source.ahead reader.old) message × TextsRefuse accepts pk sig message false e))
+
+abbrev silently : Bool → Flags
+silently output = record { quiet = true; output = output; legacy = false }
+
+-- verifying that says nothing fails before the copying, or at it
+pub silent_failure : {R W O : Type 0} (accepts : Verifier) (pk sig : List ℕ) (output : Bool) (reader : RereaderPassage R) (status : SinkPassage W) (out : SinkPassage O) (e : Fault)
+    → VerifyingTextsFails accepts pk sig (silently output) reader status out e
+    → StopsBefore accepts pk sig output reader out e
+    ⊎ ((key : PublicKeyRecord) × (box : SignatureBoxRecord) × ReadTexts pk sig key box × OutputRefused accepts key box (silently output) reader status out e)
+silent_failure accepts pk sig output reader status out e (inl stops) =
+    let (message, ahead) = some_ahead (reader.source.ahead reader.old) in
+    inl (stops.uncopied, ⊎_elim inl (λ refused. inr (inr (inr (message, ahead, refused)))) (text_refusal accepts pk sig message false e stops.why))
+silent_failure accepts pk sig output reader status out e (inr (key, box, read, inr copying)) = inr (key, box, read, copying)
+silent_failure accepts pk sig output reader status out e (inr (key, box, read, inl (uncopied, gives, inl broken))) =
+    inl (
+      uncopied,
+      ⊎_elim
+          (λ mark. inr (inl (both_wanted output _ mark.wanted, record { wanted = refl; fault = mark.fault; rose = mark.rose; unread = mark.unread })))
+          (λ fails. ⊎_elim inl (λ failed. inr (inr (inl failed))) fails)
+          broken.failed,
+    )
+silent_failure accepts pk sig output reader status out e (inr (key, box, read, inl (uncopied, gives, inr (message, pass, inl down)))) =
+    inl (uncopied, inr (inr (inr (message, pass.given, box_refusal accepts pk sig message false key box e read down.refuses))))
+silent_failure accepts pk sig output reader status out e (inr (key, box, read, inl (uncopied, gives, inr (message, pass, inr unsaid)))) =
+    absurd (true≢false unsaid.wanted)
+
+-- what files gave is vouched for, or it is refused
+pub file_verdict : {T R W O : Type 0} (bytes : T → List ℕ) (accepts : Verifier) (pk sig : List ℕ) (reader : RereaderPassage R) (status : SinkPassage W) (out : SinkPassage O) (r : Result T Fault)
+    → OnOk r (VerifyingTextsSucceeds accepts pk sig (silently false) reader status out) → IfOk r (λ t. IsCommentOf sig (bytes t))
+    → IfErr r (VerifyingTextsFails accepts pk sig (silently false) reader status out) → IsFileVerdict bytes accepts pk r
+file_verdict bytes accepts pk sig reader status out (Ok t) ok said err = (
+  sig,
+  ok.verified.message,
+  signed_comment accepts pk sig ok.verified.message false (bytes t)
+      (record { key = ok.key; box = ok.box; key_read = ok.read.key_read; box_read = ok.read.box_read; vouches = ok.verified.vouches }) said,
+)
+file_verdict bytes accepts pk sig reader status out (Err e) ok said err =
+    ⊎_elim
+    (λ (same, why). ⊎_elim (λ memory. inl (inl memory))
+    (λ more. ⊎_elim (λ (wanted, mark). absurd (true≢false (sym wanted)))
+    (λ more. ⊎_elim (λ failed. inl (inr (inl failed.fault))) (λ (message, ahead, refused). inr (sig, message, refused)) more) more) why)
+    (λ (key, box, read, copying). absurd (true≢false (sym copying.wanted)))
+    (silent_failure accepts pk sig false reader status out e err)
+
+same_ahead : (known : Option (List ℕ)) (message copy : List ℕ) → IsAhead known message → (IsSome known → copy ≡ message) → IfSome known (λ xs. copy ≡ xs)
+same_ahead None message copy given same = tt
+same_ahead (Some xs) message copy given same = same refl ∙ sym given
+
+-- what was copied is vouched for, with the comment
+pub copied_with : {T R W O : Type 0} (bytes : T → List ℕ) (accepts : Verifier) (pk sig : List ℕ) (reader : RereaderPassage R) (status : SinkPassage W) (out : SinkPassage O) (r : Result T Fault)
+    → OnOk r (VerifyingTextsSucceeds accepts pk sig (silently true) reader status out) → IfOk r (λ t. IsCommentOf sig (bytes t))
+    → IfOk r (λ t. CopyIsVouchedWith accepts pk sig reader out (bytes t))
+copied_with bytes accepts pk sig reader status out (Ok t) ok said =
+    let copied = ok.verified.copied refl in
+    record {
+      copy = copied.copy;
+      taken = copied.all;
+      vouched = signed_comment accepts pk sig copied.copy false (bytes t)
+          (record { key = ok.key; box = ok.box; key_read = ok.read.key_read; box_read = ok.read.box_read; vouches = copied.vouched }) said;
+      same = λ steady. same_ahead (reader.source.ahead reader.old) ok.verified.message copied.copy ok.verified.given (copied.steady_same steady);
+    }
+copied_with bytes accepts pk sig reader status out (Err e) ok said = tt
+
+-- where nothing but a digest may be signed, the box is prehashed
+prehashed : (accepts : Verifier) (key : PublicKeyRecord) (box : SignatureBoxRecord) (message : List ℕ) → Vouches accepts key box message false → is_prehashed box.signature ≡ true
+prehashed accepts key box message vouches =
+    ⊎_elim (bytes_eq-Decides box.signature.algorithm prehashed_algorithm).1 (λ legacy. absurd (true≢false (sym legacy))) vouches.allowed
+
+-- why nothing, or not all, was copied
+pub copy_refused : {T R W O : Type 0} (accepts : Verifier) (pk sig : List ℕ) (reader : RereaderPassage R) (status : SinkPassage W) (out : SinkPassage O) (r : Result T Fault)
+    → IfErr r (VerifyingTextsFails accepts pk sig (silently true) reader status out)
+    → IfErr r (λ e. NothingIsCopied accepts pk sig reader out e ⊎ CopyingBreaksOff accepts pk sig reader out e)
+copy_refused accepts pk sig reader status out (Ok t) err = tt
+copy_refused accepts pk sig reader status out (Err e) err =
+    ⊎_elim
+    (λ (same, why). inl (record { uncopied = same; why = ⊎_elim inl (λ more. inr (⊎_elim (λ (wanted, mark). inl mark) inr more)) why }))
+    (λ (key, box, read, copying). inr (record {
+      message = copying.message;
+      given = copying.given;
+      vouched = record { key = key; box = box; key_read = read.key_read; box_read = read.box_read; vouches = copying.vouches };
+      again = copying.again (prehashed accepts key box copying.message copying.vouches);
+    }))
+    (silent_failure accepts pk sig true reader status out e err)

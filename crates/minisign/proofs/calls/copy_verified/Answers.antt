@@ -1,0 +1,19 @@
+use Rattle.std.proofs.Common.{arith, string_bytes, false}
+use Rattle.minisign.proofs.Commented.{comment_verdict, copied_with, copy_refused}
+use Rattle.minisign.proofs.calls.copy_verified.Goals as goal
+
+pub returns-clause-headline : goal.returns-clause-headline
+returns-clause-headline g c = λ message told calm out_calm steady.
+    comment_verdict string_bytes (g.S.Scheme.accepts c.args.scheme.now) c.args.pk_text.now c.args.sig_text.now message false c.verify_with.result
+    (λ memory. c.verify_with.ensures.headline message told memory calm (λ rose. omega (arith, rose)) out_calm (λ wanted. steady))
+    c.verify_with.ensures.comment
+
+pub returns-clause-copied : goal.returns-clause-copied
+returns-clause-copied g c =
+    copied_with string_bytes (g.S.Scheme.accepts c.args.scheme.now) c.args.pk_text.now c.args.sig_text.now _ _ _ c.verify_with.result
+    c.verify_with.ensures.accepted c.verify_with.ensures.comment
+
+pub returns-clause-refused : goal.returns-clause-refused
+returns-clause-refused g c =
+    copy_refused (g.S.Scheme.accepts c.args.scheme.now) c.args.pk_text.now c.args.sig_text.now _ _ _ c.verify_with.result
+    c.verify_with.ensures.refused

@@ -1,0 +1,99 @@
+-- What the calls for callers promise: data is vouched for and this is the comment that was signed with it, or the
+-- first reason why it is not; a text gives a key under a password, or the first reason why it gives none.
+use Rattle.std.specs.Prelude.{◌≡◌, ℕ, Bool, true, false, ◌⊎◌, if◌then◌else◌, bytes_eq, List, Option, None, Some, IfSome, MatchResult}
+use Rattle.std.specs.declared.result.Result.{Result}
+use Rattle.minisign_base.specs.Fault.{Fault}
+use Rattle.minisign_base.specs.Faults.{out_of_memory}
+use Rattle.minisign_hash.specs.Blake2b.{blake2b_digest}
+use Rattle.minisign_base.specs.Faults.{encrypted_key_refused}
+use Rattle.minisign_base.specs.Passages.{IsSteady, RandomPassage, RereaderPassage, SinkFails, SinkPassage, SourceFails, Takes}
+use Rattle.minisign.specs.Records.{CommentsRecord, SecretKeyRecord, SignatureBoxRecord}
+use Rattle.minisign.specs.Acceptance.{Verifier}
+use Rattle.minisign.specs.Copying.{SecondPassFails}
+use Rattle.minisign.specs.Headline.{TextsRefuse, TextsVouchFor}
+use Rattle.minisign.specs.Opening.{IsOpened, IsUnencryptedText}
+use Rattle.minisign.specs.Reading.{IsAhead, ReadingFails}
+use Rattle.minisign.specs.Sealing.{is_encrypted, no_kdf, opening_refusal, unencrypted_refusal}
+use Rattle.minisign.specs.SecretKeyText.{SecretKeyText, secret_key_fault}
+use Rattle.minisign.specs.SignatureText.{SignatureText}
+use Rattle.minisign.specs.Signing.{DrawFails}
+use Rattle.minisign.specs.TextFiles.{IsTextFileFault}
+use Rattle.minisign.specs.Texts.{IsRefused}
+use Rattle.minisign.specs.Verifying.{MarkFails, SecondPass}
+
+-- the text reads as a box whose trusted comment this is
+pub record IsCommentOf (sig_text comment : List ℕ) : Type 0 where
+  pub box : SignatureBoxRecord
+  pub comments : CommentsRecord
+  pub box_read : SignatureText sig_text box
+  pub both : box.comments ≡ Some comments
+  pub trusted : comments.trusted ≡ comment
+
+-- the texts vouch for the message, and this is the comment that was signed with it
+pub record TextsVouchWith (accepts : Verifier) (pk_text sig_text message : List ℕ) (legacy : Bool) (comment : List ℕ) : Type 0 where
+  pub vouched : TextsVouchFor accepts pk_text sig_text message legacy
+  pub comments : CommentsRecord
+  pub both : vouched.box.comments ≡ Some comments
+  pub trusted : comments.trusted ≡ comment
+
+-- the comment is returned exactly where the texts vouch for the message, and otherwise the first failing case;
+-- memory aside
+abbrev pub IsCommentVerdict : {T : Type 0} → (T → List ℕ) → Verifier → List ℕ → List ℕ → List ℕ → Bool → Result T Fault → Type 0
+IsCommentVerdict bytes accepts pk_text sig_text message legacy r =
+    MatchResult r (λ t. TextsVouchWith accepts pk_text sig_text message legacy (bytes t))
+    (λ e. (e ≡ out_of_memory) ⊎ TextsRefuse accepts pk_text sig_text message legacy e)
+
+-- the same of a signature text and data that files gave, or what kept the files from giving them; std's files tell
+-- no bytes, so it is only said that there are some
+abbrev pub IsFileVerdict : {T : Type 0} → (T → List ℕ) → Verifier → List ℕ → Result T Fault → Type 0
+IsFileVerdict bytes accepts pk_text r =
+    MatchResult r (λ t. (sig_text : List ℕ) × (message : List ℕ) × TextsVouchWith accepts pk_text sig_text message false (bytes t))
+    (λ e. IsTextFileFault e ⊎ ((sig_text : List ℕ) × (message : List ℕ) × TextsRefuse accepts pk_text sig_text message false e))
+
+-- over data that is told, where no device fails and the source is steady: the answer is the verdict on the data
+abbrev pub CopiesExactly : {T R O : Type 0} → (T → List ℕ) → Verifier → List ℕ → List ℕ → RereaderPassage R → SinkPassage O → Result T Fault → Type 0
+CopiesExactly bytes accepts pk_text sig_text reader out answer =
+    (message : List ℕ) → reader.source.ahead reader.old ≡ Some message → ¬ (SourceFails reader) → ¬ (SinkFails out) → IsSteady reader
+    → IsCommentVerdict bytes accepts pk_text sig_text message false answer
+
+-- what the output took is vouched for, and this is the comment that was signed with it; it is what was ahead, of a
+-- steady source that tells it
+pub record CopyIsVouchedWith {R O : Type 0} (accepts : Verifier) (pk_text sig_text : List ℕ) (reader : RereaderPassage R) (out : SinkPassage O) (comment : List ℕ) : Type 0 where
+  pub copy : List ℕ
+  pub taken : Takes out copy
+  pub vouched : TextsVouchWith accepts pk_text sig_text copy false comment
+  pub same : IsSteady reader → IfSome (reader.source.ahead reader.old) (λ xs. copy ≡ xs)
+
+-- nothing was copied: memory was wanting, the source failed, or the texts do not vouch for what it gave
+pub record NothingIsCopied {R O : Type 0} (accepts : Verifier) (pk_text sig_text : List ℕ) (reader : RereaderPassage R) (out : SinkPassage O) (e : Fault) : Type 0 where
+  pub uncopied : out.new ≡ out.old
+  pub why : (e ≡ out_of_memory) ⊎ MarkFails true reader e ⊎ ReadingFails reader.source reader.old reader.new e
+      ⊎ ((message : List ℕ) × IsAhead (reader.source.ahead reader.old) message × TextsRefuse accepts pk_text sig_text message false e)
+
+-- the texts vouch for what was read, and the second reading, which is copied, failed or gave other data
+pub record CopyingBreaksOff {R O : Type 0} (accepts : Verifier) (pk_text sig_text : List ℕ) (reader : RereaderPassage R) (out : SinkPassage O) (e : Fault) : Type 0 where
+  pub message : List ℕ
+  pub given : IsAhead (reader.source.ahead reader.old) message
+  pub vouched : TextsVouchFor accepts pk_text sig_text message false
+  pub again : SecondPassFails (SecondPass reader) reader out (blake2b_digest 64 message) e
+
+-- the text gives this key under the password: the key was never sealed, or this is the key opened
+abbrev pub GivesKeyWith : List ℕ → List ℕ → SecretKeyRecord → Type 0
+GivesKeyWith text password key = IsUnencryptedText text key ⊎ IsOpened text password None key
+
+-- the first reason for which a key is not given
+abbrev pub key_refusal : SecretKeyRecord → List ℕ → Option Fault
+key_refusal k password = if bytes_eq k.kdf no_kdf then unencrypted_refusal k else opening_refusal k password None
+
+-- the text gives no key under the password, and this is the first reason
+pub record GivesNoKeyWith (text password : List ℕ) (e : Fault) : Type 0 where
+  pub first : IsRefused (SecretKeyText text) (secret_key_fault text) e
+      ⊎ ((k : SecretKeyRecord) × SecretKeyText text k × (key_refusal k password ≡ Some e))
+  pub none : (k : SecretKeyRecord) → ¬ (GivesKeyWith text password k)
+
+-- signing bytes with a key fails: the key is sealed, with nothing drawn; or it is opened, and memory is wanting or
+-- the random source fails
+abbrev pub BytesSigningFails : {Z : Type 0} → SecretKeyRecord → RandomPassage Z → Fault → Type 0
+BytesSigningFails sk z e =
+    ((e ≡ encrypted_key_refused) × (is_encrypted sk ≡ true) × (z.new ≡ z.old))
+    ⊎ ((is_encrypted sk ≡ false) × ((e ≡ out_of_memory) ⊎ DrawFails z e))

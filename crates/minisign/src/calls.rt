@@ -1,0 +1,231 @@
+//! Calls for callers: verifying with texts, and the comment that was signed.
+
+ghost use Rattle.std.specs.Prelude.{◌≡◌, ◌⊎◌, List, ℕ, true, false, Some, string_bytes, IfOk, IfErr, OnOk, MatchResult};
+ghost use Rattle.minisign_base.specs.Passages.{rereader_passage, sink_passage};
+ghost use Rattle.minisign.specs.Calls.{CopiesExactly, CopyIsVouchedWith, CopyingBreaksOff, IsCommentOf, IsCommentVerdict, IsFileVerdict, NothingIsCopied};
+ghost use Rattle.minisign.specs.Headline.{CopyIsVouchedFor, VerifiesExactly};
+ghost use Rattle.minisign.specs.VerifyingTexts.{ReadTexts, TextsFail, VerifyingTextsFails, VerifyingTextsSucceeds};
+
+use crate::memory::{MemorySource, NoSink};
+use crate::options::VerifyOptions;
+use crate::public_key::PublicKey;
+use crate::public_key_box::PublicKeyBox;
+use crate::reading::read_text_file;
+use crate::signature_box::SignatureBox;
+use crate::verifying::verify;
+use minisign_base::devices::sinks::Sink;
+use minisign_base::devices::sources::{FileSource, Rereader};
+use minisign_base::scheme::Scheme;
+use minisign_base::{Result, faults};
+use std::alloc::Global;
+use std::fs;
+use std::rt::Files;
+
+/// Verifies that the texts of a public key and of a signature vouch for all the data ahead of `data_reader`, as
+/// `verify_texts` does, with options in place of three flags, and returns the trusted comment, which was signed
+/// with the data.
+///
+/// What is refused, and in which order, is as `verify_texts` says. Until the comment is held in memory nothing is
+/// read from `data_reader`, and nothing is said or copied.
+pub fn verify_with<S: Scheme, R: Rereader, W: Sink, O: Sink>(
+    alloc: Global,
+    scheme: &S,
+    pk_text: &str,
+    sig_text: &str,
+    data_reader: &mut R,
+    options: VerifyOptions,
+    status: &mut W,
+    out: &mut O,
+) -> Result<String>
+    // Where memory is found and no device fails: success exactly where the texts vouch for the data, and
+    // otherwise the first failing case.
+    ensures headline { VerifiesExactly (S.accepts scheme.now) pk_text.now sig_text.now
+        (record { quiet = options.quiet; output = options.output; legacy = options.allow_legacy })
+        (rereader_passage R.Source R.steady data_reader.old data_reader.new)
+        (sink_passage W.Sink status.old status.new) (sink_passage O.Sink out.old out.new) result }
+
+    // The comment is the one that the signature text holds.
+    ensures comment { IfOk result (λ t. IsCommentOf sig_text.now (string_bytes t)) }
+
+    // What is accepted is vouched for, this was said of it, and it was copied where that is wanted.
+    ensures accepted { OnOk result (VerifyingTextsSucceeds (S.accepts scheme.now) pk_text.now sig_text.now
+        (record { quiet = options.quiet; output = options.output; legacy = options.allow_legacy })
+        (rereader_passage R.Source R.steady data_reader.old data_reader.new)
+        (sink_passage W.Sink status.old status.new) (sink_passage O.Sink out.old out.new)) }
+
+    // Why it was refused.
+    ensures refused { IfErr result (VerifyingTextsFails (S.accepts scheme.now) pk_text.now sig_text.now
+        (record { quiet = options.quiet; output = options.output; legacy = options.allow_legacy })
+        (rereader_passage R.Source R.steady data_reader.old data_reader.new)
+        (sink_passage W.Sink status.old status.new) (sink_passage O.Sink out.old out.new)) }
+
+    ensures quiet { options.quiet ≡ true → status.new ≡ status.old }
+    ensures out { options.output ≡ false → out.new ≡ out.old }
+{
+    let (pk, signature_box, comment) = read_texts(alloc, pk_text, sig_text)?;
+    verify(
+        alloc,
+        scheme,
+        &pk,
+        &signature_box,
+        data_reader,
+        options.quiet,
+        options.output,
+        options.allow_legacy,
+        status,
+        out,
+    )?;
+    Ok(comment)
+}
+
+// The key and the box that the texts read as, the key first, and the trusted comment of the box.
+fn read_texts(
+    alloc: Global,
+    pk_text: &str,
+    sig_text: &str,
+) -> Result<(PublicKey, SignatureBox, String)>
+    ensures read { IfOk result (λ all. ReadTexts pk_text.now sig_text.now all.0 all.1) }
+    ensures comment { IfOk result (λ all. IsCommentOf sig_text.now (string_bytes all.2)) }
+    ensures refused { IfErr result (TextsFail pk_text.now sig_text.now) }
+{
+    let pk = PublicKeyBox::from_string(alloc, pk_text)?.into_public_key(alloc)?;
+    let signature_box = SignatureBox::from_string(alloc, sig_text)?;
+    let comment = signature_box.trusted_comment(alloc)?;
+    Ok((pk, signature_box, comment))
+}
+
+/// Verifies that the texts of a public key and of a signature vouch for the data in memory, and returns the
+/// trusted comment, which was signed with the data.
+///
+/// Refused are, in this order: the text of the public key, as `PublicKey::from_box` says; the text of the
+/// signature, as `SignatureBox::from_string` says; an identifier other than the public key's, a signature over
+/// the data itself, a signature that the scheme does not accept, a comment signature that has under 64 bytes or is
+/// not accepted. It may run out of memory at any time; the data is not copied.
+///
+/// ```
+/// let comment = verify_bytes(alloc, &scheme, PUBLIC_KEY, signature, update)?;
+/// ```
+pub fn verify_bytes<S: Scheme>(
+    alloc: Global,
+    scheme: &S,
+    pk_text: &str,
+    sig_text: &str,
+    message: &[u8],
+) -> Result<String>
+    ensures { IsCommentVerdict string_bytes (S.accepts scheme.now) pk_text.now sig_text.now message.now false result }
+{
+    verify_with(
+        alloc,
+        scheme,
+        pk_text,
+        sig_text,
+        &mut MemorySource::new(message),
+        VerifyOptions::SILENT,
+        &mut NoSink,
+        &mut NoSink,
+    )
+}
+
+/// Verifies that the text of a public key and the signature text in the file at `sig_path` vouch for the data in
+/// the file at `data_path`, and returns the trusted comment, which was signed with the data. The paths are taken
+/// as they stand. The data is read in pieces of 64 KiB, so that memory does not grow with it.
+///
+/// Refused are, in this order: a signature file that cannot be opened or read, `reading_failed`; one that is
+/// not UTF-8, `not_utf8`; a data file that cannot be opened, `reading_failed`; a text, as `verify_bytes` says; a
+/// data file that cannot be read, `reading_failed`; and what `verify_bytes` refuses of the data. It may run out of
+/// memory at any time.
+///
+/// ```
+/// let comment = verify_file(&rt, rt.alloc(), &scheme, PUBLIC_KEY, "update.tar.minisig", "update.tar")?;
+/// ```
+pub fn verify_file<F: Files, S: Scheme>(
+    files: &F,
+    alloc: Global,
+    scheme: &S,
+    pk_text: &str,
+    sig_path: &str,
+    data_path: &str,
+) -> Result<String>
+    ensures { IsFileVerdict string_bytes (S.accepts scheme.now) pk_text.now result }
+{
+    let sig_text = read_text_file(files, alloc, sig_path)?;
+    match fs::open(files, data_path) {
+        Ok(file) => verify_source(
+            alloc,
+            scheme,
+            pk_text,
+            sig_text.as_str(),
+            &mut FileSource::new(file),
+        ),
+        Err(_) => Err(faults::reading_failed()),
+    }
+}
+
+// Verifies all that is ahead, says nothing and copies nothing.
+fn verify_source<S: Scheme, R: Rereader>(
+    alloc: Global,
+    scheme: &S,
+    pk_text: &str,
+    sig_text: &str,
+    data_reader: &mut R,
+) -> Result<String>
+    ensures { IsFileVerdict string_bytes (S.accepts scheme.now) pk_text.now result }
+{
+    verify_with(
+        alloc,
+        scheme,
+        pk_text,
+        sig_text,
+        data_reader,
+        VerifyOptions::SILENT,
+        &mut NoSink,
+        &mut NoSink,
+    )
+}
+
+/// Copies all the data ahead of `data_reader` to `out`, where the texts of a public key and of a signature vouch
+/// for it, and returns the trusted comment, which was signed with the data.
+///
+/// The data is read twice in pieces of 64 KiB, so that memory does not grow with it, and nothing is copied before
+/// it is vouched for. Refused are, in this order: a text, and what `verify_bytes` refuses of the data, with `out`
+/// untouched; a `data_reader` that fails, or cannot go back; a second reading that has another digest,
+/// `data_changed`, where nobody may rely on what `out` holds; an `out` that fails. On success `out` is flushed.
+///
+/// ```
+/// let comment = copy_verified(alloc, &scheme, PUBLIC_KEY, signature, &mut download, &mut installed)?;
+/// ```
+pub fn copy_verified<S: Scheme, R: Rereader, O: Sink>(
+    alloc: Global,
+    scheme: &S,
+    pk_text: &str,
+    sig_text: &str,
+    data_reader: &mut R,
+    out: &mut O,
+) -> Result<String>
+    // Where no device fails: success exactly where the texts vouch for the data, and otherwise the first failing
+    // case.
+    ensures headline { CopiesExactly string_bytes (S.accepts scheme.now) pk_text.now sig_text.now
+        (rereader_passage R.Source R.steady data_reader.old data_reader.new) (sink_passage O.Sink out.old out.new) result }
+
+    // What the output took is itself vouched for, whatever a second reading gave.
+    ensures copied { IfOk result (λ t. CopyIsVouchedWith (S.accepts scheme.now) pk_text.now sig_text.now
+        (rereader_passage R.Source R.steady data_reader.old data_reader.new) (sink_passage O.Sink out.old out.new) (string_bytes t)) }
+
+    // Why it was refused.
+    ensures refused { IfErr result (λ e.
+        NothingIsCopied (S.accepts scheme.now) pk_text.now sig_text.now
+        (rereader_passage R.Source R.steady data_reader.old data_reader.new) (sink_passage O.Sink out.old out.new) e
+        ⊎ CopyingBreaksOff (S.accepts scheme.now) pk_text.now sig_text.now
+        (rereader_passage R.Source R.steady data_reader.old data_reader.new) (sink_passage O.Sink out.old out.new) e) }
+{
+    verify_with(
+        alloc,
+        scheme,
+        pk_text,
+        sig_text,
+        data_reader,
+        VerifyOptions::COPYING,
+        &mut NoSink,
+        out,
+    )
+}

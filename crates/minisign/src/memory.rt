@@ -1,0 +1,77 @@
+//! Devices that never fail: the bytes of a slice, and a sink that keeps nothing.
+
+ghost use Rattle.std.specs.Prelude.{◌≡◌, Some, None, length, ⊤, IsOk};
+ghost use Rattle.minisign_base.specs.Devices.{HasRead, HasMarked, HasGoneBack, HasWritten, HasFlushed};
+
+use minisign_base::devices::DeviceFault;
+use minisign_base::devices::sinks::Sink;
+use minisign_base::devices::sources::{Rereader, Source};
+
+// The bytes of a slice, which counts no faults since it has none. Its beginning is marked at first.
+#[derive(Drop)]
+pub(crate) struct MemorySource<'a> {
+    rest: &'a [u8],
+    marked: &'a [u8],
+}
+
+impl<'a> MemorySource<'a> {
+    // All of the slice is ahead.
+    pub(crate) fn new(bytes: &'a [u8]) -> MemorySource<'a>
+        ensures ahead { ⟦<MemorySource<'a> as Source>⟧.ahead result ≡ Some bytes.now }
+    {
+        MemorySource {
+            rest: bytes,
+            marked: bytes,
+        }
+    }
+}
+
+impl<'a> Source for MemorySource<'a> {
+    ghost ahead = { λ s. Some s.rest.now };
+
+    ghost behind = { λ s. Some s.marked.now };
+
+    ghost left = { λ s. length s.rest.now };
+
+    ghost faults = { λ _. 0 };
+
+    fn read(&mut self, buf: &mut [u8]) -> Result<usize, DeviceFault> {
+        let n = buf.len().min(self.rest.len());
+        let (front, rest) = self.rest.split_at(n);
+        buf[..n].copy_from_slice(front);
+        self.rest = rest;
+        Ok(n)
+    }
+}
+
+impl<'a> Rereader for MemorySource<'a> {
+    ghost steady = { λ _. ⊤ };
+
+    fn mark(&mut self) -> Result<(), DeviceFault> {
+        self.marked = self.rest;
+        Ok(())
+    }
+
+    fn back(&mut self) -> Result<(), DeviceFault> {
+        self.rest = self.marked;
+        Ok(())
+    }
+}
+
+// Takes all bytes, and keeps none.
+#[derive(Drop)]
+pub(crate) struct NoSink;
+
+impl Sink for NoSink {
+    ghost taken = { λ _. None };
+
+    ghost sink_faults = { λ _. 0 };
+
+    fn write(&mut self, bytes: &[u8]) -> Result<usize, DeviceFault> {
+        Ok(bytes.len())
+    }
+
+    fn flush(&mut self) -> Result<(), DeviceFault> {
+        Ok(())
+    }
+}
