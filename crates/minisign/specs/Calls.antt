@@ -14,7 +14,7 @@ use Rattle.minisign.specs.Headline.{TextsRefuse, TextsVouchFor}
 use Rattle.minisign.specs.Opening.{IsOpened, IsUnencryptedText}
 use Rattle.minisign.specs.Reading.{IsAhead, ReadingFails}
 use Rattle.minisign.specs.Sealing.{is_encrypted, no_kdf, opening_refusal, unencrypted_refusal}
-use Rattle.minisign.specs.SecretKeyText.{SecretKeyText, secret_key_fault}
+use Rattle.minisign.specs.SecretKeyText.{SecretKeyText, secret_key_refusal}
 use Rattle.minisign.specs.SignatureText.{SignatureText}
 use Rattle.minisign.specs.Signing.{DrawFails}
 use Rattle.minisign.specs.TextFiles.{IsTextFileFault}
@@ -87,7 +87,7 @@ key_refusal k password = if bytes_eq k.kdf no_kdf then unencrypted_refusal k els
 
 -- the text gives no key under the password, and this is the first reason
 pub record GivesNoKeyWith (text password : List ℕ) (e : Fault) : Type 0 where
-  pub first : IsRefused (SecretKeyText text) (secret_key_fault text) e
+  pub first : IsRefused (SecretKeyText text) (secret_key_refusal text) e
       ⊎ ((k : SecretKeyRecord) × SecretKeyText text k × (key_refusal k password ≡ Some e))
   pub none : (k : SecretKeyRecord) → ¬ (GivesKeyWith text password k)
 
