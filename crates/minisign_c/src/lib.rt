@@ -34,12 +34,12 @@ pub extern "C" fn minisign_init(state: &mut State)
 
 /// Feeds the next bytes of the data.
 #[unsafe(no_mangle)]
-pub extern "C" fn minisign_update(state: &mut State, data: &[u8]) -> u32
-    ensures fed { (m : List ℕ) → IsFed state.old m → (result ≡ 0) × IsFed state.new (m ++ data.now) }
+pub extern "C" fn minisign_update(state: &mut State, piece: &[u8]) -> u32
+    ensures fed { (m : List ℕ) → IsFed state.old m → (result ≡ 0) × IsFed state.new (m ++ piece.now) }
     ensures begun { result ≡ 0 → IsMarkedFed state.old }
     ensures refused { 0 < result → (result ≡ misuse_number (feeding_misuse state.old)) × (state.new ≡ state.old) }
 {
-    match state.update(data) {
+    match state.update(piece) {
         Ok(()) => 0,
         Err(misuse) => misuse.number(),
     }

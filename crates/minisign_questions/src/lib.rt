@@ -5,6 +5,8 @@
 
 pub mod asking;
 pub mod numbers;
+pub mod secrets;
+pub mod signed_texts;
 pub mod state;
 #[cfg(test)]
 mod tests;
