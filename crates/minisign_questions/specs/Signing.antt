@@ -1,15 +1,19 @@
 -- What a signature scheme has to be asked for a signature of a message, and the text that its answers make.
-use Rattle.std.specs.Prelude.{◌≡◌, ◌⊎◌, ℕ, ◌≤◌, true, List, ◌++◌, length, take, Option, None, Some, IfSome}
+use Rattle.std.specs.Prelude.{◌≡◌, ◌==◌, ◌⊎◌, ◌<◌, ◌≤◌, ℕ, true, if◌then◌else◌, List, ◌++◌, length, take, Option, None, Some, IfSome}
 use Rattle.std.specs.Str.{IsUtf8}
 use Rattle.minisign_hash.specs.Blake2b.{blake2b_digest}
 use Rattle.minisign_base.specs.Fault.{Fault}
 use Rattle.minisign_base.specs.Faults.{out_of_memory, not_utf8}
 use Rattle.minisign.specs.Records.{CommentsRecord, SecretKeyRecord, SignatureRecord, SignatureBoxRecord, prehashed_algorithm}
-use Rattle.minisign.specs.Acceptance.{Verifier}
+use Rattle.minisign.specs.Acceptance.{Verifier, VouchesUnderEachKey}
+use Rattle.minisign.specs.Headline.{SigningHeadline}
 use Rattle.minisign.specs.Opening.{IsOpened, IsUnencryptedText, RefusesOpening, RefusesUnencrypted}
-use Rattle.minisign.specs.Signing.{ChosenComments, Signer}
+use Rattle.minisign.specs.Signing.{AreKept, ChosenComments, IsGenuine, Signer, signed_box}
+use Rattle.minisign.specs.SignatureText.{SignatureText, signature_text}
+use Rattle.minisign_questions.specs.Numbers.{IsNumberOf, misuse_number}
 use Rattle.minisign_questions.specs.States.{IsNotFed}
 use Rattle.minisign_questions.specs.declared.state.State.{State}
+use Rattle.minisign_questions.specs.declared.state.Misuse.TheVariants.{NoComment, NoPassword, NoRoom}
 use Rattle.minisign_questions.specs.declared.state.Refusal.{Refusal}
 use Rattle.minisign_questions.specs.declared.state.Refusal.TheVariants.{WrongUse, Refused}
 use Rattle.minisign_questions.specs.declared.secrets.SigningQuestions.{SigningQuestions}
@@ -56,6 +60,51 @@ pub record SignsSo (sign : Signer) (key : SecretKeyRecord) (message trusted z1 z
   pub to_second : sign (first ++ trusted) key.secret (Some z2) ≡ second
 
 -- the two answers are accepted under a public key of 32 bytes as signatures of what was asked
-pub record AcceptsAnswers (accepts : Verifier) (key message trusted first second : List ℕ) : Type 0 where
-  pub to_first : accepts (blake2b_digest 64 message) key first ≡ true
-  pub to_second : accepts (first ++ trusted) key second ≡ true
+pub record AcceptsAnswers (accepts : Verifier) (public message trusted first second : List ℕ) : Type 0 where
+  pub to_first : accepts (blake2b_digest 64 message) public first ≡ true
+  pub to_second : accepts (first ++ trusted) public second ≡ true
+
+-- the text is that of the two answers: it reads as their box. For every scheme that answers the questions so, that is
+-- the box that signing makes; and where the answers are accepted under a public key, it vouches for the message
+-- under it. So what is promised of the texts that signing makes holds of this one
+pub record IsAnsweredText (key_id : List ℕ) (chosen : ChosenComments) (first second text : List ℕ) : Type 0 where
+  pub written : text ≡ signature_text (answered_signature key_id first) (answered_comments chosen second)
+  pub read_back : SignatureText text (answered_box key_id chosen first second)
+  pub signed : (sign : Signer) (key : SecretKeyRecord) (message z1 z2 : List ℕ) → key_id ≡ key.keynum
+      → SignsSo sign key message chosen.trusted z1 z2 first second → SignatureText text (signed_box sign key message chosen z1 z2)
+  pub vouched : (accepts : Verifier) (public message : List ℕ) → AcceptsAnswers accepts public message chosen.trusted first second
+      → (x : SignatureBoxRecord) × SignatureText text x × VouchesUnderEachKey accepts public key_id message x
+  pub headline : (accepts : Verifier) (public_of : List ℕ → List ℕ) (key : SecretKeyRecord) (message : List ℕ) → key_id ≡ key.keynum
+      → ((seed : List ℕ) → IsGenuine public_of key seed → AcceptsAnswers accepts (public_of seed) message chosen.trusted first second)
+      → SigningHeadline accepts public_of key message chosen text
+
+-- the two comments, by their names
+abbrev pub comments_of : List ℕ → List ℕ → ChosenComments
+comments_of trusted untrusted = record { trusted = trusted; untrusted = untrusted }
+
+-- a text of answers stands at the front of a buffer, in so many bytes
+pub record HoldsText (key_id : List ℕ) (chosen : ChosenComments) (first second bytes : List ℕ) (len : ℕ) : Type 0 where
+  pub fits : len ≤ length bytes
+  pub text : IsAnsweredText key_id chosen first second (take len bytes)
+
+-- the text was not written: it has no room, a comment would not be read back as it is, memory was wanting, or a
+-- comment is no UTF-8
+abbrev pub IsWritingRefusal : List ℕ → ChosenComments → List ℕ → List ℕ → List ℕ → Refusal → Type 0
+IsWritingRefusal key_id chosen first second bytes (WrongUse m) =
+    ((m ≡ NoRoom) × (length bytes < length (signature_text (answered_signature key_id first) (answered_comments chosen second))))
+    ⊎ ((m ≡ NoComment) × ¬ (AreKept chosen))
+IsWritingRefusal key_id chosen first second bytes (Refused e) =
+    (e ≡ out_of_memory) ⊎ ((e ≡ not_utf8) × ¬ (IsUtf8 chosen.trusted × IsUtf8 chosen.untrusted))
+
+-- the number of a refusal of asking for signatures, and of writing a text
+abbrev pub IsSigningNumber : State → List ℕ → Option (List ℕ) → ℕ → ℕ → Type 0
+IsSigningNumber s text password with_password n =
+    ((n ≡ misuse_number NoPassword) × (1 < with_password))
+    ⊎ ((r : Refusal) × IsNumberOf r n × IsSigningRefusal s text password r)
+
+abbrev pub IsWritingNumber : List ℕ → ChosenComments → List ℕ → List ℕ → List ℕ → ℕ → Type 0
+IsWritingNumber key_id chosen first second bytes n = (r : Refusal) × IsNumberOf r n × IsWritingRefusal key_id chosen first second bytes r
+
+-- the password that a caller hands in by two arguments: none with 0, these bytes with 1
+abbrev pub handed_in : ℕ → List ℕ → Option (List ℕ)
+handed_in with_password bytes = if with_password == 0 then None else Some bytes
