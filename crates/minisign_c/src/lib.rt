@@ -4,6 +4,7 @@
 #![tactic(auto)]
 
 ghost use Rattle.std.specs.Prelude.{◌≡◌, ◌==◌, ◌⊎◌, ◌<◌, ◌≤◌, ◌+◌, ◌++◌, ℕ, Bool, List, [], length, take};
+ghost use Rattle.std.specs.Option.{option_map};
 ghost use Rattle.minisign_hash.specs.Blake2b.{blake2b_digest};
 ghost use Rattle.minisign.specs.Records.{PublicKeyRecord, SecretKeyRecord, SignatureBoxRecord, CommentsRecord};
 ghost use Rattle.minisign.specs.Acceptance.{Verifier};
@@ -134,14 +135,20 @@ pub extern "C" fn minisign_ask_signing(
     if with_password > 1 {
         return Misuse::NoPassword.number();
     }
-    let password = if with_password == 0 {
+    match state.ask_signing(alloc, sk_text, given(with_password, password), questions) {
+        Ok(()) => 0,
+        Err(refusal) => refusal.number(alloc, [0; 8], [0; 8]),
+    }
+}
+
+// The password that two arguments hand in.
+fn given(with_password: u32, password: &[u8]) -> Option<&[u8]>
+    ensures { option_map (λ p. p.now) result ≡ handed_in with_password password.now }
+{
+    if with_password == 0 {
         None
     } else {
         Some(password)
-    };
-    match state.ask_signing(alloc, sk_text, password, questions) {
-        Ok(()) => 0,
-        Err(refusal) => refusal.number(alloc, [0; 8], [0; 8]),
     }
 }
 
@@ -159,7 +166,7 @@ pub extern "C" fn minisign_comment_message(
 {
     match write_comment_message(first, trusted, message) {
         Ok(()) => 0,
-        Err(misuse) => misuse.number(),
+        Err(no_room) => no_room.number(),
     }
 }
 
