@@ -91,31 +91,153 @@ static uint32_t ask(minisign_state *state, uint32_t with_password, size_t passwo
                                 (const uint8_t *) secret.password, password_len, &secret.signing);
 }
 
-/* Opens the key and hashes the data: what is wrong with the key is known, and said, before any data is read. */
-static void open_and_hash(const struct options *options)
+/* Hashes the data, opens the key, and asks what has to be signed. */
+static void hash_and_ask(const struct options *options)
 {
     minisign_state state;
-    uint8_t key_id[sizeof secret.signing.key_id];
-    uint8_t secret_key[sizeof secret.signing.secret_key];
     uint32_t error;
-    int fd;
+    int fd = open_file(options->data_file);
 
     read_text(&secret.key_text, options->key_file);
     minisign_init(&state);
+    feed_file(&state, fd, options->data_file, NULL);
+    close(fd);
     error = ask(&state, 0, 0);
     if (error == MINISIGN_KEY_SEALED) {
         size_t password_len = ask_password();
+
         fputs("Deriving a key from the password and decrypting the secret key... ", stderr);
         error = ask(&state, 1, password_len);
-        fputs(error == MINISIGN_OK ? "done\n" : "\n", stderr);
+        fputs(error == MINISIGN_OK ? "done\n\n" : "\n", stderr);
     }
     if (error != MINISIGN_OK) {
         refuse(error);
     }
-    (void) key_id;
-    (void) secret_key;
-    fd = open_file(options->data_file);
-    minisign_init(&state);
-    feed_file(&state, fd, options->data_file, NULL);
-    close(fd);
+}
+
+/* The signature of Ed25519 on bytes that the library asked about. */
+static void sign(uint8_t signature[64], const uint8_t *bytes, size_t len)
+{
+    crypto_sign_detached(signature, NULL, bytes, len, secret.signing.secret_key);
+}
+
+/* Signs what is asked, and writes the text of the signature to memory: its length. */
+static size_t make_text(const struct options *options, uint8_t *made, size_t room)
+{
+    static uint8_t message[64 + COMMENT_BYTES];
+    const uint8_t *trusted = (const uint8_t *) options->trusted_comment;
+    const uint8_t *untrusted = (const uint8_t *) options->untrusted_comment;
+    size_t trusted_len = strlen(options->trusted_comment);
+    size_t untrusted_len = strlen(options->untrusted_comment);
+    uint8_t first[64], second[64];
+    size_t len = 0;
+    uint32_t error;
+
+    sign(first, secret.signing.digest, sizeof secret.signing.digest);
+    error = minisign_comment_message(first, trusted, trusted_len, message, sizeof message);
+    if (error != MINISIGN_OK) {
+        refuse(error);
+    }
+    sign(second, message, 64 + trusted_len);
+    error = minisign_signed_text(secret.signing.key_id, first, second, trusted, trusted_len, untrusted, untrusted_len,
+                                 made, room, &len);
+    if (error != MINISIGN_OK) {
+        refuse(error);
+    }
+    return len;
+}
+
+static void write_file(const char *name, const uint8_t *bytes, size_t len)
+{
+    FILE *file = fopen(name, "wb");
+
+    if (file == NULL || fwrite(bytes, 1, len, file) != len || fclose(file) != 0) {
+        fail_at(name);
+    }
+}
+
+/* The trusted comment by default: the time, and the last part of the file's name. */
+static const char *default_comment(const char *data_file)
+{
+    static char comment[COMMENT_BYTES];
+    const char *slash = strrchr(data_file, '/');
+
+    snprintf(comment, sizeof comment, "timestamp:%lld\tfile:%s\thashed", (long long) time(NULL),
+             slash == NULL ? data_file : slash + 1);
+    return comment;
+}
+
+/* The secret key by default, in the folder of the user's settings. */
+static const char *default_key(void)
+{
+    const char *folder = getenv("MINISIGN_CONFIG_DIR");
+    const char *home = getenv("HOME");
+
+    if (folder != NULL) {
+        return name_beside(folder, "/minisign.key");
+    }
+    return home == NULL ? "minisign.key" : name_beside(home, "/.minisign/minisign.key");
+}
+
+static _Noreturn void usage(void)
+{
+    puts("Usage:\n"
+         "minisign-sign [-S] [-x sig_file] [-s seckey_file] [-c untrusted_comment] [-t trusted_comment] -m file\n"
+         "\n"
+         "-S                create a signature (the default)\n"
+         "-m <file>         file to sign\n"
+         "-s <seckey_file>  secret key file (default: ~/.minisign/minisign.key)\n"
+         "-x <sigfile>      signature file (default: <file>.minisig)\n"
+         "-c <comment>      one line of comment that nothing vouches for\n"
+         "-t <comment>      one line of comment that is signed");
+    exit(TROUBLE);
+}
+
+static struct options read_options(int argc, char *argv[])
+{
+    struct options options = { 0 };
+    int flag;
+
+    while ((flag = getopt(argc, argv, "Sm:s:x:c:t:")) != -1) {
+        switch (flag) {
+        case 'S': break;
+        case 'm': options.data_file = optarg; break;
+        case 's': options.key_file = optarg; break;
+        case 'x': options.signature_file = optarg; break;
+        case 'c': options.untrusted_comment = optarg; break;
+        case 't': options.trusted_comment = optarg; break;
+        default: usage();
+        }
+    }
+    if (options.data_file == NULL || optind < argc) {
+        usage();
+    }
+    if (options.key_file == NULL) {
+        options.key_file = default_key();
+    }
+    if (options.signature_file == NULL) {
+        options.signature_file = name_beside(options.data_file, ".minisig");
+    }
+    if (options.untrusted_comment == NULL || *options.untrusted_comment == 0) {
+        options.untrusted_comment = DEFAULT_COMMENT;
+    }
+    if (options.trusted_comment == NULL || *options.trusted_comment == 0) {
+        options.trusted_comment = default_comment(options.data_file);
+    }
+    return options;
+}
+
+int main(int argc, char *argv[])
+{
+    static uint8_t made[MINISIGN_TEXT_BYTES(COMMENT_BYTES, COMMENT_BYTES)];
+    struct options options = read_options(argc, argv);
+    size_t len;
+
+    if (sodium_init() < 0 || atexit(clear_secrets) != 0) {
+        fail("libsodium could not be started");
+    }
+    hash_and_ask(&options);
+    len = make_text(&options, made, sizeof made);
+    write_file(options.signature_file, made, len);
+    return GOOD;
 }

@@ -1,5 +1,5 @@
 -- What a signature scheme has to be asked for a signature of a message, and the text that its answers make.
-use Rattle.std.specs.Prelude.{◌≡◌, ◌==◌, ◌⊎◌, ◌<◌, ◌≤◌, ℕ, true, if◌then◌else◌, List, ◌++◌, length, take, Option, None, Some, IfSome}
+use Rattle.std.specs.Prelude.{◌≡◌, ◌==◌, ◌⊎◌, ◌<◌, ◌≤◌, ℕ, true, if◌then◌else◌, List, ◌++◌, length, take, Option, None, Some, IfSome, replicate}
 use Rattle.std.specs.Str.{IsUtf8}
 use Rattle.minisign_hash.specs.Blake2b.{blake2b_digest}
 use Rattle.minisign_base.specs.Fault.{Fault}
@@ -7,7 +7,9 @@ use Rattle.minisign_base.specs.Faults.{out_of_memory, not_utf8}
 use Rattle.minisign.specs.Records.{CommentsRecord, SecretKeyRecord, SignatureRecord, SignatureBoxRecord, prehashed_algorithm}
 use Rattle.minisign.specs.Acceptance.{Verifier, VouchesUnderEachKey}
 use Rattle.minisign.specs.Headline.{SigningHeadline}
-use Rattle.minisign.specs.Opening.{IsOpened, IsUnencryptedText, RefusesOpening, RefusesUnencrypted}
+use Rattle.minisign.specs.Opening.{IsOpened, RefusesOpening, RefusesUnencrypted}
+use Rattle.minisign.specs.Sealing.{IsUnencrypted, no_kdf}
+use Rattle.minisign.specs.SecretKeyText.{SecretKeyText}
 use Rattle.minisign.specs.Signing.{AreKept, ChosenComments, IsGenuine, Signer, signed_box}
 use Rattle.minisign.specs.SignatureText.{SignatureText, signature_text}
 use Rattle.minisign_questions.specs.Numbers.{IsNumberOf, misuse_number}
@@ -18,14 +20,28 @@ use Rattle.minisign_questions.specs.declared.state.Refusal.{Refusal}
 use Rattle.minisign_questions.specs.declared.state.Refusal.TheVariants.{WrongUse, Refused}
 use Rattle.minisign_questions.specs.declared.secrets.SigningQuestions.{SigningQuestions}
 
+-- a key that was never sealed, with 32 zeros in place of its checksum, as Minisign writes it
+pub record LacksChecksum (k : SecretKeyRecord) : Type 0 where
+  pub kdf : k.kdf ≡ no_kdf
+  pub checksum : k.checksum ≡ replicate 32 0
+
+-- the text reads as this key, which was never sealed, and whose checksum matches or is none
+abbrev pub GivesUnsealedKey : List ℕ → SecretKeyRecord → Type 0
+GivesUnsealedKey text key = SecretKeyText text key × (IsUnencrypted key ⊎ LacksChecksum key)
+
+-- the text reads as no such key, and this is the first reason
+pub record RefusesUnsealed (text : List ℕ) (e : Fault) : Type 0 where
+  pub refused : RefusesUnencrypted text e
+  pub checked : (k : SecretKeyRecord) → SecretKeyText text k → ¬ (LacksChecksum k)
+
 -- the text gives this key: without a password one that was never sealed, with one a sealed one that it opens
 abbrev pub GivesSecretKey : List ℕ → Option (List ℕ) → SecretKeyRecord → Type 0
-GivesSecretKey text None key = IsUnencryptedText text key
+GivesSecretKey text None key = GivesUnsealedKey text key
 GivesSecretKey text (Some password) key = IsOpened text password None key
 
 -- the text gives no such key, and this is the first reason
 abbrev pub RefusesSecretKey : List ℕ → Option (List ℕ) → Fault → Type 0
-RefusesSecretKey text None e = RefusesUnencrypted text e
+RefusesSecretKey text None e = RefusesUnsealed text e
 RefusesSecretKey text (Some password) e = RefusesOpening text password None e
 
 -- the questions tell the key: its secret, with which both messages are signed, and its identifier

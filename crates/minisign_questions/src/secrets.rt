@@ -9,6 +9,7 @@ ghost use Rattle.minisign.specs.Records.{SecretKeyRecord};
 ghost use Rattle.minisign_questions.specs.Signing.{GivesSecretKey, IsSigningRefusal, RefusesSecretKey, TellsKey};
 ghost use Rattle.minisign_questions.specs.States.{IsFed, IsMarkedFed};
 
+use crate::secret_texts::open_unsealed;
 use crate::state::{Refusal, State};
 use minisign::{Result, SecretKey, SecretKeyBox};
 use minisign_base::devices::sinks::VecSink;
@@ -35,7 +36,7 @@ impl State {
     /// sealed, with one a sealed one. A sealed key takes scrypt's memory and time, 32 MiB or 1 GiB by its limits.
     ///
     /// Refused are, in this order: a wrong use; a text or a password that is no UTF-8; a text, as
-    /// `SecretKey::from_unencrypted_box` refuses it without a password, and `SecretKey::from_box` with one. Want of
+    /// `open_unsealed` refuses it without a password, and `SecretKey::from_box` with one. Want of
     /// memory may come at any time. After a refusal the state and the questions are as they were.
     pub fn ask_signing(
         &mut self,
@@ -85,13 +86,6 @@ fn open_bytes(alloc: Global, sk_text: &[u8], password: Option<&[u8]>) -> Result<
         return Err(faults::not_utf8());
     };
     open_sealed(alloc, sk_text, password)
-}
-
-// The key of a text, which was never sealed.
-fn open_unsealed(alloc: Global, sk_text: &str) -> Result<SecretKey>
-    ensures { MatchResult result (GivesSecretKey sk_text.now None) (λ e. (e ≡ out_of_memory) ⊎ RefusesSecretKey sk_text.now None e) }
-{
-    SecretKey::from_unencrypted_box(alloc, SecretKeyBox::from_string(alloc, sk_text)?)
 }
 
 // The key of a text, which the password opens. Nobody is asked for one.
