@@ -1,5 +1,5 @@
 /*
- * minisign.h: verifying minisign signatures with an Ed25519 of your own.
+ * minisign.h: verifying and making minisign signatures with an Ed25519 of your own.
  *
  * The library does all of it but Ed25519: it reads the texts of keys and signatures, hashes the data, and says
  * what has to be asked of Ed25519. You ask a library that you trust, and hand back its answers; the library
@@ -22,6 +22,8 @@
  *     }
  *     // MINISIGN_OK: the texts vouch for the data, and the trusted comment is the message_len - 64 bytes at
  *     // message + 64. Any other number: nothing is vouched for, and this is the first reason.
+ *
+ * Signing is further down. There the secret key leaves the library.
  *
  * Only 64-bit machines.
  *
@@ -49,8 +51,9 @@ extern "C" {
  *   library has no variables of its own.
  * - All memory is yours. The library keeps no pointer beyond a call, and what it takes from malloc during
  *   one it has given back when the call returns. malloc, realloc and free belong together, and align a
- *   block of n bytes to every power of two up to 16 that divides n. minisign_ask, the one call that takes
- *   memory, is not made in a signal handler or in the forked child of a process with threads.
+ *   block of n bytes to every power of two up to 16 that divides n. The calls that take memory, minisign_ask,
+ *   minisign_ask_signing and minisign_signed_text, are not made in a signal handler or in the forked child of a
+ *   process with threads.
  * - The bytes of a state are written by the library alone, beginning with minisign_init. A state may be copied
  *   by assignment or memcpy, to go on from one point twice. It needs no clearing at the end, but holds up to
  *   256 of the last bytes of the data.
@@ -73,11 +76,15 @@ enum minisign_error {
     MINISIGN_NO_ROOM = 5,       /* a buffer is too short */
     MINISIGN_NO_LEGACY = 6,     /* allow_legacy is neither 0 nor 1 */
 
-    /* Of minisign_ask alone. */
+    /* Of the calls that take memory. */
     MINISIGN_OUT_OF_MEMORY = 7,
 
-    /* A text is no UTF-8. */
+    /* A text, a password or a comment is no UTF-8. */
     MINISIGN_NOT_UTF8 = 8,
+
+    /* Wrong use of the calls for signing. */
+    MINISIGN_NO_COMMENT = 9,    /* a comment that would not be read back as it is */
+    MINISIGN_NO_PASSWORD = 10,  /* with_password is neither 0 nor 1 */
 
     /* The text of the public key. */
     MINISIGN_MISSING_PUBLIC_KEY_COMMENT = 16, /* no first line */
@@ -102,7 +109,23 @@ enum minisign_error {
     MINISIGN_DIFFERENT_KEY_IDS = 29,
     MINISIGN_LEGACY_NOT_ACCEPTED = 30,
     MINISIGN_SIGNATURE_REFUSED = 31,
-    MINISIGN_COMMENT_SIGNATURE_REFUSED = 32   /* also where it has fewer than 64 bytes */
+    MINISIGN_COMMENT_SIGNATURE_REFUSED = 32,  /* also where it has fewer than 64 bytes */
+
+    /* The text of the secret key; MINISIGN_RECORD_TOO_SHORT is one of them. */
+    MINISIGN_MISSING_SECRET_KEY_COMMENT = 33, /* no first line */
+    MINISIGN_MISSING_SECRET_KEY = 34,         /* no second line */
+    MINISIGN_SECRET_KEY_NOT_BASE64 = 35,
+
+    /* Without a password. */
+    MINISIGN_KEY_SEALED = 36,                 /* the key names a key derivation: it wants a password */
+    MINISIGN_KEY_CORRUPTED = 37,              /* its checksum does not match */
+
+    /* With a password. */
+    MINISIGN_KEY_NOT_SEALED = 38,             /* the key was never sealed: it wants none */
+    MINISIGN_UNSUPPORTED_KEY_DERIVATION = 39, /* not scrypt */
+    MINISIGN_PARAMETERS_TOO_HIGH = 40,        /* its limits ask for more than 1 GiB, or a cost above 2^20 */
+    MINISIGN_INVALID_PARAMETERS = 41,         /* its limits lead to parameters that scrypt does not take */
+    MINISIGN_WRONG_PASSWORD = 42
 };
 
 /*
@@ -190,6 +213,76 @@ uint32_t minisign_ask(minisign_state *state, const uint8_t *pk_text, size_t pk_t
  * MINISIGN_NO_ANSWER, then MINISIGN_NOT_BEGUN, MINISIGN_NOT_ASKED: the state stays as it was.
  */
 uint32_t minisign_verdict(minisign_state *state, uint32_t first, uint32_t second);
+
+/* ---- Signing ----
+ *
+ * In full, with libsodium, for a key that was never sealed:
+ *
+ *     minisign_init(&state);
+ *     minisign_update(&state, piece, n);                       // as for verifying
+ *     error = minisign_ask_signing(&state, sk_text, sk_text_len, 0, sk_text, 0, &s);
+ *     crypto_sign_detached(first, NULL, s.digest, sizeof s.digest, s.secret_key);
+ *     error = minisign_comment_message(first, trusted, trusted_len, message, room);
+ *     crypto_sign_detached(second, NULL, message, 64 + trusted_len, s.secret_key);
+ *     error = minisign_signed_text(s.key_id, first, second, trusted, trusted_len, untrusted, untrusted_len,
+ *                                  text, room, &text_len);
+ *
+ * The secret key leaves the library here, into your memory and your Ed25519: clear it when you are done
+ * (sodium_memzero). The library itself clears neither the stack nor what it gives back to free, and both have
+ * held the secret, the text of the key and the password.
+ */
+
+/* What has to be signed first, and with what. */
+typedef struct minisign_signing {
+    uint8_t secret_key[64]; /* of both questions: the 32 bytes of the seed, and the 32 of its public key */
+    uint8_t digest[64];     /* the message of the first question: the Blake2b digest of the data */
+    uint8_t key_id[8];      /* the identifier of the key, which the signature repeats */
+} minisign_signing;
+
+/*
+ * Asks for signatures, once all of the data was fed: opens the secret key of a text (both lines of a file such as
+ * minisign.key), and tells its secret, its identifier and the digest. It ends the state.
+ *
+ * with_password is 0 for a key that was never sealed (minisign -G -W), whatever password holds, and 1 for a sealed
+ * one, which the password opens. Ask without one first: MINISIGN_KEY_SEALED says that the key wants one. A
+ * sealed key takes the memory that its limits ask for, which may be 1 GiB, and the time of scrypt.
+ *
+ * After an error the state and the questions stay as they were, and you may ask again. The errors, in this order:
+ * MINISIGN_NO_PASSWORD; MINISIGN_NOT_BEGUN, MINISIGN_ALREADY_ASKED; MINISIGN_NOT_UTF8; those of the text of the
+ * secret key; and those of a key without a password, or with one. MINISIGN_OUT_OF_MEMORY may come at any time.
+ */
+uint32_t minisign_ask_signing(minisign_state *state, const uint8_t *sk_text, size_t sk_text_len,
+                              uint32_t with_password, const uint8_t *password, size_t password_len,
+                              minisign_signing *signing);
+
+/*
+ * Writes the message of the second question to the front of message, of room bytes: the first signature followed
+ * by the trusted comment, 64 + trusted_len bytes. It is signed with the same secret key. Takes no memory.
+ *
+ * MINISIGN_NO_ROOM: the message stays as it was.
+ */
+uint32_t minisign_comment_message(const uint8_t first[64], const uint8_t *trusted, size_t trusted_len,
+                                  uint8_t *message, size_t room);
+
+/* Room enough for the text of a signature with comments of these lengths. */
+#define MINISIGN_TEXT_BYTES(trusted_len, untrusted_len) (240 + (size_t) (trusted_len) + (size_t) (untrusted_len))
+
+/*
+ * Writes the text of the signature that your two signatures make, four lines of UTF-8 as minisign -V reads them,
+ * to the front of text, of room bytes, and its length to text_len.
+ *
+ * The text reads as a signature with exactly this identifier, these comments and these two signatures. So it
+ * vouches for the data under every public key of this identifier under which Ed25519 accepts your signatures of
+ * the digest and of the message of the second question: minisign_verdict is then MINISIGN_OK.
+ *
+ * After an error the text and its length stay as they were. The errors, in this order: MINISIGN_NOT_UTF8;
+ * MINISIGN_NO_COMMENT, where a comment has a line feed, the trusted one white space at either end, or the untrusted
+ * one a carriage return at its end; MINISIGN_NO_ROOM. MINISIGN_OUT_OF_MEMORY may come at any time.
+ */
+uint32_t minisign_signed_text(const uint8_t key_id[8], const uint8_t first[64], const uint8_t second[64],
+                              const uint8_t *trusted, size_t trusted_len,
+                              const uint8_t *untrusted, size_t untrusted_len,
+                              uint8_t *text, size_t room, size_t *text_len);
 
 #ifdef __cplusplus
 }

@@ -1,17 +1,22 @@
-//! Verifying minisign signatures from C, with an Ed25519 of the caller's own: `include/minisign.h` declares
+//! Verifying and making minisign signatures from C, with an Ed25519 of the caller's own: `include/minisign.h` declares
 //! these functions and says what a caller owes.
 
 #![tactic(auto)]
 
-ghost use Rattle.std.specs.Prelude.{◌≡◌, ◌==◌, ◌⊎◌, ◌<◌, ◌++◌, ℕ, Bool, List, [], length};
+ghost use Rattle.std.specs.Prelude.{◌≡◌, ◌==◌, ◌⊎◌, ◌<◌, ◌≤◌, ◌+◌, ◌++◌, ℕ, Bool, List, [], length, take};
+ghost use Rattle.std.specs.Option.{option_map};
 ghost use Rattle.minisign_hash.specs.Blake2b.{blake2b_digest};
-ghost use Rattle.minisign.specs.Records.{PublicKeyRecord, SignatureBoxRecord, CommentsRecord};
+ghost use Rattle.minisign.specs.Records.{PublicKeyRecord, SecretKeyRecord, SignatureBoxRecord, CommentsRecord};
 ghost use Rattle.minisign.specs.Acceptance.{Verifier};
 ghost use Rattle.minisign_questions.specs.Questions.{AnswersTexts, AreOpen};
 ghost use Rattle.minisign_questions.specs.Numbers.{WritesCut, misuse_number};
+ghost use Rattle.minisign_questions.specs.Signing.{GivesSecretKey, HoldsText, IsSigningNumber, IsWritingNumber, TellsKey, comments_of, handed_in};
+ghost use Rattle.minisign_questions.specs.declared.state.Misuse.TheVariants.{NoRoom};
 ghost use Rattle.minisign_questions.specs.States.{AreQuestions, GivesNumber, HasAsked, HasEnded, IsAnswer, IsAskingNumber, IsFed, IsMarkedFed, IsVerdictMisuse, feeding_misuse};
 
 use minisign_questions::numbers::write_error_text;
+use minisign_questions::secrets::SigningQuestions;
+use minisign_questions::signed_texts::{write_comment_message, write_signed_text};
 use minisign_questions::state::{Misuse, Questions, Refusal, State};
 use std::alloc::Global;
 
@@ -34,12 +39,12 @@ pub extern "C" fn minisign_init(state: &mut State)
 
 /// Feeds the next bytes of the data.
 #[unsafe(no_mangle)]
-pub extern "C" fn minisign_update(state: &mut State, data: &[u8]) -> u32
-    ensures fed { (m : List ℕ) → IsFed state.old m → (result ≡ 0) × IsFed state.new (m ++ data.now) }
+pub extern "C" fn minisign_update(state: &mut State, piece: &[u8]) -> u32
+    ensures fed { (m : List ℕ) → IsFed state.old m → (result ≡ 0) × IsFed state.new (m ++ piece.now) }
     ensures begun { result ≡ 0 → IsMarkedFed state.old }
     ensures refused { 0 < result → (result ≡ misuse_number (feeding_misuse state.old)) × (state.new ≡ state.old) }
 {
-    match state.update(data) {
+    match state.update(piece) {
         Ok(()) => 0,
         Err(misuse) => misuse.number(),
     }
@@ -102,5 +107,92 @@ pub extern "C" fn minisign_verdict(state: &mut State, first: u32, second: u32) -
         Ok(()) => 0,
         Err(Refusal::WrongUse(misuse)) => misuse.number(),
         Err(Refusal::Refused(_)) => { if first == 1 { 32 } else { 31 } }
+    }
+}
+
+/// Asks for signatures: tells the secret of the key that the text gives, and the digest of the data. It ends the
+/// state.
+#[unsafe(no_mangle)]
+pub extern "C" fn minisign_ask_signing(
+    alloc: Global,
+    state: &mut State,
+    sk_text: &[u8],
+    with_password: u32,
+    password: &[u8],
+    questions: &mut SigningQuestions,
+) -> u32
+    // The secret and the identifier of the key that the text gives, and the digest of what the state was fed.
+    ensures asked { result ≡ 0 → (key : SecretKeyRecord)
+        × GivesSecretKey sk_text.now (handed_in with_password password.now) key × TellsKey questions.new key }
+    ensures digest { result ≡ 0 → (m : List ℕ) → IsFed state.old m → questions.new.digest ≡ blake2b_digest 64 m }
+    ensures begun { result ≡ 0 → IsMarkedFed state.old }
+    ensures ended { result ≡ 0 → state.new.mark ≡ 0 }
+
+    // Why they were not asked.
+    ensures refused { 0 < result → IsSigningNumber state.old sk_text.now (handed_in with_password password.now) with_password result }
+    ensures kept { 0 < result → (state.new ≡ state.old) × (questions.new ≡ questions.old) }
+{
+    if with_password > 1 {
+        return Misuse::NoPassword.number();
+    }
+    match state.ask_signing(alloc, sk_text, given(with_password, password), questions) {
+        Ok(()) => 0,
+        Err(refusal) => refusal.number(alloc, [0; 8], [0; 8]),
+    }
+}
+
+// The password that two arguments hand in.
+fn given(with_password: u32, password: &[u8]) -> Option<&[u8]>
+    ensures { option_map (λ p. p.now) result ≡ handed_in with_password password.now }
+{
+    if with_password == 0 {
+        None
+    } else {
+        Some(password)
+    }
+}
+
+/// Writes the message of the second question: the first signature followed by the trusted comment.
+#[unsafe(no_mangle)]
+pub extern "C" fn minisign_comment_message(
+    first: &[u8; 64],
+    trusted: &[u8],
+    message: &mut [u8],
+) -> u32
+    ensures message { result ≡ 0 → (64 + length trusted.now ≤ length message.new)
+        × (take (64 + length trusted.now) message.new ≡ first.now ++ trusted.now) }
+    ensures refused { 0 < result → (result ≡ misuse_number NoRoom)
+        × (length message.old < 64 + length trusted.now) × (message.new ≡ message.old) }
+{
+    match write_comment_message(first, trusted, message) {
+        Ok(()) => 0,
+        Err(no_room) => no_room.number(),
+    }
+}
+
+/// Writes the text of the signature that the two signatures make.
+#[unsafe(no_mangle)]
+pub extern "C" fn minisign_signed_text(
+    alloc: Global,
+    key_id: &[u8; 8],
+    first: &[u8; 64],
+    second: &[u8; 64],
+    trusted: &[u8],
+    untrusted: &[u8],
+    text: &mut [u8],
+    text_len: &mut usize,
+) -> u32
+    ensures text { result ≡ 0 → HoldsText key_id.now (comments_of trusted.now untrusted.now) first.now second.now text.new text_len.new }
+
+    // Why it was not written.
+    ensures refused { 0 < result → IsWritingNumber key_id.now (comments_of trusted.now untrusted.now) first.now second.now text.old result }
+    ensures kept { 0 < result → (text.new ≡ text.old) × (text_len.new ≡ text_len.old) }
+{
+    match write_signed_text(alloc, key_id, first, second, trusted, untrusted, text) {
+        Ok(len) => {
+            *text_len = len;
+            0
+        }
+        Err(refusal) => refusal.number(alloc, [0; 8], [0; 8]),
     }
 }

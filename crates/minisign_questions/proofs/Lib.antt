@@ -1,1 +1,4 @@
 pub mod Refusals
+pub mod SecretFields
+pub mod AnsweredBoxes
+pub mod UnsealedKeys

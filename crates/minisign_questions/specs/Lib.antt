@@ -1,3 +1,4 @@
 pub mod Questions
 pub mod Numbers
 pub mod States
+pub mod Signing

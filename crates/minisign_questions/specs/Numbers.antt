@@ -3,7 +3,7 @@ use Rattle.std.specs.Prelude.{◌≡◌, ◌==◌, ◌⊎◌, ℕ, ◌<◌, ◌-
 use Rattle.minisign_base.specs.Fault.{Fault}
 use Rattle.minisign_base.specs.Faults as fault
 use Rattle.minisign_questions.specs.declared.state.Misuse.{Misuse}
-use Rattle.minisign_questions.specs.declared.state.Misuse.TheVariants.{NotBegun, AlreadyAsked, NotAsked, NoAnswer, NoRoom, NoLegacy}
+use Rattle.minisign_questions.specs.declared.state.Misuse.TheVariants.{NotBegun, AlreadyAsked, NotAsked, NoAnswer, NoRoom, NoLegacy, NoComment, NoPassword}
 use Rattle.minisign_questions.specs.declared.state.Refusal.{Refusal}
 use Rattle.minisign_questions.specs.declared.state.Refusal.TheVariants.{WrongUse, Refused}
 
@@ -15,6 +15,8 @@ misuse_number NotAsked = 3
 misuse_number NoAnswer = 4
 misuse_number NoRoom = 5
 misuse_number NoLegacy = 6
+misuse_number NoComment = 9
+misuse_number NoPassword = 10
 
 -- the fault that a number names; 29 is that of identifiers that differ, which names them too
 abbrev pub named_fault : ℕ → Fault
@@ -36,6 +38,16 @@ named_fault n =
     if n == 30 then fault.legacy_not_accepted else
     if n == 31 then fault.signature_refused else
     if n == 32 then fault.comment_signature_refused else
+    if n == 33 then fault.missing_secret_key_comment else
+    if n == 34 then fault.missing_encoded_secret_key else
+    if n == 35 then fault.secret_key_not_base64 else
+    if n == 36 then fault.key_might_be_encrypted else
+    if n == 37 then fault.corrupted_key else
+    if n == 38 then fault.key_not_encrypted else
+    if n == 39 then fault.unsupported_encryption_algorithm else
+    if n == 40 then fault.parameters_too_high else
+    if n == 41 then fault.invalid_parameters else
+    if n == 42 then fault.wrong_password else
     fault.out_of_memory
 
 -- the number of a fault: 7 is want of memory, which may also have been wanting for telling faults apart

@@ -5,6 +5,9 @@
 
 pub mod asking;
 pub mod numbers;
+pub mod secret_texts;
+pub mod secrets;
+pub mod signed_texts;
 pub mod state;
 #[cfg(test)]
 mod tests;

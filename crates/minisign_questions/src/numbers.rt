@@ -11,7 +11,7 @@ use std::alloc::Global;
 // The first number of a fault of the library, and one past the last.
 const FIRST: u32 = 8;
 
-const END: u32 = 33;
+const END: u32 = 43;
 
 /// The number of identifiers that differ.
 const DIFFERENT_KEY_IDS: u32 = 29;
@@ -36,7 +36,7 @@ impl Refusal {
 const OUT_OF_MEMORY: u32 = 7;
 
 impl Misuse {
-    /// The number of the wrong use, from 1 to 6.
+    /// The number of the wrong use, from 1 to 10.
     pub fn number(&self) -> u32
         ensures { result ≡ misuse_number self.now }
     {
@@ -47,6 +47,8 @@ impl Misuse {
             Misuse::NoAnswer => 4,
             Misuse::NoRoom => 5,
             Misuse::NoLegacy => 6,
+            Misuse::NoComment => 9,
+            Misuse::NoPassword => 10,
         }
     }
 }
@@ -101,6 +103,16 @@ fn fault_of(number: u32) -> PError
         30 => faults::legacy_not_accepted(),
         31 => faults::signature_refused(),
         32 => faults::comment_signature_refused(),
+        33 => faults::missing_secret_key_comment(),
+        34 => faults::missing_encoded_secret_key(),
+        35 => faults::secret_key_not_base64(),
+        36 => faults::key_might_be_encrypted(),
+        37 => faults::corrupted_key(),
+        38 => faults::key_not_encrypted(),
+        39 => faults::unsupported_encryption_algorithm(),
+        40 => faults::parameters_too_high(),
+        41 => faults::invalid_parameters(),
+        42 => faults::wrong_password(),
         _ => faults::out_of_memory(),
     }
 }
@@ -142,6 +154,8 @@ pub fn error_text(number: u32) -> &'static str {
         6 => "allow_legacy is neither 0 nor 1",
         7 => "out of memory",
         8 => "the text is not UTF-8",
+        9 => "a comment has a line break, or the trusted one white space at an end",
+        10 => "with_password is neither 0 nor 1",
         16 => "Missing comment in public key",
         17 => "Missing encoded key in public key",
         18 | 19 => "Base64 conversion failed - was an actual public key given?",
@@ -158,6 +172,16 @@ pub fn error_text(number: u32) -> &'static str {
         30 => "Legacy signatures are not accepted",
         31 => "Signature verification failed",
         32 => "Comment signature verification failed",
+        33 => "Missing comment in secret key",
+        34 => "Missing encoded key in secret key",
+        35 => "Base64 conversion failed - was an actual secret key given?",
+        36 => "Key might be encrypted",
+        37 => "Corrupted key",
+        38 => "Key is not encrypted",
+        39 => "Unsupported encryption algorithm",
+        40 => "scrypt parameters too high",
+        41 => "invalid scrypt parameters",
+        42 => "Wrong password for that key",
         _ => "unknown error",
     }
 }

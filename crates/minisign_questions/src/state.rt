@@ -66,6 +66,10 @@ pub enum Misuse {
     NoRoom,
     /// `allow_legacy` is neither 0 nor 1.
     NoLegacy,
+    /// A comment of a signature would not be read back as it is.
+    NoComment,
+    /// `with_password` is neither 0 nor 1.
+    NoPassword,
 }
 
 /// Why nothing was asked or signed.
@@ -108,13 +112,13 @@ impl State {
 
     /// Feeds the next bytes of the data. Takes no memory. A state that was never begun is refused, and one whose
     /// questions were asked; then it stays as it was.
-    pub fn update(&mut self, data: &[u8]) -> Result<(), Misuse>
-        ensures fed { (m : List ℕ) → IsFed self.old m → MatchResult result (λ _. IsFed self.new (m ++ data.now)) (λ _. ⊥) }
+    pub fn update(&mut self, piece: &[u8]) -> Result<(), Misuse>
+        ensures fed { (m : List ℕ) → IsFed self.old m → MatchResult result (λ _. IsFed self.new (m ++ piece.now)) (λ _. ⊥) }
         ensures begun { OnOk result (IsMarkedFed self.old) }
         ensures refused { IfErr result (λ e. IsNotFed self.old e × (self.new ≡ self.old)) }
     {
         let mut hasher = self.hasher()?;
-        hasher.update(data);
+        hasher.update(piece);
         self.hash = StoredBlake2b::store(&hasher);
         Ok(())
     }

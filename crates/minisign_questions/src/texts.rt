@@ -149,7 +149,7 @@ fn first_bytes(bytes: &[u8]) -> Option<[u8; 64]>
 }
 
 // Writes the two to the front of `to`, and answers their length.
-fn write_joined(to: &mut [u8], left: &[u8; 64], right: &[u8]) -> Option<usize>
+pub(crate) fn write_joined(to: &mut [u8], left: &[u8; 64], right: &[u8]) -> Option<usize>
     ensures written { MatchOption result (length to.old < 64 + length right.now)
         (λ n. (n ≡ 64 + length right.now) × (n ≤ length to.new) × (take n to.new ≡ left.now ++ right.now)) }
     ensures unwritten { IfNone result (to.new ≡ to.old) }

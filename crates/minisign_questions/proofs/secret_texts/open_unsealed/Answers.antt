@@ -1,0 +1,18 @@
+use Rattle.std.proofs.Common.{◌≡◌, ◌⊎◌, ◌∙◌, ap, sym, subst, Err, IfErr}
+use Rattle.std.proofs.lemmas.Result.{err_from_is_err_and}
+use Rattle.minisign_base.specs.Faults.{out_of_memory}
+use Rattle.minisign_questions.specs.Signing.{RefusesUnsealed}
+use Rattle.minisign_questions.proofs.UnsealedKeys.{unread, unchecked}
+use Rattle.minisign_questions.proofs.secret_texts.open_unsealed.Goals as goal
+
+pub returns-in_err-key-clause-refused : goal.returns-in_err-key-clause-refused
+returns-in_err-key-clause-refused c =
+    let p = err_from_is_err_and c.from_residual.result c.from_residual.ensures.1 in
+    subst (λ r. IfErr r (λ e. (e ≡ out_of_memory) ⊎ RefusesUnsealed c.args.sk_text.now e)) (sym (p.1 ∙ ap (λ e. Err e) p.2))
+    (unread c.args.sk_text.now _ c.in_err-key.ensures.outcome)
+
+pub returns-clause-refused : goal.returns-clause-refused
+returns-clause-refused c =
+    unchecked c.args.sk_text.now _ c.in_ok-key.key c.from_unencrypted_box.result c.in_ok-sk_box.ensures.text c.in_ok-key.ensures.one_reading
+    (c.in_ok-lacks_checksum.ensures.has c.if-branch.false)
+    c.from_unencrypted_box.ensures.outcome

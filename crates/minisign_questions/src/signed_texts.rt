@@ -1,0 +1,153 @@
+//! The text of a signature, from the answers of a signature scheme.
+
+ghost use Rattle.std.specs.Prelude.{◌≡◌, ◌⊎◌, ◌<◌, ◌≤◌, ◌+◌, ◌++◌, ℕ, List, Some, true, false, string_bytes, length, take, OnOk, OnErr, IfOk, IfErr, IfNone, MatchOption};
+ghost use Rattle.minisign_base.specs.Faults.{out_of_memory};
+ghost use Rattle.minisign.specs.Signing.{AreKept};
+ghost use Rattle.minisign.specs.SignatureText.{SignatureText, signature_text};
+ghost use Rattle.minisign.specs.Texts.{IsBase64Of, base64_of};
+ghost use Rattle.minisign_questions.specs.Signing.{HoldsText, IsAnsweredText, IsWritingRefusal, answered_box, answered_comments, answered_signature, comments_of};
+ghost use Rattle.minisign_questions.specs.declared.state.Misuse.TheVariants.{NoComment, NoRoom};
+ghost use Rattle.minisign_questions.specs.declared.state.Refusal.TheVariants.{Refused, WrongUse};
+
+use crate::state::{Misuse, Refusal};
+use crate::texts::write_joined;
+use base64::engine::general_purpose::STANDARD;
+use minisign::Signature;
+use minisign_base::faults;
+use std::alloc::Global;
+
+// A signature over the digest of the data.
+const PREHASHED: [u8; 2] = [b'E', b'D'];
+
+/// The text of a signature, the four lines that Minisign reads, from the two answers of a signature scheme: under
+/// the identifier of the key, with the trusted comment that the second answer is over and an untrusted one.
+///
+/// Refused are comments that would not be read back as they are: one with a line feed, an untrusted one with a
+/// carriage return at its end, a trusted one with white space at either end. Want of memory may come at any time.
+pub fn signed_text(
+    alloc: Global,
+    key_id: &[u8; 8],
+    first: &[u8; 64],
+    second: &[u8; 64],
+    trusted: &str,
+    untrusted: &str,
+) -> std::result::Result<String, Refusal>
+    ensures text { IfOk result (λ t. IsAnsweredText key_id.now (comments_of trusted.now untrusted.now) first.now second.now (string_bytes t)) }
+    ensures refused { IfErr result (λ r. (r ≡ Refused out_of_memory)
+        ⊎ ((r ≡ WrongUse NoComment) × ¬ (AreKept (comments_of trusted.now untrusted.now)))) }
+{
+    if !are_kept(trusted, untrusted) {
+        return Err(Refusal::WrongUse(Misuse::NoComment));
+    }
+    Ok(written(alloc, key_id, first, second, trusted, untrusted)?)
+}
+
+/// Writes that text to the front of `to`, and answers its length: comments that are no UTF-8 are refused, then what
+/// `signed_text` refuses, then too short a buffer. After a refusal the buffer is as it was.
+pub fn write_signed_text(
+    alloc: Global,
+    key_id: &[u8; 8],
+    first: &[u8; 64],
+    second: &[u8; 64],
+    trusted: &[u8],
+    untrusted: &[u8],
+    to: &mut [u8],
+) -> std::result::Result<usize, Refusal>
+    ensures text { IfOk result (HoldsText key_id.now (comments_of trusted.now untrusted.now) first.now second.now to.new) }
+    ensures refused { IfErr result (IsWritingRefusal key_id.now (comments_of trusted.now untrusted.now) first.now second.now to.old) }
+    ensures kept { OnErr result (to.new ≡ to.old) }
+{
+    let Ok(trusted) = str::from_utf8(trusted) else {
+        return Err(Refusal::Refused(faults::not_utf8()));
+    };
+    let Ok(untrusted) = str::from_utf8(untrusted) else {
+        return Err(Refusal::Refused(faults::not_utf8()));
+    };
+    let text = signed_text(alloc, key_id, first, second, trusted, untrusted)?;
+    match write_front(text.as_bytes(), to) {
+        Some(len) => Ok(len),
+        None => Err(Refusal::WrongUse(Misuse::NoRoom)),
+    }
+}
+
+// Writes the bytes to the front of `to`, and answers how many.
+fn write_front(bytes: &[u8], to: &mut [u8]) -> Option<usize>
+    ensures written { MatchOption result (length to.old < length bytes.now)
+        (λ n. (n ≤ length to.new) × (take n to.new ≡ bytes.now)) }
+    ensures unwritten { IfNone result (to.new ≡ to.old) }
+{
+    if to.len() < bytes.len() {
+        return None;
+    }
+    let (front, _) = to.split_at_mut(bytes.len());
+    front.copy_from_slice(bytes);
+    Some(bytes.len())
+}
+
+/// Writes the message of the second question to the front of `message`: the first answer followed by the trusted
+/// comment, which is 64 bytes longer than the comment. Where there is no room nothing is written.
+pub fn write_comment_message(
+    first: &[u8; 64],
+    trusted: &[u8],
+    message: &mut [u8],
+) -> Result<(), Misuse>
+    ensures message { OnOk result ((64 + length trusted.now ≤ length message.new)
+        × (take (64 + length trusted.now) message.new ≡ first.now ++ trusted.now)) }
+    ensures refused { IfErr result (λ m. (m ≡ NoRoom) × (length message.old < 64 + length trusted.now) × (message.new ≡ message.old)) }
+{
+    match write_joined(message, first, trusted) {
+        Some(_) => Ok(()),
+        None => Err(Misuse::NoRoom),
+    }
+}
+
+// Whether comments are read back as they are written.
+fn are_kept(trusted: &str, untrusted: &str) -> bool
+    ensures kept { result ≡ true → AreKept (comments_of trusted.now untrusted.now) }
+    ensures unkept { result ≡ false → ¬ (AreKept (comments_of trusted.now untrusted.now)) }
+{
+    !trusted.as_bytes().contains(&10)
+        && !untrusted.as_bytes().contains(&10)
+        && untrusted.as_bytes().last() != Some(&13)
+        && trusted.trim() == trusted
+}
+
+// Writes the four lines.
+fn written(
+    alloc: Global,
+    key_id: &[u8; 8],
+    first: &[u8; 64],
+    second: &[u8; 64],
+    trusted: &str,
+    untrusted: &str,
+) -> minisign::Result<String>
+    ensures text { IfOk result (λ t. string_bytes t ≡ signature_text (answered_signature key_id.now first.now)
+        (answered_comments (comments_of trusted.now untrusted.now) second.now)) }
+    ensures reads_back { AreKept (comments_of trusted.now untrusted.now) → IfOk result (λ t. SignatureText (string_bytes t)
+        (answered_box key_id.now (comments_of trusted.now untrusted.now) first.now second.now)) }
+    ensures refused { IfErr result (λ e. e ≡ out_of_memory) }
+{
+    let signature = Signature {
+        sig_alg: PREHASHED,
+        keynum: *key_id,
+        sig: *first,
+    };
+    let bytes = signature.to_bytes(alloc)?;
+    let encoded = encode(alloc, &bytes)?;
+    let global = encode(alloc, second)?;
+    let text = format!(in alloc;
+        "untrusted comment: {}\n{}\ntrusted comment: {}\n{}\n",
+        untrusted, encoded, trusted, global
+    )?;
+    Ok(text)
+}
+
+// The base64 of bytes.
+#[tactic(auto, unfolding(minisign::specs::Texts::base64_of))]
+fn encode(alloc: Global, bytes: &[u8]) -> minisign::Result<String>
+    ensures text { IfOk result (λ t. string_bytes t ≡ base64_of bytes.now) }
+    ensures base64 { IfOk result (λ t. IsBase64Of (string_bytes t) bytes.now) }
+    ensures refused { IfErr result (λ e. e ≡ out_of_memory) }
+{
+    Ok(STANDARD.encode(alloc, bytes)?)
+}
