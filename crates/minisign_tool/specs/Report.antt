@@ -41,3 +41,8 @@ abbrev pub EndsWithFault : {S : Type 0} → SinkOf S → S → S → (SinkPassag
 EndsWithFault {S = S} sink old new Fails =
     (e : Fault) × (warned told : S) × TakesOrFails sink old warned warning_line × ShowsFault sink told new e
     × Fails (sink_passage sink warned told) e
+
+-- a run that says nothing else ends with a fault for which Fails holds: the warning was said, and then its line
+abbrev pub ShowsOnlyFault : {S : Type 0} → SinkOf S → S → S → (Fault → Type 0) → Type 0
+ShowsOnlyFault {S = S} sink old new Fails =
+    (e : Fault) × (warned : S) × TakesOrFails sink old warned warning_line × ShowsFault sink warned new e × Fails e

@@ -29,6 +29,25 @@ pub record SignsText {A B R Z : Type 0} (sign : Signer) (p : PromptPassage A B) 
   pub read : ReadsWhole r.source r.old r.new message
   pub signed : IsSignedText sign key message (comments_or_defaults None None moment) z text
 
+-- the key's file was read whole, and this is the text that signing with its text gives
+pub record MakesSigned {K A B R Z : Type 0} (sign : Signer) (sk_file : SourcePassage K) (p : PromptPassage A B) (r : SourcePassage R)
+    (z : RandomPassage Z) (moment : ℕ) (text : List ℕ) : Type 0 where
+  pub sk_text : List ℕ
+  pub read : ReadsWhole sk_file.source sk_file.old sk_file.new sk_text
+  pub signs : SignsText sign p r z sk_text moment text
+
+-- the key's file gave a key, and where that is genuine every public key of its seed and identifier vouches for
+-- all of the data with the text
+pub record MakesVouched {K A B R : Type 0} (accepts : Verifier) (public_of : List ℕ → List ℕ) (sk_file : SourcePassage K)
+    (p : PromptPassage A B) (r : SourcePassage R) (text : List ℕ) : Type 0 where
+  pub sk_text : List ℕ
+  pub message : List ℕ
+  pub key : SecretKeyRecord
+  pub held : IsAhead (sk_file.source.ahead sk_file.old) sk_text
+  pub signed : IsAhead (r.source.ahead r.old) message
+  pub given : GivesKey p None sk_text key
+  pub vouched : ReadsBackWhereGenuine accepts public_of key message text
+
 -- the text of a signature could not be written: a beginning of it was
 pub record WriteFails {G : Type 0} (g : SinkPassage G) (text : List ℕ) (e : Fault) : Type 0 where
   pub fault : e ≡ writing_failed
@@ -36,26 +55,16 @@ pub record WriteFails {G : Type 0} (g : SinkPassage G) (text : List ℕ) (e : Fa
 
 -- what a genuine key signed was written: every public key of its seed and identifier vouches for all of the
 -- data with it
-pub record HasWrittenVouched {K A B R G : Type 0} (accepts : Verifier) (public_of : List ℕ → List ℕ) (sk_file : SourcePassage K)
-    (p : PromptPassage A B) (r : SourcePassage R) (g : SinkPassage G) : Type 0 where
-  pub sk_text : List ℕ
-  pub text : List ℕ
-  pub message : List ℕ
-  pub key : SecretKeyRecord
-  pub held : IsAhead (sk_file.source.ahead sk_file.old) sk_text
-  pub signed : IsAhead (r.source.ahead r.old) message
-  pub given : GivesKey p None sk_text key
-  pub vouched : ReadsBackWhereGenuine accepts public_of key message text
-  pub written : Takes g text
+abbrev pub HasWrittenVouched : {K A B R G : Type 0} → Verifier → (List ℕ → List ℕ) → SourcePassage K → PromptPassage A B
+    → SourcePassage R → SinkPassage G → Type 0
+HasWrittenVouched accepts public_of sk_file p r g =
+    (text : List ℕ) × MakesVouched accepts public_of sk_file p r text × Takes g text
 
 -- the text of the box that the definition of signing makes was written, and nothing failed
-pub record HasWrittenSigned {K A B R Z G : Type 0} (sign : Signer) (sk_file : SourcePassage K) (p : PromptPassage A B)
-    (r : SourcePassage R) (z : RandomPassage Z) (g : SinkPassage G) (moment : ℕ) : Type 0 where
-  pub sk_text : List ℕ
-  pub text : List ℕ
-  pub read : ReadsWhole sk_file.source sk_file.old sk_file.new sk_text
-  pub signs : SignsText sign p r z sk_text moment text
-  pub written : TakesPart g text
+abbrev pub HasWrittenSigned : {K A B R Z G : Type 0} → Signer → SourcePassage K → PromptPassage A B → SourcePassage R
+    → RandomPassage Z → SinkPassage G → ℕ → Type 0
+HasWrittenSigned sign sk_file p r z g moment =
+    (text : List ℕ) × MakesSigned sign sk_file p r z moment text × TakesPart g text
 
 -- nothing was written: the key's file gave no text, with nothing else touched, or signing with the text failed
 abbrev pub NoSignature : {K A B R Z : Type 0} → SourcePassage K → PromptPassage A B → SourcePassage R → RandomPassage Z → Fault → Type 0
@@ -63,17 +72,10 @@ NoSignature sk_file p r z e =
     (IsTextFault sk_file.source sk_file.old sk_file.new e × (p.new ≡ p.old) × (r.new ≡ r.old) × (z.new ≡ z.old))
     ⊎ ((sk_text : List ℕ) × ReadsWhole sk_file.source sk_file.old sk_file.new sk_text × TextSigningFails p None sk_text r z e)
 
--- a signature was made, and its text was not written whole
-pub record UnwrittenSignature {K A B R Z G : Type 0} (sign : Signer) (sk_file : SourcePassage K) (p : PromptPassage A B)
-    (r : SourcePassage R) (z : RandomPassage Z) (g : SinkPassage G) (moment : ℕ) (e : Fault) : Type 0 where
-  pub sk_text : List ℕ
-  pub text : List ℕ
-  pub read : ReadsWhole sk_file.source sk_file.old sk_file.new sk_text
-  pub signs : SignsText sign p r z sk_text moment text
-  pub failed : WriteFails g text e
-
--- signing a file fails: there is no signature, and nothing was written, or its text was not written whole
+-- signing a file fails: there is no signature, and nothing was written, or one was made, and its text was not
+-- written whole
 abbrev pub FileSigningFails : {K A B R Z G : Type 0} → Signer → SourcePassage K → PromptPassage A B → SourcePassage R → RandomPassage Z
     → SinkPassage G → ℕ → Fault → Type 0
 FileSigningFails sign sk_file p r z g moment e =
-    (NoSignature sk_file p r z e × (g.new ≡ g.old)) ⊎ UnwrittenSignature sign sk_file p r z g moment e
+    (NoSignature sk_file p r z e × (g.new ≡ g.old))
+    ⊎ ((text : List ℕ) × MakesSigned sign sk_file p r z moment text × WriteFails g text e)

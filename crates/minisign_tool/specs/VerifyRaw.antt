@@ -1,10 +1,15 @@
 -- What it means that `verify-raw` accepts, and why it ends otherwise.
-use Rattle.std.specs.Prelude.{◌≡◌, ℕ, ◌<◌, ◌⊎◌, false, List, length, Option, None}
+use Rattle.std.specs.Prelude.{◌≡◌, ℕ, ◌<◌, ◌⊎◌, false, List, length, None}
 use Rattle.minisign_base.specs.Fault.{Fault}
-use Rattle.minisign_base.specs.Faults.{out_of_memory, reading_failed, writing_failed, record_too_short}
+use Rattle.minisign_base.specs.Faults.{record_too_short}
+use Rattle.minisign_base.specs.Passages.{RereaderPassage, SinkPassage, SourcePassage, TakesFront}
 use Rattle.minisign.specs.Records.{PublicKeyRecord, SignatureRecord, SignatureBoxRecord, ReadsPublicKey, ReadsSignature, IsKnownAlgorithm, IsBonesFault}
-use Rattle.minisign.specs.Acceptance.{Verifier, Vouches, Refuses}
-use Rattle.minisign.specs.Reading.{IsAhead}
+use Rattle.minisign.specs.Acceptance.{Verifier, Vouches, verified_text}
+use Rattle.minisign.specs.Lines.{line}
+use Rattle.minisign.specs.Reading.{IsReadFault, ReadsWhole}
+use Rattle.minisign.specs.Verifying.{SayingFails}
+use Rattle.minisign_tool.specs.TextFiles.{ReadsBoth}
+use Rattle.minisign_tool.specs.Verify.{says_only}
 
 -- the two files hold this public key and this bare signature
 pub record HoldsRaw (key_file signature_file : List ℕ) (key : PublicKeyRecord) (signature : SignatureRecord) : Type 0 where
@@ -29,22 +34,39 @@ pub record VouchesRaw (accepts : Verifier) (key_file signature_file message : Li
   pub held : HoldsRaw key_file signature_file key signature
   pub accepted : Vouches accepts key (bare_box signature) message false
 
--- the two files hold a public key and a bare signature that does not vouch for the message, and this is why
-pub record RefusesRaw (accepts : Verifier) (key_file signature_file message : List ℕ) (e : Fault) : Type 0 where
-  pub key : PublicKeyRecord
-  pub signature : SignatureRecord
-  pub held : HoldsRaw key_file signature_file key signature
-  pub refused : Refuses accepts key (bare_box signature) message false e
+-- verifying with the bytes of a key and a signature fails: they hold none, with nothing read or said, or no
+-- verdict is said with the key and the bare signature that they hold
+abbrev pub VerifyRawFails : {R W : Type 0} → Verifier → List ℕ → List ℕ → RereaderPassage R → SinkPassage W → Fault → Type 0
+VerifyRawFails accepts key_file signature_file reader status e =
+    (IsFileFault key_file signature_file e × (reader.new ≡ reader.old) × (status.new ≡ status.old))
+    ⊎ ((key : PublicKeyRecord) × (signature : SignatureRecord) × HoldsRaw key_file signature_file key signature
+    × SayingFails accepts key (bare_box signature) says_only reader status e)
 
--- why a run over two files and data ends with a fault: memory was wanting, or a source failed, or the
--- files do not hold a key and a signature, or these vouch for the data and the status line cannot be
--- written, or they do not vouch for it; a device that failed is one whose count of faults rose
-abbrev pub FailsRaw : Verifier → Option (List ℕ) → Option (List ℕ) → Option (List ℕ) → Type 0 → Type 0 → Fault → Type 0
-FailsRaw accepts key_ahead signature_ahead data_ahead source_failed status_failed e =
-    (e ≡ out_of_memory)
-    ⊎ ((e ≡ reading_failed) × source_failed)
-    ⊎ ((key_file signature_file : List ℕ) × IsAhead key_ahead key_file × IsAhead signature_ahead signature_file
-    × (IsFileFault key_file signature_file e
-    ⊎ ((message : List ℕ) × IsAhead data_ahead message
-    × (((e ≡ writing_failed) × status_failed × VouchesRaw accepts key_file signature_file message)
-    ⊎ RefusesRaw accepts key_file signature_file message e))))
+-- nothing was said, or a beginning of the status line
+abbrev pub SaysLineFront : {W : Type 0} → SinkPassage W → Type 0
+SaysLineFront status = (status.new ≡ status.old) ⊎ TakesFront status (line verified_text)
+
+-- one of two files was not read whole; the second is left alone where it is the first
+abbrev pub EitherIsUnread : {P Q : Type 0} → SourcePassage P → SourcePassage Q → Fault → Type 0
+EitherIsUnread first second e =
+    (IsReadFault first.source first.old first.new e × (second.new ≡ second.old))
+    ⊎ ((first_bytes : List ℕ) × ReadsWhole first.source first.old first.new first_bytes
+    × IsReadFault second.source second.old second.new e)
+
+-- what both files held vouches for all of the data, and the status line was said as Said says
+pub record RawFilesVouch {P Q R : Type 0} (accepts : Verifier) (pk_file : SourcePassage P) (sig_file : SourcePassage Q)
+    (reader : RereaderPassage R) (Said : List ℕ → Type 0) : Type 0 where
+  pub key_file : List ℕ
+  pub signature_file : List ℕ
+  pub message : List ℕ
+  pub held : ReadsBoth pk_file sig_file key_file signature_file
+  pub read : ReadsWhole reader.source reader.old reader.new message
+  pub vouched : VouchesRaw accepts key_file signature_file message
+  pub said : Said (line verified_text)
+
+-- a file was not read whole, with no data read, or verifying with the bytes of both failed
+abbrev pub RawFilesFail : {P Q R W : Type 0} → Verifier → SourcePassage P → SourcePassage Q → RereaderPassage R → SinkPassage W → Fault → Type 0
+RawFilesFail accepts pk_file sig_file reader status e =
+    (EitherIsUnread pk_file sig_file e × (reader.new ≡ reader.old) × (status.new ≡ status.old))
+    ⊎ ((key_file signature_file : List ℕ) × ReadsBoth pk_file sig_file key_file signature_file
+    × VerifyRawFails accepts key_file signature_file reader status e × SaysLineFront status)

@@ -1,6 +1,6 @@
-//! The commands over the files that the arguments name: opens the files, runs a command's body over them
-//! and the standard streams, and answers the exit status. What fails before the body has begun is answered as a
-//! fault, with nothing said.
+//! The commands over the files that the arguments name: opens the files, runs a command's body over
+//! them and the standard streams, and answers the exit status. What fails before the body has begun
+//! is answered as a fault, with nothing said.
 
 ghost use Rattle.std.specs.Prelude.{◌≡◌, ◌≤◌, ◌⊎◌, IfOk, IfErr};
 ghost use Rattle.minisign_base.specs.Faults.{clock_incorrect, reading_failed};
@@ -26,8 +26,8 @@ use minisign::base::{ErrorKind, PError, faults};
 use std::fs;
 use std::fs::File;
 
-/// Opens the device of random bytes, and runs `keygen` over it, a prompt on standard input and output, and
-/// memory. The two files are replaced last.
+/// Opens the device of random bytes, and runs `keygen` over it, a prompt on standard input and
+/// output, and memory. The two files are replaced last.
 pub fn keygen_files<W: Sink>(rt: &HostRuntime, pk: &str, sk: &str, errors: &mut W) -> Result<u8>
     ensures status { IfOk result (λ s. s ≤ 1) }
     ensures refused { IfErr result (λ e. (e ≡ reading_failed) × (errors.new ≡ errors.old)) }
@@ -63,8 +63,9 @@ pub fn keygen_files<W: Sink>(rt: &HostRuntime, pk: &str, sk: &str, errors: &mut 
     })
 }
 
-/// Opens the secret key, the data and the device of random bytes, asks the clock, and runs `sign` over them,
-/// a prompt on standard input and output, and memory. The file of the signature is replaced last.
+/// Opens the secret key, the data and the device of random bytes, asks the clock, and runs `sign`
+/// over them, a prompt on standard input and output, and memory. The file of the signature is
+/// replaced last.
 pub fn sign_files<W: Sink>(
     rt: &HostRuntime,
     sk: &str,
@@ -73,7 +74,8 @@ pub fn sign_files<W: Sink>(
     errors: &mut W,
 ) -> Result<u8>
     ensures status { IfOk result (λ s. s ≤ 1) }
-    ensures refused { IfErr result (λ e. ((e ≡ reading_failed) ⊎ (e ≡ clock_incorrect)) × (errors.new ≡ errors.old)) }
+    ensures refused { IfErr result (λ e. ((e ≡ reading_failed) ⊎ (e ≡ clock_incorrect))
+        × (errors.new ≡ errors.old)) }
 {
     let sk_file = open(rt, sk)?;
     let data_file = open(rt, file)?;
@@ -151,9 +153,9 @@ pub fn verify_raw_files<W: Sink>(
     ))
 }
 
-/// Opens the public key, the data, which goes back by seeking, and the signature, and runs `cat` over them
-/// and standard output. Data from the file that standard output leads into is refused, with nothing read:
-/// the copy would be read as data again.
+/// Opens the public key, the data, which goes back by seeking, and the signature, and runs `cat`
+/// over them and standard output. Data from the file that standard output leads into is refused,
+/// with nothing read: the copy would be read as data again.
 pub fn cat_files<W: Sink>(
     rt: &HostRuntime,
     pk: &str,
@@ -162,7 +164,8 @@ pub fn cat_files<W: Sink>(
     errors: &mut W,
 ) -> Result<u8>
     ensures status { IfOk result (λ s. s ≤ 1) }
-    ensures refused { IfErr result (λ e. ((e ≡ reading_failed) ⊎ (e ≡ input_is_output)) × (errors.new ≡ errors.old)) }
+    ensures refused { IfErr result (λ e. ((e ≡ reading_failed) ⊎ (e ≡ input_is_output))
+        × (errors.new ≡ errors.old)) }
 {
     let pk_file = open(rt, pk)?;
     let data_file = open(rt, file)?;
@@ -191,8 +194,8 @@ fn open(rt: &HostRuntime, path: &str) -> Result<File>
     }
 }
 
-// Whether a file is a regular one, and standard output leads into the same. The system tells what standard output
-// is by a name below `/proc`; where there is none the answer is no.
+// Whether a file is a regular one, and standard output leads into the same. The system tells what
+// standard output is by a name below `/proc`; where there is none the answer is no.
 fn is_output(rt: &HostRuntime, file: &File) -> bool {
     match (file.metadata(), fs::metadata(rt, "/proc/self/fd/1")) {
         (Ok(input), Ok(output)) => input.is_file() && is_same_file(&input, &output),

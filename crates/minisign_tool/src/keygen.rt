@@ -1,28 +1,28 @@
 //! The command `keygen`: a sealed pair under a password that is typed twice, as two texts.
 
-ghost use Rattle.std.specs.Prelude.{◌≡◌, ◌≤◌, None, IfErr, OnOk};
-ghost use Rattle.minisign_base.specs.Fault.{Fault};
+ghost use Rattle.std.specs.Prelude.{◌≡◌, ◌≤◌, None};
 ghost use Rattle.minisign_base.specs.Passages.{prompt_passage, random_passage, sink_passage};
 ghost use Rattle.minisign.specs.Generation.{SealedTextsFail};
 ghost use Rattle.minisign_tool.specs.Keygen.{MakesKeys};
-ghost use Rattle.minisign_tool.specs.Report.{TakesOrFails, ShowsFault, warning_line};
+ghost use Rattle.minisign_tool.specs.Report.{ShowsOnlyFault, TakesOrFails, warning_line};
 
 use crate::report::{report, warn};
+use minisign::KeyPair;
 use minisign::base::devices::random_sources::RandomSource;
 use minisign::base::devices::sinks::Sink;
 use minisign::base::devices::sources::Source;
 use minisign::base::prompt::Prompt;
 use minisign::base::scheme::Scheme;
-use minisign::{KeyPair, Result};
 use std::alloc::Global;
 
-/// Makes a sealed pair of 72 random bytes, which are drawn first, under a password that the prompt asks for
-/// twice. Both texts are made before the first is written: the one of the public key goes to `pk_sink`, and
-/// then the one of the secret key, with the comment by default, to `sk_sink`. The warning, and then the
-/// line of a fault, go to `errors`.
+/// Makes a sealed pair of 72 random bytes, which are drawn first, under a password that the prompt
+/// asks for twice. Both texts are made before the first is written: the one of the public key goes
+/// to `pk_sink`, and then the one of the secret key, with the comment by default, to `sk_sink`. The
+/// warning, and then the line of a fault, go to `errors`.
 ///
-/// Answers the exit status: 0 where both texts were written, else 1. Where no pair is made, or memory is
-/// wanting for its texts, both sinks are as they were; a sink that failed took a beginning of its text.
+/// Answers the exit status: 0 where both texts were written, else 1. Where no pair is made, or
+/// memory is wanting for its texts, both sinks are as they were; a sink that failed took a
+/// beginning of its text.
 pub fn run_keygen<S: Scheme, Z: RandomSource, R: Source, W: Sink, P: Sink, K: Sink, E: Sink>(
     alloc: Global,
     scheme: &S,
@@ -33,44 +33,25 @@ pub fn run_keygen<S: Scheme, Z: RandomSource, R: Source, W: Sink, P: Sink, K: Si
     errors: &mut E,
 ) -> u8
     ensures status { result ≤ 1 }
-    ensures made { result ≡ 0 → MakesKeys (S.public_of scheme.now) (random_passage Z.RandomSource random.old random.new)
+    ensures made { result ≡ 0 → MakesKeys (S.public_of scheme.now)
+        (random_passage Z.RandomSource random.old random.new)
         (prompt_passage R.Source W.Sink prompt.old prompt.new)
-        (sink_passage P.Sink pk_sink.old pk_sink.new) (sink_passage K.Sink sk_sink.old sk_sink.new) }
+        (sink_passage P.Sink pk_sink.old pk_sink.new)
+        (sink_passage K.Sink sk_sink.old sk_sink.new) }
     ensures warned { result ≡ 0 → TakesOrFails E.Sink errors.old errors.new warning_line }
-    ensures refused { result ≡ 1 → (e : Fault) × (warned : E) × TakesOrFails E.Sink errors.old warned warning_line
-        × ShowsFault E.Sink warned errors.new e
-        × SealedTextsFail (S.public_of scheme.now) (random_passage Z.RandomSource random.old random.new)
+    ensures refused { result ≡ 1 → ShowsOnlyFault E.Sink errors.old errors.new
+        (SealedTextsFail (S.public_of scheme.now)
+        (random_passage Z.RandomSource random.old random.new)
         (prompt_passage R.Source W.Sink prompt.old prompt.new) None
-        (sink_passage P.Sink pk_sink.old pk_sink.new) (sink_passage K.Sink sk_sink.old sk_sink.new) None e }
+        (sink_passage P.Sink pk_sink.old pk_sink.new)
+        (sink_passage K.Sink sk_sink.old sk_sink.new) None) }
 {
     warn(errors);
-    match make_keys(alloc, scheme, random, prompt, pk_sink, sk_sink) {
-        Ok(()) => 0,
-        Err(fault) => report(alloc, errors, &fault),
-    }
-}
-
-// Makes the pair and writes its texts.
-fn make_keys<S: Scheme, Z: RandomSource, R: Source, W: Sink, P: Sink, K: Sink>(
-    alloc: Global,
-    scheme: &S,
-    random: &mut Z,
-    prompt: &mut Prompt<R, W>,
-    pk_sink: &mut P,
-    sk_sink: &mut K,
-) -> Result<()>
-    ensures made { OnOk result (MakesKeys (S.public_of scheme.now) (random_passage Z.RandomSource random.old random.new)
-        (prompt_passage R.Source W.Sink prompt.old prompt.new)
-        (sink_passage P.Sink pk_sink.old pk_sink.new) (sink_passage K.Sink sk_sink.old sk_sink.new)) }
-    ensures refused { IfErr result (SealedTextsFail (S.public_of scheme.now) (random_passage Z.RandomSource random.old random.new)
-        (prompt_passage R.Source W.Sink prompt.old prompt.new) None
-        (sink_passage P.Sink pk_sink.old pk_sink.new) (sink_passage K.Sink sk_sink.old sk_sink.new) None) }
-{
     let (password, comment) = (None, None);
     match KeyPair::generate_and_write_encrypted_keypair(
         alloc, scheme, random, pk_sink, sk_sink, comment, password, prompt,
     ) {
-        Ok(_) => Ok(()),
-        Err(fault) => Err(fault),
+        Ok(_) => 0,
+        Err(fault) => report(alloc, errors, &fault),
     }
 }

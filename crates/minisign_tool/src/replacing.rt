@@ -1,5 +1,5 @@
-//! Files that are replaced in one step: whoever looks, also after a kill or a full disk, finds the older file
-//! or the new one, whole.
+//! Files that are replaced in one step: whoever looks, also after a kill or a full disk, finds the
+//! older file or the new one, whole.
 
 ghost use Rattle.std.specs.Prelude.{IfErr};
 ghost use Rattle.minisign_tool.specs.Replacing.{IsWriteFault};
@@ -44,7 +44,8 @@ pub struct Contents<'a> {
 enum Place {
     // A regular file, or nothing.
     File(FilePlace),
-    // Anything else, as a device, a pipe or a stream of the program's own, which is written as it is.
+    // Anything else, as a device, a pipe or a stream of the program's own, which is written as it
+    // is.
     Stream,
 }
 
@@ -56,8 +57,8 @@ struct FilePlace {
     keeps_rights: bool,
 }
 
-// A new file, whole and brought to the disk, beside the path that it is to take. It is removed again where it
-// is let go of before it took that.
+// A new file, whole and brought to the disk, beside the path that it is to take. It is removed
+// again where it is let go of before it took that.
 struct Stage<'a> {
     rt: &'a HostRuntime,
     staged: String,
@@ -107,13 +108,14 @@ impl Stage<'_> {
     }
 }
 
-/// Replaces the file that the path leads to, links followed, in one step: a new one is made beside it under a
-/// name of its own, written, brought to the disk, and renamed. It gets the rights, and where that is allowed
-/// the owner and the group, of the file that was there, or else `mode`. What is no regular file is written as it
-/// is.
+/// Replaces the file that the path leads to, links followed, in one step: a new one is made beside
+/// it under a name of its own, written, brought to the disk, and renamed. It gets the rights, and
+/// where that is allowed the owner and the group, of the file that was there, or else `mode`. What
+/// is no regular file is written as it is.
 ///
-/// Where a file is refused, which is want of memory or `writing_failed`, the older one is as it was and nothing
-/// is left beside it. Only where the folder cannot be brought to the disk the new one stands there already.
+/// Where a file is refused, which is want of memory or `writing_failed`, the older one is as it was
+/// and nothing is left beside it. Only where the folder cannot be brought to the disk the new one
+/// stands there already.
 pub fn replace_file(rt: &HostRuntime, contents: Contents<'_>) -> Result<()>
     ensures { IfErr result IsWriteFault }
 {
@@ -127,12 +129,13 @@ pub fn replace_file(rt: &HostRuntime, contents: Contents<'_>) -> Result<()>
     }
 }
 
-/// Replaces the file of a public key and that of its secret key, each as `replace_file` does. Both new files are
-/// made and brought to the disk, and what is no regular file is written, before any file is replaced; the secret
-/// one is replaced last.
+/// Replaces the file of a public key and that of its secret key, each as `replace_file` does. Both
+/// new files are made and brought to the disk, and what is no regular file is written, before any
+/// file is replaced; the secret one is replaced last.
 ///
-/// Where both paths lead to one file it is the secret key's in the end, and its mode the one for new files,
-/// since the rights of the older file were also chosen for a public key. Two names of one file get a file each.
+/// Where both paths lead to one file it is the secret key's in the end, and its mode the one for
+/// new files, since the rights of the older file were also chosen for a public key. Two names of
+/// one file get a file each.
 pub fn replace_both(rt: &HostRuntime, public: Contents<'_>, secret: Contents<'_>) -> Result<()>
     ensures { IfErr result IsWriteFault }
 {
@@ -227,7 +230,8 @@ fn find_place(rt: &HostRuntime, path: &str) -> Result<Place>
     })
 }
 
-// The path behind all links, or none where a link stands for a stream of the program's own, as `/dev/stdout`.
+// The path behind all links, or none where a link stands for a stream of the program's own, as
+// `/dev/stdout`.
 fn follow_links(rt: &HostRuntime, path: &str) -> Result<Option<String>>
     ensures { IfErr result IsWriteFault }
 {
@@ -316,8 +320,8 @@ fn create_beside(rt: &HostRuntime, path: &str, mode: u32) -> Result<(File, Strin
     Err(faults::writing_failed())
 }
 
-// Gives a new file the owner, the group and the rights of an older one. Where another group may not be given, no
-// group gets rights.
+// Gives a new file the owner, the group and the rights of an older one. Where another group may not
+// be given, no group gets rights.
 fn take_rights(file: &File, older: &Metadata) -> io::Result<()> {
     let mut rights = older.mode() & ALL_RIGHTS;
     let made = file.metadata()?;

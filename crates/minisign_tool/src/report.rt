@@ -1,5 +1,5 @@
-//! What the program says on the error stream, each line in one write. A line that cannot be written there
-//! changes no exit status.
+//! What the program says on the error stream, each line in one write. A line that cannot be written
+//! there changes no exit status.
 
 ghost use Rattle.std.specs.Prelude.{◌≡◌, MatchResult};
 ghost use Rattle.minisign_base.specs.Faults.{out_of_memory};
@@ -17,8 +17,8 @@ pub fn warn<W: Sink>(errors: &mut W)
     let _ = put_all(errors, b"warning: insecure toy scheme, for tests only\n");
 }
 
-/// Shows the arguments that there are, and answers the exit status of arguments that are none of them.
-/// Takes no memory.
+/// Shows the arguments that there are, and answers the exit status of arguments that are none of
+/// them. Takes no memory.
 #[tactic(auto, unfolding(crate::specs::Report::usage_line))]
 pub fn usage<W: Sink>(errors: &mut W) -> u8
     ensures status { result ≡ 2 }
@@ -31,8 +31,8 @@ pub fn usage<W: Sink>(errors: &mut W) -> u8
     2
 }
 
-/// Shows a fault, and answers the exit status of one. Where memory is wanting for its line, that is shown
-/// in its place.
+/// Shows a fault, and answers the exit status of one. Where memory is wanting for its line, that is
+/// shown in its place.
 pub fn report<W: Sink>(alloc: Global, errors: &mut W, fault: &PError) -> u8
     ensures status { result ≡ 1 }
     ensures said { ShowsFault W.Sink errors.old errors.new fault.now }
@@ -46,8 +46,8 @@ pub fn report<W: Sink>(alloc: Global, errors: &mut W, fault: &PError) -> u8
     1
 }
 
-/// The exit status of a command: its own, or that of a fault that came before its body, which is shown behind
-/// the warning.
+/// The exit status of a command: its own, or that of a fault that came before its body, which is
+/// shown behind the warning.
 pub fn end<W: Sink>(alloc: Global, errors: &mut W, answer: Result<u8>) -> u8
     ensures { MatchResult answer (λ s. (result ≡ s) × (errors.new ≡ errors.old))
         (λ e. (result ≡ 1) × ((warned : W) × TakesOrFails W.Sink errors.old warned warning_line

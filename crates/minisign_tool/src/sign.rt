@@ -1,15 +1,12 @@
-//! The command `sign`: the text of a secret key from a file, the data from another, the signature's text
-//! to a third.
+//! The command `sign`: the text of a secret key from a file, the data from another, the signature's
+//! text to a third.
 
-ghost use Rattle.std.specs.Prelude.{◌≡◌, ℕ, ◌≤◌, List, None, string_bytes, IfOk, IfErr, OnOk};
+ghost use Rattle.std.specs.Prelude.{◌≡◌, ◌≤◌, string_bytes, IfOk, IfErr, OnOk};
 ghost use Rattle.minisign_base.specs.Devices.{HasGiven};
-ghost use Rattle.minisign_base.specs.Fault.{Fault};
 ghost use Rattle.minisign_base.specs.Passages.{prompt_passage, random_passage, sink_passage, source_passage};
-ghost use Rattle.minisign.specs.Records.{SecretKeyRecord};
-ghost use Rattle.minisign.specs.Reading.{IsAhead};
-ghost use Rattle.minisign.specs.SigningTexts.{GivesKey, TextSigningFails};
-ghost use Rattle.minisign_tool.specs.Report.{TakesOrFails, ShowsFault, warning_line};
-ghost use Rattle.minisign_tool.specs.Sign.{FileSigningFails, HasWrittenSigned, HasWrittenVouched, ReadsBackWhereGenuine, SignsText};
+ghost use Rattle.minisign.specs.Generation.{TakesPart};
+ghost use Rattle.minisign_tool.specs.Report.{ShowsOnlyFault, TakesOrFails, warning_line};
+ghost use Rattle.minisign_tool.specs.Sign.{FileSigningFails, HasWrittenSigned, HasWrittenVouched, MakesSigned, MakesVouched, NoSignature, WriteFails};
 
 use crate::report::{report, warn};
 use minisign::base::devices::random_sources::RandomSource;
@@ -22,12 +19,12 @@ use minisign::reading::read_text;
 use minisign::{Result, sign_texts};
 use std::alloc::Global;
 
-/// Signs the data ahead of `data_reader` with the secret key text that `sk_file` holds, and hands the text of
-/// the signature to `signature`, which is flushed. The file is read whole first and has to be UTF-8; where its
-/// key is sealed, `prompt` asks for the password. The comments are those by default, with the moment in
-/// seconds since 1970, and `random` gives 128 bytes. The warning and the line of a fault go to `errors`.
-/// Answers the exit status: 0 where `signature` took the whole text, else 1. `signature` is not touched
-/// before the text is made.
+/// Signs the data ahead of `data_reader` with the secret key text that `sk_file` holds, and hands
+/// the text of the signature to `signature`, which is flushed. The file is read whole first and has
+/// to be UTF-8; where its key is sealed, `prompt` asks for the password. The comments are those by
+/// default, with the moment in seconds since 1970, and `random` gives 128 bytes. The warning and
+/// the line of a fault go to `errors`. Answers the exit status: 0 where `signature` took the whole
+/// text, else 1. `signature` is not touched before the text is made.
 pub fn run_sign<
     S: Scheme,
     K: Source,
@@ -50,8 +47,8 @@ pub fn run_sign<
 ) -> u8
     ensures status { result ≤ 1 }
 
-    // What a genuine key signed was written, and every public key of its seed and identifier vouches for all
-    // of the data with it.
+    // What a genuine key signed was written, and every public key of its seed and identifier
+    // vouches for all of the data with it.
     ensures headline { result ≡ 0 → HasWrittenVouched (S.accepts scheme.now) (S.public_of scheme.now)
         (source_passage K.Source sk_file.old sk_file.new)
         (prompt_passage A.Source B.Sink prompt.old prompt.new)
@@ -67,16 +64,16 @@ pub fn run_sign<
         (sink_passage G.Sink signature.old signature.new) moment }
     ensures said { result ≡ 0 → TakesOrFails W.Sink errors.old errors.new warning_line }
 
-    // Why it ended otherwise, between the warning and the line of the fault: the file gave no text, with
-    // nothing else touched; signing with the text failed, with nothing written; or its text was not written.
-    ensures refused { result ≡ 1 → (e : Fault) × (warned : W) × TakesOrFails W.Sink errors.old warned warning_line
-        × ShowsFault W.Sink warned errors.new e
-        × FileSigningFails (S.signature_of scheme.now)
+    // Why it ended otherwise, between the warning and the line of the fault: the file gave no text,
+    // with nothing else touched; signing with the text failed, with nothing written; or its text
+    // was not written.
+    ensures refused { result ≡ 1 → ShowsOnlyFault W.Sink errors.old errors.new
+        (FileSigningFails (S.signature_of scheme.now)
         (source_passage K.Source sk_file.old sk_file.new)
         (prompt_passage A.Source B.Sink prompt.old prompt.new)
         (source_passage R.Source data_reader.old data_reader.new)
         (random_passage Z.RandomSource random.old random.new)
-        (sink_passage G.Sink signature.old signature.new) moment e }
+        (sink_passage G.Sink signature.old signature.new) moment) }
     ensures given { HasGiven (R.ahead data_reader.old) (R.ahead data_reader.new) }
     ensures drawn { HasGiven (Z.random_ahead random.old) (Z.random_ahead random.new) }
 {
@@ -127,49 +124,44 @@ fn sign_file<S: Scheme, K: Source, R: Source, G: Sink, Z: RandomSource, A: Sourc
     ensures given { HasGiven (R.ahead data_reader.old) (R.ahead data_reader.new) }
     ensures drawn { HasGiven (Z.random_ahead random.old) (Z.random_ahead random.new) }
 {
-    let sk_text = match read_text(alloc, sk_file) {
-        Ok(sk_text) => sk_text,
-        Err(fault) => return Err(fault),
-    };
-    let text = match sign_data(alloc, scheme, &sk_text, data_reader, random, prompt, moment) {
-        Ok(text) => text,
-        Err(fault) => return Err(fault),
-    };
-    match put_and_flush(signature, text.as_bytes()) {
-        Ok(()) => Ok(()),
-        Err(_) => Err(faults::writing_failed()),
-    }
+    let text = make_text(alloc, scheme, sk_file, data_reader, random, prompt, moment)?;
+    write_text(signature, &text)
 }
 
-/// Signs the data ahead of `data_reader` with the text of a secret key, whose password the prompt asks for
-/// where it is sealed, and with the comments by default. All is as `sign_texts` says.
-pub fn sign_data<S: Scheme, R: Source, Z: RandomSource, A: Source, B: Sink>(
+// Reads the key's text, and makes the text of the signature with it. The comments are those by
+// default.
+fn make_text<S: Scheme, K: Source, R: Source, Z: RandomSource, A: Source, B: Sink>(
     alloc: Global,
     scheme: &S,
-    sk_text: &str,
+    sk_file: &mut K,
     data_reader: &mut R,
     random: &mut Z,
     prompt: &mut Prompt<A, B>,
     moment: u64,
 ) -> Result<String>
-    ensures headline { IfOk result (λ t. (message : List ℕ) × (sk : SecretKeyRecord) × IsAhead (R.ahead data_reader.old) message
-        × GivesKey (prompt_passage A.Source B.Sink prompt.old prompt.new) None sk_text.now sk
-        × ReadsBackWhereGenuine (S.accepts scheme.now) (S.public_of scheme.now) sk message (string_bytes t)) }
-    ensures signed { IfOk result (λ t. SignsText (S.signature_of scheme.now)
+    ensures headline { IfOk result (λ t. MakesVouched (S.accepts scheme.now) (S.public_of scheme.now)
+        (source_passage K.Source sk_file.old sk_file.new)
+        (prompt_passage A.Source B.Sink prompt.old prompt.new)
+        (source_passage R.Source data_reader.old data_reader.new) (string_bytes t)) }
+    ensures signed { IfOk result (λ t. MakesSigned (S.signature_of scheme.now)
+        (source_passage K.Source sk_file.old sk_file.new)
         (prompt_passage A.Source B.Sink prompt.old prompt.new)
         (source_passage R.Source data_reader.old data_reader.new)
-        (random_passage Z.RandomSource random.old random.new) sk_text.now moment (string_bytes t)) }
-    ensures refused { IfErr result (TextSigningFails (prompt_passage A.Source B.Sink prompt.old prompt.new) None sk_text.now
+        (random_passage Z.RandomSource random.old random.new) moment (string_bytes t)) }
+    ensures refused { IfErr result (NoSignature
+        (source_passage K.Source sk_file.old sk_file.new)
+        (prompt_passage A.Source B.Sink prompt.old prompt.new)
         (source_passage R.Source data_reader.old data_reader.new)
         (random_passage Z.RandomSource random.old random.new)) }
     ensures given { HasGiven (R.ahead data_reader.old) (R.ahead data_reader.new) }
     ensures drawn { HasGiven (Z.random_ahead random.old) (Z.random_ahead random.new) }
 {
+    let sk_text = read_text(alloc, sk_file)?;
     let (password, trusted_comment, untrusted_comment) = (None, None, None);
-    match sign_texts(
+    sign_texts(
         alloc,
         scheme,
-        sk_text,
+        &sk_text,
         password,
         prompt,
         data_reader,
@@ -177,8 +169,16 @@ pub fn sign_data<S: Scheme, R: Source, Z: RandomSource, A: Source, B: Sink>(
         untrusted_comment,
         random,
         moment,
-    ) {
-        Ok(text) => Ok(text),
-        Err(fault) => Err(fault),
+    )
+}
+
+// Hands a text to a sink, which is flushed.
+fn write_text<G: Sink>(sink: &mut G, text: &str) -> Result<()>
+    ensures written { OnOk result (TakesPart (sink_passage G.Sink sink.old sink.new) text.now) }
+    ensures refused { IfErr result (WriteFails (sink_passage G.Sink sink.old sink.new) text.now) }
+{
+    match put_and_flush(sink, text.as_bytes()) {
+        Ok(()) => Ok(()),
+        Err(_) => Err(faults::writing_failed()),
     }
 }

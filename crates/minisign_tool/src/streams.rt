@@ -12,10 +12,10 @@ pub struct HeldStreams {
     _errors: Option<File>,
 }
 
-/// Opens a folder in place of each standard stream that is closed. The system gives the first files that
-/// are opened the numbers of closed streams, so that a password would be read from a key's file, or a line
-/// written into a signature's. A folder can be neither read nor written, so a closed stream stays as good as
-/// closed.
+/// Opens a folder in place of each standard stream that is closed. The system gives the first files
+/// that are opened the numbers of closed streams, so that a password would be read from a key's
+/// file, or a line written into a signature's. A folder can be neither read nor written, so a
+/// closed stream stays as good as closed.
 pub fn hold_closed_streams(rt: &HostRuntime) -> io::Result<HeldStreams> {
     Ok(HeldStreams {
         _input: hold(rt, rt.stdin().as_fd().try_clone_to_owned().is_err())?,

@@ -9,8 +9,8 @@ use minisign::base::devices::sources::Source;
 use minisign::reading::read_text;
 use std::alloc::Global;
 
-/// The texts of two files, of which the first is read whole, and has to be UTF-8, before the second is
-/// read. Refused is the first of them that does not give a text, as `read_text` says.
+/// The texts of two files, of which the first is read whole, and has to be UTF-8, before the second
+/// is read. Refused is the first of them that does not give a text, as `read_text` says.
 pub fn read_both_texts<P: Source, Q: Source>(
     alloc: Global,
     first: &mut P,

@@ -1,8 +1,8 @@
-//! What `sign`, `verify` and `cat` make, ask, say and copy over devices that are handed in, and their exit
-//! status.
+//! What `sign`, `verify` and `cat` make, ask, say and copy over devices that are handed in, and
+//! their exit status.
 //!
-//! The texts of keys and signatures were made with Python's hashlib, of a seed of zeros and random bytes of
-//! zeros.
+//! The texts of keys and signatures were made with Python's hashlib, of a seed of zeros and random
+//! bytes of zeros.
 use crate::cat::run_cat;
 use crate::sign::run_sign;
 use crate::verify::run_verify;
@@ -105,7 +105,8 @@ fn run_cat_over<O: Sink>(
     (status, errors)
 }
 
-// Runs `sign` over `abc` with random bytes of zeros: the exit status, what it said and what it asked.
+// Runs `sign` over `abc` with random bytes of zeros: the exit status, what it said and what it
+// asked.
 fn run_sign_over<G: Sink>(
     alloc: Global,
     key: &[u8],

@@ -1,4 +1,5 @@
-//! The command `verify`: the texts of a public key and a signature from files, the data from a third.
+//! The command `verify`: the texts of a public key and a signature from files, the data from a
+//! third.
 
 ghost use Rattle.std.specs.Prelude.{◌≡◌, ℕ, ◌≤◌, List, false, OnOk, OnErr, IfErr};
 ghost use Rattle.std.specs.Io.KnownBytes.{Appends};
@@ -18,10 +19,11 @@ use minisign::base::scheme::Scheme;
 use minisign::{Result, verify_texts};
 use std::alloc::Global;
 
-/// Verifies the data ahead of `data_reader` with the public key text that `pk_file` holds and the signature
-/// text that `sig_file` holds; legacy signatures are refused. Both files are read whole, the key first, and
-/// have to be UTF-8, before the data is read. The warning, and then the status lines or the line of a fault,
-/// go to `errors`. Answers the exit status: 0 where the texts vouch for the data, else 1.
+/// Verifies the data ahead of `data_reader` with the public key text that `pk_file` holds and the
+/// signature text that `sig_file` holds; legacy signatures are refused. Both files are read whole,
+/// the key first, and have to be UTF-8, before the data is read. The warning, and then the status
+/// lines or the line of a fault, go to `errors`. Answers the exit status: 0 where the texts vouch
+/// for the data, else 1.
 pub fn run_verify<S: Scheme, P: Source, R: Rereader, Q: Source, W: Sink>(
     alloc: Global,
     scheme: &S,
@@ -34,24 +36,28 @@ pub fn run_verify<S: Scheme, P: Source, R: Rereader, Q: Source, W: Sink>(
 
     // What both files hold vouches for the data, and that was said of it behind the warning.
     ensures accepted { result ≡ 0 → FilesVouch (S.accepts scheme.now)
-        (source_passage P.Source pk_file.old pk_file.new) (source_passage Q.Source sig_file.old sig_file.new)
-        (rereader_passage R.Source R.steady data_reader.old data_reader.new) (SaysAfterWarning W.Sink errors.old errors.new) }
+        (source_passage P.Source pk_file.old pk_file.new)
+        (source_passage Q.Source sig_file.old sig_file.new)
+        (rereader_passage R.Source R.steady data_reader.old data_reader.new)
+        (SaysAfterWarning W.Sink errors.old errors.new) }
 
     // Why it ended otherwise, between the warning and the line of the fault.
-    ensures refused { result ≡ 1 → EndsWithFault W.Sink errors.old errors.new (FilesFail (S.accepts scheme.now)
-        (source_passage P.Source pk_file.old pk_file.new) (source_passage Q.Source sig_file.old sig_file.new)
+    ensures refused { result ≡ 1 → EndsWithFault W.Sink errors.old errors.new
+        (FilesFail (S.accepts scheme.now)
+        (source_passage P.Source pk_file.old pk_file.new)
+        (source_passage Q.Source sig_file.old sig_file.new)
         (rereader_passage R.Source R.steady data_reader.old data_reader.new)) }
     ensures given { HasGiven (R.ahead data_reader.old) (R.ahead data_reader.new) }
 {
     warn(errors);
-    match read_and_verify(alloc, scheme, pk_file, data_reader, sig_file, errors) {
+    match verify_with_files(alloc, scheme, pk_file, data_reader, sig_file, errors) {
         Ok(()) => 0,
         Err(fault) => report(alloc, errors, &fault),
     }
 }
 
-// Reads both texts, the key's first, and then verifies with them.
-fn read_and_verify<S: Scheme, P: Source, R: Rereader, Q: Source, W: Sink>(
+// Reads both texts, the key's first, and then verifies with them. Nothing is copied.
+fn verify_with_files<S: Scheme, P: Source, R: Rereader, Q: Source, W: Sink>(
     alloc: Global,
     scheme: &S,
     pk_file: &mut P,
@@ -60,49 +66,26 @@ fn read_and_verify<S: Scheme, P: Source, R: Rereader, Q: Source, W: Sink>(
     errors: &mut W,
 ) -> Result<()>
     ensures accepted { OnOk result (FilesVouch (S.accepts scheme.now)
-        (source_passage P.Source pk_file.old pk_file.new) (source_passage Q.Source sig_file.old sig_file.new)
-        (rereader_passage R.Source R.steady data_reader.old data_reader.new) (Takes (sink_passage W.Sink errors.old errors.new))) }
+        (source_passage P.Source pk_file.old pk_file.new)
+        (source_passage Q.Source sig_file.old sig_file.new)
+        (rereader_passage R.Source R.steady data_reader.old data_reader.new)
+        (Takes (sink_passage W.Sink errors.old errors.new))) }
     ensures calm { OnOk result (W.sink_faults errors.new ≡ W.sink_faults errors.old) }
     ensures refused { IfErr result (FilesFail (S.accepts scheme.now)
-        (source_passage P.Source pk_file.old pk_file.new) (source_passage Q.Source sig_file.old sig_file.new)
-        (rereader_passage R.Source R.steady data_reader.old data_reader.new) (sink_passage W.Sink errors.old errors.new)) }
+        (source_passage P.Source pk_file.old pk_file.new)
+        (source_passage Q.Source sig_file.old sig_file.new)
+        (rereader_passage R.Source R.steady data_reader.old data_reader.new)
+        (sink_passage W.Sink errors.old errors.new)) }
     ensures given { HasGiven (R.ahead data_reader.old) (R.ahead data_reader.new) }
 {
     let (pk_text, sig_text) = read_both_texts(alloc, pk_file, sig_file)?;
-    match verify_data(alloc, scheme, &pk_text, &sig_text, data_reader, errors) {
-        Ok(()) => Ok(()),
-        Err(fault) => Err(fault),
-    }
-}
-
-/// Verifies the data ahead of `data_reader` with the texts of a public key and a signature, and copies
-/// nothing; legacy signatures are refused. The texts are judged, the key's first, before any data is read.
-/// On success `errors` gets the status lines, and after any other refusal than a failing `errors` it is as
-/// it was.
-pub fn verify_data<S: Scheme, R: Rereader, W: Sink>(
-    alloc: Global,
-    scheme: &S,
-    pk_text: &str,
-    sig_text: &str,
-    data_reader: &mut R,
-    errors: &mut W,
-) -> Result<()>
-    ensures accepted { OnOk result ((message : List ℕ) × IsAhead (R.ahead data_reader.old) message
-        × ((vouched : TextsVouchFor (S.accepts scheme.now) pk_text.now sig_text.now message false)
-        × Appends (W.taken errors.old) (W.taken errors.new) (status_lines vouched.box))) }
-    ensures calm { OnOk result (W.sink_faults errors.new ≡ W.sink_faults errors.old) }
-    ensures refused { IfErr result (VerifyFails (S.accepts scheme.now) pk_text.now sig_text.now
-        (rereader_passage R.Source R.steady data_reader.old data_reader.new) (sink_passage W.Sink errors.old errors.new)) }
-    ensures front { OnErr result (SaysFront (sink_passage W.Sink errors.old errors.new) pk_text.now sig_text.now) }
-    ensures given { HasGiven (R.ahead data_reader.old) (R.ahead data_reader.new) }
-{
     let (quiet, output, allow_legacy) = (false, false, false);
     let mut nowhere = VecSink::new(alloc);
     verify_texts(
         alloc,
         scheme,
-        pk_text,
-        sig_text,
+        &pk_text,
+        &sig_text,
         data_reader,
         quiet,
         output,

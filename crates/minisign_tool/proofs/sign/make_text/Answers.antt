@@ -1,0 +1,19 @@
+use Rattle.std.proofs.Common.{inr}
+use Rattle.std.proofs.lemmas.Result.{IfOk-weaker, MatchResult-weaker}
+use Rattle.minisign.specs.Reading.{ReadsWhole}
+use Rattle.minisign_tool.proofs.sign.make_text.Goals as goal
+
+pub returns-clause-signed : goal.returns-clause-signed
+returns-clause-signed g c =
+    IfOk-weaker c.sign_texts.result _ _
+    (λ t h. record {
+      sk_text = c.deref.result.now;
+      read = rw c.deref.ensures c.in_ok-sk_text.ensures.text;
+      signs = record { key = h.0; message = h.1; given = h.2; read = h.3; signed = h.4 };
+    })
+    c.sign_texts.ensures.signed
+
+pub returns-clause-refused : goal.returns-clause-refused
+returns-clause-refused g c =
+    let read : ReadsWhole g.K.Source c.args.sk_file.now c.read_text.new.source c.deref.result.now = rw c.deref.ensures c.in_ok-sk_text.ensures.text in
+    MatchResult-weaker c.sign_texts.result c.sign_texts.ensures.refused (λ t ok. ok) (λ e h. inr (_, read, h))

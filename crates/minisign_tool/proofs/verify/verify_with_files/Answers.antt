@@ -1,0 +1,42 @@
+use Rattle.std.proofs.Common.{inl, inr, sym, ⊎_elim}
+use Rattle.std.proofs.lemmas.Bool.{true≢false}
+use Rattle.std.proofs.lemmas.Result.{MatchResult-weaker, on_ok_weaker}
+use Rattle.minisign_tool.proofs.Outcomes.{if_err_both}
+use Rattle.minisign_tool.proofs.verify.verify_with_files.Goals as goal
+
+pub returns-clause-accepted : goal.returns-clause-accepted
+returns-clause-accepted g c =
+    let texts = c.in_ok-pk_text.ensures.texts in
+    on_ok_weaker c.verify_texts.result
+    (λ h. record {
+      pk_text = c.deref.result.now;
+      sig_text = c.deref-2.result.now;
+      message = h.verified.message;
+      pk_held = rw c.deref.ensures texts.first_read.given;
+      sig_held = rw c.deref-2.ensures texts.second_read.given;
+      given = h.verified.given;
+      vouched = record { key = h.key; box = h.box; key_read = h.read.key_read; box_read = h.read.box_read; vouches = h.verified.vouches };
+      said = h.verified.said;
+    })
+    c.verify_texts.ensures.accepted
+
+pub returns-clause-refused : goal.returns-clause-refused
+returns-clause-refused g c =
+    let texts = c.in_ok-pk_text.ensures.texts in
+    MatchResult-weaker c.verify_texts.result
+    (if_err_both _ _ c.verify_texts.result c.verify_texts.ensures.refused c.verify_texts.ensures.said_front)
+    (λ x ok. ok)
+    (λ e both. inr (
+      c.deref.result.now,
+      c.deref-2.result.now,
+      record { first_read = rw c.deref.ensures texts.first_read; second_read = rw c.deref-2.ensures texts.second_read },
+      ⊎_elim (λ stop. inl (stop.why, stop.unread, stop.unsaid))
+          (λ held. inr (
+            held.0,
+            held.1,
+            held.2,
+            ⊎_elim (λ unsaid. unsaid.2) (λ copying. absurd (true≢false (sym copying.wanted))) held.3,
+          ))
+          both.0,
+      both.1,
+    ))

@@ -1,0 +1,27 @@
+-- Which command the arguments ask for.
+use Rattle.std.specs.Prelude.{◌≡◌, ℕ, ◌⊎◌, List, [], ◌∷◌, codes}
+use Rattle.minisign_tool.specs.declared.commands.Command.{Command}
+use Rattle.minisign_tool.specs.declared.commands.Command.TheVariants.{Cat, Keygen, Sign, Usage, Verify, VerifyRaw}
+
+-- the words are this name and two paths
+abbrev pub NamesTwo : List (List ℕ) → List ℕ → Type 0
+NamesTwo words name = (first second : List ℕ) × (words ≡ name ∷ first ∷ second ∷ [])
+
+-- the words are this name and three paths
+abbrev pub NamesThree : List (List ℕ) → List ℕ → Type 0
+NamesThree words name = (first second third : List ℕ) × (words ≡ name ∷ first ∷ second ∷ third ∷ [])
+
+-- the words are one of the five forms
+abbrev pub IsForm : List (List ℕ) → Type 0
+IsForm words =
+    NamesTwo words (codes "keygen") ⊎ NamesThree words (codes "sign") ⊎ NamesThree words (codes "verify")
+    ⊎ NamesTwo words (codes "verify-raw") ⊎ NamesThree words (codes "cat")
+
+-- the words ask for this command with these paths: the table of commands, and the usage for all other words
+abbrev pub AsksFor : List (List ℕ) → Command → Type 0
+AsksFor words (Keygen pk sk) = words ≡ codes "keygen" ∷ pk.now ∷ sk.now ∷ []
+AsksFor words (Sign sk file sig) = words ≡ codes "sign" ∷ sk.now ∷ file.now ∷ sig.now ∷ []
+AsksFor words (Verify pk file sig) = words ≡ codes "verify" ∷ pk.now ∷ file.now ∷ sig.now ∷ []
+AsksFor words (VerifyRaw pk sig) = words ≡ codes "verify-raw" ∷ pk.now ∷ sig.now ∷ []
+AsksFor words (Cat pk file sig) = words ≡ codes "cat" ∷ pk.now ∷ file.now ∷ sig.now ∷ []
+AsksFor words Usage = ¬ (IsForm words)

@@ -1,0 +1,68 @@
+//! Which command the arguments ask for.
+
+ghost use Rattle.std.specs.Prelude.{◌≡◌, map, string_bytes, IfOk};
+ghost use Rattle.minisign_tool.specs.Commands.{AsksFor};
+
+use std::alloc::{AllocError, Global};
+
+/// A command and the paths of its files.
+#[derive(Clone, Copy)]
+pub enum Command<'a> {
+    /// Make a pair of keys, and write the text of each into a file.
+    Keygen {
+        pk: &'a str,
+        sk: &'a str,
+    },
+    /// Sign a file with the text of a secret key, and write the text of the signature.
+    Sign {
+        sk: &'a str,
+        file: &'a str,
+        sig: &'a str,
+    },
+    /// Verify a file with the texts of a public key and a signature.
+    Verify {
+        pk: &'a str,
+        file: &'a str,
+        sig: &'a str,
+    },
+    /// Verify standard input, with the files of a raw public key and a raw signature.
+    VerifyRaw {
+        pk: &'a str,
+        sig: &'a str,
+    },
+    /// Verify a file with the texts of a public key and a signature, and write it to standard
+    /// output.
+    Cat {
+        pk: &'a str,
+        file: &'a str,
+        sig: &'a str,
+    },
+    /// Show the arguments that there are.
+    Usage,
+}
+
+/// The command that the words behind the program's path ask for. Words that are none of the five
+/// forms, as those with a word too few or too many, ask for the usage. Takes no memory.
+pub fn command_of<'a>(words: &[&'a str]) -> Command<'a>
+    ensures { AsksFor (map (λ w. w.now) words.now) result }
+{
+    match *words {
+        ["keygen", pk, sk] => Command::Keygen { pk, sk },
+        ["sign", sk, file, sig] => Command::Sign { sk, file, sig },
+        ["verify", pk, file, sig] => Command::Verify { pk, file, sig },
+        ["verify-raw", pk, sig] => Command::VerifyRaw { pk, sig },
+        ["cat", pk, file, sig] => Command::Cat { pk, file, sig },
+        _ => Command::Usage,
+    }
+}
+
+/// The words of the arguments. Only want of memory is refused.
+pub fn words_of(alloc: Global, arguments: &[String]) -> Result<Vec<&str>, AllocError>
+    ensures { IfOk result (λ v. map (λ w. w.now) v.items ≡ map (λ s. string_bytes s) arguments.now) }
+{
+    let mut words = Vec::with_capacity(alloc, arguments.len())?;
+    'words: for argument in arguments {
+        words.push(argument.as_str())?;
+    }
+    Ok(words)
+}
