@@ -1,4 +1,4 @@
-use Rattle.std.proofs.Common.{inl, inr, refl, ⊎_elim, ◌∙◌}
+use Rattle.std.proofs.Common.{inl, inr, refl, ⊎_elim}
 use Rattle.minisign_base.specs.Passages.{rereader_passage, sink_passage}
 use Rattle.minisign_base.proofs.DeviceFacts.{AppendsFront-keeps}
 use Rattle.minisign.proofs.Beginnings.{on_err_of, passed_up}
