@@ -9,7 +9,7 @@ use Rattle.minisign.specs.Calls.{GivesKeyWith, GivesNoKeyWith}
 use Rattle.minisign.specs.Opening.{IsOpened, IsUnencryptedText, RefusesOpening, RefusesUnencrypted}
 use Rattle.minisign.specs.Records.{SecretKeyRecord}
 use Rattle.minisign.specs.Sealing.{no_kdf, scrypt_kdf}
-use Rattle.minisign.specs.SecretKeyText.{SecretKeyText, secret_key_fault}
+use Rattle.minisign.specs.SecretKeyText.{SecretKeyText, secret_key_refusal}
 use Rattle.minisign.specs.Texts.{IsRefused}
 use Rattle.minisign.proofs.SecretKeyTexts.{one_key_text}
 
@@ -19,7 +19,7 @@ passed_on (Ok x) e P Q is h = absurd (is)
 passed_on (Err y) e P Q is h = subst Q (sym is) h
 
 -- a text that reads as no key
-pub no_key : (text password : List ℕ) (e : Fault) → IsRefused (SecretKeyText text) (secret_key_fault text) e → GivesNoKeyWith text password e
+pub no_key : (text password : List ℕ) (e : Fault) → IsRefused (SecretKeyText text) (secret_key_refusal text) e → GivesNoKeyWith text password e
 no_key text password e refused = record {
   first = inl refused;
   none = λ k given. ⊎_elim (λ plain. refused.unread k plain.read) (λ opened. refused.unread opened.sealed opened.read) given;

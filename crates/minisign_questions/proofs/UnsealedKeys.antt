@@ -9,7 +9,7 @@ use Rattle.minisign_base.specs.Faults.{out_of_memory}
 use Rattle.minisign.specs.Records.{SecretKeyRecord}
 use Rattle.minisign.specs.Opening.{IsUnencryptedText, RefusesUnencrypted}
 use Rattle.minisign.specs.Sealing.{no_kdf}
-use Rattle.minisign.specs.SecretKeyText.{SecretKeyText, secret_key_fault}
+use Rattle.minisign.specs.SecretKeyText.{SecretKeyText, secret_key_refusal}
 use Rattle.minisign.specs.Texts.{IsRefused}
 use Rattle.minisign_questions.specs.Signing.{LacksChecksum, RefusesUnsealed}
 
@@ -39,7 +39,7 @@ not_lacking k x y a b kdf checksum test_kdf test_checksum fails lacks =
     true≢false (sym (and_true a b unsealed unchecked) ∙ fails)
 
 -- a text that reads as no key
-pub unread : (text : List ℕ) (e : Fault) → (e ≡ out_of_memory) ⊎ IsRefused (SecretKeyText text) (secret_key_fault text) e
+pub unread : (text : List ℕ) (e : Fault) → (e ≡ out_of_memory) ⊎ IsRefused (SecretKeyText text) (secret_key_refusal text) e
     → (e ≡ out_of_memory) ⊎ RefusesUnsealed text e
 unread text e (inl memory) = inl memory
 unread text e (inr refused) = inr (record {
