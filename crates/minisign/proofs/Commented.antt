@@ -126,7 +126,7 @@ silent_failure accepts pk sig output reader status out e (inr (key, box, read, i
     inl (
       uncopied,
       ⊎_elim
-          (λ mark. inr (inl (both_wanted output _ mark.wanted, record { wanted = refl; fault = mark.fault; rose = mark.rose; unread = mark.unread })))
+          (λ mark. inr (inl (both_wanted output _ mark.wanted, record { wanted = refl; fault = mark.fault; rose = mark.rose; unmarked = mark.unmarked; unread = mark.unread })))
           (λ fails. ⊎_elim inl (λ failed. inr (inr (inl failed))) fails)
           broken.failed,
     )

@@ -1,6 +1,6 @@
 //! Devices that never fail: the bytes of a slice, and a sink that keeps nothing.
 
-ghost use Rattle.std.specs.Prelude.{◌≡◌, Some, None, length, ⊤, IsOk};
+ghost use Rattle.std.specs.Prelude.{◌≡◌, true, Some, None, length, ⊤, IsOk};
 ghost use Rattle.minisign_base.specs.Devices.{HasRead, HasMarked, HasGoneBack, HasWritten, HasFlushed};
 
 use minisign_base::devices::DeviceFault;
@@ -30,6 +30,8 @@ impl<'a> Source for MemorySource<'a> {
     ghost ahead = { λ s. Some s.rest.now };
 
     ghost behind = { λ s. Some s.marked.now };
+
+    ghost is_marked = { λ _. true };
 
     ghost left = { λ s. length s.rest.now };
 
