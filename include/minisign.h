@@ -118,7 +118,7 @@ enum minisign_error {
 
     /* Without a password. */
     MINISIGN_KEY_SEALED = 36,                 /* the key names a key derivation: it wants a password */
-    MINISIGN_KEY_CORRUPTED = 37,              /* its checksum does not match */
+    MINISIGN_KEY_CORRUPTED = 37,              /* its checksum is neither right nor 32 zeros, as Minisign has it */
 
     /* With a password. */
     MINISIGN_KEY_NOT_SEALED = 38,             /* the key was never sealed: it wants none */

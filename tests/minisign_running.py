@@ -9,11 +9,12 @@ SECONDS = 120
 
 @dataclass(frozen=True)
 class Programs:
-    """The programs that are run: Minisign's, and ours in C and in Rust."""
+    """The programs that are run: Minisign's, and ours in C, in Rust, and for signing."""
 
     minisign: str
     verify: str
     verify_rust: str
+    sign: str
 
 
 @dataclass(frozen=True)

@@ -38,6 +38,12 @@ static const char LEGACY[] =
     "RWQf6LRCGA9i59SLOFxz6NxvASXDJeRtuZykwQepbDEGt87ig1BNpWaVWuNrm73YiIiJbq71Wi+dP9eKL8OC351vwIasSSbXxwA=\n"
     "trusted comment: timestamp:1555779966\tfile:test\n"
     "QtKMXWyYcwdpZAlPF7tE2ENJkRd1ujvKjlj1m9RtHTBnZPa5WKU5uWRs5GoP5M/VqE81QFuMKI5k/SfNQUaOAA==";
+/* A secret key that Minisign made with -G -W, for these checks alone. */
+static const char SECRET_KEY[] =
+    "untrusted comment: minisign encrypted secret key\n"
+    "RWQAAEIyAAAAAAAAAAAAAAAAAAAAAAAAAAAAAAAAAAAAAAAAAAAAAAAAAAAAAAAAAAAAAAAAu82A"
+    "eu/lPqv5tw414tB2l3S0AV4BthpWrWHyA+ItsehisjsR8AROg+V8Ng82TAEWPpchqblhFFay7/kQ"
+    "ioiXfnOLD1OmyTi9AAAAAAAAAAAAAAAAAAAAAAAAAAAAAAAAAAAAAAAAAAA=\n";
 #define COMMENT "timestamp:1556193335\tfile:test"
 #define MESSAGE_LEN (64 + sizeof COMMENT - 1)
 
@@ -66,6 +72,19 @@ static uint32_t ask(minisign_state *state)
     return ask_for(state, PREHASHED, 0, sizeof message);
 }
 
+static minisign_signing signing;
+
+static uint32_t ask_signing_for(minisign_state *state, const char *sk_text, uint32_t with_password)
+{
+    return minisign_ask_signing(state, (const uint8_t *) sk_text, strlen(sk_text), with_password, ABC, sizeof ABC,
+                                &signing);
+}
+
+static uint32_t ask_signing(minisign_state *state)
+{
+    return ask_signing_for(state, SECRET_KEY, 0);
+}
+
 static uint32_t feed(minisign_state *state)
 {
     return minisign_update(state, ABC, sizeof ABC);
@@ -83,6 +102,9 @@ static void refused_all(minisign_state *state)
     CHECK(minisign_verdict(state, 1, 1) == MINISIGN_NOT_BEGUN);
     CHECK(minisign_verdict(state, 0, 0) == MINISIGN_NOT_BEGUN);
     CHECK(minisign_verdict(state, 0, 2) == MINISIGN_NO_ANSWER);
+    CHECK(ask_signing(state) == MINISIGN_NOT_BEGUN);
+    CHECK(ask_signing_for(state, "", 1) == MINISIGN_NOT_BEGUN);
+    CHECK(ask_signing_for(state, "", 2) == MINISIGN_NO_PASSWORD);
     CHECK(memcmp(&before, state, sizeof before) == 0);
 }
 
@@ -116,6 +138,7 @@ static void after_asking(void)
     CHECK(ask(&state) == MINISIGN_ALREADY_ASKED);
     CHECK(ask_for(&state, "", 0, 0) == MINISIGN_ALREADY_ASKED);
     CHECK(ask_for(&state, "", 2, 0) == MINISIGN_NO_LEGACY);
+    CHECK(ask_signing(&state) == MINISIGN_ALREADY_ASKED);
     CHECK(memcmp(&before, &state, sizeof before) == 0);
     CHECK(memcmp(&asked, &questions, sizeof asked) == 0);
     CHECK(minisign_verdict(&state, 1, 1) == MINISIGN_OK);
@@ -195,6 +218,65 @@ static void copies(void)
     CHECK(questions.legacy == 1);
 }
 
+static void before_signing(void)
+{
+    static const minisign_signing nothing;
+    minisign_state state, before;
+
+    minisign_init(&state);
+    CHECK(feed(&state) == MINISIGN_OK);
+    before = state;
+    CHECK(ask_signing_for(&state, SECRET_KEY, 2) == MINISIGN_NO_PASSWORD);
+    CHECK(ask_signing_for(&state, SECRET_KEY, UINT32_MAX) == MINISIGN_NO_PASSWORD);
+    CHECK(ask_signing_for(&state, SECRET_KEY, 1) == MINISIGN_KEY_NOT_SEALED);
+    CHECK(ask_signing_for(&state, "", 0) == MINISIGN_MISSING_SECRET_KEY_COMMENT);
+    CHECK(ask_signing_for(&state, "\xff", 0) == MINISIGN_NOT_UTF8);
+    CHECK(ask_signing_for(&state, PREHASHED, 0) == MINISIGN_RECORD_TOO_SHORT);
+    CHECK(memcmp(&before, &state, sizeof before) == 0);
+    CHECK(memcmp(&nothing, &signing, sizeof nothing) == 0);
+    CHECK(ask_signing(&state) == MINISIGN_OK);
+    CHECK(memcmp(signing.digest, DIGEST_OF_ABC, 64) == 0);
+    refused_all(&state);
+}
+
+static uint8_t text[1024];
+static size_t text_len;
+
+static uint32_t make_text(const char *trusted, const char *untrusted, size_t room)
+{
+    return minisign_signed_text(questions.signature_key_id, questions.signature, questions.comment_signature,
+                                (const uint8_t *) trusted, strlen(trusted), (const uint8_t *) untrusted,
+                                strlen(untrusted), text, room, &text_len);
+}
+
+/* The signatures of a text make that text again, where it has room, and the library reads it. */
+static void texts_of_signatures(void)
+{
+    static const char *const refused[][2] = { { "t\n", "u" }, { "t ", "u" }, { "\tt", "u" }, { "t", "u\r" }, { "t", "\n" } };
+    minisign_state state;
+
+    minisign_init(&state);
+    CHECK(ask(&state) == MINISIGN_OK);
+    for (size_t room = 0; room < sizeof PREHASHED; room++) {
+        CHECK(make_text(COMMENT, "signature from minisign secret key", room) == MINISIGN_NO_ROOM);
+    }
+    for (size_t i = 0; i < sizeof refused / sizeof refused[0]; i++) {
+        CHECK(make_text(refused[i][0], refused[i][1], sizeof text) == MINISIGN_NO_COMMENT);
+    }
+    CHECK(make_text("\xff", "u", sizeof text) == MINISIGN_NOT_UTF8);
+    CHECK(make_text("t", "\xff", sizeof text) == MINISIGN_NOT_UTF8);
+    CHECK(text_len == 0 && text[0] == 0);
+    CHECK(make_text(COMMENT, "signature from minisign secret key", sizeof PREHASHED) == MINISIGN_OK);
+    CHECK(text_len == sizeof PREHASHED && memcmp(text, PREHASHED, text_len - 1) == 0 && text[text_len - 1] == '\n');
+    for (size_t room = 0; room < MESSAGE_LEN; room++) {
+        CHECK(minisign_comment_message(questions.signature, (const uint8_t *) COMMENT, sizeof COMMENT - 1, text, room)
+              == MINISIGN_NO_ROOM);
+    }
+    CHECK(minisign_comment_message(questions.signature, (const uint8_t *) COMMENT, sizeof COMMENT - 1, text,
+                                   MESSAGE_LEN) == MINISIGN_OK);
+    CHECK(memcmp(text, message, MESSAGE_LEN) == 0);
+}
+
 static void error_texts(void)
 {
     uint8_t whole[MINISIGN_ERROR_TEXT_BYTES], cut[MINISIGN_ERROR_TEXT_BYTES];
@@ -219,6 +301,8 @@ int main(void)
     before_asking();
     answers();
     copies();
+    before_signing();
+    texts_of_signatures();
     error_texts();
     printf("%u passed, %u failed\n", passed, failed);
     return failed != 0;

@@ -1,7 +1,10 @@
-//! The steps of verifying on a key and signatures that minisign 0.11 made of the bytes `hello` and a line feed.
+//! The steps of verifying and signing on keys and signatures that minisign 0.11 made of the bytes `hello` and a line
+//! feed.
 //!
 //! The expected bytes were read from the texts by Python's base64, and the digest is that of its hashlib.
 
+use crate::secrets::SigningQuestions;
+use crate::signed_texts::{signed_text, write_comment_message, write_signed_text};
 use crate::state::{Misuse, Questions, Refusal, State};
 use std::alloc::Global;
 use std::test::Fail;
@@ -40,6 +43,29 @@ const COMMENT_SIGNATURE: [u8; 64] = [
     0x72, 0xf2, 0x41, 0xd9, 0xbb, 0x49, 0x3d, 0xa2, 0x48, 0x64, 0x90, 0xe4, 0x50, 0xc9, 0x0b, 0xfb,
     0xf4, 0x31, 0x25, 0xf8, 0xe7, 0x4d, 0x5e, 0xea, 0xd5, 0x97, 0x54, 0x2d, 0xf8, 0x03, 0x04, 0x01,
 ];
+
+// A key that minisign 0.11 made with `-G -W`: it has no checksum.
+const SECRET_KEY: &str =
+    "untrusted comment: minisign encrypted secret key\nRWQAAEIyAAAAAAAAAAAAAAAAAAAAAAAAAAAAAAAAAAAAAAAAAAAAAAAAAAAAAAAAAAAAAAAAu82Aeu/lPqv5tw414tB2l3S0AV4BthpWrWHyA+ItsehisjsR8AROg+V8Ng82TAEWPpchqblhFFay7/kQioiXfnOLD1OmyTi9AAAAAAAAAAAAAAAAAAAAAAAAAAAAAAAAAAAAAAAAAAA=\n";
+
+const SECRET: [u8; 64] = [
+    0xf9, 0xb7, 0x0e, 0x35, 0xe2, 0xd0, 0x76, 0x97, 0x74, 0xb4, 0x01, 0x5e, 0x01, 0xb6, 0x1a, 0x56,
+    0xad, 0x61, 0xf2, 0x03, 0xe2, 0x2d, 0xb1, 0xe8, 0x62, 0xb2, 0x3b, 0x11, 0xf0, 0x04, 0x4e, 0x83,
+    0xe5, 0x7c, 0x36, 0x0f, 0x36, 0x4c, 0x01, 0x16, 0x3e, 0x97, 0x21, 0xa9, 0xb9, 0x61, 0x14, 0x56,
+    0xb2, 0xef, 0xf9, 0x10, 0x8a, 0x88, 0x97, 0x7e, 0x73, 0x8b, 0x0f, 0x53, 0xa6, 0xc9, 0x38, 0xbd,
+];
+
+const SECRET_KEY_ID: [u8; 8] = [0xbb, 0xcd, 0x80, 0x7a, 0xef, 0xe5, 0x3e, 0xab];
+
+// The same with a checksum that does not match, and under other key derivations.
+const CORRUPTED_KEY: &str =
+    "untrusted comment: x\nRWQAAEIyAAAAAAAAAAAAAAAAAAAAAAAAAAAAAAAAAAAAAAAAAAAAAAAAAAAAAAAAAAAAAAAAu82Aeu/lPqv5tw414tB2l3S0AV4BthpWrWHyA+ItsehisjsR8AROg+V8Ng82TAEWPpchqblhFFay7/kQioiXfnOLD1OmyTi9AQAAAAAAAAAAAAAAAAAAAAAAAAAAAAAAAAAAAAAAAAA=\n";
+
+const SEALED_KEY: &str =
+    "untrusted comment: x\nRWRTY0IyAAAAAAAAAAAAAAAAAAAAAAAAAAAAAAAAAAAAAAAAAAAAABAAAAAAAAAAAAIAAAAAu82Aeu/lPqv5tw414tB2l3S0AV4BthpWrWHyA+ItsehisjsR8AROg+V8Ng82TAEWPpchqblhFFay7/kQioiXfnOLD1OmyTi9AAAAAAAAAAAAAAAAAAAAAAAAAAAAAAAAAAAAAAAAAAA=\n";
+
+const OTHER_KEY: &str =
+    "untrusted comment: x\nRWRYWEIyAAAAAAAAAAAAAAAAAAAAAAAAAAAAAAAAAAAAAAAAAAAAAAAAAAAAAAAAAAAAAAAAu82Aeu/lPqv5tw414tB2l3S0AV4BthpWrWHyA+ItsehisjsR8AROg+V8Ng82TAEWPpchqblhFFay7/kQioiXfnOLD1OmyTi9AAAAAAAAAAAAAAAAAAAAAAAAAAAAAAAAAAAAAAAAAAA=\n";
 
 fn no_questions() -> Questions {
     Questions {
@@ -191,5 +217,139 @@ fn a_wrong_use_is_refused_and_changes_nothing(rt: HostRuntime) -> Result<(), Fai
     let result = state.verdict(true, true);
     assert_eq!(rt; number(rt.alloc(), result, &no_questions()), 0);
     assert!(rt; state.update(b"x") == Err(Misuse::NotBegun));
+    Ok(())
+}
+
+// The number that asking for signatures answers, with a password or without.
+fn asked_to_sign(
+    alloc: Global,
+    sk_text: &str,
+    password: Option<&[u8]>,
+    questions: &mut SigningQuestions,
+) -> u32 {
+    let mut state = fed();
+    match state.ask_signing(alloc, sk_text.as_bytes(), password, questions) {
+        Ok(()) => 0,
+        Err(refusal) => refusal.number(alloc, [0; 8], [0; 8]),
+    }
+}
+
+fn nothing_asked() -> SigningQuestions {
+    SigningQuestions {
+        secret_key: [0; 64],
+        digest: [0; 64],
+        key_id: [0; 8],
+    }
+}
+
+#[test]
+fn the_secret_and_the_digest_are_told(rt: HostRuntime) -> Result<(), Fail> {
+    let mut questions = nothing_asked();
+    assert_eq!(rt;
+        asked_to_sign(rt.alloc(), SECRET_KEY, None, &mut questions),
+        0
+    );
+    assert!(rt; questions.secret_key == SECRET);
+    assert!(rt; questions.digest == DIGEST);
+    assert!(rt; questions.key_id == SECRET_KEY_ID);
+    Ok(())
+}
+
+#[test]
+fn secret_keys_are_refused_by_number(rt: HostRuntime) -> Result<(), Fail> {
+    let password = Some(&b"x"[..]);
+    for (sk_text, password, wanted) in [
+        ("", None, 33),
+        ("untrusted comment: x\n", None, 34),
+        ("untrusted comment: x\nRW!\n", None, 35),
+        ("untrusted comment: x\nRWQA\n", None, 20),
+        (SEALED_KEY, None, 36),
+        (CORRUPTED_KEY, None, 37),
+        (SECRET_KEY, password, 38),
+        (OTHER_KEY, password, 39),
+        (SEALED_KEY, Some(&b"\xff"[..]), 8),
+    ] {
+        let mut questions = nothing_asked();
+        assert_eq!(rt;
+            asked_to_sign(rt.alloc(), sk_text, password, &mut questions),
+            wanted
+        );
+        assert!(rt; questions.secret_key == [0; 64]);
+    }
+    Ok(())
+}
+
+// What the two signatures of minisign 0.11 make with their comments is what it wrote.
+#[test]
+fn the_text_is_that_of_minisign(rt: HostRuntime) -> Result<(), Fail> {
+    let key_id = [0xb8, 0xa0, 0xef, 0x8e, 0x4c, 0x6b, 0xe6, 0x21];
+    let untrusted = "signature from minisign secret key";
+    let made = signed_text(
+        rt.alloc(),
+        &key_id,
+        &SIGNATURE_BYTES,
+        &COMMENT_SIGNATURE,
+        "a trusted comment",
+        untrusted,
+    );
+    match made {
+        Ok(text) => assert!(rt; text.as_str() == SIGNATURE),
+        Err(_) => assert!(rt; false),
+    }
+    let mut written = [0u8; 512];
+    let len = write_signed_text(
+        rt.alloc(),
+        &key_id,
+        &SIGNATURE_BYTES,
+        &COMMENT_SIGNATURE,
+        b"a trusted comment",
+        untrusted.as_bytes(),
+        &mut written,
+    );
+    assert_eq!(rt; len.unwrap_or(0), SIGNATURE.len());
+    assert!(rt; written.starts_with(SIGNATURE.as_bytes()));
+    let mut message = [0u8; 81];
+    assert!(rt;
+        write_comment_message(&SIGNATURE_BYTES, b"a trusted comment", &mut message) == Ok(())
+    );
+    assert!(rt; message.starts_with(&SIGNATURE_BYTES));
+    assert!(rt; message.ends_with(b"a trusted comment"));
+    assert!(rt;
+        write_comment_message(&SIGNATURE_BYTES, b"another trusted comment", &mut message)
+            == Err(Misuse::NoRoom)
+    );
+    Ok(())
+}
+
+#[test]
+fn texts_are_refused_by_number(rt: HostRuntime) -> Result<(), Fail> {
+    for (trusted, untrusted, room, wanted) in [
+        (&b"t"[..], &b"u"[..], 230, 0),
+        (&b"t"[..], &b"u"[..], 229, 5),
+        (&b"\xff"[..], &b"u"[..], 300, 8),
+        (&b"t"[..], &b"\xff"[..], 300, 8),
+        (&b"t\nt"[..], &b"u"[..], 300, 9),
+        (&b"t "[..], &b"u"[..], 300, 9),
+        (&b" t"[..], &b"u"[..], 300, 9),
+        (&b"t"[..], &b"u\nu"[..], 300, 9),
+        (&b"t"[..], &b"u\r"[..], 300, 9),
+        (&b"t"[..], &b" u "[..], 300, 0),
+    ] {
+        let mut written = [0u8; 300];
+        let made = write_signed_text(
+            rt.alloc(),
+            &SECRET_KEY_ID,
+            &SIGNATURE_BYTES,
+            &COMMENT_SIGNATURE,
+            trusted,
+            untrusted,
+            &mut written[..room],
+        );
+        let number = match made {
+            Ok(_) => 0,
+            Err(refusal) => refusal.number(rt.alloc(), [0; 8], [0; 8]),
+        };
+        assert_eq!(rt; number, wanted);
+    }
     Ok(())
 }
