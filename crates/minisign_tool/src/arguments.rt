@@ -34,9 +34,16 @@ impl<R: Env> Env for BehindProgram<'_, R> {
 pub fn read_arguments<R: Env + AllocGlobal>(rt: &R) -> Result<Option<Vec<String>>>
     ensures { IfErr result (λ e. e ≡ out_of_memory) }
 {
-    match env::args(&(BehindProgram(rt), rt.alloc())) {
-        Ok(arguments) => Ok(Some(arguments.collect(rt.alloc())?)),
-        Err(error) if error.kind() == io::ErrorKind::OutOfMemory => Err(faults::out_of_memory()),
-        Err(_) => Ok(None),
+    let arguments = match env::args(&(BehindProgram(rt), rt.alloc())) {
+        Ok(arguments) => arguments,
+        Err(error) if error.kind() == io::ErrorKind::OutOfMemory => {
+            return Err(faults::out_of_memory());
+        }
+        Err(_) => return Ok(None),
+    };
+    let mut words = Vec::new(rt.alloc());
+    'words: for argument in arguments {
+        words.push(argument)?;
     }
+    Ok(Some(words))
 }
