@@ -19,7 +19,8 @@ pub(crate) fn accepts_comments<S: Scheme>(
     pk: &PublicKey,
     signature_box: &SignatureBox,
 ) -> Result<bool>
-    ensures answer { IfOk result (λ b. b ≡ accepts_comments (S.accepts scheme.now) pk.now signature_box.now) }
+    ensures answer { IfOk result
+        (λ b. b ≡ accepts_comments (S.accepts scheme.now) pk.now signature_box.now) }
     ensures refused { IfErr result (λ e. e ≡ out_of_memory) }
 {
     match &signature_box.comments {
@@ -37,7 +38,8 @@ fn accepts_comment<S: Scheme>(
     signature: &Signature,
     comments: &Comments,
 ) -> Result<bool>
-    ensures answer { IfOk result (λ b. b ≡ accepts_comment (S.accepts scheme.now) pk.now signature.now comments.now) }
+    ensures answer { IfOk result
+        (λ b. b ≡ accepts_comment (S.accepts scheme.now) pk.now signature.now comments.now) }
     ensures refused { IfErr result (λ e. e ≡ out_of_memory) }
 {
     if comments.global_sig.len() < 64 {

@@ -10,9 +10,11 @@ use minisign_base::{Result, faults};
 
 // The next `N` random bytes.
 pub(crate) fn draw<const N: usize, Z: RandomSource>(random: &mut Z) -> Result<[u8; N]>
-    ensures drawn { IfOk result (λ z. HasDrawn (random_passage Z.RandomSource random.old random.new) z) }
+    ensures drawn { IfOk result
+        (λ z. HasDrawn (random_passage Z.RandomSource random.old random.new) z) }
     ensures calm { OnOk result (Z.random_faults random.new ≡ Z.random_faults random.old) }
-    ensures refused { IfErr result (DrawFails (random_passage Z.RandomSource random.old random.new)) }
+    ensures refused { IfErr result
+        (DrawFails (random_passage Z.RandomSource random.old random.new)) }
     ensures given { HasGiven (Z.random_ahead random.old) (Z.random_ahead random.new) }
 {
     let mut bytes = [0u8; N];

@@ -54,13 +54,19 @@ impl KeyPair {
         scheme: &S,
         random: &mut Z,
     ) -> Result<KeyPair>
-        ensures made { IfOk result (λ pair. IsUnsealedPair (S.public_of scheme.now) (random_passage Z.RandomSource random.old random.new) pair.pk pair.sk) }
-        ensures genuine { IfOk result (λ pair. IsGenuinePair (S.public_of scheme.now) pair.pk pair.sk) }
+        ensures made { IfOk result
+            (λ pair. IsUnsealedPair (S.public_of scheme.now)
+            (random_passage Z.RandomSource random.old random.new) pair.pk pair.sk) }
+        ensures genuine { IfOk result
+            (λ pair. IsGenuinePair (S.public_of scheme.now) pair.pk pair.sk) }
         ensures unencrypted { IfOk result (λ pair. IsUnencrypted pair.sk) }
         // Each text that reads as the secret key is one that `SecretKey::from_unencrypted_box` takes.
-        ensures texts { IfOk result (λ pair. (text : List ℕ) → SecretKeyText text pair.sk → IsUnencryptedText text pair.sk) }
+        ensures texts { IfOk result
+            (λ pair. (text : List ℕ) → SecretKeyText text pair.sk
+            → IsUnencryptedText text pair.sk) }
         ensures calm { OnOk result (Z.random_faults random.new ≡ Z.random_faults random.old) }
-        ensures refused { IfErr result (DrawFails (random_passage Z.RandomSource random.old random.new)) }
+        ensures refused { IfErr result
+            (DrawFails (random_passage Z.RandomSource random.old random.new)) }
         ensures given { HasGiven (Z.random_ahead random.old) (Z.random_ahead random.new) }
     {
         let (seed, keynum) = draw_seed_and_keynum(random)?;
@@ -82,16 +88,26 @@ impl KeyPair {
         sk_sink: &mut K,
     ) -> Result<KeyPair>
         // The pair, and what the sinks took of it.
-        ensures made { IfOk result (λ pair. IsUnsealedPair (S.public_of scheme.now) (random_passage Z.RandomSource random.old random.new) pair.pk pair.sk) }
-        ensures genuine { IfOk result (λ pair. IsGenuinePair (S.public_of scheme.now) pair.pk pair.sk) }
+        ensures made { IfOk result
+            (λ pair. IsUnsealedPair (S.public_of scheme.now)
+            (random_passage Z.RandomSource random.old random.new) pair.pk pair.sk) }
+        ensures genuine { IfOk result
+            (λ pair. IsGenuinePair (S.public_of scheme.now) pair.pk pair.sk) }
         ensures unencrypted { IfOk result (λ pair. IsUnencrypted pair.sk) }
-        ensures public { IfOk result (λ pair. TakesPart (sink_passage P.Sink pk_sink.old pk_sink.new) (public_key_bytes pair.pk)) }
-        ensures secret { IfOk result (λ pair. TakesPart (sink_passage K.Sink sk_sink.old sk_sink.new) (secret_key_bytes pair.sk)) }
+        ensures public { IfOk result
+            (λ pair. TakesPart (sink_passage P.Sink pk_sink.old pk_sink.new)
+            (public_key_bytes pair.pk)) }
+        ensures secret { IfOk result
+            (λ pair. TakesPart (sink_passage K.Sink sk_sink.old sk_sink.new)
+            (secret_key_bytes pair.sk)) }
         ensures calm { OnOk result (Z.random_faults random.new ≡ Z.random_faults random.old) }
 
         // Why it was refused.
-        ensures refused { IfErr result (RawPairFails (S.public_of scheme.now) (random_passage Z.RandomSource random.old random.new)
-            (sink_passage P.Sink pk_sink.old pk_sink.new) (sink_passage K.Sink sk_sink.old sk_sink.new)) }
+        ensures refused { IfErr result
+            (RawPairFails (S.public_of scheme.now)
+            (random_passage Z.RandomSource random.old random.new)
+            (sink_passage P.Sink pk_sink.old pk_sink.new)
+            (sink_passage K.Sink sk_sink.old sk_sink.new)) }
         ensures given { HasGiven (Z.random_ahead random.old) (Z.random_ahead random.new) }
     {
         let pair = KeyPair::generate_unencrypted_keypair(scheme, random)?;
@@ -118,11 +134,14 @@ impl KeyPair {
         password: Option<String>,
         prompt: &mut Prompt<R, W>,
     ) -> Result<KeyPair>
-        ensures made { IfOk result (λ pair. HasSealed (S.public_of scheme.now) (random_passage Z.RandomSource random.old random.new)
+        ensures made { IfOk result
+            (λ pair. HasSealed (S.public_of scheme.now)
+            (random_passage Z.RandomSource random.old random.new)
             (prompt_passage R.Source W.Sink prompt.old prompt.new)
             (option_map (λ s. string_bytes s) password) pair.pk pair.sk) }
         ensures calm { OnOk result (Z.random_faults random.new ≡ Z.random_faults random.old) }
-        ensures refused { IfErr result (SealedPairFails (random_passage Z.RandomSource random.old random.new)
+        ensures refused { IfErr result
+            (SealedPairFails (random_passage Z.RandomSource random.old random.new)
             (prompt_passage R.Source W.Sink prompt.old prompt.new)
             (option_map (λ s. string_bytes s) password)) }
         ensures given { HasGiven (Z.random_ahead random.old) (Z.random_ahead random.new) }
@@ -156,23 +175,33 @@ impl KeyPair {
         prompt: &mut Prompt<R, W>,
     ) -> Result<KeyPair>
         // The pair, and what the sinks took of it.
-        ensures made { IfOk result (λ pair. HasSealed (S.public_of scheme.now) (random_passage Z.RandomSource random.old random.new)
+        ensures made { IfOk result
+            (λ pair. HasSealed (S.public_of scheme.now)
+            (random_passage Z.RandomSource random.old random.new)
             (prompt_passage R.Source W.Sink prompt.old prompt.new)
             (option_map (λ s. string_bytes s) password) pair.pk pair.sk) }
-        ensures public { IfOk result (λ pair. TakesPart (sink_passage P.Sink pk_sink.old pk_sink.new) (public_key_text pair.pk)) }
-        ensures secret { IfOk result (λ pair. TakesPart (sink_passage K.Sink sk_sink.old sk_sink.new)
+        ensures public { IfOk result
+            (λ pair. TakesPart (sink_passage P.Sink pk_sink.old pk_sink.new)
+            (public_key_text pair.pk)) }
+        ensures secret { IfOk result
+            (λ pair. TakesPart (sink_passage K.Sink sk_sink.old sk_sink.new)
             (secret_key_text (option_map (λ s. s.now) comment.entry) pair.sk)) }
         // That text opens under the password, where the comment has no line feed.
-        ensures opens_again { IfSome comment.entry (λ s. LacksByte 10 s.now) → IfOk result (λ pair. (typed : List ℕ) →
+        ensures opens_again { IfSome comment.entry (λ s. LacksByte 10 s.now)
+            → IfOk result (λ pair. (typed : List ℕ) →
             OpensToPair (S.public_of scheme.now) typed pair.pk pair.sk →
-            OpensOnlyTo (secret_key_text (option_map (λ s. s.now) comment.entry) pair.sk) typed (xored_key pair.sk typed)) }
+            OpensOnlyTo (secret_key_text (option_map (λ s. s.now) comment.entry) pair.sk) typed
+            (xored_key pair.sk typed)) }
         ensures calm { OnOk result (Z.random_faults random.new ≡ Z.random_faults random.old) }
 
         // Why it was refused.
-        ensures refused { IfErr result (SealedTextsFail (S.public_of scheme.now) (random_passage Z.RandomSource random.old random.new)
+        ensures refused { IfErr result
+            (SealedTextsFail (S.public_of scheme.now)
+            (random_passage Z.RandomSource random.old random.new)
             (prompt_passage R.Source W.Sink prompt.old prompt.new)
             (option_map (λ s. string_bytes s) password)
-            (sink_passage P.Sink pk_sink.old pk_sink.new) (sink_passage K.Sink sk_sink.old sk_sink.new)
+            (sink_passage P.Sink pk_sink.old pk_sink.new)
+            (sink_passage K.Sink sk_sink.old sk_sink.new)
             (option_map (λ s. s.now) comment.entry)) }
         ensures given { HasGiven (Z.random_ahead random.old) (Z.random_ahead random.new) }
     {
@@ -196,7 +225,8 @@ fn seal_pair<S: Scheme, R: Source, W: Sink>(
         × IsPassword (prompt_passage R.Source W.Sink prompt.old prompt.new)
         (option_map (λ s. string_bytes s) password) typed
         × IsSealedOf (S.public_of scheme.now) drawn.now.seed drawn.now.keynum drawn.now.salt typed pair.pk pair.sk) }
-    ensures refused { IfErr result (IsSealingFault (prompt_passage R.Source W.Sink prompt.old prompt.new)
+    ensures refused { IfErr result
+        (IsSealingFault (prompt_passage R.Source W.Sink prompt.old prompt.new)
         (option_map (λ s. string_bytes s) password)) }
 {
     match password {
@@ -212,9 +242,12 @@ fn ask_and_seal<S: Scheme, R: Source, W: Sink>(
     drawn: &Drawn,
     prompt: &mut Prompt<R, W>,
 ) -> Result<KeyPair>
-    ensures typed { IfOk result (λ pair. (password : List ℕ) × HasTyped (prompt_passage R.Source W.Sink prompt.old prompt.new) password
+    ensures typed { IfOk result
+        (λ pair. (password : List ℕ)
+        × HasTyped (prompt_passage R.Source W.Sink prompt.old prompt.new) password
         × IsSealedOf (S.public_of scheme.now) drawn.now.seed drawn.now.keynum drawn.now.salt password pair.pk pair.sk) }
-    ensures refused { IfErr result (λ e. IsChoosingFault (prompt_passage R.Source W.Sink prompt.old prompt.new) e
+    ensures refused { IfErr result
+        (λ e. IsChoosingFault (prompt_passage R.Source W.Sink prompt.old prompt.new) e
         ⊎ HasNotSealed (prompt_passage R.Source W.Sink prompt.old prompt.new) e) }
 {
     let password = choose_password(alloc, prompt)?;
@@ -224,8 +257,11 @@ fn ask_and_seal<S: Scheme, R: Source, W: Sink>(
 // Says what a password is for, and asks for it twice.
 #[tactic(auto, unfolding(crate::specs::NewPassword::purpose_line, crate::specs::Opening::asking_text, crate::specs::NewPassword::second_question))]
 fn choose_password<R: Source, W: Sink>(alloc: Global, prompt: &mut Prompt<R, W>) -> Result<String>
-    ensures chosen { IfOk result (λ password. HasAskedTwice (prompt_passage R.Source W.Sink prompt.old prompt.new) (string_bytes password) (string_bytes password)) }
-    ensures refused { IfErr result (IsChoosingFault (prompt_passage R.Source W.Sink prompt.old prompt.new)) }
+    ensures chosen { IfOk result
+        (λ password. HasAskedTwice (prompt_passage R.Source W.Sink prompt.old prompt.new)
+        (string_bytes password) (string_bytes password)) }
+    ensures refused { IfErr result
+        (IsChoosingFault (prompt_passage R.Source W.Sink prompt.old prompt.new)) }
 {
     prompt.say("Please enter a password to protect the secret key.\n")?;
     let password = get_password(alloc, prompt, "Password: ")?;
@@ -246,8 +282,10 @@ fn seal_aloud<S: Scheme, R: Source, W: Sink>(
     prompt: &mut Prompt<R, W>,
 ) -> Result<KeyPair>
     ensures told { OnOk result (HasTold (prompt_passage R.Source W.Sink prompt.old prompt.new)) }
-    ensures sealed { IfOk result (λ pair. IsSealedOf (S.public_of scheme.now) drawn.now.seed drawn.now.keynum drawn.now.salt password.now pair.pk pair.sk) }
-    ensures refused { IfErr result (IsTellingFault (prompt_passage R.Source W.Sink prompt.old prompt.new)) }
+    ensures sealed { IfOk result
+        (λ pair. IsSealedOf (S.public_of scheme.now) drawn.now.seed drawn.now.keynum drawn.now.salt password.now pair.pk pair.sk) }
+    ensures refused { IfErr result
+        (IsTellingFault (prompt_passage R.Source W.Sink prompt.old prompt.new)) }
 {
     prompt.say("Deriving a key from the password in order to encrypt the secret key... ")?;
     let pair = make_sealed_pair(alloc, scheme, drawn, password)?;
@@ -262,8 +300,10 @@ fn write_parts<P: Sink, K: Sink>(
     public: &[u8],
     secret: &[u8],
 ) -> Result<()>
-    ensures public { OnOk result (TakesPart (sink_passage P.Sink pk_sink.old pk_sink.new) public.now) }
-    ensures secret { OnOk result (TakesPart (sink_passage K.Sink sk_sink.old sk_sink.new) secret.now) }
+    ensures public { OnOk result
+        (TakesPart (sink_passage P.Sink pk_sink.old pk_sink.new) public.now) }
+    ensures secret { OnOk result
+        (TakesPart (sink_passage K.Sink sk_sink.old sk_sink.new) secret.now) }
     ensures refused { IfErr result (WritingFails (sink_passage P.Sink pk_sink.old pk_sink.new)
         (sink_passage K.Sink sk_sink.old sk_sink.new) public.now secret.now) }
 {
@@ -287,7 +327,8 @@ fn make_sealed_pair<S: Scheme>(
     drawn: &Drawn,
     password: &[u8],
 ) -> Result<KeyPair>
-    ensures sealed { IfOk result (λ pair. IsSealedOf (S.public_of scheme.now) drawn.now.seed drawn.now.keynum drawn.now.salt password.now pair.pk pair.sk) }
+    ensures sealed { IfOk result
+        (λ pair. IsSealedOf (S.public_of scheme.now) drawn.now.seed drawn.now.keynum drawn.now.salt password.now pair.pk pair.sk) }
     ensures refused { IfErr result (λ e. e ≡ out_of_memory) }
 {
     let KeyPair { pk, sk } = make_pair(scheme, &drawn.seed, drawn.keynum);
@@ -297,11 +338,14 @@ fn make_sealed_pair<S: Scheme>(
 
 // The random bytes of a sealed pair: a seed, an identifier, and a salt.
 fn draw_with_salt<Z: RandomSource>(random: &mut Z) -> Result<Drawn>
-    ensures drawn { IfOk result (λ z. HasDrawn (random_passage Z.RandomSource random.old random.new) (z.seed ++ z.keynum ++ z.salt)) }
+    ensures drawn { IfOk result
+        (λ z. HasDrawn (random_passage Z.RandomSource random.old random.new)
+        (z.seed ++ z.keynum ++ z.salt)) }
     ensures lengths { IfOk result (λ z. AreSeedAndKeynum z.seed z.keynum) }
     ensures salt { IfOk result (λ z. length z.salt ≡ 32) }
     ensures calm { OnOk result (Z.random_faults random.new ≡ Z.random_faults random.old) }
-    ensures refused { IfErr result (DrawFails (random_passage Z.RandomSource random.old random.new)) }
+    ensures refused { IfErr result
+        (DrawFails (random_passage Z.RandomSource random.old random.new)) }
     ensures given { HasGiven (Z.random_ahead random.old) (Z.random_ahead random.new) }
 {
     let (seed, keynum) = draw_seed_and_keynum(random)?;
@@ -311,10 +355,12 @@ fn draw_with_salt<Z: RandomSource>(random: &mut Z) -> Result<Drawn>
 
 // Draws 32 bytes of a seed, and then 8 of an identifier.
 fn draw_seed_and_keynum<Z: RandomSource>(random: &mut Z) -> Result<([u8; 32], [u8; 8])>
-    ensures drawn { IfOk result (λ z. HasDrawn (random_passage Z.RandomSource random.old random.new) (z.0 ++ z.1)) }
+    ensures drawn { IfOk result
+        (λ z. HasDrawn (random_passage Z.RandomSource random.old random.new) (z.0 ++ z.1)) }
     ensures lengths { IfOk result (λ z. AreSeedAndKeynum z.0 z.1) }
     ensures calm { OnOk result (Z.random_faults random.new ≡ Z.random_faults random.old) }
-    ensures refused { IfErr result (DrawFails (random_passage Z.RandomSource random.old random.new)) }
+    ensures refused { IfErr result
+        (DrawFails (random_passage Z.RandomSource random.old random.new)) }
     ensures given { HasGiven (Z.random_ahead random.old) (Z.random_ahead random.new) }
 {
     let seed = draw(random)?;

@@ -34,15 +34,18 @@ impl SecretKeyBox {
     ) -> Result<SecretKey>
         ensures opens { IsOpening (prompt_passage R.Source W.Sink prompt.old prompt.new)
             (option_map (λ s. string_bytes s) password) self None result }
-        ensures headline { OpeningHeadline (option_map (λ s. string_bytes s) password) self None result }
+        ensures headline { OpeningHeadline
+            (option_map (λ s. string_bytes s) password) self None result }
     {
         SecretKey::from_box(alloc, self, password, prompt)
     }
 
     /// The key, where it was never sealed: `SecretKey::from_unencrypted_box`.
     pub fn into_unencrypted_secret_key(self, alloc: Global) -> Result<SecretKey>
-        ensures outcome { MatchResult result (IsUnencryptedText self) (λ e. (e ≡ out_of_memory) ⊎ RefusesUnencrypted self e) }
-        ensures one_reading { IfOk result (λ v. (other : SecretKeyRecord) → SecretKeyText self other → other ≡ v) }
+        ensures outcome { MatchResult result (IsUnencryptedText self)
+            (λ e. (e ≡ out_of_memory) ⊎ RefusesUnencrypted self e) }
+        ensures one_reading { IfOk result
+            (λ v. (other : SecretKeyRecord) → SecretKeyText self other → other ≡ v) }
     {
         SecretKey::from_unencrypted_box(alloc, self)
     }
@@ -80,7 +83,8 @@ impl SecretKey {
     ) -> Result<SecretKey>
         ensures opens { IsOpening (prompt_passage R.Source W.Sink prompt.old prompt.new)
             (option_map (λ s. string_bytes s) password) sk_box None result }
-        ensures headline { OpeningHeadline (option_map (λ s. string_bytes s) password) sk_box None result }
+        ensures headline { OpeningHeadline
+            (option_map (λ s. string_bytes s) password) sk_box None result }
     {
         SecretKey::open_box(alloc, sk_box, password, prompt, None, 1)
     }
@@ -100,7 +104,8 @@ impl SecretKey {
 
         ensures opens { IsOpening (prompt_passage R.Source W.Sink prompt.old prompt.new)
             (option_map (λ s. string_bytes s) password) sk_box None result }
-        ensures headline { OpeningHeadline (option_map (λ s. string_bytes s) password) sk_box None result }
+        ensures headline { OpeningHeadline
+            (option_map (λ s. string_bytes s) password) sk_box None result }
     {
         SecretKey::open_box(alloc, sk_box, password, prompt, None, k)
     }
@@ -129,7 +134,8 @@ impl SecretKey {
     ) -> Result<SecretKey>
         ensures opens { IsOpening (prompt_passage R.Source W.Sink prompt.old prompt.new)
             (option_map (λ s. string_bytes s) password) sk_box (Some max_p) result }
-        ensures headline { OpeningHeadline (option_map (λ s. string_bytes s) password) sk_box (Some max_p) result }
+        ensures headline { OpeningHeadline (option_map (λ s. string_bytes s) password) sk_box
+            (Some max_p) result }
     {
         SecretKey::open_box(alloc, sk_box, password, prompt, Some(max_p), 1)
     }
@@ -141,8 +147,10 @@ impl SecretKey {
     /// that is no base64, or of fewer than 158 bytes; a key derivation other than two zero bytes; a checksum
     /// that does not match.
     pub fn from_unencrypted_box(alloc: Global, sk_box: SecretKeyBox) -> Result<SecretKey>
-        ensures outcome { MatchResult result (IsUnencryptedText sk_box) (λ e. (e ≡ out_of_memory) ⊎ RefusesUnencrypted sk_box e) }
-        ensures one_reading { IfOk result (λ v. (other : SecretKeyRecord) → SecretKeyText sk_box other → other ≡ v) }
+        ensures outcome { MatchResult result (IsUnencryptedText sk_box)
+            (λ e. (e ≡ out_of_memory) ⊎ RefusesUnencrypted sk_box e) }
+        ensures one_reading { IfOk result
+            (λ v. (other : SecretKeyRecord) → SecretKeyText sk_box other → other ≡ v) }
 
         // Whether a text reads as a key, sealed or not, and as which.
         ensures decided { IsDecided (SecretKeyText sk_box) (secret_key_refusal sk_box) }
@@ -163,7 +171,8 @@ impl SecretKey {
         requires kept { 1 ≤ k }
         ensures opens { IsOpening (prompt_passage R.Source W.Sink prompt.old prompt.new)
             (option_map (λ s. string_bytes s) password) sk_box bound result }
-        ensures headline { OpeningHeadline (option_map (λ s. string_bytes s) password) sk_box bound result }
+        ensures headline { OpeningHeadline
+            (option_map (λ s. string_bytes s) password) sk_box bound result }
     {
         let sk = SecretKey::from_text(alloc, sk_box.as_str())?;
         sk.open(alloc, password, prompt, bound, k)
@@ -193,9 +202,12 @@ impl SecretKey {
 
     // Reads the text of a key that was never sealed.
     fn unencrypted_from_text(alloc: Global, text: &str) -> Result<SecretKey>
-        ensures unencrypted { IfOk result (λ v. SecretKeyText text.now v × (unencrypted_refusal v ≡ None)) }
-        ensures refused { IfErr result (λ e. (e ≡ out_of_memory) ⊎ RefusesKey text.now unencrypted_refusal e) }
-        ensures one_reading { IfOk result (λ v. (other : SecretKeyRecord) → SecretKeyText text.now other → other ≡ v) }
+        ensures unencrypted { IfOk result
+            (λ v. SecretKeyText text.now v × (unencrypted_refusal v ≡ None)) }
+        ensures refused { IfErr result
+            (λ e. (e ≡ out_of_memory) ⊎ RefusesKey text.now unencrypted_refusal e) }
+        ensures one_reading { IfOk result
+            (λ v. (other : SecretKeyRecord) → SecretKeyText text.now other → other ≡ v) }
     {
         let sk = SecretKey::from_text(alloc, text)?;
         sk.check_unencrypted()?;
@@ -204,7 +216,8 @@ impl SecretKey {
 
     // Tests that the key was never sealed, and then its checksum.
     pub(crate) fn check_unencrypted(&self) -> Result<()>
-        ensures { MatchResult result (λ _. unencrypted_refusal self.now ≡ None) (λ e. unencrypted_refusal self.now ≡ Some e) }
+        ensures { MatchResult result (λ _. unencrypted_refusal self.now ≡ None)
+            (λ e. unencrypted_refusal self.now ≡ Some e) }
     {
         if self.kdf_alg != KDF_NONE {
             return Err(faults::key_might_be_encrypted());
@@ -217,7 +230,8 @@ impl SecretKey {
 
     // Tests that the key is sealed, and by scrypt.
     fn check_sealed(&self) -> Result<()>
-        ensures { MatchResult result (λ _. kdf_refusal self.now ≡ None) (λ e. kdf_refusal self.now ≡ Some e) }
+        ensures { MatchResult result (λ _. kdf_refusal self.now ≡ None)
+            (λ e. kdf_refusal self.now ≡ Some e) }
     {
         if self.kdf_alg == KDF_NONE {
             return Err(faults::key_not_encrypted());
@@ -237,13 +251,16 @@ impl SecretKey {
         k: u64,
     ) -> Result<SecretKey>
         requires { 1 ≤ k }
-        ensures opened { IfOk result (λ v. (bytes : List ℕ) × (password : List ℕ) × (v ≡ xored_key self password)
+        ensures opened { IfOk result
+            (λ v. (bytes : List ℕ) × (password : List ℕ) × (v ≡ xored_key self password)
             × (password_refusal self password bound ≡ None)
-            × HasAskedAndSaid (prompt_passage R.Source W.Sink prompt.old prompt.new) bytes password (deriving_text ++ done_text)) }
+            × HasAskedAndSaid (prompt_passage R.Source W.Sink prompt.old prompt.new) bytes password
+            (deriving_text ++ done_text)) }
         ensures refused { IfErr result (λ e.
             IsAskingFault (prompt_passage R.Source W.Sink prompt.old prompt.new) asking_text e
             ⊎ ((bytes : List ℕ) × (password : List ℕ)
-            × IsToldRefusal (HasAskedAndSaid (prompt_passage R.Source W.Sink prompt.old prompt.new) bytes password)
+            × IsToldRefusal
+            (HasAskedAndSaid (prompt_passage R.Source W.Sink prompt.old prompt.new) bytes password)
             (HasAskedAndNotSaid (prompt_passage R.Source W.Sink prompt.old prompt.new) bytes password) self password bound e)) }
     {
         let password = ask_password(alloc, prompt)?;
@@ -260,9 +277,13 @@ impl SecretKey {
         k: u64,
     ) -> Result<SecretKey>
         requires { 1 ≤ k }
-        ensures opened { IfOk result (λ v. (v ≡ xored_key self password.now) × (password_refusal self password.now bound ≡ None)
-            × HasSaid (prompt_passage R.Source W.Sink prompt.old prompt.new) (deriving_text ++ done_text)) }
-        ensures refused { IfErr result (λ e. IsToldRefusal (HasSaid (prompt_passage R.Source W.Sink prompt.old prompt.new))
+        ensures opened { IfOk result
+            (λ v. (v ≡ xored_key self password.now)
+            × (password_refusal self password.now bound ≡ None)
+            × HasSaid (prompt_passage R.Source W.Sink prompt.old prompt.new)
+            (deriving_text ++ done_text)) }
+        ensures refused { IfErr result
+            (λ e. IsToldRefusal (HasSaid (prompt_passage R.Source W.Sink prompt.old prompt.new))
             (HasNotSaid (prompt_passage R.Source W.Sink prompt.old prompt.new)) self password.now bound e) }
     {
         say_deriving(prompt)?;
@@ -274,11 +295,14 @@ impl SecretKey {
 
     // Says that the key was derived, and only then tests that opening restored the checksum.
     fn finish_telling<R: Source, W: Sink>(&self, prompt: &mut Prompt<R, W>) -> Result<()>
-        ensures said { OnOk result (HasSaid (prompt_passage R.Source W.Sink prompt.old prompt.new) done_text) }
+        ensures said { OnOk result
+            (HasSaid (prompt_passage R.Source W.Sink prompt.old prompt.new) done_text) }
         ensures restored { OnOk result (checksum_refusal self.now wrong_password ≡ None) }
         ensures refused { IfErr result (λ e.
-            ((e ≡ writing_failed) × HasNotSaid (prompt_passage R.Source W.Sink prompt.old prompt.new) done_text)
-            ⊎ ((checksum_refusal self.now wrong_password ≡ Some e) × HasSaid (prompt_passage R.Source W.Sink prompt.old prompt.new) done_text)) }
+            ((e ≡ writing_failed)
+            × HasNotSaid (prompt_passage R.Source W.Sink prompt.old prompt.new) done_text)
+            ⊎ ((checksum_refusal self.now wrong_password ≡ Some e)
+            × HasSaid (prompt_passage R.Source W.Sink prompt.old prompt.new) done_text)) }
     {
         say_done(prompt)?;
         self.check_restored()
@@ -293,8 +317,11 @@ impl SecretKey {
         k: u64,
     ) -> Result<SecretKey>
         requires { 1 ≤ k }
-        ensures opened { IfOk result (λ v. (v ≡ xored_key self password.now) × (password_refusal self password.now bound ≡ None)) }
-        ensures refused { IfErr result (λ e. ((e ≡ out_of_memory) × (work_refusal self bound ≡ None))
+        ensures opened { IfOk result
+            (λ v. (v ≡ xored_key self password.now)
+            × (password_refusal self password.now bound ≡ None)) }
+        ensures refused { IfErr result
+            (λ e. ((e ≡ out_of_memory) × (work_refusal self bound ≡ None))
             ⊎ (password_refusal self password.now bound ≡ Some e)) }
     {
         let mut sk = self;
@@ -305,7 +332,8 @@ impl SecretKey {
 
     // Tests that opening restored the checksum.
     fn check_restored(&self) -> Result<()>
-        ensures { MatchResult result (λ _. checksum_refusal self.now wrong_password ≡ None) (λ e. checksum_refusal self.now wrong_password ≡ Some e) }
+        ensures { MatchResult result (λ _. checksum_refusal self.now wrong_password ≡ None)
+            (λ e. checksum_refusal self.now wrong_password ≡ Some e) }
     {
         if self.keynum_sk.chk != self.read_checksum() {
             return Err(faults::wrong_password());
@@ -318,8 +346,10 @@ impl SecretKey {
 #[tactic(auto, unfolding(crate::specs::Opening::asking_text))]
 fn ask_password<R: Source, W: Sink>(alloc: Global, prompt: &mut Prompt<R, W>) -> Result<String>
     ensures asked { IfOk result (λ password. (bytes : List ℕ)
-        × HasAsked (prompt_passage R.Source W.Sink prompt.old prompt.new) asking_text bytes (Ok (string_bytes password))) }
-    ensures refused { IfErr result (IsAskingFault (prompt_passage R.Source W.Sink prompt.old prompt.new) asking_text) }
+        × HasAsked (prompt_passage R.Source W.Sink prompt.old prompt.new) asking_text bytes
+        (Ok (string_bytes password))) }
+    ensures refused { IfErr result
+        (IsAskingFault (prompt_passage R.Source W.Sink prompt.old prompt.new) asking_text) }
 {
     get_password(alloc, prompt, "Password: ")
 }
@@ -327,8 +357,11 @@ fn ask_password<R: Source, W: Sink>(alloc: Global, prompt: &mut Prompt<R, W>) ->
 // Says that the key is being derived.
 #[tactic(auto, unfolding(crate::specs::Opening::deriving_text))]
 fn say_deriving<R: Source, W: Sink>(prompt: &mut Prompt<R, W>) -> Result<()>
-    ensures said { OnOk result (HasSaid (prompt_passage R.Source W.Sink prompt.old prompt.new) deriving_text) }
-    ensures refused { IfErr result (λ e. (e ≡ writing_failed) × HasNotSaid (prompt_passage R.Source W.Sink prompt.old prompt.new) deriving_text) }
+    ensures said { OnOk result
+        (HasSaid (prompt_passage R.Source W.Sink prompt.old prompt.new) deriving_text) }
+    ensures refused { IfErr result
+        (λ e. (e ≡ writing_failed)
+        × HasNotSaid (prompt_passage R.Source W.Sink prompt.old prompt.new) deriving_text) }
 {
     prompt.say("Deriving a key from the password and decrypting the secret key... ")
 }
@@ -336,8 +369,11 @@ fn say_deriving<R: Source, W: Sink>(prompt: &mut Prompt<R, W>) -> Result<()>
 // Says that the key was derived.
 #[tactic(auto, unfolding(crate::specs::Opening::done_text))]
 fn say_done<R: Source, W: Sink>(prompt: &mut Prompt<R, W>) -> Result<()>
-    ensures said { OnOk result (HasSaid (prompt_passage R.Source W.Sink prompt.old prompt.new) done_text) }
-    ensures refused { IfErr result (λ e. (e ≡ writing_failed) × HasNotSaid (prompt_passage R.Source W.Sink prompt.old prompt.new) done_text) }
+    ensures said { OnOk result
+        (HasSaid (prompt_passage R.Source W.Sink prompt.old prompt.new) done_text) }
+    ensures refused { IfErr result
+        (λ e. (e ≡ writing_failed)
+        × HasNotSaid (prompt_passage R.Source W.Sink prompt.old prompt.new) done_text) }
 {
     prompt.say("done\n")
 }

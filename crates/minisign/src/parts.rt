@@ -34,7 +34,8 @@ impl SignatureBox {
     /// bytes as its text has; a bare signature has none.
     pub fn signed_comment(&self) -> Option<(&str, &[u8])>
         ensures { MatchOption self.now.comments (result ≡ None)
-            (λ c. IsSomeAnd result (λ both. (both.0.now ≡ c.trusted) × (both.1.now ≡ c.signature))) }
+            (λ c. IsSomeAnd result
+            (λ both. (both.0.now ≡ c.trusted) × (both.1.now ≡ c.signature))) }
     {
         match &self.comments {
             Some(comments) => Some((

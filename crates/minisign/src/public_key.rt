@@ -55,7 +55,8 @@ impl PublicKey {
     /// Reads the 42 bytes at the front: algorithm, identifier, key. Fewer bytes are refused, and later
     /// ones are ignored. Takes no memory.
     pub fn from_bytes(bytes: &[u8]) -> Result<PublicKey>
-        ensures { MatchResult result (ReadsPublicKey bytes.now) (λ e. (e ≡ record_too_short) × (length bytes.now < 42)) }
+        ensures { MatchResult result (ReadsPublicKey bytes.now)
+            (λ e. (e ≡ record_too_short) × (length bytes.now < 42)) }
     {
         let (sig_alg, rest) = split_field(bytes)?;
         let (keynum, rest) = split_field(rest)?;
@@ -77,7 +78,8 @@ impl PublicKey {
             MatchResult result (λ v. v ≡ k) (λ e. e ≡ out_of_memory) }
         ensures refused { IfErr result (λ e. (e ≡ out_of_memory)
             ⊎ IsRefused (PublicKeyText public_key_box) (public_key_refusal public_key_box) e) }
-        ensures decided { IsDecided (PublicKeyText public_key_box) (public_key_refusal public_key_box) }
+        ensures decided { IsDecided (PublicKeyText public_key_box)
+            (public_key_refusal public_key_box) }
     {
         read_text(alloc, public_key_box.as_str())
     }
@@ -162,7 +164,8 @@ impl PublicKey {
     pub fn to_bytes(&self, alloc: Global) -> Result<Vec<u8>>
         ensures bytes { IfOk result (λ v. v.items ≡ public_key_bytes self.now) }
         ensures reads_back { IfOk result (λ v. ReadsPublicKey v.items self.now) }
-        ensures one_reading { IfOk result (λ v. (other : PublicKeyRecord) → ReadsPublicKey v.items other → other ≡ self.now) }
+        ensures one_reading { IfOk result
+            (λ v. (other : PublicKeyRecord) → ReadsPublicKey v.items other → other ≡ self.now) }
         ensures refused { IfErr result (λ e. e ≡ out_of_memory) }
     {
         let mut bytes = Vec::with_capacity(alloc, 42)?;
@@ -176,7 +179,8 @@ impl PublicKey {
 // Reads a public key text.
 pub(crate) fn read_text(alloc: Global, text: &str) -> Result<PublicKey>
     ensures read { IfOk result (PublicKeyText text.now) }
-    ensures refused { IfErr result (λ e. (e ≡ out_of_memory) ⊎ (public_key_refusal text.now ≡ Some e)) }
+    ensures refused { IfErr result
+        (λ e. (e ≡ out_of_memory) ⊎ (public_key_refusal text.now ≡ Some e)) }
 {
     let line = key_line(text)?;
     read_key_line(alloc, line)
@@ -185,7 +189,8 @@ pub(crate) fn read_text(alloc: Global, text: &str) -> Result<PublicKey>
 // Reads the bare base64 of a key.
 fn read_bare(alloc: Global, text: &str) -> Result<PublicKey>
     ensures read { IfOk result (BarePublicKey text.now) }
-    ensures refused { IfErr result (λ e. (e ≡ out_of_memory) ⊎ (bare_public_key_refusal text.now ≡ Some e)) }
+    ensures refused { IfErr result
+        (λ e. (e ≡ out_of_memory) ⊎ (bare_public_key_refusal text.now ≡ Some e)) }
 {
     if text.trim().len() != ENCODED_BYTES {
         return Err(faults::bare_public_key_length());
@@ -231,7 +236,8 @@ fn decode_key(alloc: Global, text: &str) -> Result<Option<PublicKey>>
     ensures key { IfOk result (λ o. IfSome o (EncodesPublicKey text.now)) }
     ensures none { IfOk result (λ o. IfNone o (is_base64 text.now ≡ false)) }
     ensures refused { IfErr result (λ e. (e ≡ out_of_memory)
-        ⊎ ((e ≡ record_too_short) × (is_base64 text.now ≡ true) × (length (base64_bytes text.now) < 42))) }
+        ⊎ ((e ≡ record_too_short) × (is_base64 text.now ≡ true)
+        × (length (base64_bytes text.now) < 42))) }
 {
     match decode(alloc, text)? {
         Some(bytes) => Ok(Some(PublicKey::from_bytes(&bytes)?)),

@@ -24,8 +24,10 @@ const N_LOG2_MAX: u8 = 20;
 impl SecretKey {
     // Seals a key that is not sealed, with a salt and the limits by default.
     pub(crate) fn seal(self, alloc: Global, salt: [u8; 32], password: &[u8]) -> Result<SecretKey>
-        ensures sealed { (keynum secret : List ℕ) → self ≡ unsealed_key keynum secret → IfOk result (λ k. k ≡ sealed_key keynum secret salt password.now) }
-        ensures opened { (keynum secret : List ℕ) → self ≡ unsealed_key keynum secret → IfOk result (λ k. xored_key k password.now ≡ opened_key keynum secret salt) }
+        ensures sealed { (keynum secret : List ℕ) → self ≡ unsealed_key keynum secret
+            → IfOk result (λ k. k ≡ sealed_key keynum secret salt password.now) }
+        ensures opened { (keynum secret : List ℕ) → self ≡ unsealed_key keynum secret
+            → IfOk result (λ k. xored_key k password.now ≡ opened_key keynum secret salt) }
         ensures refused { IfErr result (λ e. e ≡ out_of_memory) }
     {
         let mut sk = self.with_limits(salt);
@@ -36,7 +38,8 @@ impl SecretKey {
     // Names the key derivation, its salt and the limits by default.
     #[tactic(auto, unfolding(crate::specs::Generation::opened_key))]
     fn with_limits(self, salt: [u8; 32]) -> SecretKey
-        ensures named { (keynum secret : List ℕ) → self ≡ unsealed_key keynum secret → result ≡ opened_key keynum secret salt }
+        ensures named { (keynum secret : List ℕ) → self ≡ unsealed_key keynum secret
+            → result ≡ opened_key keynum secret salt }
         ensures memory { result.memory_limit ≡ to_le_bytes w64 sealing_memory }
         ensures operations { result.operations_limit ≡ to_le_bytes w64 sealing_operations }
     {
@@ -63,7 +66,8 @@ impl SecretKey {
         ensures xored { OnOk result (self.new ≡ xored_key self.old password.now) }
         ensures restores { OnOk result (xored_key self.new password.now ≡ self.old) }
         ensures allowed { OnOk result (work_refusal self.old bound ≡ None) }
-        ensures refused { IfErr result (λ e. ((e ≡ out_of_memory) × (work_refusal self.old bound ≡ None))
+        ensures refused { IfErr result
+            (λ e. ((e ≡ out_of_memory) × (work_refusal self.old bound ≡ None))
             ⊎ (work_refusal self.old bound ≡ Some e)) }
         ensures same { OnErr result (self.new ≡ self.old) }
     {

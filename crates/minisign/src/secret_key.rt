@@ -90,7 +90,8 @@ impl SecretKey {
     /// Reads the 158 bytes at the front. Fewer bytes are refused, and later ones are ignored. The bytes
     /// are kept as they stand: nothing is opened or tested. Takes no memory.
     pub fn from_bytes(bytes: &[u8]) -> Result<SecretKey>
-        ensures { MatchResult result (ReadsSecretKey bytes.now) (λ e. (e ≡ record_too_short) × (length bytes.now < 158)) }
+        ensures { MatchResult result (ReadsSecretKey bytes.now)
+            (λ e. (e ≡ record_too_short) × (length bytes.now < 158)) }
     {
         let (sig_alg, rest) = split_field(bytes)?;
         let (kdf_alg, rest) = split_field(rest)?;
@@ -116,7 +117,8 @@ impl SecretKey {
     pub fn to_bytes(&self, alloc: Global) -> Result<Vec<u8>>
         ensures bytes { IfOk result (λ v. v.items ≡ secret_key_bytes self.now) }
         ensures reads_back { IfOk result (λ v. ReadsSecretKey v.items self.now) }
-        ensures one_reading { IfOk result (λ v. (other : SecretKeyRecord) → ReadsSecretKey v.items other → other ≡ self.now) }
+        ensures one_reading { IfOk result
+            (λ v. (other : SecretKeyRecord) → ReadsSecretKey v.items other → other ≡ self.now) }
         ensures refused { IfErr result (λ e. e ≡ out_of_memory) }
     {
         let mut bytes = Vec::with_capacity(alloc, 158)?;

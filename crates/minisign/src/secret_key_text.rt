@@ -18,8 +18,11 @@ use std::alloc::Global;
 impl SecretKey {
     // Reads the second line of the text, which nothing is trimmed off; the first one is not looked at.
     pub(crate) fn from_text(alloc: Global, text: &str) -> Result<SecretKey>
-        ensures outcome { MatchResult result (SecretKeyText text.now) (λ e. (e ≡ out_of_memory) ⊎ IsRefused (SecretKeyText text.now) (secret_key_refusal text.now) e) }
-        ensures one_reading { IfOk result (λ v. (other : SecretKeyRecord) → SecretKeyText text.now other → other ≡ v) }
+        ensures outcome { MatchResult result (SecretKeyText text.now)
+            (λ e. (e ≡ out_of_memory)
+            ⊎ IsRefused (SecretKeyText text.now) (secret_key_refusal text.now) e) }
+        ensures one_reading { IfOk result
+            (λ v. (other : SecretKeyRecord) → SecretKeyText text.now other → other ≡ v) }
     {
         let mut lines = text.lines();
         let Some(_comment) = next_line(&mut lines) else {
@@ -41,8 +44,10 @@ impl SecretKey {
     /// again. Only want of memory is refused.
     #[tactic(auto, unfolding(crate::specs::SecretKeyText::secret_key_text, crate::specs::SecretKeyText::default_secret_key_comment))]
     pub fn to_box(&self, alloc: Global, comment: Option<&str>) -> Result<SecretKeyBox>
-        ensures text { IfOk result (λ b. b ≡ secret_key_text (option_map (λ s. s.now) comment.entry) self.now) }
-        ensures reads_back { IfSome comment.entry (λ s. LacksByte 10 s.now) → IfOk result (λ b. SecretKeyText b self.now) }
+        ensures text { IfOk result
+            (λ b. b ≡ secret_key_text (option_map (λ s. s.now) comment.entry) self.now) }
+        ensures reads_back { IfSome comment.entry (λ s. LacksByte 10 s.now)
+            → IfOk result (λ b. SecretKeyText b self.now) }
         ensures refused { IfErr result (λ e. e ≡ out_of_memory) }
     {
         match comment {
@@ -55,7 +60,8 @@ impl SecretKey {
     #[tactic(auto, unfolding(crate::specs::SecretKeyText::secret_key_text, crate::specs::Texts::untrusted_comment_label))]
     fn write_box(&self, alloc: Global, comment: &str) -> Result<SecretKeyBox>
         ensures text { IfOk result (λ b. b ≡ secret_key_text (Some comment.now) self.now) }
-        ensures reads_back { LacksByte 10 comment.now → IfOk result (λ b. SecretKeyText b self.now) }
+        ensures reads_back { LacksByte 10 comment.now
+            → IfOk result (λ b. SecretKeyText b self.now) }
         ensures refused { IfErr result (λ e. e ≡ out_of_memory) }
     {
         let bytes = self.to_bytes(alloc)?;

@@ -42,7 +42,8 @@ impl Signature {
     pub fn to_bytes(&self, alloc: Global) -> Result<Vec<u8>>
         ensures bytes { IfOk result (λ v. v.items ≡ signature_bytes self.now) }
         ensures reads_back { IfOk result (λ v. ReadsSignature v.items self.now) }
-        ensures one_reading { IfOk result (λ v. (other : SignatureRecord) → ReadsSignature v.items other → other ≡ self.now) }
+        ensures one_reading { IfOk result
+            (λ v. (other : SignatureRecord) → ReadsSignature v.items other → other ≡ self.now) }
         ensures len { IfOk result (λ v. vec_len v ≡ Self.BYTES) }
         ensures refused { IfErr result (λ e. e ≡ out_of_memory) }
     {
@@ -56,7 +57,8 @@ impl Signature {
     /// Reads the 74 bytes at the front: algorithm, identifier, signature. Fewer bytes are refused, and
     /// later ones are ignored. Takes no memory.
     pub fn from_bytes(bytes: &[u8]) -> Result<Signature>
-        ensures { MatchResult result (ReadsSignature bytes.now) (λ e. (e ≡ record_too_short) × (length bytes.now < 74)) }
+        ensures { MatchResult result (ReadsSignature bytes.now)
+            (λ e. (e ≡ record_too_short) × (length bytes.now < 74)) }
     {
         let (sig_alg, rest) = split_field(bytes)?;
         let (keynum, rest) = split_field(rest)?;

@@ -42,7 +42,8 @@ impl SignatureBones {
     /// Reads the 74 bytes at the front. Fewer bytes are refused, then an algorithm other than `Ed` and
     /// `ED`; later bytes are ignored. Takes no memory.
     pub fn from_bytes(bytes: &[u8]) -> Result<SignatureBones>
-        ensures read { IfOk result (λ s. ReadsSignature bytes.now s × IsKnownAlgorithm s.algorithm) }
+        ensures read { IfOk result
+            (λ s. ReadsSignature bytes.now s × IsKnownAlgorithm s.algorithm) }
         ensures refused { IfErr result (IsBonesFault bytes.now) }
     {
         let signature = Signature::from_bytes(bytes)?;
@@ -56,7 +57,8 @@ impl SignatureBones {
     pub fn to_bytes(&self, alloc: Global) -> Result<Vec<u8>>
         ensures bytes { IfOk result (λ v. v.items ≡ signature_bytes self.now) }
         ensures reads_back { IfOk result (λ v. ReadsSignature v.items self.now) }
-        ensures one_reading { IfOk result (λ v. (other : SignatureRecord) → ReadsSignature v.items other → other ≡ self.now) }
+        ensures one_reading { IfOk result
+            (λ v. (other : SignatureRecord) → ReadsSignature v.items other → other ≡ self.now) }
         ensures len { IfOk result (λ v. vec_len v ≡ Self.BYTES) }
         ensures refused { IfErr result (λ e. e ≡ out_of_memory) }
     {

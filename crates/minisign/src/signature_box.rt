@@ -97,7 +97,8 @@ impl SignatureBox {
         ensures exact { (x : SignatureBoxRecord) → SignatureText (string_bytes text) x →
             MatchResult result (λ y. y ≡ x) (λ e. e ≡ out_of_memory) }
         ensures refused { IfErr result (λ e. (e ≡ out_of_memory)
-            ⊎ IsRefused (SignatureText (string_bytes text)) (signature_refusal (string_bytes text)) e) }
+            ⊎ IsRefused (SignatureText (string_bytes text))
+            (signature_refusal (string_bytes text)) e) }
     {
         read_text(alloc, text.as_str())
     }
@@ -125,9 +126,12 @@ impl SignatureBox {
     /// the untrusted one ends in a carriage return, it is read back without that one.
     pub fn to_string(&self, alloc: Global) -> Result<String>
         ensures text { MatchOption self.now.comments (result ≡ Err signature_box_incomplete)
-            (λ c. MatchResult result (λ t. string_bytes t ≡ signature_text self.now.signature c) (λ e. e ≡ out_of_memory)) }
-        ensures reads_back { IfSome self.now.comments KeepsComments → IfOk result (λ t. SignatureText (string_bytes t) self.now) }
-        ensures reads { IfSome self.now.comments AreOneLine → IfOk result (λ t. SignatureText (string_bytes t) (box_read_back self.now)) }
+            (λ c. MatchResult result (λ t. string_bytes t ≡ signature_text self.now.signature c)
+            (λ e. e ≡ out_of_memory)) }
+        ensures reads_back { IfSome self.now.comments KeepsComments
+            → IfOk result (λ t. SignatureText (string_bytes t) self.now) }
+        ensures reads { IfSome self.now.comments AreOneLine
+            → IfOk result (λ t. SignatureText (string_bytes t) (box_read_back self.now)) }
     {
         match &self.comments {
             Some(comments) => written(alloc, &self.signature, comments),
@@ -138,9 +142,12 @@ impl SignatureBox {
     /// As `to_string`, of a box that is handed over.
     pub fn into_string(self, alloc: Global) -> Result<String>
         ensures text { MatchOption self.comments (result ≡ Err signature_box_incomplete)
-            (λ c. MatchResult result (λ t. string_bytes t ≡ signature_text self.signature c) (λ e. e ≡ out_of_memory)) }
-        ensures reads_back { IfSome self.comments KeepsComments → IfOk result (λ t. SignatureText (string_bytes t) self) }
-        ensures reads { IfSome self.comments AreOneLine → IfOk result (λ t. SignatureText (string_bytes t) (box_read_back self)) }
+            (λ c. MatchResult result (λ t. string_bytes t ≡ signature_text self.signature c)
+            (λ e. e ≡ out_of_memory)) }
+        ensures reads_back { IfSome self.comments KeepsComments
+            → IfOk result (λ t. SignatureText (string_bytes t) self) }
+        ensures reads { IfSome self.comments AreOneLine
+            → IfOk result (λ t. SignatureText (string_bytes t) (box_read_back self)) }
     {
         self.to_string(alloc)
     }
@@ -148,7 +155,8 @@ impl SignatureBox {
     /// The bytes of the text of the box, refused as `to_string`.
     pub fn to_bytes(&self, alloc: Global) -> Result<Vec<u8>>
         ensures { MatchOption self.now.comments (result ≡ Err signature_box_incomplete)
-            (λ c. MatchResult result (λ v. v.items ≡ signature_text self.now.signature c) (λ e. e ≡ out_of_memory)) }
+            (λ c. MatchResult result (λ v. v.items ≡ signature_text self.now.signature c)
+            (λ e. e ≡ out_of_memory)) }
     {
         Ok(self.to_string(alloc)?.into_bytes())
     }
@@ -253,7 +261,8 @@ struct TextLines<'a> {
 // Reads a signature text.
 fn read_text(alloc: Global, text: &str) -> Result<SignatureBox>
     ensures read { IfOk result (SignatureText text.now) }
-    ensures refused { IfErr result (λ e. (e ≡ out_of_memory) ⊎ (signature_refusal text.now ≡ Some e)) }
+    ensures refused { IfErr result
+        (λ e. (e ≡ out_of_memory) ⊎ (signature_refusal text.now ≡ Some e)) }
 {
     let lines = four_lines(text)?;
     read_lines(alloc, lines)
@@ -287,8 +296,10 @@ fn four_lines(text: &str) -> Result<TextLines<'_>>
 
 // What stands in the first four lines.
 fn read_lines(alloc: Global, lines: TextLines) -> Result<SignatureBox>
-    ensures read { IfOk result (λ x. (text : List ℕ) → HasFourLines text lines.entry.untrusted_comment.now
-        lines.entry.signature.now lines.entry.trusted_comment.now lines.entry.global_sig.now → SignatureText text x) }
+    ensures read { IfOk result
+        (λ x. (text : List ℕ) → HasFourLines text lines.entry.untrusted_comment.now
+        lines.entry.signature.now lines.entry.trusted_comment.now lines.entry.global_sig.now
+        → SignatureText text x) }
     ensures refused { IfErr result (λ e. (e ≡ out_of_memory) ⊎ ((text : List ℕ) → HasFourLines text
         lines.entry.untrusted_comment.now lines.entry.signature.now lines.entry.trusted_comment.now
         lines.entry.global_sig.now → signature_refusal text ≡ Some e)) }
@@ -340,7 +351,8 @@ fn decode_signature(alloc: Global, text: &str) -> Result<Signature>
     ensures signature { IfOk result (EncodesSignature text.now) }
     ensures refused { IfErr result (λ e. (e ≡ out_of_memory)
         ⊎ ((e ≡ signature_not_base64) × (is_base64 text.now ≡ false))
-        ⊎ ((e ≡ record_too_short) × (is_base64 text.now ≡ true) × (length (base64_bytes text.now) < 74))) }
+        ⊎ ((e ≡ record_too_short) × (is_base64 text.now ≡ true)
+        × (length (base64_bytes text.now) < 74))) }
 {
     match decode(alloc, text)? {
         Some(bytes) => Ok(Signature::from_bytes(&bytes)?),

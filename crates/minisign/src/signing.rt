@@ -50,21 +50,27 @@ pub fn sign<S: Scheme, R: Source, Z: RandomSource>(
 ) -> Result<SignatureBox>
     // The box that is answered, made with an opened key from all of the data, and what vouches for it: a
     // genuine key's box is accepted under its own public key, whatever the comments.
-    ensures signed { IfOk result (λ x. (message : List ℕ) × ReadsWhole R.Source data_reader.old data_reader.new message
+    ensures signed { IfOk result
+        (λ x. (message : List ℕ) × ReadsWhole R.Source data_reader.old data_reader.new message
         × IsSigned (S.signature_of scheme.now) sk.now message
-        (comments_or_defaults (option_map (λ s. s.now) trusted_comment.entry) (option_map (λ s. s.now) untrusted_comment.entry) moment)
+        (comments_or_defaults (option_map (λ s. s.now) trusted_comment.entry)
+        (option_map (λ s. s.now) untrusted_comment.entry) moment)
         (random_passage Z.RandomSource random.old random.new) x
         × VouchesWhereGenuine (S.accepts scheme.now) (S.public_of scheme.now) sk.now message x) }
     ensures opened { OnOk result (is_encrypted sk.now ≡ false) }
-    ensures given_key { IfOk result (λ x. IfSome pk.entry (λ p. accepts_comments (S.accepts scheme.now) p.now x ≡ true)) }
+    ensures given_key { IfOk result
+        (λ x. IfSome pk.entry (λ p. accepts_comments (S.accepts scheme.now) p.now x ≡ true)) }
     ensures random_calm { OnOk result (Z.random_faults random.new ≡ Z.random_faults random.old) }
 
     // The comments by default are read back as they were written.
     ensures defaults { AreKept (comments_or_defaults None None moment) }
 
     // Why it was refused.
-    ensures refused { IfErr result (SigningFails (S.accepts scheme.now) (S.signature_of scheme.now) (option_map (λ p. p.now) pk.entry) sk.now
-        (comments_or_defaults (option_map (λ s. s.now) trusted_comment.entry) (option_map (λ s. s.now) untrusted_comment.entry) moment)
+    ensures refused { IfErr result
+        (SigningFails (S.accepts scheme.now) (S.signature_of scheme.now)
+        (option_map (λ p. p.now) pk.entry) sk.now
+        (comments_or_defaults (option_map (λ s. s.now) trusted_comment.entry)
+        (option_map (λ s. s.now) untrusted_comment.entry) moment)
         (source_passage R.Source data_reader.old data_reader.new)
         (random_passage Z.RandomSource random.old random.new)) }
     ensures given { HasGiven (R.ahead data_reader.old) (R.ahead data_reader.new) }
@@ -101,7 +107,9 @@ fn make_box<S: Scheme, Z: RandomSource>(
         (random_passage Z.RandomSource random.old random.new) x
         × VouchesWhereGenuine (S.accepts scheme.now) (S.public_of scheme.now) sk.now message x) }
     ensures calm { OnOk result (Z.random_faults random.new ≡ Z.random_faults random.old) }
-    ensures refused { IfErr result (λ e. (e ≡ out_of_memory) ⊎ DrawFails (random_passage Z.RandomSource random.old random.new) e) }
+    ensures refused { IfErr result
+        (λ e. (e ≡ out_of_memory)
+        ⊎ DrawFails (random_passage Z.RandomSource random.old random.new) e) }
     ensures given { HasGiven (Z.random_ahead random.old) (Z.random_ahead random.new) }
 {
     let secret = sk.keynum_sk.sk;
@@ -128,11 +136,13 @@ fn make_box<S: Scheme, Z: RandomSource>(
 
 // Twice 64 random bytes.
 fn draw_twice<Z: RandomSource>(random: &mut Z) -> Result<([u8; 64], [u8; 64])>
-    ensures drawn { IfOk result (λ z. HasDrawn (random_passage Z.RandomSource random.old random.new) (z.0 ++ z.1)) }
+    ensures drawn { IfOk result
+        (λ z. HasDrawn (random_passage Z.RandomSource random.old random.new) (z.0 ++ z.1)) }
     ensures calm { OnOk result (Z.random_faults random.new ≡ Z.random_faults random.old) }
     ensures first { IfOk result (λ z. IsNonce (Some z.0)) }
     ensures second { IfOk result (λ z. IsNonce (Some z.1)) }
-    ensures refused { IfErr result (DrawFails (random_passage Z.RandomSource random.old random.new)) }
+    ensures refused { IfErr result
+        (DrawFails (random_passage Z.RandomSource random.old random.new)) }
     ensures given { HasGiven (Z.random_ahead random.old) (Z.random_ahead random.new) }
 {
     let first = draw(random)?;
@@ -143,7 +153,9 @@ fn draw_twice<Z: RandomSource>(random: &mut Z) -> Result<([u8; 64], [u8; 64])>
 // The comment, or else the moment in decimal.
 #[tactic(auto, unfolding(crate::specs::Signing::default_trusted_comment))]
 fn trusted_or_default(alloc: Global, comment: Option<&str>, moment: u64) -> Result<String>
-    ensures comment { IfOk result (λ t. string_bytes t ≡ unwrap_or (option_map (λ s. s.now) comment.entry) (default_trusted_comment moment)) }
+    ensures comment { IfOk result
+        (λ t. string_bytes t ≡ unwrap_or (option_map (λ s. s.now) comment.entry)
+        (default_trusted_comment moment)) }
     ensures refused { IfErr result (λ e. e ≡ out_of_memory) }
 {
     match comment {
@@ -155,7 +167,9 @@ fn trusted_or_default(alloc: Global, comment: Option<&str>, moment: u64) -> Resu
 // The comment, or else the one by default.
 #[tactic(auto, unfolding(crate::specs::Signing::default_untrusted_comment))]
 fn untrusted_or_default(alloc: Global, comment: Option<&str>) -> Result<String>
-    ensures comment { IfOk result (λ t. string_bytes t ≡ unwrap_or (option_map (λ s. s.now) comment.entry) default_untrusted_comment) }
+    ensures comment { IfOk result
+        (λ t. string_bytes t
+        ≡ unwrap_or (option_map (λ s. s.now) comment.entry) default_untrusted_comment) }
     ensures refused { IfErr result (λ e. e ≡ out_of_memory) }
 {
     match comment {

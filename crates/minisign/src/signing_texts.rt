@@ -46,26 +46,35 @@ pub fn sign_texts<S: Scheme, P: Source, Q: Sink, R: Source, Z: RandomSource>(
 ) -> Result<String>
     // What a genuine key signed verifies after being written and read back: every public key of its seed and
     // identifier vouches for all of the data with the text.
-    ensures headline { IfOk result (λ t. (sk : SecretKeyRecord) × (message : List ℕ) × IsAhead (R.ahead data_reader.old) message
-        × GivesKey (prompt_passage P.Source Q.Sink prompt.old prompt.new) (option_map (λ s. string_bytes s) password) sk_text.now sk
+    ensures headline { IfOk result
+        (λ t. (sk : SecretKeyRecord) × (message : List ℕ)
+        × IsAhead (R.ahead data_reader.old) message
+        × GivesKey (prompt_passage P.Source Q.Sink prompt.old prompt.new)
+        (option_map (λ s. string_bytes s) password) sk_text.now sk
         × SigningHeadline (S.accepts scheme.now) (S.public_of scheme.now) sk message
-        (comments_or_defaults (option_map (λ s. s.now) trusted_comment.entry) (option_map (λ s. s.now) untrusted_comment.entry) moment) (string_bytes t)) }
+        (comments_or_defaults (option_map (λ s. s.now) trusted_comment.entry)
+        (option_map (λ s. s.now) untrusted_comment.entry) moment) (string_bytes t)) }
 
     // The comments by default are read back as they were written.
     ensures defaults { AreKept (comments_or_defaults None None moment) }
 
     // The text of the box that the definition of signing makes.
     ensures signed { IfOk result (λ t. (sk : SecretKeyRecord) × (message : List ℕ)
-        × GivesKey (prompt_passage P.Source Q.Sink prompt.old prompt.new) (option_map (λ s. string_bytes s) password) sk_text.now sk
+        × GivesKey (prompt_passage P.Source Q.Sink prompt.old prompt.new)
+        (option_map (λ s. string_bytes s) password) sk_text.now sk
         × ReadsWhole R.Source data_reader.old data_reader.new message
         × IsSignedText (S.signature_of scheme.now) sk message
-        (comments_or_defaults (option_map (λ s. s.now) trusted_comment.entry) (option_map (λ s. s.now) untrusted_comment.entry) moment)
+        (comments_or_defaults (option_map (λ s. s.now) trusted_comment.entry)
+        (option_map (λ s. s.now) untrusted_comment.entry) moment)
         (random_passage Z.RandomSource random.old random.new) (string_bytes t)) }
     ensures random_calm { OnOk result (Z.random_faults random.new ≡ Z.random_faults random.old) }
 
     // Why it was refused: the text gives no key, with nothing read or drawn, or signing with its key failed.
-    ensures refused { IfErr result (TextSigningFails (prompt_passage P.Source Q.Sink prompt.old prompt.new) (option_map (λ s. string_bytes s) password) sk_text.now
-        (source_passage R.Source data_reader.old data_reader.new) (random_passage Z.RandomSource random.old random.new)) }
+    ensures refused { IfErr result
+        (TextSigningFails (prompt_passage P.Source Q.Sink prompt.old prompt.new)
+        (option_map (λ s. string_bytes s) password) sk_text.now
+        (source_passage R.Source data_reader.old data_reader.new)
+        (random_passage Z.RandomSource random.old random.new)) }
     ensures untouched { IfSome password (λ _. prompt.new ≡ prompt.old) }
     ensures given { HasGiven (R.ahead data_reader.old) (R.ahead data_reader.new) }
     ensures drawn { HasGiven (Z.random_ahead random.old) (Z.random_ahead random.new) }
@@ -95,14 +104,19 @@ fn sign_opened<S: Scheme, R: Source, Z: RandomSource>(
     moment: u64,
 ) -> Result<String>
     requires { is_encrypted sk.now ≡ false }
-    ensures signed { IfOk result (λ t. (message : List ℕ) × ReadsWhole R.Source data_reader.old data_reader.new message
+    ensures signed { IfOk result
+        (λ t. (message : List ℕ) × ReadsWhole R.Source data_reader.old data_reader.new message
         × IsSignedText (S.signature_of scheme.now) sk.now message
-        (comments_or_defaults (option_map (λ s. s.now) trusted_comment.entry) (option_map (λ s. s.now) untrusted_comment.entry) moment)
+        (comments_or_defaults (option_map (λ s. s.now) trusted_comment.entry)
+        (option_map (λ s. s.now) untrusted_comment.entry) moment)
         (random_passage Z.RandomSource random.old random.new) (string_bytes t)
         × SigningHeadline (S.accepts scheme.now) (S.public_of scheme.now) sk.now message
-        (comments_or_defaults (option_map (λ s. s.now) trusted_comment.entry) (option_map (λ s. s.now) untrusted_comment.entry) moment) (string_bytes t)) }
+        (comments_or_defaults (option_map (λ s. s.now) trusted_comment.entry)
+        (option_map (λ s. s.now) untrusted_comment.entry) moment) (string_bytes t)) }
     ensures random_calm { OnOk result (Z.random_faults random.new ≡ Z.random_faults random.old) }
-    ensures refused { IfErr result (OpenedSigningFails (source_passage R.Source data_reader.old data_reader.new) (random_passage Z.RandomSource random.old random.new)) }
+    ensures refused { IfErr result
+        (OpenedSigningFails (source_passage R.Source data_reader.old data_reader.new)
+        (random_passage Z.RandomSource random.old random.new)) }
     ensures given { HasGiven (R.ahead data_reader.old) (R.ahead data_reader.new) }
     ensures drawn { HasGiven (Z.random_ahead random.old) (Z.random_ahead random.new) }
 {
@@ -128,7 +142,8 @@ fn key_of_text<P: Source, Q: Sink>(
     prompt: &mut Prompt<P, Q>,
 ) -> Result<SecretKey>
     ensures opened { IfOk result (λ v. is_encrypted v ≡ false) }
-    ensures gives { IsGiving (prompt_passage P.Source Q.Sink prompt.old prompt.new) (option_map (λ s. string_bytes s) password) text.now result }
+    ensures gives { IsGiving (prompt_passage P.Source Q.Sink prompt.old prompt.new)
+        (option_map (λ s. string_bytes s) password) text.now result }
     ensures untouched { IfSome password (λ _. prompt.new ≡ prompt.old) }
 {
     let sk = SecretKey::from_text(alloc, text)?;

@@ -16,7 +16,8 @@ use std::str::Lines;
 // The next line of a text: what comes before a line feed, less one carriage return at its end, or
 // what is left.
 pub(crate) fn next_line<'a>(rest: &mut Lines<'a>) -> Option<&'a str>
-    ensures some { IfSome result (λ x. lines (lines_rest rest.old) ≡ x.now ∷ lines (lines_rest rest.new)) }
+    ensures some { IfSome result
+        (λ x. lines (lines_rest rest.old) ≡ x.now ∷ lines (lines_rest rest.new)) }
     ensures none { IfNone result (lines (lines_rest rest.old) ≡ []) }
 {
     match rest.next() {
@@ -50,7 +51,8 @@ pub(crate) fn encode(alloc: Global, bytes: &[u8]) -> Result<String>
 
 // Adds a line: a label, a text and a line feed.
 pub(crate) fn push_line(lines: &mut String, label: &str, text: &str) -> Result<()>
-    ensures line { OnOk result (string_bytes lines.new ≡ string_bytes lines.old ++ line (label.now ++ text.now)) }
+    ensures line { OnOk result
+        (string_bytes lines.new ≡ string_bytes lines.old ++ line (label.now ++ text.now)) }
     ensures refused { IfErr result (λ e. e ≡ out_of_memory) }
 {
     lines.push_str(label)?;

@@ -54,8 +54,10 @@ pub fn get_password<R: Source, W: Sink>(
     text: &str,
 ) -> Result<String>
     ensures asked { IfOk result (λ password. (bytes : List ℕ)
-        × HasAsked (prompt_passage R.Source W.Sink prompt.old prompt.new) text.now bytes (Ok (string_bytes password))) }
-    ensures refused { IfErr result (IsAskingFault (prompt_passage R.Source W.Sink prompt.old prompt.new) text.now) }
+        × HasAsked (prompt_passage R.Source W.Sink prompt.old prompt.new) text.now bytes
+        (Ok (string_bytes password))) }
+    ensures refused { IfErr result
+        (IsAskingFault (prompt_passage R.Source W.Sink prompt.old prompt.new) text.now) }
 {
     let line = line_buffer(alloc)?;
     prompt.say(text)?;
@@ -101,7 +103,8 @@ fn seconds_since_1970(now: SystemTime) -> Result<u64>
 #[tactic(auto, unfolding(crate::specs::Limits::limits))]
 pub fn raw_scrypt_params(memlimit: u64, opslimit: u64, n_log2_max: u8) -> Result<Params>
     ensures outcome { result ≡ limits memlimit opslimit n_log2_max }
-    ensures least { IsCostLog2 (greatest_cost memlimit opslimit) (numbers memlimit opslimit).n_log2 }
+    ensures least { IsCostLog2 (greatest_cost memlimit opslimit)
+        (numbers memlimit opslimit).n_log2 }
 {
     let operations = opslimit.max(32768);
     let (n_log2, p) = if operations < memlimit / 32 {

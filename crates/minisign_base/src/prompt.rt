@@ -47,7 +47,8 @@ impl<R: Source, W: Sink> Prompt<R, W> {
     /// Writes a text and flushes it. After a fault the writer took a beginning of the text. Takes no
     /// memory, and leaves the reader alone.
     pub fn say(&mut self, text: &str) -> Result<()>
-        ensures said { OnOk result (HasSaid (prompt_passage R.Source W.Sink self.old self.new) text.now) }
+        ensures said { OnOk result
+            (HasSaid (prompt_passage R.Source W.Sink self.old self.new) text.now) }
         ensures refused { IfErr result (λ e. (e ≡ writing_failed)
             × HasNotSaid (prompt_passage R.Source W.Sink self.old self.new) text.now) }
     {
@@ -77,8 +78,10 @@ impl<R: Source, W: Sink> Prompt<R, W> {
             × HasReadLine (source_passage R.Source self.old.reader self.new.reader) bytes
             × (password_of bytes ≡ Ok (string_bytes password))) }
         ensures refused { IfErr result (λ e.
-            ((e ≡ reading_failed) × HasFailedInLine (source_passage R.Source self.old.reader self.new.reader))
-            ⊎ ((bytes : List ℕ) × HasReadLine (source_passage R.Source self.old.reader self.new.reader) bytes
+            ((e ≡ reading_failed)
+            × HasFailedInLine (source_passage R.Source self.old.reader self.new.reader))
+            ⊎ ((bytes : List ℕ)
+            × HasReadLine (source_passage R.Source self.old.reader self.new.reader) bytes
             × (password_of bytes ≡ Err e))) }
     {
         let mut line = line;
@@ -95,7 +98,8 @@ fn read_line<R: Source>(source: &mut R, line: &mut [u8]) -> Result<usize>
     ensures outcome { MatchResult result
         (λ n. (bytes : List ℕ) × HasReadLine (source_passage R.Source source.old source.new) bytes
         × (n ≤ length line.new) × (password_of bytes ≡ accepted_line (take n line.new)))
-        (λ e. ((e ≡ reading_failed) × HasFailedInLine (source_passage R.Source source.old source.new))
+        (λ e. ((e ≡ reading_failed)
+        × HasFailedInLine (source_passage R.Source source.old source.new))
         ⊎ ((bytes : List ℕ) × HasReadLine (source_passage R.Source source.old source.new) bytes
         × (password_of bytes ≡ Err e))) }
 {
@@ -120,7 +124,8 @@ fn next_byte<R: Source>(source: &mut R) -> Result<Option<u8>>
         (λ b. Consumes (R.ahead source.old) (R.ahead source.new) (b ∷ [])
         × (R.left source.new + 1 ≡ R.left source.old))) }
     ensures calm { OnOk result (R.faults source.new ≡ R.faults source.old) }
-    ensures refused { IfErr result (λ e. (e ≡ reading_failed) × Rose (R.faults source.old) (R.faults source.new)) }
+    ensures refused { IfErr result
+        (λ e. (e ≡ reading_failed) × Rose (R.faults source.old) (R.faults source.new)) }
     ensures kept { OnErr result (StaysOrHides (R.ahead source.old) (R.ahead source.new)) }
 {
     let mut byte = [0u8; 1];

@@ -33,22 +33,28 @@ pub struct Triple<'a> {
 impl<'a> ToyScheme<'a> {
     /// The scheme that accepts what is signed in its way, and nothing else.
     pub fn new() -> ToyScheme<'a>
-        ensures public_of { (seed : List ℕ) → ⟦<ToyScheme<'a> as Scheme>⟧.public_of result seed ≡ toy_public_of seed }
+        ensures public_of { (seed : List ℕ)
+            → ⟦<ToyScheme<'a> as Scheme>⟧.public_of result seed ≡ toy_public_of seed }
         ensures signature_of { (m secret : List ℕ) (z : Option (List ℕ))
-            → ⟦<ToyScheme<'a> as Scheme>⟧.signature_of result m secret z ≡ toy_signature_of m secret z }
+            → ⟦<ToyScheme<'a> as Scheme>⟧.signature_of result m secret z
+            ≡ toy_signature_of m secret z }
         ensures accepts { (m key signature : List ℕ)
-            → ⟦<ToyScheme<'a> as Scheme>⟧.accepts result m key signature ≡ toy_accepts m key signature }
+            → ⟦<ToyScheme<'a> as Scheme>⟧.accepts result m key signature
+            ≡ toy_accepts m key signature }
     {
         ToyScheme { table: &[] }
     }
 
     /// The scheme that accepts what is signed in its way, and the triples of the table.
     pub fn with_table(table: &'a [Triple<'a>]) -> ToyScheme<'a>
-        ensures public_of { (seed : List ℕ) → ⟦<ToyScheme<'a> as Scheme>⟧.public_of result seed ≡ toy_public_of seed }
+        ensures public_of { (seed : List ℕ)
+            → ⟦<ToyScheme<'a> as Scheme>⟧.public_of result seed ≡ toy_public_of seed }
         ensures signature_of { (m secret : List ℕ) (z : Option (List ℕ))
-            → ⟦<ToyScheme<'a> as Scheme>⟧.signature_of result m secret z ≡ toy_signature_of m secret z }
+            → ⟦<ToyScheme<'a> as Scheme>⟧.signature_of result m secret z
+            ≡ toy_signature_of m secret z }
         ensures accepts { (m key signature : List ℕ)
-            → ⟦<ToyScheme<'a> as Scheme>⟧.accepts result m key signature ≡ toy_accepts_with table.now m key signature }
+            → ⟦<ToyScheme<'a> as Scheme>⟧.accepts result m key signature
+            ≡ toy_accepts_with table.now m key signature }
     {
         ToyScheme { table }
     }

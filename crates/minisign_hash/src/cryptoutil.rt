@@ -13,15 +13,18 @@ use std::io::Write;
 pub trait WriteExt: Write {
     /// Writes the byte `val`.
     fn write_u8(&mut self, val: u8) -> io::Result<()>
-        ensures { OnOk result (Appends (Self.contents self.old) (Self.contents self.new) (val ∷ [])) };
+        ensures { OnOk result
+            (Appends (Self.contents self.old) (Self.contents self.new) (val ∷ [])) };
 
     /// Writes the four bytes of `val`, the lowest first.
     fn write_u32_le(&mut self, val: u32) -> io::Result<()>
-        ensures { OnOk result (Appends (Self.contents self.old) (Self.contents self.new) (to_le_bytes w32 val)) };
+        ensures { OnOk result
+            (Appends (Self.contents self.old) (Self.contents self.new) (to_le_bytes w32 val)) };
 
     /// Writes the eight bytes of `val`, the lowest first.
     fn write_u64_le(&mut self, val: u64) -> io::Result<()>
-        ensures { OnOk result (Appends (Self.contents self.old) (Self.contents self.new) (to_le_bytes w64 val)) };
+        ensures { OnOk result
+            (Appends (Self.contents self.old) (Self.contents self.new) (to_le_bytes w64 val)) };
 }
 
 impl<W: Write> WriteExt for W {

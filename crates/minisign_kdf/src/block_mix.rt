@@ -63,7 +63,8 @@ pub(crate) fn xor_block_mix(r: usize, from: &[u32], row: &[u32], into: &mut [u32
     requires from_len { length from.now ≡ 32 * r }
     requires row_len { length row.now ≡ 32 * r }
     requires into_len { length into.old ≡ 32 * r }
-    ensures { diagonal_bytes into.new ≡ block_mix r (diagonal_bytes (zip2 bit_xor from.now row.now)) }
+    ensures { diagonal_bytes into.new
+        ≡ block_mix r (diagonal_bytes (zip2 bit_xor from.now row.now)) }
 {
     let mut x = load_xored(&from[32 * r - 16..], &row[32 * r - 16..]);
     let (even, odd) = into.split_at_mut(16 * r);
@@ -80,7 +81,9 @@ pub(crate) fn xor_block_mix(r: usize, from: &[u32], row: &[u32], into: &mut [u32
 // Salsa20/8 of a block xored with another.
 #[inline(always)]
 fn mix_block(x: Block, block: Block) -> Block
-    ensures { bytes_of_words32 (block_words result) ≡ salsa20_8 (zip2 bit_xor (bytes_of_words32 (block_words x)) (bytes_of_words32 (block_words block))) }
+    ensures { bytes_of_words32 (block_words result)
+        ≡ salsa20_8 (zip2 bit_xor (bytes_of_words32 (block_words x))
+        (bytes_of_words32 (block_words block))) }
 {
     salsa20_8(xor_of(x, block))
 }

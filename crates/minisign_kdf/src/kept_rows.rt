@@ -72,7 +72,8 @@ impl Rows {
     /// The words of the kept rows, 32 * r of each, read low byte first. Those of each block of sixteen
     /// stand in diagonal order: place q holds word 5 * q mod 16. Takes no memory.
     pub fn words(&self) -> &[u32]
-        ensures rows { rows_of self.now.r (div_ceil self.now.n self.now.k) result.now ≡ self.now.rows }
+        ensures rows { rows_of self.now.r (div_ceil self.now.n self.now.k) result.now
+            ≡ self.now.rows }
         ensures len { length result.now ≡ 32 * self.now.r * div_ceil self.now.n self.now.k }
     {
         &self.words
@@ -111,7 +112,8 @@ pub(crate) fn keep_rows(block: &[u8], n_log2: u8, k: u64, rows: &mut Vec<u32>, w
     requires whole { length block.now % 128 ≡ 0 }
     requires cost { n_log2 < 64 }
     requires kept { 1 ≤ k }
-    requires room { 32 * (length block.now / 128) * div_ceil (2 ^ n_log2) k ≤ vec_capacity rows.old }
+    requires room { 32 * (length block.now / 128) * div_ceil (2 ^ n_log2) k
+        ≤ vec_capacity rows.old }
     requires work_len { 2 * length block.now ≤ 4 * length work.old }
     ensures len { vec_len rows.new ≡ 32 * (length block.now / 128) * div_ceil (2 ^ n_log2) k }
     ensures rows { let r = length block.now / 128 in
@@ -152,7 +154,9 @@ fn fill_rows(r: usize, count: usize, k: usize, rows: &mut Vec<u32>, x: &mut [u32
     requires x_len { length x.old ≡ 32 * r }
     requires work_len { length work.old ≡ 32 * r }
     ensures len { vec_len rows.new ≡ 32 * r * count }
-    ensures rows { (i : ℕ) → i < count → diagonal_bytes (block (32 * r) rows.new.items i) ≡ row_at r (diagonal_bytes x.old) (k * i) }
+    ensures rows { (i : ℕ) → i < count
+        → diagonal_bytes (block (32 * r) rows.new.items i)
+        ≡ row_at r (diagonal_bytes x.old) (k * i) }
     ensures room { vec_capacity rows.old ≤ vec_capacity rows.new }
 {
     let len = 32 * r;

@@ -36,8 +36,11 @@ pub fn scrypt(
     out: &mut [u8],
 ) -> Result<(), KdfError>
     ensures fits { OnOk result (IsTrue (is_key_length (length out.old))) }
-    ensures derived { OnOk result (out.new ≡ scrypt password.now salt.now (2 ^ params.now.n_log2) params.now.r params.now.p (length out.old)) }
-    ensures refused { IfErr result (λ e. e ≡ (if is_key_length (length out.old) then KdfError.OutOfMemory else KdfError.InvalidOutputLen)) }
+    ensures derived { OnOk result
+        (out.new ≡ scrypt password.now salt.now (2 ^ params.now.n_log2) params.now.r params.now.p
+        (length out.old)) }
+    ensures refused { IfErr result (λ e. e ≡ (if is_key_length (length out.old)
+        then KdfError.OutOfMemory else KdfError.InvalidOutputLen)) }
     ensures unchanged { OnErr result (out.new ≡ out.old) }
 {
     scrypt_keeping(alloc, password, salt, params, 1, out)?;
@@ -70,9 +73,12 @@ pub fn scrypt_keeping(
 ) -> Result<u64, KdfError>
     requires kept { 1 ≤ k }
     ensures fits { OnOk result (IsTrue (is_key_length (length out.old))) }
-    ensures derived { OnOk result (out.new ≡ scrypt password.now salt.now (2 ^ params.now.n_log2) params.now.r params.now.p (length out.old)) }
+    ensures derived { OnOk result
+        (out.new ≡ scrypt password.now salt.now (2 ^ params.now.n_log2) params.now.r params.now.p
+        (length out.old)) }
     ensures count { IfOk result (λ n. n ≡ div_ceil (2 ^ params.now.n_log2) k) }
-    ensures refused { IfErr result (λ e. e ≡ (if is_key_length (length out.old) then KdfError.OutOfMemory else KdfError.InvalidOutputLen)) }
+    ensures refused { IfErr result (λ e. e ≡ (if is_key_length (length out.old)
+        then KdfError.OutOfMemory else KdfError.InvalidOutputLen)) }
     ensures unchanged { OnErr result (out.new ≡ out.old) }
 {
     check_len(out.len())?;
@@ -120,7 +126,8 @@ fn derive(
     requires room { 32 * params.now.r * div_ceil (2 ^ params.now.n_log2) k ≤ vec_capacity rows.old }
     requires work_len { length work.old ≡ 96 * params.now.r }
     requires out_len { length out.old ≤ longest_key }
-    ensures { out.new ≡ scrypt password.now salt.now (2 ^ params.now.n_log2) params.now.r params.now.p (length out.old) }
+    ensures { out.new ≡ scrypt password.now salt.now
+        (2 ^ params.now.n_log2) params.now.r params.now.p (length out.old) }
 {
     let r = params.r() as usize;
     let p = params.p() as usize;
@@ -146,7 +153,8 @@ fn mix_parts(
     requires parts_len { length parts.old ≡ 128 * r * p }
     requires room { 32 * r * div_ceil (2 ^ n_log2) k ≤ vec_capacity rows.old }
     requires work_len { length work.old ≡ 96 * r }
-    ensures { parts.new ≡ joined_lists (λ i. rom_mix r (2 ^ n_log2) (block (128 * r) parts.old i)) p }
+    ensures { parts.new ≡ joined_lists
+        (λ i. rom_mix r (2 ^ n_log2) (block (128 * r) parts.old i)) p }
 {
     let len = 128 * r;
     'parts: for i in 0..p {

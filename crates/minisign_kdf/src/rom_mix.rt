@@ -34,7 +34,8 @@ pub fn mix_kept(rows: &[u32], n_log2: u8, k: u64, out: &mut [u8], work: &mut [u3
     ensures mixed { let r = length out.old / 128 in
         out.new ≡ rom_mix_from r (2 ^ n_log2) k (rows_of r (div_ceil (2 ^ n_log2) k) rows.now) }
     ensures standard { let r = length out.old / 128 in (b : List ℕ) →
-        rows_of r (div_ceil (2 ^ n_log2) k) rows.now ≡ kept_rows r (2 ^ n_log2) k b → out.new ≡ rom_mix r (2 ^ n_log2) b }
+        rows_of r (div_ceil (2 ^ n_log2) k) rows.now ≡ kept_rows r (2 ^ n_log2) k b
+        → out.new ≡ rom_mix r (2 ^ n_log2) b }
 {
     let len = out.len() / 4;
     let (x, rest) = work.split_at_mut(len);
@@ -62,7 +63,8 @@ fn mix_with_rows(
     requires x_len { length x.old ≡ 32 * r }
     requires work_len { length work.old ≡ 32 * r }
     requires row_len { length row.old ≡ 32 * r }
-    ensures { diagonal_bytes x.new ≡ rom_mix_from r (2 ^ n_log2) k (rows_of r (div_ceil (2 ^ n_log2) k) rows.now) }
+    ensures { diagonal_bytes x.new
+        ≡ rom_mix_from r (2 ^ n_log2) k (rows_of r (div_ceil (2 ^ n_log2) k) rows.now) }
 {
     mix_last_row(r, n_log2, k, rows, x, work);
     'turns: for _turn in 0..row_count(n_log2) / 2 {
@@ -80,7 +82,8 @@ fn mix_last_row(r: usize, n_log2: u8, k: u64, rows: &[u32], x: &mut [u32], work:
     requires x_len { length x.old ≡ 32 * r }
     requires work_len { length work.old ≡ 32 * r }
     ensures { let last = div_ceil (2 ^ n_log2) k - 1 in
-        diagonal_bytes x.new ≡ row_at r (diagonal_bytes (block (32 * r) rows.now last)) (2 ^ n_log2 - k * last) }
+        diagonal_bytes x.new ≡ row_at r (diagonal_bytes (block (32 * r) rows.now last))
+        (2 ^ n_log2 - k * last) }
 {
     let last = kept_count(n_log2, k) - 1;
     let times = row_count(n_log2) - k as usize * last;
@@ -106,7 +109,10 @@ fn mix_with_row(
     requires row_len { length row.old ≡ 32 * r }
     requires out_len { length out.old ≡ 32 * r }
     ensures { let b = diagonal_bytes x.now in
-        diagonal_bytes out.new ≡ block_mix r (zip2 bit_xor b (remade_row r k (rows_of r (div_ceil (2 ^ n_log2) k) rows.now) (integerify r b % 2 ^ n_log2))) }
+        diagonal_bytes out.new
+        ≡ block_mix r (zip2 bit_xor b
+        (remade_row r k (rows_of r (div_ceil (2 ^ n_log2) k) rows.now)
+        (integerify r b % 2 ^ n_log2))) }
 {
     let j = integerify(r, x) as usize % row_count(n_log2);
     let kept = kept_row(r, n_log2, k, rows, j);
@@ -143,7 +149,9 @@ fn mix_with_remade(
     requires x_len { length x.now ≡ 32 * r }
     requires row_len { length row.old ≡ 32 * r }
     requires out_len { length out.old ≡ 32 * r }
-    ensures { diagonal_bytes out.new ≡ block_mix r (zip2 bit_xor (diagonal_bytes x.now) (row_at r (diagonal_bytes kept.now) times)) }
+    ensures { diagonal_bytes out.new
+        ≡ block_mix r (zip2 bit_xor (diagonal_bytes x.now)
+        (row_at r (diagonal_bytes kept.now) times)) }
 {
     touch_row(r, kept, out);
     if times == 0 {
