@@ -8,7 +8,7 @@ use Rattle.minisign_base.specs.Faults.{out_of_memory}
 use Rattle.minisign.specs.Calls.{GivesKeyWith, GivesNoKeyWith}
 use Rattle.minisign.specs.Opening.{IsOpened, IsUnencryptedText, RefusesOpening, RefusesUnencrypted}
 use Rattle.minisign.specs.Records.{SecretKeyRecord}
-use Rattle.minisign.specs.Sealing.{no_kdf, scrypt_kdf}
+use Rattle.minisign.specs.Sealing.{no_kdf, scrypt_kdf, xored_key}
 use Rattle.minisign.specs.SecretKeyText.{SecretKeyText, secret_key_refusal}
 use Rattle.minisign.specs.Texts.{IsRefused}
 use Rattle.minisign.proofs.SecretKeyTexts.{one_key_text}
@@ -62,3 +62,13 @@ sealed_key text password k (Err e) read differs (inr refused) =
       first = ⊎_elim inl (λ (l, other, why). inr (l, other, else_case _ _ _ (false_from_ne_true _ (λ is. other_kdf l other ((bytes_eq-Decides l.kdf no_kdf).0 is))) ∙ why)) refused.first;
       none = λ v given. ⊎_elim (λ plain. other_kdf v plain.read plain.unencrypted.kdf) (λ opened. refused.closed opened.sealed opened.read opened.opens) given;
     })
+
+-- a text gives one key at most
+pub one_key : (text password : List ℕ) (k l : SecretKeyRecord) → GivesKeyWith text password k → GivesKeyWith text password l → k ≡ l
+one_key text password k l (inl plain) (inl other) = one_key_text text l k other.read plain.read
+one_key text password k l (inl plain) (inr opened) =
+    absurd (other_names (sym opened.opens.kdf ∙ ap (λ x. x.kdf) (one_key_text text k opened.sealed plain.read opened.read) ∙ plain.unencrypted.kdf))
+one_key text password k l (inr opened) (inl plain) =
+    absurd (other_names (sym opened.opens.kdf ∙ ap (λ x. x.kdf) (one_key_text text l opened.sealed plain.read opened.read) ∙ plain.unencrypted.kdf))
+one_key text password k l (inr opened) (inr other) =
+    opened.key ∙ ap (λ x. xored_key x password) (one_key_text text other.sealed opened.sealed other.read opened.read) ∙ sym other.key

@@ -8,8 +8,9 @@ ghost use Rattle.minisign.specs.Calls.{BytesSigningFails, GivesKeyWith, GivesNoK
 ghost use Rattle.minisign.specs.Headline.{SigningHeadline};
 ghost use Rattle.minisign.specs.Opening.{IsUnencryptedText, RefusesUnencrypted};
 ghost use Rattle.minisign.specs.Sealing.{is_encrypted};
+ghost use Rattle.minisign.specs.Records.{SecretKeyRecord};
 ghost use Rattle.minisign.specs.SecretKeyText.{SecretKeyText};
-ghost use Rattle.minisign.specs.Signing.{comments_or_defaults};
+ghost use Rattle.minisign.specs.Signing.{AreKept, comments_or_defaults};
 ghost use Rattle.minisign.specs.SigningTexts.{IsSignedText};
 
 use crate::constants::KDF_NONE;
@@ -34,8 +35,11 @@ use std::alloc::Global;
 /// let sk = open_with_password(alloc, sk_text, password)?;
 /// ```
 pub fn open_with_password(alloc: Global, sk_text: &str, password: &str) -> Result<SecretKey>
-    ensures { MatchResult result (GivesKeyWith sk_text.now password.now)
+    ensures opens { MatchResult result (GivesKeyWith sk_text.now password.now)
         (λ e. (e ≡ out_of_memory) ⊎ GivesNoKeyWith sk_text.now password.now e) }
+
+    // The text gives one key at most under the password.
+    ensures one_key { (k l : SecretKeyRecord) → GivesKeyWith sk_text.now password.now k → GivesKeyWith sk_text.now password.now l → k ≡ l }
 {
     let sk = SecretKey::from_text(alloc, sk_text)?;
     if sk.kdf_alg == KDF_NONE {
@@ -84,6 +88,9 @@ pub fn sign_bytes<S: Scheme, Z: RandomSource>(
         (comments_or_defaults (option_map (λ s. s.now) trusted_comment.entry) None moment)
         (random_passage Z.RandomSource random.old random.new) (string_bytes t)) }
     ensures opened { OnOk result (is_encrypted sk.now ≡ false) }
+
+    // The comments by default are read back as they were written.
+    ensures defaults { AreKept (comments_or_defaults None None moment) }
     ensures random_calm { OnOk result (Z.random_faults random.new ≡ Z.random_faults random.old) }
 
     // Why it was refused.

@@ -1,3 +1,2 @@
-mod OpenedKeys
 mod Refusals
-mod WrittenBoxes
+mod SignedPairs

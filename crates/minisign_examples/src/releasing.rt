@@ -2,16 +2,15 @@
 //! of the signature.
 
 ghost use Rattle.std.specs.Prelude.{◌≡◌, ℕ, List, false, string_bytes, MatchResult, IfOk, IfErr};
-ghost use Rattle.minisign_base.specs.Faults.{out_of_memory};
 ghost use Rattle.minisign.specs.Records.{PublicKeyRecord, SecretKeyRecord, SignatureBoxRecord};
 ghost use Rattle.minisign.specs.Acceptance.{Vouches};
-ghost use Rattle.minisign.specs.Generation.{IsGenuinePair, OpensOnlyTo};
+ghost use Rattle.minisign.specs.Generation.{IsGenuinePair};
 ghost use Rattle.minisign.specs.Headline.{TextsVouchFor};
 ghost use Rattle.minisign.specs.SignatureText.{SignatureText};
-ghost use Rattle.minisign_examples.specs.Releasing.{ArePairTexts, IsMemoryOrDeviceFault};
+ghost use Rattle.minisign_examples.specs.Releasing.{ArePairTexts, IsMemoryOrRandomFault};
 
 use crate::updating::check_update;
-use minisign::{KeyPair, Result, SecretKey, SecretKeyBox, sign};
+use minisign::{KeyPair, Result, SecretKey, open_with_password, sign_bytes};
 use minisign_base::devices::random_sources::RandomSource;
 use minisign_base::devices::sinks::VecSink;
 use minisign_base::devices::sources::SliceSource;
@@ -40,7 +39,7 @@ pub struct KeyTexts {
 /// Makes a pair sealed under the password, signs the update with the text of its secret key, and verifies
 /// with what is published. The trusted comment is the moment, in seconds since 1970.
 ///
-/// Only want of memory and a failing device are refused.
+/// Only running out of memory and a failing random source are refused.
 pub fn sign_release<S: Scheme, Z: RandomSource>(
     alloc: Global,
     scheme: &S,
@@ -50,10 +49,10 @@ pub fn sign_release<S: Scheme, Z: RandomSource>(
     moment: u64,
 ) -> Result<Release>
     ensures vouches { IfOk result (λ r. TextsVouchFor (S.accepts scheme.now) (string_bytes r.pk_text) (string_bytes r.sig_text) update.now false) }
-    ensures refused { IfErr result IsMemoryOrDeviceFault }
+    ensures refused { IfErr result IsMemoryOrRandomFault }
 {
     let KeyTexts { pk_text, sk_text } = make_keys(alloc, scheme, password, random)?;
-    let sk = open_key(alloc, sk_text.as_str(), password)?;
+    let sk = open_with_password(alloc, sk_text.as_str(), password)?;
     let sig_text = sign_update(alloc, scheme, &sk, update, random, moment)?;
     check_update(alloc, scheme, pk_text.as_str(), sig_text.as_str(), update)?;
     Ok(Release { pk_text, sig_text })
@@ -68,7 +67,7 @@ pub fn make_keys<S: Scheme, Z: RandomSource>(
 ) -> Result<KeyTexts>
     ensures made { IfOk result (λ t. (pk : PublicKeyRecord) × (sk : SecretKeyRecord)
         × ArePairTexts (S.public_of scheme.now) password.now (string_bytes t.pk_text) (string_bytes t.sk_text) pk sk) }
-    ensures refused { IfErr result IsMemoryOrDeviceFault }
+    ensures refused { IfErr result IsMemoryOrRandomFault }
 {
     let handed_in = Some(String::from_str(alloc, password)?);
     let mut unasked = Prompt::new(SliceSource::new(b""), VecSink::new(alloc));
@@ -79,17 +78,7 @@ pub fn make_keys<S: Scheme, Z: RandomSource>(
     })
 }
 
-/// Opens the secret key of a text with the password.
-pub fn open_key(alloc: Global, sk_text: &str, password: &str) -> Result<SecretKey>
-    ensures { (sk : SecretKeyRecord) → OpensOnlyTo sk_text.now password.now sk
-        → MatchResult result (λ v. v ≡ sk) (λ e. e ≡ out_of_memory) }
-{
-    let handed_in = Some(String::from_str(alloc, password)?);
-    let mut unasked = Prompt::new(SliceSource::new(b""), VecSink::new(alloc));
-    SecretKeyBox::from_string(alloc, sk_text)?.into_secret_key(alloc, handed_in, &mut unasked)
-}
-
-/// Signs the update, and answers the text of the signature.
+/// Signs the update, and returns the text of the signature.
 pub fn sign_update<S: Scheme, Z: RandomSource>(
     alloc: Global,
     scheme: &S,
@@ -99,19 +88,7 @@ pub fn sign_update<S: Scheme, Z: RandomSource>(
     moment: u64,
 ) -> Result<String>
     ensures { (pk : PublicKeyRecord) → IsGenuinePair (S.public_of scheme.now) pk sk.now
-        → MatchResult result (λ t. (x : SignatureBoxRecord) × SignatureText (string_bytes t) x × Vouches (S.accepts scheme.now) pk x update.now false) IsMemoryOrDeviceFault }
+        → MatchResult result (λ t. (x : SignatureBoxRecord) × SignatureText (string_bytes t) x × Vouches (S.accepts scheme.now) pk x update.now false) IsMemoryOrRandomFault }
 {
-    let mut data_reader = SliceSource::new(update);
-    let signature_box = sign(
-        alloc,
-        scheme,
-        None,
-        sk,
-        &mut data_reader,
-        None,
-        None,
-        random,
-        moment,
-    )?;
-    signature_box.into_string(alloc)
+    sign_bytes(alloc, scheme, sk, update, None, random, moment)
 }

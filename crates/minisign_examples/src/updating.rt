@@ -1,17 +1,15 @@
 //! A caller that installs what two texts vouch for, and nothing else.
 
-ghost use Rattle.std.specs.Prelude.{false, IfErr, OnOk};
-ghost use Rattle.minisign.specs.Headline.{TextsVouchFor};
-ghost use Rattle.minisign_examples.specs.Releasing.{IsMemoryOrDeviceFault};
+ghost use Rattle.std.specs.Prelude.{◌≡◌, ◌⊎◌, false, MatchResult};
+ghost use Rattle.minisign_base.specs.Faults.{out_of_memory};
+ghost use Rattle.minisign.specs.Headline.{TextsRefuse, TextsVouchFor};
 
-use minisign::{PublicKeyBox, Result, SignatureBox, verify};
-use minisign_base::devices::sinks::VecSink;
-use minisign_base::devices::sources::SliceSource;
+use minisign::{Result, verify_bytes};
 use minisign_base::scheme::Scheme;
 use std::alloc::Global;
 
-/// Success only where the texts of a public key and of a signature vouch for the update. Where they do, only want of
-/// memory and a failing device are refused.
+/// Success exactly where the texts of a public key and of a signature vouch for the update, and otherwise the
+/// first reason why not; it may run out of memory.
 pub fn check_update<S: Scheme>(
     alloc: Global,
     scheme: &S,
@@ -19,24 +17,9 @@ pub fn check_update<S: Scheme>(
     sig_text: &str,
     update: &[u8],
 ) -> Result<()>
-    ensures vouches { OnOk result (TextsVouchFor (S.accepts scheme.now) pk_text.now sig_text.now update.now false) }
-    ensures refused { TextsVouchFor (S.accepts scheme.now) pk_text.now sig_text.now update.now false → IfErr result IsMemoryOrDeviceFault }
+    ensures { MatchResult result (λ _. TextsVouchFor (S.accepts scheme.now) pk_text.now sig_text.now update.now false)
+        (λ e. (e ≡ out_of_memory) ⊎ TextsRefuse (S.accepts scheme.now) pk_text.now sig_text.now update.now false e) }
 {
-    let pk = PublicKeyBox::from_string(alloc, pk_text)?.into_public_key(alloc)?;
-    let signature_box = SignatureBox::from_string(alloc, sig_text)?;
-    let mut data_reader = SliceSource::new(update);
-    let mut status = VecSink::new(alloc);
-    let mut out = VecSink::new(alloc);
-    verify(
-        alloc,
-        scheme,
-        &pk,
-        &signature_box,
-        &mut data_reader,
-        true,
-        false,
-        false,
-        &mut status,
-        &mut out,
-    )
+    verify_bytes(alloc, scheme, pk_text, sig_text, update)?;
+    Ok(())
 }

@@ -105,7 +105,7 @@ fn made(alloc: Global) -> Result<bool> {
 fn signed_and_verified(alloc: Global) -> Result<bool> {
     let secret = SecretKey::from_bytes(&secret_record(&[0, 0], &CHECKSUM))?;
     let public = PublicKey::from_bytes(&public_record(&IDENTIFIER, &PUBLIC_BYTES))?;
-    let signature_box = sign_and_verify(
+    let sig_text = sign_and_verify(
         alloc,
         &ToyScheme::new(),
         &secret,
@@ -114,6 +114,7 @@ fn signed_and_verified(alloc: Global) -> Result<bool> {
         &mut FixedRandom::new(&[0; 128]),
         1555779966,
     )?;
+    let signature_box = SignatureBox::from_string(alloc, sig_text.as_str())?;
     let trusted = signature_box.trusted_comment(alloc)?;
     let untrusted = signature_box.untrusted_comment(alloc)?;
     let bytes = SignatureBones::from(signature_box).to_bytes(alloc)?;

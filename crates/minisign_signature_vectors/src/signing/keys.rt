@@ -452,7 +452,7 @@ fn the_example_signs_and_verifies(rt: HostRuntime) -> std::result::Result<(), Fa
     let (secret, public) = key_a()?;
     let other = PublicKey::from_bytes(&public_record(&IDENTIFIER, &[0x5b; 32]))?;
     let toy = ToyScheme::new();
-    let signature_box = sign_and_verify(
+    let sig_text = sign_and_verify(
         alloc,
         &toy,
         &secret,
@@ -461,6 +461,7 @@ fn the_example_signs_and_verifies(rt: HostRuntime) -> std::result::Result<(), Fa
         &mut FixedRandom::new(&[0; 128]),
         MOMENT,
     )?;
+    let signature_box = SignatureBox::from_string(alloc, sig_text.as_str())?;
     assert!(rt;
         is_text(
             &signature_box.trusted_comment(alloc),

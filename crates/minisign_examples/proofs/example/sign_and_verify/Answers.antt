@@ -1,13 +1,28 @@
-use Rattle.std.proofs.Common.{inl, inr, ⊎_elim}
-use Rattle.minisign_examples.proofs.Refusals.{never_refused, passed_up, silent_fails}
+use Rattle.std.proofs.Common.{inl, false, subst, sym, ⊎_elim, ◌∙◌}
+use Rattle.minisign.specs.Headline.{TextsVouchFor}
+use Rattle.minisign.specs.PublicKeyText.{PublicKeyText, public_key_text}
+use Rattle.minisign.specs.SignatureText.{SignatureText}
+use Rattle.minisign_examples.proofs.Refusals.{passed_up}
+use Rattle.minisign_examples.proofs.SignedPairs.{lines_of}
 use Rattle.minisign_examples.proofs.example.sign_and_verify.Goals as goal
 
-pub returns-in_err-verify-clause-genuine : goal.returns-in_err-verify-clause-genuine
-returns-in_err-verify-clause-genuine g c seed genuine key keynum =
-    let (signed, read, made, vouched) = c.in_ok-signature_box.ensures.signed in
-    passed_up c.from_residual-in_err-verify.result c.in_err-verify.field-0.0 _ c.from_residual-in_err-verify.ensures.1
-    (⊎_elim
-    (⊎_elim (λ full. inl full) (λ failed. inr (inl failed.fault)))
-    (λ (verified, given, refused). absurd
-    (never_refused _ c.args.public_key.now _ _ _ _ _ signed verified _ _ c.new-data_reader.ensures.ahead c.new-data_reader-2.ensures.ahead read.given given (vouched seed genuine) key keynum refused))
-    (silent_fails _ _ _ _ _ _ _ _ c.in_err-verify.ensures.refused))
+pub returns-in_err-verify_bytes-clause-genuine : goal.returns-in_err-verify_bytes-clause-genuine
+returns-in_err-verify_bytes-clause-genuine g c seed genuine key keynum =
+    let (x, read, each) = c.in_ok-sig_text.ensures.headline seed genuine (lines_of _ c.in_ok-sig_text.ensures.defaults) in
+    passed_up c.from_residual-in_err-verify_bytes.result c.in_err-verify_bytes.field-0.0 _ c.from_residual-in_err-verify_bytes.ensures.1
+    (⊎_elim inl
+    (λ refused. absurd (refused.unvouched (record {
+      key = c.args.public_key.now;
+      box = x;
+      key_read = subst (λ text. PublicKeyText text c.args.public_key.now) (sym (c.as_str.ensures.value ∙ c.into_string-pk_text.ensures)) c.in_ok-to_box.ensures.reads_back;
+      box_read = subst (λ text. SignatureText text x) (sym c.as_str-2.ensures.value) read;
+      vouches = each c.args.public_key.now false key keynum;
+    })))
+    c.in_err-verify_bytes.ensures)
+
+pub returns-clause-accepted : goal.returns-clause-accepted
+returns-clause-accepted g c =
+    let accepts = g.S.Scheme.accepts c.args.scheme.now in
+    subst (λ sig_text. TextsVouchFor accepts (public_key_text c.args.public_key.now) sig_text c.args.message.now false) c.as_str-2.ensures.value
+    (subst (λ pk_text. TextsVouchFor accepts pk_text c.as_str-2.result.now c.args.message.now false) (c.as_str.ensures.value ∙ c.into_string-pk_text.ensures ∙ c.in_ok-to_box.ensures.text)
+    c.in_ok-verify_bytes.ensures.vouched)

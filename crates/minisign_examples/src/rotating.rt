@@ -1,0 +1,47 @@
+//! A caller that knows an old public key and learns a new one: the old key vouches for the text of the new one.
+
+ghost use Rattle.std.specs.Prelude.{◌≡◌, ◌⊎◌, false, MatchResult};
+ghost use Rattle.minisign_base.specs.Faults.{out_of_memory};
+ghost use Rattle.minisign.specs.Headline.{TextsRefuse, TextsVouchFor};
+
+use crate::updating::check_update;
+use minisign::Result;
+use minisign_base::scheme::Scheme;
+use std::alloc::Global;
+
+/// The text of a new public key, and the text of its signature by the old key.
+#[derive(Clone, Copy, Debug, Drop)]
+pub struct NewKey<'a> {
+    /// The text of the new public key.
+    pub pk_text: &'a str,
+    /// The text of the signature over that text.
+    pub sig_text: &'a str,
+}
+
+/// Success exactly where the old key vouches for the text of the new one, and the new key for the update. Otherwise
+/// the first reason, of the new key before the update; it may run out of memory.
+pub fn check_with_new_key<S: Scheme>(
+    alloc: Global,
+    scheme: &S,
+    old_text: &str,
+    new_key: NewKey,
+    sig_text: &str,
+    update: &[u8],
+) -> Result<()>
+    ensures { MatchResult result
+        (λ _. TextsVouchFor (S.accepts scheme.now) old_text.now new_key.entry.sig_text.now new_key.entry.pk_text.now false
+        × TextsVouchFor (S.accepts scheme.now) new_key.entry.pk_text.now sig_text.now update.now false)
+        (λ e. (e ≡ out_of_memory)
+        ⊎ TextsRefuse (S.accepts scheme.now) old_text.now new_key.entry.sig_text.now new_key.entry.pk_text.now false e
+        ⊎ (TextsVouchFor (S.accepts scheme.now) old_text.now new_key.entry.sig_text.now new_key.entry.pk_text.now false
+        × TextsRefuse (S.accepts scheme.now) new_key.entry.pk_text.now sig_text.now update.now false e)) }
+{
+    check_update(
+        alloc,
+        scheme,
+        old_text,
+        new_key.sig_text,
+        new_key.pk_text.as_bytes(),
+    )?;
+    check_update(alloc, scheme, new_key.pk_text, sig_text, update)
+}

@@ -1,0 +1,26 @@
+//! A caller that opens a sealed key where memory is scarce.
+
+ghost use Rattle.std.specs.Prelude.{◌≡◌, ◌⊎◌, None, MatchResult};
+ghost use Rattle.minisign_base.specs.Faults.{out_of_memory};
+ghost use Rattle.minisign.specs.Opening.{IsOpened, RefusesOpening};
+
+use minisign::{Result, SecretKey, SecretKeyBox};
+use minisign_base::devices::sinks::VecSink;
+use minisign_base::devices::sources::SliceSource;
+use minisign_base::prompt::Prompt;
+use std::alloc::Global;
+
+// Every how many rows of scrypt one is kept: an eighth of the memory, for twice the time.
+const KEPT_EVERY: u64 = 8;
+
+/// Opens the sealed secret key of a text with the password in an eighth of the memory that it takes otherwise: 4 MiB
+/// with the usual limits. What is opened and what is refused is the same.
+pub fn open_in_little_memory(alloc: Global, sk_text: &str, password: &str) -> Result<SecretKey>
+    ensures { MatchResult result (IsOpened sk_text.now password.now None)
+        (λ e. (e ≡ out_of_memory) ⊎ RefusesOpening sk_text.now password.now None e) }
+{
+    let sk_box = SecretKeyBox::from_string(alloc, sk_text)?;
+    let handed_in = Some(String::from_str(alloc, password)?);
+    let mut unasked = Prompt::new(SliceSource::new(b""), VecSink::new(alloc));
+    SecretKey::from_box_keeping(alloc, sk_box, handed_in, &mut unasked, KEPT_EVERY)
+}
