@@ -6,7 +6,7 @@ ghost use Rattle.std.specs.Str.Iter.{lines_rest};
 ghost use Rattle.minisign_base.specs.Faults.{out_of_memory};
 ghost use Rattle.minisign.specs.Opening.{RefusesUnencrypted};
 ghost use Rattle.minisign.specs.Records.{SecretKeyRecord};
-ghost use Rattle.minisign.specs.SecretKeyText.{SecretKeyText, secret_key_fault};
+ghost use Rattle.minisign.specs.SecretKeyText.{SecretKeyText, secret_key_refusal};
 ghost use Rattle.minisign.specs.Texts.{IsBase64Of, IsRefused, is_base64};
 ghost use Rattle.minisign_questions.specs.Signing.{GivesUnsealedKey, LacksChecksum, RefusesUnsealed};
 
@@ -51,7 +51,7 @@ fn lacks_checksum(alloc: Global, key: &SecretKey) -> Result<bool>
 
 // The key of a text, as it stands.
 fn read_key(alloc: Global, text: &str) -> Result<SecretKey>
-    ensures outcome { MatchResult result (SecretKeyText text.now) (λ e. (e ≡ out_of_memory) ⊎ IsRefused (SecretKeyText text.now) (secret_key_fault text.now) e) }
+    ensures outcome { MatchResult result (SecretKeyText text.now) (λ e. (e ≡ out_of_memory) ⊎ IsRefused (SecretKeyText text.now) (secret_key_refusal text.now) e) }
     ensures one_reading { IfOk result (λ v. (other : SecretKeyRecord) → SecretKeyText text.now other → other ≡ v) }
 {
     let mut lines = text.lines();
