@@ -8,6 +8,8 @@
 #[cfg(test)]
 mod generated;
 #[cfg(test)]
+mod names;
+#[cfg(test)]
 mod sealed;
 #[cfg(test)]
 mod texts;
