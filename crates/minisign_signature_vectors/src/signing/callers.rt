@@ -27,13 +27,13 @@ fn the_comment_of_bytes_is_returned(rt: HostRuntime) {
             KEY_TEXT,
             LEGACY_TEXT,
             b"abc",
-            "Verify: Legacy (non-prehashed) signature not accepted",
+            "Verify: Legacy signatures are not accepted",
         ),
         (
             KEY_TEXT,
             "untrusted comment: c",
             b"abc",
-            "Io: Missing encoded signature",
+            "Io: Missing signature",
         ),
         ("", "", b"abc", "Io: Missing comment in public key"),
     ];
@@ -129,7 +129,10 @@ fn opened_keys_sign_bytes(rt: HostRuntime) -> Result<(), Fail> {
     }
     let refused = open_with_password(alloc, SEALED, "passwore");
     let small = open_in_little_memory(alloc, SEALED, "passwore");
-    assert_eq!(rt; outcome(alloc, &refused).as_str(), outcome(alloc, &small).as_str());
+    assert_eq!(rt;
+        outcome(alloc, &refused).as_str(),
+        outcome(alloc, &small).as_str()
+    );
     assert!(rt; refused.is_err());
     let small = open_in_little_memory(alloc, SEALED, "password")?;
     let opened = open_with_password(alloc, SEALED, "password")?;
