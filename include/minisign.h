@@ -275,6 +275,8 @@ uint32_t minisign_comment_message(const uint8_t first[64], const uint8_t *truste
  * vouches for the data under every public key of this identifier under which Ed25519 accepts your signatures of
  * the digest and of the message of the second question: minisign_verdict is then MINISIGN_OK.
  *
+ * minisign -V refuses a carriage return inside the trusted comment, which the library takes: sign none.
+ *
  * After an error the text and its length stay as they were. The errors, in this order: MINISIGN_NOT_UTF8;
  * MINISIGN_NO_COMMENT, where a comment has a line feed, the trusted one white space at either end, or the untrusted
  * one a carriage return at its end; MINISIGN_NO_ROOM. MINISIGN_OUT_OF_MEMORY may come at any time.

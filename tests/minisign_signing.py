@@ -11,9 +11,9 @@ from minisign_cases import LENGTHS, PASSWORD, TRUSTED_COMMENTS, UNTRUSTED_COMMEN
 from minisign_running import read, run, write
 
 # What ends no line and stands between no white space, and what does not: such a comment would not be read back.
-MORE_COMMENTS = [b"x", b"a  b", b"\xf0\x9f\x94\x91", b"timestamp:1\tfile:x\thashed", b"=" * 100, b"\x01", b"a\rb"]
-NOT_KEPT = [b"two\nlines", b"\n", b"end\n", b"end\r", b" front", b"end ", b"\ttab", b"\xc2\xa0", b"\xe3\x80\x80x"]
-NOT_KEPT_UNTRUSTED = [b"two\nlines", b"end\n", b"end\r"]
+MORE_COMMENTS = [b"x", b"a  b", b"\xf0\x9f\x94\x91", b"timestamp:1\tfile:x\thashed", b"=" * 100, b"\x01"]
+NOT_KEPT = [b"two\nlines", b"a\rb", b"\n", b"end\n", b"end\r", b" front", b"end ", b"\ttab", b"\xc2\xa0", b"\xe3\x80\x80x"]
+NOT_KEPT_UNTRUSTED = [b"two\nlines", b"a\rb", b"end\n", b"end\r"]
 
 
 def is_utf8(comment):
@@ -26,7 +26,7 @@ def is_utf8(comment):
 
 def is_kept(trusted):
     """Whether a trusted comment is read back as it is."""
-    return is_utf8(trusted) and b"\n" not in trusted and trusted.decode().strip() == trusted.decode()
+    return is_utf8(trusted) and b"\n" not in trusted and b"\r" not in trusted and trusted.decode().strip() == trusted.decode()
 
 
 class Signing:
@@ -56,8 +56,7 @@ class Signing:
             self.failures.append(f"signing, {name}: {wrong}")
 
     def signs(self, name, data, trusted, untrusted=b"u", key="first"):
-        """Ours signs, and Minisign with the same key and comments makes the same text. Minisign aborts at a carriage
-        return inside a comment, but takes the text."""
+        """Ours signs, and Minisign with the same key and comments makes the same text."""
         write(self.folder, "data", data)
         comments = ("-t", trusted, "-c", untrusted)
         ran, text = self.ours(f"{key}.key", *comments)
@@ -65,7 +64,7 @@ class Signing:
                      self.folder)
         if ran.status != 0 or text is None:
             self.case(name, f"ours: {ran}")
-        elif b"\r" not in trusted + untrusted and (theirs.status != 0 or text != read(self.folder, "theirs.minisig")):
+        elif theirs.status != 0 or text != read(self.folder, "theirs.minisig"):
             self.case(name, f"Minisign writes another text: {theirs}: {text!r}")
         else:
             refusing = self.accepted(f"{key}.pub")

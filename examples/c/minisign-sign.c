@@ -224,6 +224,9 @@ static struct options read_options(int argc, char *argv[])
     if (options.trusted_comment == NULL || *options.trusted_comment == 0) {
         options.trusted_comment = default_comment(options.data_file);
     }
+    if (strchr(options.trusted_comment, '\r') != NULL || strchr(options.untrusted_comment, '\r') != NULL) {
+        fail("A comment may not have a carriage return");
+    }
     return options;
 }
 

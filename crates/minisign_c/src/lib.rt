@@ -127,6 +127,7 @@ pub extern "C" fn minisign_ask_signing(
     ensures digest { result ≡ 0 → (m : List ℕ) → IsFed state.old m → questions.new.digest ≡ blake2b_digest 64 m }
     ensures begun { result ≡ 0 → IsMarkedFed state.old }
     ensures ended { result ≡ 0 → state.new.mark ≡ 0 }
+    ensures number { result ≡ 0 → with_password < 2 }
 
     // Why they were not asked.
     ensures refused { 0 < result → IsSigningNumber state.old sk_text.now (handed_in with_password password.now) with_password result }
