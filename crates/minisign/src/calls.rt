@@ -1,9 +1,9 @@
 //! Calls for callers: verifying with texts, and the comment that was signed.
 
-ghost use Rattle.std.specs.Prelude.{◌≡◌, ◌⊎◌, List, ℕ, true, false, Some, string_bytes, IfOk, IfErr, OnOk, MatchResult};
+ghost use Rattle.std.specs.Prelude.{◌≡◌, ◌⊎◌, true, false, string_bytes, IfOk, IfErr, OnOk};
 ghost use Rattle.minisign_base.specs.Passages.{rereader_passage, sink_passage};
 ghost use Rattle.minisign.specs.Calls.{CopiesExactly, CopyIsVouchedWith, CopyingBreaksOff, IsCommentOf, IsCommentVerdict, IsFileVerdict, NothingIsCopied};
-ghost use Rattle.minisign.specs.Headline.{CopyIsVouchedFor, VerifiesExactly};
+ghost use Rattle.minisign.specs.Headline.{VerifiesExactly};
 ghost use Rattle.minisign.specs.VerifyingTexts.{ReadTexts, TextsFail, VerifyingTextsFails, VerifyingTextsSucceeds};
 
 use crate::memory::{MemorySource, NoSink};

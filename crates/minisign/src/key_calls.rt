@@ -1,6 +1,6 @@
 //! Calls for callers: opening a key with a password, and signing bytes in memory.
 
-ghost use Rattle.std.specs.Prelude.{◌≡◌, ◌⊎◌, List, ℕ, true, false, None, Some, string_bytes, IfOk, IfErr, OnOk, MatchResult};
+ghost use Rattle.std.specs.Prelude.{◌≡◌, ◌⊎◌, List, ℕ, false, None, Some, string_bytes, IfOk, IfErr, OnOk, MatchResult};
 ghost use Rattle.std.specs.Option.{option_map};
 ghost use Rattle.minisign_base.specs.Faults.{out_of_memory};
 ghost use Rattle.minisign_base.specs.Passages.{random_passage};

@@ -13,7 +13,7 @@ ghost use Rattle.minisign.specs.NewPassword.{HasAskedTwice, HasNotSealed, HasTol
 ghost use Rattle.minisign.specs.PublicKeyText.{public_key_text};
 ghost use Rattle.minisign.specs.SecretKeyText.{SecretKeyText, secret_key_text};
 ghost use Rattle.minisign.specs.Opening.{IsUnencryptedText};
-ghost use Rattle.minisign.specs.Generation.{AreSeedAndKeynum, FailsAtPart, HasSealed, IsGenuinePair, IsSealedOf, IsSealedPair, IsUnsealedPair, OpensOnlyTo, OpensToPair, RawPairFails, SealedPairFails, SealedTextsFail, TakesPart, WritingFails, public_key_of, secret_of, unsealed_key};
+ghost use Rattle.minisign.specs.Generation.{AreSeedAndKeynum, FailsAtPart, HasSealed, IsGenuinePair, IsSealedOf, IsUnsealedPair, OpensOnlyTo, OpensToPair, RawPairFails, SealedPairFails, SealedTextsFail, TakesPart, WritingFails, public_key_of, secret_of, unsealed_key};
 
 use crate::constants::{CHK_ALG, KDF_NONE, SIGALG};
 use crate::drawing::draw;

@@ -1,7 +1,6 @@
 //! Devices that never fail: the bytes of a slice, and a sink that keeps nothing.
 
-ghost use Rattle.std.specs.Prelude.{◌≡◌, true, Some, None, length, ⊤, IsOk};
-ghost use Rattle.minisign_base.specs.Devices.{HasRead, HasMarked, HasGoneBack, HasWritten, HasFlushed};
+ghost use Rattle.std.specs.Prelude.{◌≡◌, true, Some, None, length, ⊤};
 
 use minisign_base::devices::DeviceFault;
 use minisign_base::devices::sinks::Sink;

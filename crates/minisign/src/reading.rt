@@ -1,12 +1,11 @@
 //! Reading data to its end: hashed as it comes, kept whole, or taken as a text.
 
 ghost use Rattle.std.specs.Prelude.{◌≡◌, ℕ, ◌<◌, List, ◌++◌, false, length, string_bytes, vec_len, IfOk, IfErr, OnOk, OnErr};
-ghost use Rattle.std.specs.Io.KnownBytes.{IsAtEnd};
 ghost use Rattle.minisign_hash.specs.Blake2b.{blake2b_digest};
 ghost use Rattle.minisign_hash.specs.Fed.{IsFed, has_finalized, output_length};
 ghost use Rattle.minisign_base.specs.Devices.{Rose, HasGiven};
 ghost use Rattle.minisign_base.specs.Faults.{out_of_memory};
-ghost use Rattle.minisign.specs.Reading.{IsAhead, IsReadFault, ReadsWhole};
+ghost use Rattle.minisign.specs.Reading.{IsReadFault, ReadsWhole};
 ghost use Rattle.minisign.specs.TextFiles.{IsTextFault, IsTextFileFault};
 
 use minisign_base::devices::DeviceFault;

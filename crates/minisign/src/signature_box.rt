@@ -3,7 +3,7 @@
 ghost use Rattle.std.specs.Prelude.{◌≡◌, ◌≢◌, ◌⊎◌, ◌<◌, ◌++◌, List, ℕ, true, false, None, Some, Err, length, string_bytes, MatchOption, MatchResult, IfOk, IfErr, IfSome};
 ghost use Rattle.std.specs.Str.{trim};
 ghost use Rattle.minisign_base.specs.Faults.{out_of_memory, record_too_short, signature_box_incomplete, signature_not_base64, trusted_comment_absent, trusted_comment_prefix, unsupported_signature_algorithm, untrusted_comment_prefix};
-ghost use Rattle.minisign.specs.Records.{CommentsRecord, SignatureBoxRecord, SignatureRecord, IsKnownAlgorithm};
+ghost use Rattle.minisign.specs.Records.{CommentsRecord, SignatureBoxRecord, IsKnownAlgorithm};
 ghost use Rattle.minisign.specs.SignatureText.{AreOneLine, EncodesSignature, HasFourLines, SignatureText, KeepsComments, box_read_back, comments_read_back, is_known_algorithm, signature_refusal, signature_text, trusted_comment_label};
 ghost use Rattle.minisign.specs.TextFiles.{IsTextFileFault};
 ghost use Rattle.minisign.specs.Texts.{IsBase64Of, IsDecided, IsRefused, base64_bytes, is_base64, untrusted_comment_label};

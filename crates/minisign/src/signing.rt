@@ -1,6 +1,6 @@
 //! Signing with an opened secret key.
 
-ghost use Rattle.std.specs.Prelude.{◌≡◌, ℕ, true, false, List, ◌++◌, None, Some, ◌⊎◌, string_bytes, IfOk, IfErr, OnOk, IfSome, IsSomeAnd};
+ghost use Rattle.std.specs.Prelude.{◌≡◌, ℕ, true, false, List, ◌++◌, None, Some, ◌⊎◌, string_bytes, IfOk, IfErr, OnOk, IfSome};
 ghost use Rattle.std.specs.Option.{option_map, unwrap_or};
 ghost use Rattle.minisign_hash.specs.Blake2b.{blake2b_digest};
 ghost use Rattle.minisign_base.specs.Devices.{HasGiven};
@@ -8,7 +8,6 @@ ghost use Rattle.minisign_base.specs.Passages.{random_passage, source_passage};
 ghost use Rattle.minisign_base.specs.Scheme.{IsNonce};
 ghost use Rattle.minisign_base.specs.Faults.{out_of_memory};
 ghost use Rattle.minisign.specs.Reading.{ReadsWhole};
-ghost use Rattle.minisign.specs.Records.{SignatureBoxRecord};
 ghost use Rattle.minisign.specs.Sealing.{is_encrypted};
 ghost use Rattle.minisign.specs.Acceptance.{accepts_comments};
 ghost use Rattle.minisign.specs.Signing.{AreKept, DrawFails, HasDrawn, IsSigned, SigningFails, VouchesWhereGenuine, comments_or_defaults, default_trusted_comment, default_untrusted_comment};

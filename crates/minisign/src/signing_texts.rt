@@ -1,6 +1,6 @@
 //! Signing with the text of a secret key.
 
-ghost use Rattle.std.specs.Prelude.{◌≡◌, ℕ, false, List, Some, None, string_bytes, IfOk, IfErr, OnOk, IfSome};
+ghost use Rattle.std.specs.Prelude.{◌≡◌, ℕ, false, List, None, string_bytes, IfOk, IfErr, OnOk, IfSome};
 ghost use Rattle.std.specs.Option.{option_map};
 ghost use Rattle.minisign_base.specs.Devices.{HasGiven};
 ghost use Rattle.minisign_base.specs.Passages.{prompt_passage, random_passage, source_passage};

@@ -1,7 +1,7 @@
 //! Numbers as bytes, the parameters of scrypt that a key's limits lead to, asking for a password, and
 //! the clock.
 
-ghost use Rattle.std.specs.Prelude.{◌≡◌, ℕ, ◌/◌, ◌^◌, ◌<◌, ◌≤◌, List, Ok, Err, IfOk, IfErr, MatchResult, length, string_bytes, take};
+ghost use Rattle.std.specs.Prelude.{◌≡◌, ℕ, ◌/◌, ◌^◌, ◌<◌, ◌≤◌, List, Ok, Err, IfOk, IfErr, length, string_bytes, take};
 ghost use Rattle.std.specs.Int.{from_le_bytes, to_le_bytes, w64};
 ghost use Rattle.std.specs.Time.{system_time_nanos};
 ghost use Rattle.minisign_base.specs.Faults.{clock_incorrect, out_of_memory};

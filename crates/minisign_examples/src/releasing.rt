@@ -1,7 +1,7 @@
 //! A signing tool in small: keys are made and kept as texts, and what they signed is published with a text
 //! of the signature.
 
-ghost use Rattle.std.specs.Prelude.{◌≡◌, ℕ, List, false, string_bytes, MatchResult, IfOk, IfErr};
+ghost use Rattle.std.specs.Prelude.{false, string_bytes, MatchResult, IfOk, IfErr};
 ghost use Rattle.minisign.specs.Records.{PublicKeyRecord, SecretKeyRecord, SignatureBoxRecord};
 ghost use Rattle.minisign.specs.Acceptance.{Vouches};
 ghost use Rattle.minisign.specs.Generation.{IsGenuinePair};

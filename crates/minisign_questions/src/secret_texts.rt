@@ -4,7 +4,6 @@ ghost use Rattle.std.specs.Prelude.{◌≡◌, ◌⊎◌, ◌∷◌, [], true, f
 ghost use Rattle.std.specs.Str.Lines.{lines};
 ghost use Rattle.std.specs.Str.Iter.{lines_rest};
 ghost use Rattle.minisign_base.specs.Faults.{out_of_memory};
-ghost use Rattle.minisign.specs.Opening.{RefusesUnencrypted};
 ghost use Rattle.minisign.specs.Records.{SecretKeyRecord};
 ghost use Rattle.minisign.specs.SecretKeyText.{SecretKeyText, secret_key_refusal};
 ghost use Rattle.minisign.specs.Texts.{IsBase64Of, IsRefused, is_base64};

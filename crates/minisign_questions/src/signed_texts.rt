@@ -1,6 +1,6 @@
 //! The text of a signature, from the answers of a signature scheme.
 
-ghost use Rattle.std.specs.Prelude.{◌≡◌, ◌⊎◌, ◌<◌, ◌≤◌, ◌+◌, ◌++◌, ℕ, List, Some, true, false, string_bytes, length, take, OnOk, OnErr, IfOk, IfErr, IfNone, MatchOption};
+ghost use Rattle.std.specs.Prelude.{◌≡◌, ◌⊎◌, ◌<◌, ◌≤◌, ◌+◌, ◌++◌, Some, true, false, string_bytes, length, take, OnOk, OnErr, IfOk, IfErr, IfNone, MatchOption};
 ghost use Rattle.minisign_base.specs.Faults.{out_of_memory};
 ghost use Rattle.minisign.specs.Signing.{AreKept};
 ghost use Rattle.minisign.specs.SignatureText.{SignatureText, signature_text};

@@ -1,7 +1,7 @@
 //! A state of fixed size that a program in another language holds: it is fed the data in pieces, asks the
 //! questions of two texts, and gives the verdict.
 
-ghost use Rattle.std.specs.Prelude.{◌≡◌, ◌≢◌, ◌++◌, ℕ, Bool, List, [], false, Ok, OnOk, IfOk, OnErr, IfErr, MatchResult, length};
+ghost use Rattle.std.specs.Prelude.{◌≡◌, ◌++◌, ℕ, List, [], false, Ok, OnOk, IfOk, IfErr, MatchResult, length};
 ghost use Rattle.minisign_hash.specs.Blake2b.{blake2b_digest};
 ghost use Rattle.minisign_hash.specs.Fed.{IsFed as IsFedHash, has_finalized, output_length};
 ghost use Rattle.minisign_questions.specs.States.{IsFed, IsMarkedFed, IsNotFed, fed_mark};

@@ -1,9 +1,8 @@
 //! Two texts that were read: what is refused before a scheme is asked, and what it has to be asked.
 
-ghost use Rattle.std.specs.Prelude.{◌≡◌, if◌then◌else◌, ◌⊎◌, ◌++◌, ◌||◌, ◌<◌, ◌≤◌, ◌+◌, ℕ, Bool, List, Some, true, false, None, not, nat_le, length, take, drop, IsTrue, IfOk, IfErr, IfSome, IfNone, MatchOption, MatchResult, IsSomeAnd};
+ghost use Rattle.std.specs.Prelude.{◌≡◌, if◌then◌else◌, ◌⊎◌, ◌++◌, ◌||◌, ◌<◌, ◌≤◌, ◌+◌, ℕ, Bool, List, Some, true, false, None, not, nat_le, length, take, IsTrue, IfOk, IfErr, IfNone, MatchOption, MatchResult};
 ghost use Rattle.minisign_base.specs.Faults.{out_of_memory};
 ghost use Rattle.minisign.specs.Records.{CommentsRecord, is_prehashed};
-ghost use Rattle.minisign.specs.Acceptance.{Verifier, first_refusal};
 ghost use Rattle.minisign.specs.VerifyingTexts.{ReadTexts};
 ghost use Rattle.minisign_questions.specs.Questions.{AreOpen, HoldsMessage, IsRefusedUnasked, TextsRecord, has_whole_signature};
 

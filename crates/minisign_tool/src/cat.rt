@@ -1,15 +1,9 @@
 //! The command `cat`: as `verify`, and what was verified is copied out.
 
-ghost use Rattle.std.specs.Prelude.{◌≡◌, ℕ, ◌≤◌, List, false, true, OnOk, OnErr, IfErr};
-ghost use Rattle.std.specs.Io.KnownBytes.{Appends};
+ghost use Rattle.std.specs.Prelude.{◌≡◌, ◌≤◌, false, true, OnOk, IfErr};
 ghost use Rattle.minisign_base.specs.Passages.{Takes, rereader_passage, sink_passage, source_passage};
-ghost use Rattle.minisign.specs.Acceptance.{status_lines};
-ghost use Rattle.minisign.specs.Headline.{CopyIsVouchedFor, TextsVouchFor};
-ghost use Rattle.minisign.specs.Reading.{IsAhead};
-ghost use Rattle.minisign.specs.Verifying.{HasCopy};
-ghost use Rattle.minisign.specs.VerifyingTexts.{VerifyingTextsFails};
 ghost use Rattle.minisign_tool.specs.Report.{EndsWithFault, SaysAfterWarning};
-ghost use Rattle.minisign_tool.specs.Verify.{FilesFailToCopy, FilesVouchForCopy, SaysFront, says_and_copies};
+ghost use Rattle.minisign_tool.specs.Verify.{FilesFailToCopy, FilesVouchForCopy};
 
 use crate::report::{report, warn};
 use crate::text_files::read_both_texts;

@@ -1,15 +1,11 @@
 //! The command `verify`: the texts of a public key and a signature from files, the data from a
 //! third.
 
-ghost use Rattle.std.specs.Prelude.{◌≡◌, ℕ, ◌≤◌, List, false, OnOk, OnErr, IfErr};
-ghost use Rattle.std.specs.Io.KnownBytes.{Appends};
+ghost use Rattle.std.specs.Prelude.{◌≡◌, ◌≤◌, false, OnOk, IfErr};
 ghost use Rattle.minisign_base.specs.Devices.{HasGiven};
 ghost use Rattle.minisign_base.specs.Passages.{Takes, rereader_passage, sink_passage, source_passage};
-ghost use Rattle.minisign.specs.Acceptance.{status_lines};
-ghost use Rattle.minisign.specs.Headline.{TextsVouchFor};
-ghost use Rattle.minisign.specs.Reading.{IsAhead};
 ghost use Rattle.minisign_tool.specs.Report.{EndsWithFault, SaysAfterWarning};
-ghost use Rattle.minisign_tool.specs.Verify.{FilesFail, FilesVouch, SaysFront, VerifyFails};
+ghost use Rattle.minisign_tool.specs.Verify.{FilesFail, FilesVouch};
 
 use crate::report::{report, warn};
 use crate::text_files::read_both_texts;

@@ -1,7 +1,7 @@
 //! What random bytes are drawn from.
 
 ghost use Rattle.std.specs.Prelude.{Option, ◌≡◌, ℕ, ◌≤◌, ◌↔◌, List, length, Some, IsSomeAnd, IsOk, OnOk, OnErr, ◌⊎◌};
-ghost use Rattle.std.specs.Io.KnownBytes.{Consumes, IsAtEnd};
+ghost use Rattle.std.specs.Io.KnownBytes.{IsAtEnd};
 ghost use Rattle.minisign_base.specs.Devices.{Rose, HasFilled};
 
 use super::sources::{Source, fill_from};

@@ -1,6 +1,6 @@
 //! A sink that takes only so much or fails, and one that keeps nothing.
 
-ghost use Rattle.std.specs.Prelude.{◌≡◌, Some, None, [], true, false, ◌<◌};
+ghost use Rattle.std.specs.Prelude.{◌≡◌, Some, None, [], ◌<◌};
 
 use crate::devices::turn::Turn;
 use minisign_base::devices::DeviceFault;
