@@ -64,7 +64,7 @@ pub record CopyIsVouchedWith {R O : Type 0} (accepts : Verifier) (pk_text sig_te
   pub vouched : TextsVouchWith accepts pk_text sig_text copy false comment
   pub same : IsSteady reader → IfSome (reader.source.ahead reader.old) (λ xs. copy ≡ xs)
 
--- nothing was copied: memory was wanting, the source failed, or the texts do not vouch for what it gave
+-- nothing was copied: memory ran out, the source failed, or the texts do not vouch for what it gave
 pub record NothingIsCopied {R O : Type 0} (accepts : Verifier) (pk_text sig_text : List ℕ) (reader : RereaderPassage R) (out : SinkPassage O) (e : Fault) : Type 0 where
   pub uncopied : out.new ≡ out.old
   pub why : (e ≡ out_of_memory) ⊎ MarkFails true reader e ⊎ ReadingFails reader.source reader.old reader.new e
@@ -91,7 +91,7 @@ pub record GivesNoKeyWith (text password : List ℕ) (e : Fault) : Type 0 where
       ⊎ ((k : SecretKeyRecord) × SecretKeyText text k × (key_refusal k password ≡ Some e))
   pub none : (k : SecretKeyRecord) → ¬ (GivesKeyWith text password k)
 
--- signing bytes with a key fails: the key is sealed, with nothing drawn; or it is opened, and memory is wanting or
+-- signing bytes with a key fails: the key is sealed, with nothing drawn; or it is opened, and memory runs out or
 -- the random source fails
 abbrev pub BytesSigningFails : {Z : Type 0} → SecretKeyRecord → RandomPassage Z → Fault → Type 0
 BytesSigningFails sk z e =

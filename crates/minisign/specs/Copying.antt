@@ -21,7 +21,7 @@ pub record ReturnFails {R O : Type 0} (reader : RereaderPassage R) (out : SinkPa
   pub unmarked : reader.source.is_marked reader.new ≡ false
   pub uncopied : out.new ≡ out.old
 
--- the data was copied in part, which is a beginning of what the second pass gave: memory was wanting, the source
+-- the data was copied in part, which is a beginning of what the second pass gave: memory ran out, the source
 -- failed at a read, which leaves its place marked, or the output did
 pub record CopyBreaksOff {R O : Type 0} (reader : RereaderPassage R) (out : SinkPassage O) (second : List ℕ) (e : Fault) : Type 0 where
   pub front : TakesFront out second

@@ -143,7 +143,7 @@ pub record WritingFails {P K : Type 0} (pk_sink : SinkPassage P) (sk_sink : Sink
 abbrev pub AreUnwritten : {P K : Type 0} → SinkPassage P → SinkPassage K → Type 0
 AreUnwritten pk_sink sk_sink = (pk_sink.new ≡ pk_sink.old) × (sk_sink.new ≡ sk_sink.old)
 
--- a pair's parts are not written: memory was wanting for them, and both sinks are as they were, or a sink
+-- a pair's parts are not written: memory ran out for them, and both sinks are as they were, or a sink
 -- failed
 abbrev pub PartsFail : {P K : Type 0} → SinkPassage P → SinkPassage K → List ℕ → List ℕ → Fault → Type 0
 PartsFail pk_sink sk_sink public secret e =
@@ -169,7 +169,7 @@ abbrev pub SealedPairFails : {Z R W : Type 0} → RandomPassage Z → PromptPass
 SealedPairFails z p password e =
     (DrawFails z e × (p.new ≡ p.old)) ⊎ (AllDrawn z × IsSealingFault p password e)
 
--- a sealed pair was made, under the password that was handed in or typed
+-- a sealed pair was made, under the password that was passed in or typed
 pub record HasSealed {Z R W : Type 0} (public_of : List ℕ → List ℕ) (z : RandomPassage Z) (p : PromptPassage R W)
     (given : Option (List ℕ)) (pk : PublicKeyRecord) (sk : SecretKeyRecord) : Type 0 where
   pub password : List ℕ

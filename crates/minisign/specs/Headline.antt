@@ -25,7 +25,7 @@ pub record TextsVouchFor (accepts : Verifier) (pk_text sig_text message : List �
   pub box_read : SignatureText sig_text box
   pub vouches : Vouches accepts key box message legacy
 
--- the first failing case: of the public key text, else of the signature text, else of the conditions that
+-- the first failing case: of the public key text, otherwise of the signature text, otherwise of the conditions that
 -- the box vouches for the message under the key
 abbrev pub IsFirstCase : Verifier → List ℕ → List ℕ → List ℕ → Bool → Fault → Type 0
 IsFirstCase accepts pk_text sig_text message legacy e =
@@ -39,7 +39,7 @@ pub record TextsRefuse (accepts : Verifier) (pk_text sig_text message : List ℕ
   pub first_case : IsFirstCase accepts pk_text sig_text message legacy e
   pub unvouched : ¬ (TextsVouchFor accepts pk_text sig_text message legacy)
 
--- success is answered exactly where the texts vouch for the message, and else the first failing case
+-- success is returned exactly where the texts vouch for the message, and otherwise the first failing case
 abbrev pub IsVerdict : {T : Type 0} → Verifier → List ℕ → List ℕ → List ℕ → Bool → Result T Fault → Type 0
 IsVerdict accepts pk_text sig_text message legacy r =
     MatchResult r (λ _. TextsVouchFor accepts pk_text sig_text message legacy) (TextsRefuse accepts pk_text sig_text message legacy)
@@ -59,8 +59,8 @@ pub record CopyIsVouchedFor {O : Type 0} (accepts : Verifier) (pk_text sig_text 
   pub taken : Takes out copy
   pub vouched : TextsVouchFor accepts pk_text sig_text copy legacy
 
--- opening: with a password that is handed in, a text that reads as a key sealed by scrypt gives that key opened
--- exactly where its limits are allowed and within the bound and the stream restores its checksum, and else the
+-- opening: with a password that is passed in, a text that reads as a key sealed by scrypt gives that key opened
+-- exactly where its limits are allowed and within the bound and the stream restores its checksum, and otherwise the
 -- first reason; the bound is on the parallelization, where there is one
 abbrev pub OpeningHeadline : Option (List ℕ) → List ℕ → Option ℕ → Result SecretKeyRecord Fault → Type 0
 OpeningHeadline password text bound answer =

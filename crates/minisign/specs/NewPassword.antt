@@ -1,4 +1,4 @@
--- What a prompt writes and reads where a key is sealed: unless a password is handed in, it says what for, asks
+-- What a prompt writes and reads where a key is sealed: unless a password is passed in, it says what for, asks
 -- twice, and tells of the derivation.
 use Rattle.std.specs.Prelude.{◌≡◌, ◌≢◌, ◌⊎◌, ℕ, List, Option, None, Some, Ok, codes}
 use Rattle.minisign_base.specs.declared.prompt.Prompt.{Prompt}
@@ -63,7 +63,7 @@ pub record HasTold {R W : Type 0} (p : PromptPassage R W) : Type 0 where
   pub before : HasSaid (record p { new = between }) sealing_text
   pub after : HasSaid (record p { old = between }) done_text
 
--- the derivation was told of, and memory was wanting for it, or its end could not be told
+-- the derivation was told of, and memory ran out for it, or its end could not be told
 pub record HasNotDone {R W : Type 0} (p : PromptPassage R W) (e : Fault) : Type 0 where
   pub between : Prompt R W
   pub before : HasSaid (record p { new = between }) sealing_text
@@ -80,7 +80,7 @@ pub record HasTyped {R W : Type 0} (p : PromptPassage R W) (password : List ℕ)
   pub chosen : HasAskedTwice (record p { new = between }) password password
   pub told : HasTold (record p { old = between })
 
--- where the password comes from: it is the one that is handed in, and the prompt is as it was, or else it is
+-- where the password comes from: it is the one that is passed in, and the prompt is as it was, or else it is
 -- typed
 abbrev pub IsPassword : {R W : Type 0} → PromptPassage R W → Option (List ℕ) → List ℕ → Type 0
 IsPassword p (Some given) password = (password ≡ given) × (p.new ≡ p.old)
@@ -93,7 +93,7 @@ pub record HasNotSealed {R W : Type 0} (p : PromptPassage R W) (e : Fault) : Typ
   pub chosen : HasAskedTwice (record p { new = between }) password password
   pub telling : IsTellingFault (record p { old = between }) e
 
--- why no key was sealed: with a password that is handed in only memory can be wanting
+-- why no key was sealed: with a password that is passed in only memory can be wanting
 abbrev pub IsSealingFault : {R W : Type 0} → PromptPassage R W → Option (List ℕ) → Fault → Type 0
 IsSealingFault p (Some given) e = (e ≡ out_of_memory) × (p.new ≡ p.old)
 IsSealingFault p None e = IsChoosingFault p e ⊎ HasNotSealed p e

@@ -64,7 +64,7 @@ pub record HasAskedAndNotSaid {R W : Type 0} (p : PromptPassage R W) (bytes pass
   pub front : AppendsFront (p.sink.taken p.old.writer) (p.sink.taken p.new.writer) (asking_text ++ written_after (Ok password) ++ text)
 
 -- why a sealed key was not opened with a password that is known, told by what a prompt said and what it did
--- not: a writer that failed at the text before the derivation; want of memory; the limits and the bound; a
+-- not: a writer that failed at the text before the derivation; out of memory; the limits and the bound; a
 -- writer that failed at the line behind the derivation; a checksum that was not restored
 abbrev pub IsToldRefusal : (List ℕ → Type 0) → (List ℕ → Type 0) → SecretKeyRecord → List ℕ → Option ℕ → Fault → Type 0
 IsToldRefusal Said NotSaid k password bound e =
@@ -81,7 +81,7 @@ IsOpenedAsking p text bound opened =
     (bytes : List ℕ) × (password : List ℕ) × IsOpened text password bound opened
     × HasAskedAndSaid p bytes password (deriving_text ++ done_text)
 
--- why the text's key was not opened where a password is asked for: want of memory, or a text that no
+-- why the text's key was not opened where a password is asked for: out of memory, or a text that no
 -- password opens, with the prompt untouched; no password; or what refuses the key with a password
 abbrev pub RefusesAsking : {R W : Type 0} → PromptPassage R W → List ℕ → Option ℕ → Fault → Type 0
 RefusesAsking p text bound e =
@@ -93,7 +93,7 @@ RefusesAsking p text bound e =
     × IsToldRefusal (HasAskedAndSaid p bytes password) (HasAskedAndNotSaid p bytes password) k password bound e))))
 
 -- how opening the key of a text ends, within a bound on the parallelization, where there is one: with a
--- password that is handed in the prompt is as it was; else the prompt is asked for one
+-- password that is passed in the prompt is as it was; otherwise the prompt is asked for one
 abbrev pub IsOpening : {R W : Type 0} → PromptPassage R W → Option (List ℕ) → List ℕ → Option ℕ → Result SecretKeyRecord Fault → Type 0
 IsOpening p (Some password) text bound answer =
     (p.new ≡ p.old)

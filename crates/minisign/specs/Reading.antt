@@ -27,7 +27,7 @@ pub record ReadingFails {R : Type 0} (source : SourceOf R) (old new : R) (e : Fa
   pub fault : e ≡ reading_failed
   pub rose : Rose (source.faults old) (source.faults new)
 
--- memory was wanting, or the source failed
+-- memory ran out, or the source failed
 abbrev pub IsReadFault : {R : Type 0} → SourceOf R → R → R → Fault → Type 0
 IsReadFault source old new e = (e ≡ out_of_memory) ⊎ ReadingFails source old new e
 

@@ -113,7 +113,7 @@ pub record GivenKeyRefuses {Z : Type 0} (accepts : Verifier) (sign : Signer) (pk
   pub signed : IsSigned sign sk message chosen z made
   pub refused : accepts_comments accepts pk made ≡ false
 
--- signing with an opened key fails: memory is wanting, the data fails, or all of it was read and the random
+-- signing with an opened key fails: memory runs out, the data fails, or all of it was read and the random
 -- source fails
 abbrev pub OpenedSigningFails : {R Z : Type 0} → SourcePassage R → RandomPassage Z → Fault → Type 0
 OpenedSigningFails r z e =
@@ -121,7 +121,7 @@ OpenedSigningFails r z e =
     ⊎ DataFails r z e
     ⊎ ((message : List ℕ) × ReadsWhole r.source r.old r.new message × DrawFails z e)
 
--- signing fails: the key is sealed; or it is opened, and memory is wanting, the data fails, or all of it was
+-- signing fails: the key is sealed; or it is opened, and memory runs out, the data fails, or all of it was
 -- read and the random source fails or the given public key refuses
 abbrev pub SigningFails : {R Z : Type 0} → Verifier → Signer → Option PublicKeyRecord → SecretKeyRecord → ChosenComments
     → SourcePassage R → RandomPassage Z → Fault → Type 0

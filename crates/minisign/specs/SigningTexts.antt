@@ -1,4 +1,4 @@
--- Signing with the text of a secret key: which key the text gives, and what is answered.
+-- Signing with the text of a secret key: which key the text gives, and what is returned.
 use Rattle.std.specs.Prelude.{◌≡◌, ◌≢◌, ◌⊎◌, ℕ, List, Option, None, Some, Result, Ok, Err, MatchResult}
 use Rattle.minisign_base.specs.Fault.{Fault}
 use Rattle.minisign_base.specs.Faults.{out_of_memory, corrupted_key}

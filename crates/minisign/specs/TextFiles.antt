@@ -12,10 +12,10 @@ pub record GivesNoText {R : Type 0} (source : SourceOf R) (old new : R) (e : Fau
   pub unreadable : ¬ (IsUtf8 bytes)
   pub fault : e ≡ not_utf8
 
--- why a source gave no text: memory was wanting, or it failed, or what it gave is not UTF-8
+-- why a source gave no text: memory ran out, or it failed, or what it gave is not UTF-8
 abbrev pub IsTextFault : {R : Type 0} → SourceOf R → R → R → Fault → Type 0
 IsTextFault source old new e = IsReadFault source old new e ⊎ GivesNoText source old new e
 
--- why a file gave no text: memory was wanting, or it could not be opened or read, or what it holds is not UTF-8
+-- why a file gave no text: memory ran out, or it could not be opened or read, or what it holds is not UTF-8
 abbrev pub IsTextFileFault : Fault → Type 0
 IsTextFileFault e = (e ≡ out_of_memory) ⊎ (e ≡ reading_failed) ⊎ (e ≡ not_utf8)

@@ -71,7 +71,7 @@ pub record MarkFails {R : Type 0} (again : Bool) (reader : RereaderPassage R) (e
   pub unmarked : reader.source.is_marked reader.new ≡ false
   pub unread : StaysOrHides (reader.source.ahead reader.old) (reader.source.ahead reader.new)
 
--- the place could not be marked, memory was wanting, or the data could not be read, whose place is marked where
+-- the place could not be marked, memory ran out, or the data could not be read, whose place is marked where
 -- it is to be read again; nothing was said
 pub record BreaksOff {R W : Type 0} (again : Bool) (reader : RereaderPassage R) (status : SinkPassage W) (e : Fault) : Type 0 where
   pub failed : MarkFails again reader e ⊎ IsReadFault reader.source reader.old reader.new e

@@ -15,7 +15,7 @@ pub record ReadTexts (pk_text sig_text : List ℕ) (key : PublicKeyRecord) (box 
   pub key_read : PublicKeyText pk_text key
   pub box_read : SignatureText sig_text box
 
--- a text is refused, the public key's before the signature's, or memory was wanting
+-- a text is refused, the public key's before the signature's, or memory ran out
 abbrev pub TextsFail : List ℕ → List ℕ → Fault → Type 0
 TextsFail pk_text sig_text e =
     (e ≡ out_of_memory)

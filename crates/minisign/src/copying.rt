@@ -77,7 +77,7 @@ fn copy_again<R: Rereader, O: Sink>(
     flush(out)
 }
 
-// Copies all that is ahead, and answers its Blake2b digest of 64 bytes.
+// Copies all that is ahead, and returns its Blake2b digest of 64 bytes.
 fn copy_hashed<S: Source, O: Sink>(alloc: Global, source: &mut S, out: &mut O) -> Result<[u8; 64]>
     requires { BeginsAnew (S.since source.old) }
     ensures copied { IfOk result (λ d. (message : List ℕ) × ReadsWhole S.Source source.old source.new message

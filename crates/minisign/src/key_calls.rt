@@ -27,7 +27,7 @@ use std::alloc::Global;
 /// password. Nothing is asked for and nothing is said.
 ///
 /// Refused are, in this order: a text that reads as no key; of a key that was never sealed a checksum that does
-/// not match, `corrupted_key`; of any other what `SecretKey::from_box` refuses with a password that is handed in,
+/// not match, `corrupted_key`; of any other what `SecretKey::from_box` refuses with a password that is passed in,
 /// `wrong_password` among it. It may run out of memory at any time: a sealed key takes 128 * 8 * N bytes, 32 MiB
 /// with the usual limits.
 ///

@@ -120,8 +120,8 @@ impl KeyPair {
     /// Makes a pair whose secret key is sealed under a password, of 32 random bytes of a seed, then 8 of an
     /// identifier, and then 32 of a salt. All of them are drawn before anything is asked.
     ///
-    /// Where no `password` is handed in, the prompt says what it is for, asks for it twice, and tells of the
-    /// derivation, which takes some 32 MiB of memory; else the prompt is left alone. The secret key is opened
+    /// Where no `password` is passed in, the prompt says what it is for, asks for it twice, and tells of the
+    /// derivation, which takes some 32 MiB of memory; otherwise the prompt is left alone. The secret key is opened
     /// again by `SecretKey::from_box` with the same password.
     ///
     /// Refused are, in this order: a failing `random`, with nothing asked; what `get_password` refuses, at the

@@ -1,6 +1,6 @@
 //! Minisign: keys, signatures, and whether a signature vouches for data under a public key.
 //!
-//! Whoever signs and verifies hands in a signature scheme, random bytes and the devices that bytes
+//! Whoever signs and verifies passes in a signature scheme, random bytes and the devices that bytes
 //! come from and go to.
 
 #![tactic(auto)]

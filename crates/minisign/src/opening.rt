@@ -114,9 +114,9 @@ impl SecretKey {
     /// `max_p` is the greatest parallelization p of scrypt (RFC 7914, section 2) that is allowed. Memory
     /// for the rows of scrypt is asked for once, 128 * 8 * N bytes.
     ///
-    /// Where no password is handed in, the prompt writes `Password: ` and reads a line, writes
+    /// Where no password is passed in, the prompt writes `Password: ` and reads a line, writes
     /// `Deriving a key from the password and decrypting the secret key... `, and after the derivation
-    /// `done` and a line feed; a password that is handed in leaves the prompt untouched.
+    /// `done` and a line feed; a password that is passed in leaves the prompt untouched.
     ///
     /// Refused are, in this order: a text without a first line, without a second one, with a second line
     /// that is no base64, or of fewer than 158 bytes; a key that was never sealed, `key_not_encrypted`; one
@@ -178,7 +178,7 @@ impl SecretKey {
         sk.open(alloc, password, prompt, bound, k)
     }
 
-    // Opens the sealed key that a text reads as, with a password that is handed in or asked for.
+    // Opens the sealed key that a text reads as, with a password that is passed in or asked for.
     pub(crate) fn open<R: Source, W: Sink>(
         self,
         alloc: Global,
@@ -308,7 +308,7 @@ impl SecretKey {
         self.check_restored()
     }
 
-    // Opens a sealed key with a password that was handed in.
+    // Opens a sealed key with a password that was passed in.
     fn open_with(
         self,
         alloc: Global,

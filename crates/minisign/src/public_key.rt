@@ -149,7 +149,7 @@ impl PublicKey {
         Ok(PublicKeyBox::from(text))
     }
 
-    /// The base64 of the 42 bytes, 56 characters. Only want of memory is refused.
+    /// The base64 of the 42 bytes, 56 characters. Only running out of memory is refused.
     pub fn to_base64(&self, alloc: Global) -> Result<String>
         ensures text { IfOk result (λ t. string_bytes t ≡ base64_of (public_key_bytes self.now)) }
         ensures reads_back { IfOk result (λ t. BarePublicKey (string_bytes t) self.now) }
@@ -160,7 +160,7 @@ impl PublicKey {
         Ok(text)
     }
 
-    /// The 42 bytes that `from_bytes` reads as this key. Only want of memory is refused.
+    /// The 42 bytes that `from_bytes` reads as this key. Only running out of memory is refused.
     pub fn to_bytes(&self, alloc: Global) -> Result<Vec<u8>>
         ensures bytes { IfOk result (λ v. v.items ≡ public_key_bytes self.now) }
         ensures reads_back { IfOk result (λ v. ReadsPublicKey v.items self.now) }

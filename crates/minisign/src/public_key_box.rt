@@ -26,7 +26,7 @@ impl Model for PublicKeyBox {
 }
 
 impl PublicKeyBox {
-    /// A box that holds a copy of the text. Only want of memory is refused.
+    /// A box that holds a copy of the text. Only running out of memory is refused.
     pub fn from_string(alloc: Global, text: &str) -> Result<PublicKeyBox>
         ensures text { IfOk result (λ b. b ≡ text.now) }
         ensures refused { IfErr result (λ e. e ≡ out_of_memory) }
@@ -41,7 +41,7 @@ impl PublicKeyBox {
         self.0
     }
 
-    /// The bytes of the text. Only want of memory is refused.
+    /// The bytes of the text. Only running out of memory is refused.
     pub fn to_bytes(&self, alloc: Global) -> Result<Vec<u8>>
         ensures bytes { IfOk result (λ v. v.items ≡ self.now) }
         ensures refused { IfErr result (λ e. e ≡ out_of_memory) }
@@ -51,7 +51,7 @@ impl PublicKeyBox {
         Ok(bytes)
     }
 
-    /// A box with the same text. Only want of memory is refused.
+    /// A box with the same text. Only running out of memory is refused.
     pub fn try_clone(&self, alloc: Global) -> Result<PublicKeyBox>
         ensures text { IfOk result (λ b. b ≡ self.now) }
         ensures refused { IfErr result (λ e. e ≡ out_of_memory) }

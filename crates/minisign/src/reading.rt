@@ -31,7 +31,7 @@ pub(crate) fn read_text_file<F: Files>(files: &F, alloc: Global, path: &str) -> 
 }
 
 /// All that is ahead, as a text in memory. Refused are a failing source (`reading_failed`), bytes that are
-/// not UTF-8 (`not_utf8`), and want of memory, which may come at any time.
+/// not UTF-8 (`not_utf8`), and running out of memory, which may come at any time.
 pub fn read_text<S: Source>(alloc: Global, source: &mut S) -> Result<String>
     ensures text { IfOk result (λ t. ReadsWhole S.Source source.old source.new (string_bytes t)) }
     ensures refused { IfErr result (IsTextFault S.Source source.old source.new) }

@@ -113,7 +113,7 @@ impl SecretKey {
         })
     }
 
-    /// The 158 bytes that `from_bytes` reads as this key. Only want of memory is refused.
+    /// The 158 bytes that `from_bytes` reads as this key. Only running out of memory is refused.
     pub fn to_bytes(&self, alloc: Global) -> Result<Vec<u8>>
         ensures bytes { IfOk result (λ v. v.items ≡ secret_key_bytes self.now) }
         ensures reads_back { IfOk result (λ v. ReadsSecretKey v.items self.now) }

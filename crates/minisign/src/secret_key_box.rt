@@ -23,7 +23,7 @@ impl Model for SecretKeyBox {
 }
 
 impl SecretKeyBox {
-    /// A box of this text. Only want of memory is refused.
+    /// A box of this text. Only running out of memory is refused.
     pub fn from_string(alloc: Global, s: &str) -> Result<SecretKeyBox>
         ensures text { IfOk result (λ b. b ≡ s.now) }
         ensures refused { IfErr result (λ e. e ≡ out_of_memory) }
@@ -41,7 +41,7 @@ impl SecretKeyBox {
         text
     }
 
-    /// The bytes of the text. Only want of memory is refused.
+    /// The bytes of the text. Only running out of memory is refused.
     pub fn to_bytes(&self, alloc: Global) -> Result<Vec<u8>>
         ensures bytes { IfOk result (λ v. v.items ≡ self.now) }
         ensures refused { IfErr result (λ e. e ≡ out_of_memory) }
@@ -49,7 +49,7 @@ impl SecretKeyBox {
         Ok(Vec::from_slice(alloc, self.text.as_bytes())?)
     }
 
-    /// Another box of the same text. Only want of memory is refused.
+    /// Another box of the same text. Only running out of memory is refused.
     pub fn try_clone(&self, alloc: Global) -> Result<SecretKeyBox>
         ensures same { IfOk result (λ b. b ≡ self.now) }
         ensures refused { IfErr result (λ e. e ≡ out_of_memory) }

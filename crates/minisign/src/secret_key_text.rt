@@ -41,7 +41,7 @@ impl SecretKey {
     /// where none is given, on one line, and the base64 of the 158 bytes on another, each ended by a line
     /// feed. The bytes are written as they stand: of an opened sealed key the opened ones, still under
     /// the name of its key derivation. Where no line feed stands in the comment, the text reads as the key
-    /// again. Only want of memory is refused.
+    /// again. Only running out of memory is refused.
     #[tactic(auto, unfolding(crate::specs::SecretKeyText::secret_key_text, crate::specs::SecretKeyText::default_secret_key_comment))]
     pub fn to_box(&self, alloc: Global, comment: Option<&str>) -> Result<SecretKeyBox>
         ensures text { IfOk result

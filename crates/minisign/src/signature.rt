@@ -38,7 +38,7 @@ impl Signature {
     /// The length of a stored signature in bytes.
     pub const BYTES: usize = 74;
 
-    /// The 74 bytes that `from_bytes` reads as this signature. Only want of memory is refused.
+    /// The 74 bytes that `from_bytes` reads as this signature. Only running out of memory is refused.
     pub fn to_bytes(&self, alloc: Global) -> Result<Vec<u8>>
         ensures bytes { IfOk result (λ v. v.items ≡ signature_bytes self.now) }
         ensures reads_back { IfOk result (λ v. ReadsSignature v.items self.now) }

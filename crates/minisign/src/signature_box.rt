@@ -119,7 +119,7 @@ impl SignatureBox {
     }
 
     /// The text of the box, the four lines that `from_string` reads, each ended by a line feed. A box that
-    /// was made from a bare signature is refused, and want of memory.
+    /// was made from a bare signature is refused, and running out of memory.
     ///
     /// Comments are written as they stand: they are read back where the untrusted one has no line feed and
     /// no carriage return at its end, and the trusted one no line feed and no white space at its ends. Where
@@ -161,7 +161,7 @@ impl SignatureBox {
         Ok(self.to_string(alloc)?.into_bytes())
     }
 
-    /// A box that holds the same. Only want of memory is refused.
+    /// A box that holds the same. Only running out of memory is refused.
     pub fn try_clone(&self, alloc: Global) -> Result<SignatureBox>
         ensures same { IfOk result (λ b. b ≡ self.now) }
         ensures refused { IfErr result (λ e. e ≡ out_of_memory) }
@@ -185,7 +185,7 @@ impl SignatureBox {
         self.signature.sig_alg == SIGALG_PREHASHED
     }
 
-    /// The comment that nothing vouches for; a bare signature has an empty one. Only want of memory is
+    /// The comment that nothing vouches for; a bare signature has an empty one. Only running out of memory is
     /// refused.
     pub fn untrusted_comment(&self, alloc: Global) -> Result<String>
         ensures comment { IfOk result (λ t. string_bytes t ≡ untrusted_comment_of self.now) }
@@ -198,7 +198,7 @@ impl SignatureBox {
     }
 
     /// The comment that the comment signature vouches for. A bare signature, which has none, is refused,
-    /// and want of memory.
+    /// and running out of memory.
     pub fn trusted_comment(&self, alloc: Global) -> Result<String>
         ensures { MatchOption self.now.comments (result ≡ Err trusted_comment_absent)
             (λ c. MatchResult result (λ t. string_bytes t ≡ c.trusted) (λ e. e ≡ out_of_memory)) }

@@ -36,7 +36,7 @@ impl SignedData {
 }
 
 // Reads all that is ahead in pieces. It is kept in memory where the signature is over the data itself and that
-// is allowed, and else hashed, so that memory does not grow with it.
+// is allowed, and otherwise hashed, so that memory does not grow with it.
 pub(crate) fn read_signed_data<R: Source>(
     alloc: Global,
     signature_box: &SignatureBox,

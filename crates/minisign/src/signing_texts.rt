@@ -22,10 +22,10 @@ use minisign_base::prompt::Prompt;
 use minisign_base::scheme::Scheme;
 use std::alloc::Global;
 
-/// Signs all the data ahead of `data_reader` with the key of a text, and answers the text of the signature.
+/// Signs all the data ahead of `data_reader` with the key of a text, and returns the text of the signature.
 ///
 /// A key that was never sealed is taken as it stands, where its checksum matches (`from_unencrypted_box`);
-/// any other is opened with the password that is handed in, or with one that the prompt asks for
+/// any other is opened with the password that is passed in, or with one that the prompt asks for
 /// (`from_box`). Then the data is signed (`sign`, without a public key to test), and the box is written
 /// (`to_string`).
 ///

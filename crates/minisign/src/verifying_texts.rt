@@ -37,7 +37,7 @@ pub fn verify_texts<S: Scheme, R: Rereader, W: Sink, O: Sink>(
     out: &mut O,
 ) -> Result<()>
     // Where memory is found and no device fails: success exactly where the texts vouch for the data, and
-    // else the first failing case.
+    // otherwise the first failing case.
     ensures headline { VerifiesExactly (S.accepts scheme.now) pk_text.now sig_text.now
         (record { quiet = quiet; output = output; legacy = allow_legacy })
         (rereader_passage R.Source R.steady data_reader.old data_reader.new)

@@ -148,6 +148,6 @@ invalid_utf8 = record { kind = Encoding; text = codes "invalid UTF-8" }
 unfoldable pub different_key_ids : List ℕ → List ℕ → Fault
 different_key_ids signature key = record { kind = Verify; text = different_key_ids_text signature key }
 
--- the public key that was handed in does not accept the comment signature
+-- the public key that was passed in does not accept the comment signature
 unfoldable pub refused_by_given_key : List ℕ → Fault
 refused_by_given_key key = record { kind = Verify; text = refused_by_given_key_text key }

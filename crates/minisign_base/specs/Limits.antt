@@ -11,7 +11,7 @@ use Rattle.minisign_base.specs.Faults.{parameters_too_high, invalid_parameters}
 abbrev pub operations : ℕ → ℕ
 operations opslimit = max 32768 opslimit
 
--- what N is measured by: the operations where they are below a 32nd of the memory, else the memory
+-- what N is measured by: the operations where they are below a 32nd of the memory, otherwise the memory
 abbrev pub greatest_cost : ℕ → ℕ → ℕ
 greatest_cost memlimit opslimit =
     if nat_lt (operations opslimit) (memlimit / 32) then operations opslimit / 32 else memlimit / 1024

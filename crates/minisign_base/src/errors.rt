@@ -51,7 +51,7 @@ pub struct PError {
     text: Text,
 }
 
-/// An answer, or a fault.
+/// A value, or a fault.
 pub type Result<T> = std::result::Result<T, PError>;
 
 // A text as it is kept: the last two are put together when they are shown, so that no fault but

@@ -1,4 +1,4 @@
-//! One function for each fault that a call of Minisign answers, word for word. None takes memory.
+//! One function for each fault that a call of Minisign returns, word for word. None takes memory.
 
 ghost use Rattle.std.specs.Prelude.{◌≡◌};
 ghost use Rattle.minisign_base.specs.Faults as named;
@@ -53,7 +53,7 @@ pub fn record_too_short() -> PError
     PError::fixed(ErrorKind::Io, "failed to fill whole buffer")
 }
 
-/// A file or a typed line is no UTF-8.
+/// A file or a typed line is not UTF-8.
 #[tactic(auto, unfolding(crate::specs::Faults::not_utf8))]
 pub fn not_utf8() -> PError
     ensures { result ≡ named.not_utf8 }
@@ -403,7 +403,7 @@ pub fn formatting_failed() -> PError
     )
 }
 
-/// What std's fault of bytes that are no UTF-8 becomes.
+/// What std's fault of bytes that are not UTF-8 becomes.
 #[tactic(auto, unfolding(crate::specs::Faults::invalid_utf8))]
 pub fn invalid_utf8() -> PError
     ensures { result ≡ named.invalid_utf8 }
@@ -420,7 +420,7 @@ pub fn different_key_ids(signature: [u8; 8], key: [u8; 8]) -> PError
     PError::of_different_key_ids(signature, key)
 }
 
-/// The public key that was handed in, named by its identifier in 16 upper hexadecimal digits, does
+/// The public key that was passed in, named by its identifier in 16 upper hexadecimal digits, does
 /// not accept the comment signature.
 #[tactic(auto, unfolding(crate::specs::Faults::refused_by_given_key))]
 pub fn refused_by_given_key(key: [u8; 8]) -> PError

@@ -44,7 +44,7 @@ pub fn load_u64_le(bytes: &[u8]) -> u64
 /// or the end. The line feed and one carriage return before it are no part of the password. Where the
 /// password is empty, `<empty>` and a line feed are written and flushed.
 ///
-/// Memory for one line is wanted first; where it is wanting, that is `out_of_memory` and nothing was
+/// Memory for one line is wanted first; where it runs out, that is `out_of_memory` and nothing was
 /// written or read. Then, in this order: `writing_failed` and `reading_failed` where a device fails,
 /// `end_of_input` where the input ends at once, `password_too_long` where 1026 bytes hold no line feed, of
 /// which no more are read, `not_utf8`, and `password_too_long` for more than 1024 bytes.
@@ -95,9 +95,9 @@ fn seconds_since_1970(now: SystemTime) -> Result<u64>
 
 /// The parameters of scrypt that a memory limit in bytes and an operations limit lead to, as
 /// `specs/Limits` says: r is 8, the operations count for at least 32768, and where they are below a
-/// 32nd of the memory they bound N and p is 1, else the memory bounds N and the operations give p.
+/// 32nd of the memory they bound N and p is 1, otherwise the memory bounds N and the operations give p.
 ///
-/// `parameters_too_high` is answered exactly where N would be above 2^`n_log2_max`, and else
+/// `parameters_too_high` is returned exactly where N would be above 2^`n_log2_max`, and otherwise
 /// `invalid_parameters` exactly where scrypt does not take the parameters (RFC 7914, section 2). Takes
 /// no memory.
 #[tactic(auto, unfolding(crate::specs::Limits::limits))]

@@ -91,7 +91,7 @@ impl<R: Source, W: Sink> Prompt<R, W> {
     }
 }
 
-// Moves a line into the buffer and answers how long it is: the line feed and one carriage return before it
+// Moves a line into the buffer and returns how long it is: the line feed and one carriage return before it
 // are no part of it. No more than 1026 bytes are read, one at a time.
 fn read_line<R: Source>(source: &mut R, line: &mut [u8]) -> Result<usize>
     requires { length line.old ≡ 1026 }

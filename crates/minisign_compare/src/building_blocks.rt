@@ -72,7 +72,7 @@ fn answer_blake2b(alloc: Global, words: &mut Words, reply: &mut Reply) -> Result
     Ok(())
 }
 
-// Feeds a state all of the bytes: `-` at once, else cut at places parted by commas.
+// Feeds a state all of the bytes: `-` at once, otherwise cut at places parted by commas.
 fn feed(state: &mut Blake2b, cuts: &str, bytes: &[u8]) -> Result<(), Refusal>
     requires { has_finalized state.old ≡ false }
     ensures fed { OnOk result ((m : List ℕ) → IsFed state.old m → IsFed state.new (m ++ bytes.now)) }

@@ -232,7 +232,7 @@ impl Sink for BoundedSink {
     }
 }
 
-/// Random bytes that are handed in, and a count of those that were drawn.
+/// Random bytes that are passed in, and a count of those that were drawn.
 #[derive(Drop)]
 pub struct CountedRandom<'a> {
     random: FixedRandom<'a>,
@@ -272,7 +272,7 @@ impl<'a> RandomSource for CountedRandom<'a> {
     }
 }
 
-/// Reads random bytes: `c` and a first byte for a counter that wraps, else a list of bytes.
+/// Reads random bytes: `c` and a first byte for a counter that wraps, otherwise a list of bytes.
 pub fn random_bytes(alloc: Global, word: &str) -> Result<Vec<u8>, Refusal> {
     match word.strip_prefix("c") {
         Some(first) => counted_bytes(alloc, number_of(first)?),

@@ -8,8 +8,8 @@ ghost use Rattle.minisign_hash.specs.Words.{bytes_of_words64, word_at, words64_o
 use std::io;
 use std::io::Write;
 
-/// Numbers in little endian bytes, for every writer of std. Each call answers what the writer's own
-/// `write_all` answers for these bytes.
+/// Numbers in little endian bytes, for every writer of std. Each call returns what the writer's own
+/// `write_all` returns for these bytes.
 pub trait WriteExt: Write {
     /// Writes the byte `val`.
     fn write_u8(&mut self, val: u8) -> io::Result<()>

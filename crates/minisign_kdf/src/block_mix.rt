@@ -24,7 +24,7 @@ pub(crate) fn mix_times(r: usize, times: usize, from: &[u32], into: &mut [u32], 
     }
 }
 
-// Mixes the blocks once where `times` is odd, and else twice.
+// Mixes the blocks once where `times` is odd, and otherwise twice.
 fn begin_mixing(r: usize, times: usize, from: &[u32], into: &mut [u32], work: &mut [u32])
     requires some { 1 ≤ r }
     requires from_len { length from.now ≡ 32 * r }

@@ -37,7 +37,7 @@ impl Rows {
     /// k-th: V_0 is the block, and each further row is the one before it mixed by scryptBlockMix. `n_log2`
     /// lies from 1 to 63, and k is at least 1. Nothing is mixed further than to the last kept row.
     ///
-    /// `OutOfMemory` is answered where a growth was refused: 128 * r bytes for each of the N / k rows,
+    /// `OutOfMemory` is returned where a growth was refused: 128 * r bytes for each of the N / k rows,
     /// rounded up, in one request, and then 256 * r bytes, before any mixing.
     pub fn fill(alloc: Global, block: &[u8], n_log2: u8, k: u64) -> Result<Rows, KdfError>
         requires some { 0 < length block.now }

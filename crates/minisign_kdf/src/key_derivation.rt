@@ -19,7 +19,7 @@ const LONGEST_KEY: usize = 137438953440;
 /// Derives a key that fills `out` from a password and a salt, by scrypt (RFC 7914, section 6):
 /// `scrypt_keeping` with every row kept, which is the fastest.
 ///
-/// `InvalidOutputLen` is answered exactly where `out` is empty or longer than 137438953440 bytes, before
+/// `InvalidOutputLen` is returned exactly where `out` is empty or longer than 137438953440 bytes, before
 /// any memory is asked for; `OutOfMemory` where a growth was refused: 128 * r * N bytes for the rows, in
 /// one request, then 128 * r * (p + 3) bytes, all before any mixing. A refusal leaves `out` as it was.
 ///
@@ -48,9 +48,9 @@ pub fn scrypt(
 }
 
 /// Derives the same key with every k-th row of a part kept, for k from 1 on, and makes the others again
-/// when they are named: memory for time. Answers how many rows are kept for each part, N / k, rounded up.
+/// when they are named: memory for time. Returns how many rows are kept for each part, N / k, rounded up.
 ///
-/// `InvalidOutputLen` is answered exactly where `out` is empty or longer than 137438953440 bytes, before
+/// `InvalidOutputLen` is returned exactly where `out` is empty or longer than 137438953440 bytes, before
 /// any memory is asked for; `OutOfMemory` where a growth was refused: 128 * r bytes for each kept row, in
 /// one request, then 128 * r * (p + 3) bytes, all before any mixing. A refusal leaves `out` as it was.
 ///

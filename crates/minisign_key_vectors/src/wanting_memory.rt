@@ -1,6 +1,6 @@
-//! Calls on keys whose answer is right or is want of memory, whichever growth is refused: with ample memory each test
+//! Calls on keys whose result is right or is out of memory, whichever growth is refused: with ample memory each test
 //! sees its call succeed, and `tests/refused_memory.py` runs it with each of its requests refused in turn. A buffer that
-//! cannot grow is a sink that fails, so that a call with one may answer a failed write too.
+//! cannot grow is a sink that fails, so that a call with one may return a failed write too.
 
 use crate::sealed::in_parts::sealed_in_parts;
 use minisign::{ErrorKind, KeyPair, PublicKey, Result, SecretKey, SecretKeyBox};
@@ -22,7 +22,7 @@ fn typed<'a>(bytes: &'a [u8]) -> Prompt<SliceSource<'a>, Counting> {
     Prompt::new(SliceSource::new(bytes), Counting { bytes: 0 })
 }
 
-// Whether the answer is right, or is want of memory.
+// Whether the result is right, or is out of memory.
 fn is_right_or_wanting(answer: &Result<bool>) -> bool {
     match answer {
         Ok(right) => *right,

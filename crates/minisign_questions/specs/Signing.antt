@@ -49,7 +49,7 @@ pub record TellsKey (q : SigningQuestions) (key : SecretKeyRecord) : Type 0 wher
   pub secret : q.secret_key ≡ key.secret
   pub key_id : q.key_id ≡ key.keynum
 
--- the questions were not told: the state is used wrongly, memory was wanting, a text is no UTF-8, or the text gives
+-- the questions were not told: the state is used wrongly, memory ran out, a text is not UTF-8, or the text gives
 -- no key
 abbrev pub IsSigningRefusal : State → List ℕ → Option (List ℕ) → Refusal → Type 0
 IsSigningRefusal s text password (WrongUse m) = IsNotFed s m
@@ -103,8 +103,8 @@ pub record HoldsText (key_id : List ℕ) (chosen : ChosenComments) (first second
   pub fits : len ≤ length bytes
   pub text : IsAnsweredText key_id chosen first second (take len bytes)
 
--- the text was not written: it has no room, a comment would not be read back as it is, memory was wanting, or a
--- comment is no UTF-8
+-- the text was not written: it has no room, a comment would not be read back as it is, memory ran out, or a
+-- comment is not UTF-8
 abbrev pub IsWritingRefusal : List ℕ → ChosenComments → List ℕ → List ℕ → List ℕ → Refusal → Type 0
 IsWritingRefusal key_id chosen first second bytes (WrongUse m) =
     ((m ≡ NoRoom) × (length bytes < length (signature_text (answered_signature key_id first) (answered_comments chosen second))))
@@ -121,6 +121,6 @@ IsSigningNumber s text password with_password n =
 abbrev pub IsWritingNumber : List ℕ → ChosenComments → List ℕ → List ℕ → List ℕ → ℕ → Type 0
 IsWritingNumber key_id chosen first second bytes n = (r : Refusal) × IsNumberOf r n × IsWritingRefusal key_id chosen first second bytes r
 
--- the password that a caller hands in by two arguments: none with 0, these bytes with 1
+-- the password that a caller passes in by two arguments: none with 0, these bytes with 1
 abbrev pub handed_in : ℕ → List ℕ → Option (List ℕ)
 handed_in with_password bytes = if with_password == 0 then None else Some bytes

@@ -60,7 +60,7 @@ IsNotFed s e = (e ≡ feeding_misuse s) × ((m : List ℕ) → ¬ (IsFed s m))
 abbrev pub verdict_misuse : State → Misuse
 verdict_misuse s = if s.mark == fed_mark then NotAsked else NotBegun
 
--- asking was refused: the state is used wrongly, a buffer is too short, memory was wanting, a text is no UTF-8,
+-- asking was refused: the state is used wrongly, a buffer is too short, memory ran out, a text is not UTF-8,
 -- or the texts are refused whatever the data and the scheme
 abbrev pub IsAskingRefusal : State → List ℕ → List ℕ → Bool → List ℕ → Refusal → Type 0
 IsAskingRefusal s pk_text sig_text legacy bytes (WrongUse m) =
@@ -76,7 +76,7 @@ abbrev pub IsFaultOf : (Fault → Type 0) → Refusal → Type 0
 IsFaultOf holds (WrongUse m) = ⊥
 IsFaultOf holds (Refused e) = holds e
 
--- the verdict on the texts and the message: success exactly where they vouch for it, else the first case that
+-- the verdict on the texts and the message: success exactly where they vouch for it, otherwise the first case that
 -- fails
 abbrev pub GivesVerdict : {T : Type 0} → Verifier → List ℕ → List ℕ → List ℕ → Bool → Result T Refusal → Type 0
 GivesVerdict accepts pk_text sig_text message legacy r =
@@ -101,7 +101,7 @@ IsVerdictRefusal old new first (Refused e) =
 abbrev pub IsAnswer : ℕ → Type 0
 IsAnswer n = n < 2
 
--- the verdict on the texts and the message as a number: 0 exactly where they vouch for it, else that of the first
+-- the verdict on the texts and the message as a number: 0 exactly where they vouch for it, otherwise that of the first
 -- case that fails
 abbrev pub GivesNumber : Verifier → List ℕ → List ℕ → List ℕ → Bool → ℕ → Type 0
 GivesNumber accepts pk_text sig_text message legacy n =

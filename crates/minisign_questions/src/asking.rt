@@ -23,7 +23,7 @@ impl State {
     /// fed. The message of the second question is written to the front of `message`; as many bytes as
     /// `sig_text` has are always room enough.
     ///
-    /// Refused are, in this order: a wrong use; a text that is no UTF-8; a public key text, as
+    /// Refused are, in this order: a wrong use; a text that is not UTF-8; a public key text, as
     /// `PublicKey::from_box` refuses it; a signature text, as `SignatureBox::from_string` does; identifiers
     /// that differ; a signature over the data itself unless `allow_legacy`; too short a buffer. Want of memory
     /// may come at any time. After a refusal the state and the message are as they were; the two identifiers

@@ -17,8 +17,8 @@ const END: u32 = 43;
 const DIFFERENT_KEY_IDS: u32 = 29;
 
 impl Refusal {
-    /// The number of the refusal. Faults are told apart by their kinds and texts, for which memory may be wanting:
-    /// then the number is that of want of memory. The identifiers are those of the signature and the key.
+    /// The number of the refusal. Faults are told apart by their kinds and texts, for which memory may run out:
+    /// then the number is that of running out of memory. The identifiers are those of the signature and the key.
     pub fn number(&self, alloc: Global, signature: [u8; 8], key: [u8; 8]) -> u32
         ensures number { IsNumberOf self.now result }
         ensures some { 0 < result }
@@ -32,7 +32,7 @@ impl Refusal {
     }
 }
 
-/// The number of want of memory.
+/// The number of running out of memory.
 const OUT_OF_MEMORY: u32 = 7;
 
 impl Misuse {

@@ -35,7 +35,7 @@ impl State {
     /// what the state was fed, which ends the state. Without a password the key has to be one that was never
     /// sealed, with one a sealed one. A sealed key takes scrypt's memory and time, 32 MiB or 1 GiB by its limits.
     ///
-    /// Refused are, in this order: a wrong use; a text or a password that is no UTF-8; a text, as
+    /// Refused are, in this order: a wrong use; a text or a password that is not UTF-8; a text, as
     /// `open_unsealed` refuses it without a password, and `SecretKey::from_box` with one. Want of
     /// memory may come at any time. After a refusal the state and the questions are as they were.
     pub fn ask_signing(

@@ -42,7 +42,7 @@ pub fn signed_text(
     Ok(written(alloc, key_id, first, second, trusted, untrusted)?)
 }
 
-/// Writes that text to the front of `to`, and answers its length: comments that are no UTF-8 are refused, then what
+/// Writes that text to the front of `to`, and returns its length: comments that are not UTF-8 are refused, then what
 /// `signed_text` refuses, then too short a buffer. After a refusal the buffer is as it was.
 pub fn write_signed_text(
     alloc: Global,
@@ -70,7 +70,7 @@ pub fn write_signed_text(
     }
 }
 
-// Writes the bytes to the front of `to`, and answers how many.
+// Writes the bytes to the front of `to`, and returns how many.
 fn write_front(bytes: &[u8], to: &mut [u8]) -> Option<usize>
     ensures written { MatchOption result (length to.old < length bytes.now)
         (λ n. (n ≤ length to.new) × (take n to.new ≡ bytes.now)) }

@@ -45,7 +45,7 @@ pub struct Questions {
     pub public_key_id: [u8; 8],
     /// The identifier of the signature.
     pub signature_key_id: [u8; 8],
-    /// 1 where the signature is over the data itself, else 0.
+    /// 1 where the signature is over the data itself, otherwise 0.
     pub legacy: u32,
     /// Nothing yet.
     pub reserved: u32,

@@ -76,7 +76,7 @@ impl Texts {
         !self.signature_box.is_prehashed()
     }
 
-    /// 1 where the signature is over the data itself, else 0.
+    /// 1 where the signature is over the data itself, otherwise 0.
     pub fn legacy_number(&self) -> u32
         ensures { result ≡ (if is_prehashed self.now.box.signature then 0 else 1) }
     {

@@ -32,7 +32,7 @@ SaysAfterWarning {S = S} sink old new text =
     (warned : S) × TakesOrFails sink old warned warning_line
     × Appends (sink.taken warned) (sink.taken new) text × (sink.sink_faults new ≡ sink.sink_faults warned)
 
--- the line of a fault was said, or, where memory was wanting for it, that of want of memory
+-- the line of a fault was said, or, where memory ran out for it, that of running out of memory
 abbrev pub ShowsFault : {S : Type 0} → SinkOf S → S → S → Fault → Type 0
 ShowsFault sink old new e = TakesOrFails sink old new (fault_line e) ⊎ TakesOrFails sink old new (fault_line out_of_memory)
 

@@ -16,7 +16,7 @@ use std::alloc::Global;
 /// Verifies as `run_verify` does, and then copies the data to `out`, for which it is read a second
 /// time; `out` is flushed where both readings have one digest. So `data_reader` has to go back to
 /// its place, which is marked before any data is read. What `out` holds may be relied on where 0 is
-/// answered, and never else.
+/// returned, and never otherwise.
 pub fn run_cat<S: Scheme, P: Source, R: Rereader, Q: Source, O: Sink, W: Sink>(
     alloc: Global,
     scheme: &S,

@@ -56,7 +56,7 @@ pub fn command_of<'a>(words: &[&'a str]) -> Command<'a>
     }
 }
 
-/// The words of the arguments. Only want of memory is refused.
+/// The words of the arguments. Only running out of memory is refused.
 pub fn words_of(alloc: Global, arguments: &[String]) -> Result<Vec<&str>, AllocError>
     ensures { IfOk result (λ v. map (λ w. w.now) v.items ≡ map (λ s. string_bytes s) arguments.now) }
 {

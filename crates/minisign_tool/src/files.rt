@@ -1,6 +1,6 @@
 //! The commands over the files that the arguments name: opens the files, runs a command's body over
-//! them and the standard streams, and answers the exit status. What fails before the body has begun
-//! is answered as a fault, with nothing said.
+//! them and the standard streams, and returns the exit status. What fails before the body has begun
+//! is returned as a fault, with nothing said.
 
 ghost use Rattle.std.specs.Prelude.{◌≡◌, ◌≤◌, ◌⊎◌, IfOk, IfErr};
 ghost use Rattle.minisign_base.specs.Faults.{clock_incorrect, reading_failed};

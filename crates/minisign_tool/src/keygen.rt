@@ -20,8 +20,8 @@ use std::alloc::Global;
 /// to `pk_sink`, and then the one of the secret key, with the comment by default, to `sk_sink`. The
 /// warning, and then the line of a fault, go to `errors`.
 ///
-/// Answers the exit status: 0 where both texts were written, else 1. Where no pair is made, or
-/// memory is wanting for its texts, both sinks are as they were; a sink that failed took a
+/// Returns the exit status: 0 where both texts were written, otherwise 1. Where no pair is made, or
+/// memory runs out for its texts, both sinks are as they were; a sink that failed took a
 /// beginning of its text.
 pub fn run_keygen<S: Scheme, Z: RandomSource, R: Source, W: Sink, P: Sink, K: Sink, E: Sink>(
     alloc: Global,

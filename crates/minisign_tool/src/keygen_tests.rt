@@ -1,4 +1,4 @@
-//! What `keygen` makes, asks and says over devices that are handed in, and its exit status.
+//! What `keygen` makes, asks and says over devices that are passed in, and its exit status.
 //!
 //! The texts of keys were made with Python's hashlib, of random bytes that count up from 0.
 use crate::keygen::run_keygen;

@@ -48,7 +48,7 @@ fn main(rt: HostRuntime) -> ExitCode {
     ExitCode::from(end(rt.alloc(), &mut errors, answer))
 }
 
-// Runs the command that the arguments ask for, and answers its exit status. What fails before its
+// Runs the command that the arguments ask for, and returns its exit status. What fails before its
 // body has begun is a fault, with nothing said.
 fn run<W: Sink>(rt: &HostRuntime, errors: &mut W) -> Result<u8>
     ensures status { IfOk result (λ s. s ≤ 2) }
@@ -68,7 +68,7 @@ fn run<W: Sink>(rt: &HostRuntime, errors: &mut W) -> Result<u8>
     }
 }
 
-// Shows the usage behind the warning, and answers its exit status.
+// Shows the usage behind the warning, and returns its exit status.
 fn show_usage<W: Sink>(errors: &mut W) -> u8
     ensures { result ≡ 2 }
 {

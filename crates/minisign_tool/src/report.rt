@@ -17,7 +17,7 @@ pub fn warn<W: Sink>(errors: &mut W)
     let _ = put_all(errors, b"warning: insecure toy scheme, for tests only\n");
 }
 
-/// Shows the arguments that there are, and answers the exit status of arguments that are none of
+/// Shows the arguments that there are, and returns the exit status of arguments that are none of
 /// them. Takes no memory.
 #[tactic(auto, unfolding(crate::specs::Report::usage_line))]
 pub fn usage<W: Sink>(errors: &mut W) -> u8
@@ -31,7 +31,7 @@ pub fn usage<W: Sink>(errors: &mut W) -> u8
     2
 }
 
-/// Shows a fault, and answers the exit status of one. Where memory is wanting for its line, that is
+/// Shows a fault, and returns the exit status of one. Where memory runs out for its line, that is
 /// shown in its place.
 pub fn report<W: Sink>(alloc: Global, errors: &mut W, fault: &PError) -> u8
     ensures status { result ≡ 1 }
@@ -62,7 +62,7 @@ pub fn end<W: Sink>(alloc: Global, errors: &mut W, answer: Result<u8>) -> u8
     }
 }
 
-// Shows that memory is wanting, and takes none.
+// Shows that memory ran out, and takes none.
 #[tactic(auto, unfolding(minisign_base::specs::Faults::out_of_memory))]
 fn report_want_of_memory<W: Sink>(errors: &mut W)
     ensures { TakesOrFails W.Sink errors.old errors.new (fault_line out_of_memory) }

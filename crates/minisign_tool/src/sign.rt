@@ -23,8 +23,8 @@ use std::alloc::Global;
 /// the text of the signature to `signature`, which is flushed. The file is read whole first and has
 /// to be UTF-8; where its key is sealed, `prompt` asks for the password. The comments are those by
 /// default, with the moment in seconds since 1970, and `random` gives 128 bytes. The warning and
-/// the line of a fault go to `errors`. Answers the exit status: 0 where `signature` took the whole
-/// text, else 1. `signature` is not touched before the text is made.
+/// the line of a fault go to `errors`. Returns the exit status: 0 where `signature` took the whole
+/// text, otherwise 1. `signature` is not touched before the text is made.
 pub fn run_sign<
     S: Scheme,
     K: Source,

@@ -1,4 +1,4 @@
-//! What `verify-raw` says and answers: the exit status and the whole text on the error stream.
+//! What `verify-raw` says and returns: the exit status and the whole text on the error stream.
 use crate::report::{usage, warn};
 use crate::verify_raw::run_verify_raw;
 use minisign::base::devices::sinks::{Sink, VecSink, WriterSink};

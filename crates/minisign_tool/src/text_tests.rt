@@ -1,4 +1,4 @@
-//! What `sign`, `verify` and `cat` make, ask, say and copy over devices that are handed in, and
+//! What `sign`, `verify` and `cat` make, ask, say and copy over devices that are passed in, and
 //! their exit status.
 //!
 //! The texts of keys and signatures were made with Python's hashlib, of a seed of zeros and random

@@ -18,8 +18,8 @@ use std::alloc::Global;
 /// Verifies the data ahead of `data_reader` with the public key text that `pk_file` holds and the
 /// signature text that `sig_file` holds; legacy signatures are refused. Both files are read whole,
 /// the key first, and have to be UTF-8, before the data is read. The warning, and then the status
-/// lines or the line of a fault, go to `errors`. Answers the exit status: 0 where the texts vouch
-/// for the data, else 1.
+/// lines or the line of a fault, go to `errors`. Returns the exit status: 0 where the texts vouch
+/// for the data, otherwise 1.
 pub fn run_verify<S: Scheme, P: Source, R: Rereader, Q: Source, W: Sink>(
     alloc: Global,
     scheme: &S,

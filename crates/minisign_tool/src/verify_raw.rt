@@ -22,8 +22,8 @@ use std::alloc::Global;
 /// Verifies the data ahead of `data_reader` with the public key of 42 bytes and the signature of 74
 /// that `pk_file` and `sig_file` hold; later bytes of the two are ignored. Both files are read
 /// whole, the key first, before the data is read. The warning, and then the status line or the line
-/// of a fault, go to `errors`. Answers the exit status: 0 where the signature vouches for the data,
-/// else 1.
+/// of a fault, go to `errors`. Returns the exit status: 0 where the signature vouches for the data,
+/// otherwise 1.
 pub fn run_verify_raw<S: Scheme, P: Source, Q: Source, R: Rereader, W: Sink>(
     alloc: Global,
     scheme: &S,

@@ -28,8 +28,8 @@ pub trait Source {
     // How many faults there were.
     ghost faults: { Self → ℕ };
 
-    /// Moves the next bytes to the front of `buf`, as many as it likes up to all of it, and answers
-    /// how many. The answer is 0 only where `buf` is empty or no byte is left. After a fault the
+    /// Moves the next bytes to the front of `buf`, as many as it likes up to all of it, and returns
+    /// how many. The result is 0 only where `buf` is empty or no byte is left. After a fault the
     /// bytes ahead are those before the call, or are told no more.
     fn read(&mut self, buf: &mut [u8]) -> Result<usize, DeviceFault>
         ensures { HasRead ahead behind since is_marked left faults self.old self.new buf.new result };

@@ -73,7 +73,7 @@ pub fn counted_pair() -> Result<KeyPair> {
     KeyPair::generate_unencrypted_keypair(&ToyScheme::new(), &mut FixedRandom::new(&counted()))
 }
 
-// The text of a secret key opened with a password that is handed in.
+// The text of a secret key opened with a password that is passed in.
 fn opened(alloc: Global, text: &str, password: &str) -> Result<SecretKey> {
     SecretKeyBox::from_string(alloc, text)?.into_secret_key(
         alloc,
@@ -166,7 +166,7 @@ fn raw_pairs_are_written(rt: HostRuntime) -> std::result::Result<(), Fail> {
     Ok(())
 }
 
-// What generation answers where the password is typed, what the prompt shows, and the secret key's line.
+// What generation returns where the password is typed, what the prompt shows, and the secret key's line.
 #[test]
 fn sealed_pairs_are_made_of_typed_passwords(rt: HostRuntime) -> std::result::Result<(), Fail> {
     let alloc = rt.alloc();
@@ -269,7 +269,7 @@ fn sealed_pairs_are_made_of_typed_passwords(rt: HostRuntime) -> std::result::Res
     Ok(())
 }
 
-// What a whole and a failing public sink take of a sealed pair, whose password is handed in: the prompt stays
+// What a whole and a failing public sink take of a sealed pair, whose password is passed in: the prompt stays
 // as it was.
 #[test]
 fn sealed_pairs_are_written(rt: HostRuntime) -> std::result::Result<(), Fail> {

@@ -15,7 +15,7 @@ use minisign_fixtures::outcomes::{counted, is_text, outcome};
 use std::alloc::Global;
 use std::test::Fail;
 
-// A password that is handed in.
+// A password that is passed in.
 fn handed(alloc: Global, password: &str) -> Result<Option<String>> {
     Ok(Some(String::from_str(alloc, password)?))
 }

@@ -1,4 +1,4 @@
-//! Sealed secret keys: opened with a password that is handed in or typed, and refused in their order.
+//! Sealed secret keys: opened with a password that is passed in or typed, and refused in their order.
 //!
 //! The sealed texts hold key A, xored with scrypt of Python's hashlib, under the salt whose bytes count up
 //! from 0x20.
@@ -57,7 +57,7 @@ fn typed<'a>(alloc: Global, bytes: &'a [u8]) -> Prompt<OneByOne<'a>, VecSink> {
     Prompt::new(OneByOne::new(bytes), VecSink::new(alloc))
 }
 
-// A password that is handed in.
+// A password that is passed in.
 fn handed(alloc: Global, password: &str) -> Result<Option<String>> {
     Ok(Some(String::from_str(alloc, password)?))
 }
@@ -189,7 +189,7 @@ fn a_key_of_the_c_program_opens_in_less_memory(rt: HostRuntime) -> std::result::
     Ok(())
 }
 
-// What opening answers where nothing is handed in, how many of two bytes are left unread, and how many
+// What opening returns where nothing is passed in, how many of two bytes are left unread, and how many
 // were written.
 fn unasked(alloc: Global, sk_box: SecretKeyBox) -> (String, usize, usize) {
     let mut prompt = typed(alloc, b"p\n");

@@ -1,4 +1,4 @@
-//! Keys and signatures read from files: what each `from_file` answers.
+//! Keys and signatures read from files: what each `from_file` returns.
 
 use crate::generated::pairs::counted_pair;
 use minisign::{PublicKey, SecretKey, SignatureBox};
@@ -129,7 +129,7 @@ fn signatures_are_read_from_files(rt: HostRuntime) -> Result<(), Fail> {
     Ok(())
 }
 
-// With the password handed in and typed. Nothing is asked for a file that gives no key.
+// With the password passed in and typed. Nothing is asked for a file that gives no key.
 #[test]
 fn secret_keys_are_read_from_files(rt: HostRuntime) -> Result<(), Fail> {
     let alloc = rt.alloc();

@@ -40,7 +40,7 @@ const MARKED_AND_DONE: &[u8] =
 // The random bytes of the texts here.
 const ZEROS: [u8; 128] = [0; 128];
 
-// What verifying with the text answers under key A, not quiet, legacy signatures allowed.
+// What verifying with the text returns under key A, not quiet, legacy signatures allowed.
 fn verified<R: Rereader, W: Sink, O: Sink>(
     alloc: Global,
     sig_text: &str,
@@ -64,7 +64,7 @@ fn verified<R: Rereader, W: Sink, O: Sink>(
     outcome(alloc, &answer)
 }
 
-// What signing with a text and a typed password answers, with the comments `t` and `c`.
+// What signing with a text and a typed password returns, with the comments `t` and `c`.
 fn signed<P: Source, Q: Sink, R: Source, Z: RandomSource>(
     alloc: Global,
     prompt: &mut Prompt<P, Q>,
@@ -194,7 +194,7 @@ fn the_output_fails(rt: HostRuntime) {
     }
 }
 
-// Signing reads four times and draws twice; a key that is handed in is tested after that.
+// Signing reads four times and draws twice; a key that is passed in is tested after that.
 #[test]
 fn the_devices_of_signing_fail(rt: HostRuntime) -> std::result::Result<(), Fail> {
     let alloc = rt.alloc();

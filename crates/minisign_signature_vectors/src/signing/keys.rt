@@ -320,7 +320,7 @@ fn sources_are_read_to_their_end_or_not_at_all(rt: HostRuntime) -> std::result::
     Ok(())
 }
 
-// The 32 bytes of a public key that is handed in are tested, and never its identifier.
+// The 32 bytes of a public key that is passed in are tested, and never its identifier.
 #[test]
 fn a_given_public_key_is_tested_by_its_bytes(rt: HostRuntime) -> std::result::Result<(), Fail> {
     let alloc = rt.alloc();

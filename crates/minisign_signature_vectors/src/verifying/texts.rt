@@ -49,7 +49,7 @@ const NOT_BACK: &str = "Io: going back failed";
 
 const CHANGED: &str = "Verify: Data changed between verification and output";
 
-// What verifying with two texts answers under the toy.
+// What verifying with two texts returns under the toy.
 fn verified<R: Rereader, W: Sink, O: Sink>(
     alloc: Global,
     texts: (&str, &str),
@@ -111,7 +111,7 @@ fn comes_out<R: Rereader>(
         && is_record(&read_to_end(alloc, data), left)
 }
 
-// What verifying with key A's text and the prehashed one answers, with output.
+// What verifying with key A's text and the prehashed one returns, with output.
 fn copied_from<R: Rereader, O: Sink>(
     alloc: Global,
     data: &mut R,

@@ -1,4 +1,4 @@
-//! Key derivation whose answer is right or is want of memory, whichever growth is refused: with ample memory each test
+//! Key derivation whose result is right or is out of memory, whichever growth is refused: with ample memory each test
 //! sees its call succeed, and `tests/refused_memory.py` runs it with each of its requests refused in turn, and counts
 //! them.
 //!
