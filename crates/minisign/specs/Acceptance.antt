@@ -1,6 +1,6 @@
 -- When a signature box vouches for data under a public key, which condition fails first where it does
 -- not, and what is said where it does.
-use Rattle.std.specs.Prelude.{◌≡◌, ⊤, ℕ, ◌≤◌, Bool, true, IsTrue, ◌⊎◌, ◌||◌, ◌&&◌, if◌then◌else◌, nat_le, List, [], ◌∷◌, ◌++◌, length, take, Option, None, Some, IfSome, codes, bytes_eq}
+use Rattle.std.specs.Prelude.{◌≡◌, ⊤, ℕ, ◌≤◌, Bool, true, IsTrue, ◌⊎◌, ◌||◌, ◌&&◌, if◌then◌else◌, nat_le, List, [], ◌++◌, length, take, Option, None, Some, IfSome, codes, bytes_eq}
 use Rattle.std.specs.Option.{option_map_or}
 use Rattle.minisign_hash.specs.Blake2b.{blake2b_digest}
 use Rattle.minisign_base.specs.Fault.{Fault}
@@ -18,7 +18,7 @@ pub record Flags : Type 0 where
   pub output : Bool
   pub legacy : Bool
 
--- what the signature is over: the Blake2b digest of 64 bytes of the message, or the message itself
+-- what the signature is over: the Blake2b digest of the message, which has 64 bytes, or the message itself
 abbrev pub signed_bytes : SignatureBoxRecord → List ℕ → List ℕ
 signed_bytes x message = if is_prehashed x.signature then blake2b_digest 64 message else message
 

@@ -3,9 +3,8 @@
 use Rattle.std.specs.Prelude.{◌≡◌, ℕ, Bool, true, false, ◌⊎◌, if◌then◌else◌, bytes_eq, List, Option, None, Some, IfSome, MatchResult}
 use Rattle.std.specs.declared.result.Result.{Result}
 use Rattle.minisign_base.specs.Fault.{Fault}
-use Rattle.minisign_base.specs.Faults.{out_of_memory}
 use Rattle.minisign_hash.specs.Blake2b.{blake2b_digest}
-use Rattle.minisign_base.specs.Faults.{encrypted_key_refused}
+use Rattle.minisign_base.specs.Faults.{encrypted_key_refused, out_of_memory}
 use Rattle.minisign_base.specs.Passages.{IsSteady, RandomPassage, RereaderPassage, SinkFails, SinkPassage, SourceFails, Takes}
 use Rattle.minisign.specs.Records.{CommentsRecord, SecretKeyRecord, SignatureBoxRecord}
 use Rattle.minisign.specs.Acceptance.{Verifier}
@@ -43,8 +42,8 @@ IsCommentVerdict bytes accepts pk_text sig_text message legacy r =
     MatchResult r (λ t. TextsVouchWith accepts pk_text sig_text message legacy (bytes t))
     (λ e. (e ≡ out_of_memory) ⊎ TextsRefuse accepts pk_text sig_text message legacy e)
 
--- the same of a signature text and data that files gave, or what kept the files from giving them; std's files tell
--- no bytes, so it is only said that there are some
+-- the same of some signature text and some data, or a fault of reading files: std's files tell no bytes, so that
+-- these are those of the named files is not said
 abbrev pub IsFileVerdict : {T : Type 0} → (T → List ℕ) → Verifier → List ℕ → Result T Fault → Type 0
 IsFileVerdict bytes accepts pk_text r =
     MatchResult r (λ t. (sig_text : List ℕ) × (message : List ℕ) × TextsVouchWith accepts pk_text sig_text message false (bytes t))
@@ -70,14 +69,16 @@ pub record NothingIsCopied {R O : Type 0} (accepts : Verifier) (pk_text sig_text
   pub why : (e ≡ out_of_memory) ⊎ MarkFails true reader e ⊎ ReadingFails reader.source reader.old reader.new e
       ⊎ ((message : List ℕ) × IsAhead (reader.source.ahead reader.old) message × TextsRefuse accepts pk_text sig_text message false e)
 
--- the texts vouch for what was read, and the second reading, which is copied, failed or gave other data
+-- the texts vouch for what was read, and the copying failed: going back, memory, the second reading or the output
+-- did, or the second reading gave other data
 pub record CopyingBreaksOff {R O : Type 0} (accepts : Verifier) (pk_text sig_text : List ℕ) (reader : RereaderPassage R) (out : SinkPassage O) (e : Fault) : Type 0 where
   pub message : List ℕ
   pub given : IsAhead (reader.source.ahead reader.old) message
   pub vouched : TextsVouchFor accepts pk_text sig_text message false
   pub again : SecondPassFails (SecondPass reader) reader out (blake2b_digest 64 message) e
 
--- the text gives this key under the password: the key was never sealed, or this is the key opened
+-- the text gives this key under the password: the key was never sealed and its checksum matches, whatever the
+-- password; or it is sealed, and this is the key opened
 abbrev pub GivesKeyWith : List ℕ → List ℕ → SecretKeyRecord → Type 0
 GivesKeyWith text password key = IsUnencryptedText text key ⊎ IsOpened text password None key
 

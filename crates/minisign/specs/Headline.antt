@@ -1,6 +1,7 @@
 -- What a caller may rely on, in the order of the headline's sentence. Verifying: when two texts vouch for a
 -- message, and which case fails first where they do not. Opening: when a sealed key opens under a password.
--- Signing: what the text of a signature is worth.
+-- Signing: what the text of a signature is worth. The sentence is in docs/PROMISES.md; docs/TRUSTED.md explains the
+-- notation, such as x.now, and that a key or a box of the code stands here for its record or its text.
 use Rattle.std.specs.Prelude.{◌≡◌, ◌≢◌, ℕ, Bool, true, ◌⊎◌, List, Option, None, Some, IfSome, IfErr, MatchResult}
 use Rattle.std.specs.declared.result.Result.{Result}
 use Rattle.minisign_base.specs.Fault.{Fault}
@@ -53,15 +54,15 @@ VerifiesExactly accepts pk_text sig_text flags reader status out answer =
     → ¬ (SourceFails reader) → ¬ (SinkFails status) → ¬ (SinkFails out) → (flags.output ≡ true → IsSteady reader)
     → IsVerdict accepts pk_text sig_text message flags.legacy answer
 
--- what the output took is itself vouched for by the texts
+-- what the output took, where it tells this, is itself vouched for by the texts
 pub record CopyIsVouchedFor {O : Type 0} (accepts : Verifier) (pk_text sig_text : List ℕ) (legacy : Bool) (out : SinkPassage O) : Type 0 where
   pub copy : List ℕ
   pub taken : Takes out copy
   pub vouched : TextsVouchFor accepts pk_text sig_text copy legacy
 
 -- opening: with a password that is passed in, a text that reads as a key sealed by scrypt gives that key opened
--- exactly where its limits are allowed and within the bound and the stream restores its checksum, and otherwise the
--- first reason; the bound is on the parallelization, where there is one
+-- exactly where its limits are allowed and within the bound and the stream of scrypt under the password restores its
+-- checksum, and otherwise the first reason, or out of memory; the bound is on the parallelization, where there is one
 abbrev pub OpeningHeadline : Option (List ℕ) → List ℕ → Option ℕ → Result SecretKeyRecord Fault → Type 0
 OpeningHeadline password text bound answer =
     IfSome password (λ p. (k : SecretKeyRecord) → SecretKeyText text k → k.kdf ≡ scrypt_kdf

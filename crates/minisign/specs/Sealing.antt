@@ -24,7 +24,7 @@ scrypt_kdf = codes "Sc"
 abbrev pub checksum_of : SecretKeyRecord → List ℕ
 checksum_of k = blake2b_digest 32 (k.algorithm ++ k.keynum ++ k.secret)
 
--- the key names a key derivation, and its checksum does not match: it is sealed and was not opened
+-- the key names a key derivation, and its checksum does not match: it is taken as sealed
 abbrev pub is_encrypted : SecretKeyRecord → Bool
 is_encrypted k = not (bytes_eq k.kdf no_kdf) && not (bytes_eq k.checksum (checksum_of k))
 

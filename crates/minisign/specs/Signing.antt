@@ -38,7 +38,7 @@ abbrev pub comments_or_defaults : Option (List ℕ) → Option (List ℕ) → �
 comments_or_defaults trusted untrusted moment =
     record { trusted = unwrap_or trusted (default_trusted_comment moment); untrusted = unwrap_or untrusted default_untrusted_comment }
 
--- the box that vouches for the message: a signature of its digest of 64 bytes with the first random
+-- the box that signing makes of the message: a signature of its digest, which has 64 bytes, with the first random
 -- bytes, and a signature of that signature and the trusted comment with the second
 abbrev pub signed_box : Signer → SecretKeyRecord → List ℕ → ChosenComments → List ℕ → List ℕ → SignatureBoxRecord
 signed_box sign sk message chosen z1 z2 =
@@ -52,7 +52,7 @@ signed_box sign sk message chosen z1 z2 =
 abbrev pub HasDrawn : {Z : Type 0} → RandomPassage Z → List ℕ → Type 0
 HasDrawn z bytes = Consumes (z.random.random_ahead z.old) (z.random.random_ahead z.new) bytes
 
--- the box is the one that vouches for the message with random bytes that were drawn: 64 for the
+-- the box is the one that signing makes of the message with random bytes that were drawn: 64 for the
 -- signature and then 64 for the comment signature
 pub record IsSigned {Z : Type 0} (sign : Signer) (sk : SecretKeyRecord) (message : List ℕ) (chosen : ChosenComments) (z : RandomPassage Z) (x : SignatureBoxRecord) : Type 0 where
   pub first : List ℕ

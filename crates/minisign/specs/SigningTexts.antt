@@ -11,7 +11,7 @@ use Rattle.minisign.specs.SignatureText.{signature_text}
 use Rattle.minisign.specs.Signing.{ChosenComments, IsSigned, OpenedSigningFails, Signer}
 use Rattle.minisign.specs.Opening.{IsOpening, IsUnencryptedText}
 
--- the text gives this key: it was never sealed, and the prompt is as it was, or it was opened
+-- the text gives this key: it was never sealed, its checksum matches, and the prompt is as it was; or it was opened
 abbrev pub GivesKey : {R W : Type 0} → PromptPassage R W → Option (List ℕ) → List ℕ → SecretKeyRecord → Type 0
 GivesKey p password text key =
     (IsUnencryptedText text key × (p.new ≡ p.old)) ⊎ IsOpening p password text None (Ok key)

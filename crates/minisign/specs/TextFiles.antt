@@ -16,6 +16,6 @@ pub record GivesNoText {R : Type 0} (source : SourceOf R) (old new : R) (e : Fau
 abbrev pub IsTextFault : {R : Type 0} → SourceOf R → R → R → Fault → Type 0
 IsTextFault source old new e = IsReadFault source old new e ⊎ GivesNoText source old new e
 
--- why a file gave no text: memory ran out, or it could not be opened or read, or what it holds is not UTF-8
+-- the faults of a file that gives no text: out of memory, reading failed, not UTF-8; when each comes is not said
 abbrev pub IsTextFileFault : Fault → Type 0
 IsTextFileFault e = (e ≡ out_of_memory) ⊎ (e ≡ reading_failed) ⊎ (e ≡ not_utf8)

@@ -37,8 +37,8 @@ pub fn verify_with<S: Scheme, R: Rereader, W: Sink, O: Sink>(
     status: &mut W,
     out: &mut O,
 ) -> Result<String>
-    // Where memory is found and no device fails: success exactly where the texts vouch for the data, and
-    // otherwise the first failing case.
+    // Over data that is told, where memory is found and no device fails, and over a steady source where the data
+    // is copied: success exactly where the texts vouch for the data, and otherwise the first failing case.
     ensures headline { VerifiesExactly (S.accepts scheme.now) pk_text.now sig_text.now
         (record { quiet = options.quiet; output = options.output; legacy = options.allow_legacy })
         (rereader_passage R.Source R.steady data_reader.old data_reader.new)
@@ -187,9 +187,12 @@ fn verify_source<S: Scheme, R: Rereader>(
 /// for it, and returns the trusted comment, which was signed with the data.
 ///
 /// The data is read twice in pieces of 64 KiB, so that memory does not grow with it, and nothing is copied before
-/// it is vouched for. Refused are, in this order: a text, and what `verify_bytes` refuses of the data, with `out`
-/// untouched; a `data_reader` that fails, or cannot go back; a second reading that has another digest,
-/// `data_changed`, where nobody may rely on what `out` holds; an `out` that fails. On success `out` is flushed.
+/// it is vouched for. Refused are, in this order: a text; for a prehashed signature a place that cannot be marked,
+/// `going_back_failed`; a first reading that fails, `reading_failed`; what `verify_bytes` refuses of the data; all
+/// these with `out` untouched. Then a source that cannot go back, `going_back_failed`; a second reading or an `out`
+/// that fails, whichever comes first; a second reading that has another digest, `data_changed`; an `out` that fails
+/// at its flush. It may run out of memory at any time. After any refusal nobody may rely on what `out` holds. On
+/// success `out` is flushed.
 ///
 /// ```
 /// let comment = copy_verified(alloc, &scheme, PUBLIC_KEY, signature, &mut download, &mut installed)?;
@@ -202,8 +205,8 @@ pub fn copy_verified<S: Scheme, R: Rereader, O: Sink>(
     data_reader: &mut R,
     out: &mut O,
 ) -> Result<String>
-    // Where no device fails: success exactly where the texts vouch for the data, and otherwise the first failing
-    // case.
+    // Over data that a steady source tells, where no device fails, memory aside: success exactly where the texts
+    // vouch for the data, and otherwise the first failing case.
     ensures headline { CopiesExactly string_bytes (S.accepts scheme.now) pk_text.now sig_text.now
         (rereader_passage R.Source R.steady data_reader.old data_reader.new) (sink_passage O.Sink out.old out.new) result }
 

@@ -65,7 +65,7 @@ fn unsealed(sk: SecretKey) -> Result<SecretKey>
 ///
 /// Refused are, in this order: a sealed key, `encrypted_key_refused`, with nothing drawn; a failing `random`. It
 /// may run out of memory at any time after the key was tested. A trusted comment with a line feed, or with white
-/// space at its ends, is written as it stands, and then the text does not verify.
+/// space at its ends, is written as it stands: the text need not verify then, or may read with another comment.
 ///
 /// ```
 /// let sig_text = sign_bytes(alloc, &scheme, &sk, update, Some("update-1.2.tar"), &mut random, moment)?;

@@ -121,7 +121,7 @@ impl SecretKey {
     /// Refused are, in this order: a text without a first line, without a second one, with a second line
     /// that is no base64, or of fewer than 158 bytes; a key that was never sealed, `key_not_encrypted`; one
     /// that is not sealed by scrypt, `unsupported_encryption_algorithm`; what `get_password` refuses; a
-    /// memory limit above 1073741824 bytes or a cost above 2^20, `parameters_too_high`; limits that lead to
+    /// writer that fails before the derivation; a memory limit above 1073741824 bytes or a cost above 2^20, `parameters_too_high`; limits that lead to
     /// parameters that scrypt does not take, `invalid_parameters`; p above `max_p`, `work_too_high`; a
     /// writer that fails at `done`; a checksum that opening does not restore, `wrong_password`. What the
     /// limits and the bound refuse takes no memory for rows.

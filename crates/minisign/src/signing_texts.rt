@@ -31,7 +31,9 @@ use std::alloc::Global;
 ///
 /// Refused are, in this order: a text that reads as no key; a checksum of a key that was never sealed, or
 /// what `from_box` refuses; a failing `data_reader`; a failing `random`, once the data was read. Until the key
-/// is opened nothing is read from `data_reader` and nothing drawn. Want of memory may come at any time.
+/// is opened nothing is read from `data_reader` and nothing drawn. It may run out of memory at any time. A comment
+/// with a line feed, or a trusted one with white space at its ends, is written as it stands: the text need not
+/// verify then, or may read with another comment.
 pub fn sign_texts<S: Scheme, P: Source, Q: Sink, R: Source, Z: RandomSource>(
     alloc: Global,
     scheme: &S,

@@ -36,8 +36,8 @@ pub fn verify_texts<S: Scheme, R: Rereader, W: Sink, O: Sink>(
     status: &mut W,
     out: &mut O,
 ) -> Result<()>
-    // Where memory is found and no device fails: success exactly where the texts vouch for the data, and
-    // otherwise the first failing case.
+    // Over data that is told, where memory is found and no device fails, and over a steady source where the data
+    // is copied: success exactly where the texts vouch for the data, and otherwise the first failing case.
     ensures headline { VerifiesExactly (S.accepts scheme.now) pk_text.now sig_text.now
         (record { quiet = quiet; output = output; legacy = allow_legacy })
         (rereader_passage R.Source R.steady data_reader.old data_reader.new)

@@ -30,7 +30,7 @@ sink_passage sink old new = record { sink = sink; old = old; new = new }
 abbrev pub IsSteady : {R : Type 0} → RereaderPassage R → Type 0
 IsSteady reader = reader.steady reader.old
 
--- the source failed
+-- the source failed: its count of faults rose, or stands at its greatest value
 abbrev pub SourceFails : {R : Type 0} → RereaderPassage R → Type 0
 SourceFails reader = Rose (reader.source.faults reader.old) (reader.source.faults reader.new)
 
@@ -42,7 +42,7 @@ SourceIsCalm reader = reader.source.faults reader.new ≡ reader.source.faults r
 abbrev pub SourceGives : {R : Type 0} → RereaderPassage R → Type 0
 SourceGives reader = HasGiven (reader.source.ahead reader.old) (reader.source.ahead reader.new)
 
--- the sink failed
+-- the sink failed: its count of faults rose, or stands at its greatest value
 abbrev pub SinkFails : {W : Type 0} → SinkPassage W → Type 0
 SinkFails out = Rose (out.sink.sink_faults out.old) (out.sink.sink_faults out.new)
 
@@ -50,7 +50,7 @@ SinkFails out = Rose (out.sink.sink_faults out.old) (out.sink.sink_faults out.ne
 abbrev pub SinkIsCalm : {W : Type 0} → SinkPassage W → Type 0
 SinkIsCalm out = out.sink.sink_faults out.new ≡ out.sink.sink_faults out.old
 
--- the sink took these bytes
+-- the sink took these bytes; of a sink that does not tell what it took, nothing is said
 abbrev pub Takes : {W : Type 0} → SinkPassage W → List ℕ → Type 0
 Takes out bytes = Appends (out.sink.taken out.old) (out.sink.taken out.new) bytes
 
