@@ -2,7 +2,7 @@
  * minisign.h: verifying and making minisign signatures with an Ed25519 of your own.
  *
  * The library does all of it but Ed25519: it reads the texts of keys and signatures, hashes the data, and says
- * what has to be asked of Ed25519. You ask a library that you trust, and hand back its answers; the library
+ * what has to be asked of Ed25519. You ask a library that you trust, and pass its answers back; the library
  * gives the verdict. Every function here is proved to do what this page says, for a caller that keeps
  * "What you owe" below. What Ed25519 answers is yours.
  *
@@ -43,7 +43,7 @@ extern "C" {
 /*
  * What you owe. The library cannot test these; where one is broken, nothing is promised.
  *
- * - No pointer is NULL, also where its length is 0. A pointer with a length points to so many bytes, at most
+ * - No pointer is NULL, even where its length is 0. A pointer with a length points to so many bytes, at most
  *   2^63 - 1, that you may read, and where it is not const also write. A pointer to a struct points to one,
  *   aligned as your compiler aligns it.
  * - What a call may write overlaps nothing else that the call was given. No other thread touches what a call
@@ -79,7 +79,7 @@ enum minisign_error {
     /* Of the calls that take memory. */
     MINISIGN_OUT_OF_MEMORY = 7,
 
-    /* A text, a password or a comment is no UTF-8. */
+    /* A text, a password or a comment is not UTF-8. */
     MINISIGN_NOT_UTF8 = 8,
 
     /* Wrong use of the calls for signing. */
@@ -130,7 +130,7 @@ enum minisign_error {
 
 /*
  * What an error number means, in English, ended by a 0 byte and cut where there is no room for more: to be
- * shown to people. Answers the length of the whole text without its 0, as snprintf does. With room 0 nothing
+ * shown to people. Returns the length of the whole text without its 0, as snprintf does. With room 0 nothing
  * is written. MINISIGN_ERROR_TEXT_BYTES is room enough for each.
  */
 #define MINISIGN_ERROR_TEXT_BYTES 128
@@ -181,8 +181,8 @@ typedef struct minisign_questions {
  * message of the second question is written to message, of room bytes; room for sig_text_len bytes is always
  * enough.
  *
- * allow_legacy is 1 where signatures over the data itself will do, else 0. Such a question is about the data
- * and not its digest, so hold it in memory if you allow them. What is asked does not depend on the data but
+ * allow_legacy is 1 where signatures over the data itself will do, otherwise 0. Such a question is about the data
+ * and not its digest, so hold it in memory if you allow them. What is asked depends on the data only
  * in the digest: to know before reading any data whether the texts are refused, or whether the signature
  * is legacy, ask with another state that was fed nothing.
  *
