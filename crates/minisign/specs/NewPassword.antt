@@ -93,7 +93,7 @@ pub record HasNotSealed {R W : Type 0} (p : PromptPassage R W) (e : Fault) : Typ
   pub chosen : HasAskedTwice (record p { new = between }) password password
   pub telling : IsTellingFault (record p { old = between }) e
 
--- why no key was sealed: with a password that is passed in only memory can be wanting
+-- why no key was sealed: with a password that is passed in only memory can run out
 abbrev pub IsSealingFault : {R W : Type 0} → PromptPassage R W → Option (List ℕ) → Fault → Type 0
 IsSealingFault p (Some given) e = (e ≡ out_of_memory) × (p.new ≡ p.old)
 IsSealingFault p None e = IsChoosingFault p e ⊎ HasNotSealed p e

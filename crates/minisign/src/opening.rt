@@ -56,7 +56,7 @@ impl SecretKey {
     /// `from_box` does. The path is taken as it stands.
     ///
     /// These are refused, in this order: a file that cannot be opened or read, `reading_failed`; one that is
-    /// not UTF-8, `not_utf8`; and what `from_box` refuses. Want of memory may come at any time. Until the file
+    /// not UTF-8, `not_utf8`; and what `from_box` refuses. It may run out of memory at any time. Until the file
     /// is read the prompt is left alone. Std's files tell no bytes, so of the text it is only said that there
     /// is one.
     pub fn from_file<F: Files, R: Source, W: Sink>(
@@ -119,7 +119,7 @@ impl SecretKey {
     /// `done` and a line feed; a password that is passed in leaves the prompt untouched.
     ///
     /// Refused are, in this order: a text without a first line, without a second one, with a second line
-    /// that is no base64, or of fewer than 158 bytes; a key that was never sealed, `key_not_encrypted`; one
+    /// that is not base64, or of fewer than 158 bytes; a key that was never sealed, `key_not_encrypted`; one
     /// that is not sealed by scrypt, `unsupported_encryption_algorithm`; what `get_password` refuses; a
     /// writer that fails before the derivation; a memory limit above 1073741824 bytes or a cost above 2^20, `parameters_too_high`; limits that lead to
     /// parameters that scrypt does not take, `invalid_parameters`; p above `max_p`, `work_too_high`; a
@@ -144,7 +144,7 @@ impl SecretKey {
     /// base64 of the key's 158 bytes, with nothing trimmed off; later bytes and later lines are ignored.
     ///
     /// Refused are, in this order: a text without a first line, without a second one, with a second line
-    /// that is no base64, or of fewer than 158 bytes; a key derivation other than two zero bytes; a checksum
+    /// that is not base64, or of fewer than 158 bytes; a key derivation other than two zero bytes; a checksum
     /// that does not match.
     pub fn from_unencrypted_box(alloc: Global, sk_box: SecretKeyBox) -> Result<SecretKey>
         ensures outcome { MatchResult result (IsUnencryptedText sk_box)

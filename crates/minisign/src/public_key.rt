@@ -71,7 +71,7 @@ impl PublicKey {
     /// trimmed of white space, is the base64 of the 42 bytes of a key. Later lines are ignored.
     ///
     /// These are refused, in this order: a text with no first line, one with no second line, another
-    /// length of that line, what is no base64, fewer than 42 bytes. Want of memory may come at any time.
+    /// length of that line, what is not base64, fewer than 42 bytes. It may run out of memory at any time.
     pub fn from_box(alloc: Global, public_key_box: PublicKeyBox) -> Result<PublicKey>
         ensures read { IfOk result (PublicKeyText public_key_box) }
         ensures exact { (k : PublicKeyRecord) → PublicKeyText public_key_box k →
@@ -88,7 +88,7 @@ impl PublicKey {
     /// stands.
     ///
     /// These are refused, in this order: a file that cannot be opened or read, `reading_failed`; one that is
-    /// not UTF-8, `not_utf8`; and what `from_box` refuses. Want of memory may come at any time. Std's files
+    /// not UTF-8, `not_utf8`; and what `from_box` refuses. It may run out of memory at any time. Std's files
     /// tell no bytes, so of the text it is only said that there is one.
     pub fn from_file<F: Files>(files: &F, alloc: Global, path: &str) -> Result<PublicKey>
         ensures read { IfOk result (λ k. (text : List ℕ) × PublicKeyText text k) }
@@ -102,7 +102,7 @@ impl PublicKey {
     /// Reads the bare base64 of a key, 56 bytes with nothing around them.
     ///
     /// These are refused, in this order: a text that, trimmed of white space, has another length, what
-    /// is no base64 as it stands, fewer than 42 bytes. Want of memory may come at any time.
+    /// is not base64 as it stands, fewer than 42 bytes. It may run out of memory at any time.
     pub fn from_base64(alloc: Global, text: &str) -> Result<PublicKey>
         ensures read { IfOk result (BarePublicKey text.now) }
         ensures exact { (k : PublicKeyRecord) → BarePublicKey text.now k →
@@ -133,8 +133,8 @@ impl PublicKey {
     }
 
     /// The text of the key, two lines: `untrusted comment: minisign public key: ` and the identifier,
-    /// read little endian, in 16 upper hexadecimal digits; the base64 of the 42 bytes. Only want of
-    /// memory is refused.
+    /// read little endian, in 16 upper hexadecimal digits; the base64 of the 42 bytes. Only running
+    /// out of memory is refused.
     pub fn to_box(&self, alloc: Global) -> Result<PublicKeyBox>
         ensures text { IfOk result (λ b. b ≡ public_key_text self.now) }
         ensures reads_back { IfOk result (λ b. PublicKeyText b self.now) }

@@ -44,7 +44,7 @@ pub fn read_text<S: Source>(alloc: Global, source: &mut S) -> Result<String>
     }
 }
 
-/// All that is ahead, in memory. It is read in pieces of 64 KiB. Refused are a failing source, and want of
+/// All that is ahead, in memory. It is read in pieces of 64 KiB. Refused are a failing source, and running out of
 /// memory, for the buffer or for what is kept; some bytes may have been read by then.
 pub fn read_to_end<S: Source>(alloc: Global, source: &mut S) -> Result<Vec<u8>>
     ensures bytes { IfOk result (λ v. ReadsWhole S.Source source.old source.new v.items) }

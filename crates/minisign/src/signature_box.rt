@@ -77,8 +77,8 @@ impl SignatureBox {
     /// white space, the untrusted comment is kept as it stands, and later lines are ignored.
     ///
     /// These are refused, in this order: a missing line, the first one first; another beginning of the first
-    /// line; a second line that is no base64, or of fewer than 74 bytes; another beginning of the third line;
-    /// an algorithm other than `Ed` and `ED`; a fourth line that is no base64. Want of memory may come at any
+    /// line; a second line that is not base64, or of fewer than 74 bytes; another beginning of the third line;
+    /// an algorithm other than `Ed` and `ED`; a fourth line that is not base64. It may run out of memory at any
     /// time.
     pub fn from_string(alloc: Global, text: &str) -> Result<SignatureBox>
         ensures read { IfOk result (SignatureText text.now) }
@@ -107,7 +107,7 @@ impl SignatureBox {
     /// stands.
     ///
     /// These are refused, in this order: a file that cannot be opened or read, `reading_failed`; one that is
-    /// not UTF-8, `not_utf8`; and what `from_string` refuses. Want of memory may come at any time. Std's files
+    /// not UTF-8, `not_utf8`; and what `from_string` refuses. It may run out of memory at any time. Std's files
     /// tell no bytes, so of the text it is only said that there is one.
     pub fn from_file<F: Files>(files: &F, alloc: Global, path: &str) -> Result<SignatureBox>
         ensures read { IfOk result (λ x. (text : List ℕ) × SignatureText text x) }

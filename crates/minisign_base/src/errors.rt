@@ -36,7 +36,7 @@ pub enum ErrorKind {
     KDF,
     /// Drawing random bytes.
     RNG,
-    /// Bytes that are no text, or a text that is no base64.
+    /// Bytes that are no text, or a text that is not base64.
     Encoding,
     /// A sealed key where an opened one is needed.
     EncryptedKey,

@@ -20,7 +20,7 @@ use minisign_questions::signed_texts::{write_comment_message, write_signed_text}
 use minisign_questions::state::{Misuse, Questions, Refusal, State};
 use std::alloc::Global;
 
-/// Writes what an error number means: the text, cut where there is no room for more, and a 0. Answers the
+/// Writes what an error number means: the text, cut where there is no room for more, and a 0. Returns the
 /// length of the whole text.
 #[unsafe(no_mangle)]
 pub extern "C" fn minisign_error_text(error: u32, text: &mut [u8]) -> usize

@@ -25,8 +25,8 @@ impl State {
     ///
     /// Refused are, in this order: a wrong use; a text that is not UTF-8; a public key text, as
     /// `PublicKey::from_box` refuses it; a signature text, as `SignatureBox::from_string` does; identifiers
-    /// that differ; a signature over the data itself unless `allow_legacy`; too short a buffer. Want of memory
-    /// may come at any time. After a refusal the state and the message are as they were; the two identifiers
+    /// that differ; a signature over the data itself unless `allow_legacy`; too short a buffer. It may run
+    /// out of memory at any time. After a refusal the state and the message are as they were; the two identifiers
     /// are written to `questions` where both texts read.
     pub fn ask(
         &mut self,
@@ -104,7 +104,7 @@ fn read_bytes(alloc: Global, pk_text: &[u8], sig_text: &[u8]) -> Result<Texts>
     Texts::read(alloc, pk_text, sig_text)
 }
 
-// Writes the questions of the texts about data of this digest, and the message of the second: answers whether it
+// Writes the questions of the texts about data of this digest, and the message of the second: returns whether it
 // can be asked. Where there is no room for the message, nothing is written.
 fn write_questions(
     texts: &Texts,

@@ -118,7 +118,7 @@ fn fault_of(number: u32) -> PError
 }
 
 /// Writes what a number means, in English, to the front of `to`, ended by a 0 and cut where there is no room for
-/// more: answers the length of the whole text. Where `to` has no byte nothing is written.
+/// more: returns the length of the whole text. Where `to` has no byte nothing is written.
 pub fn write_error_text(number: u32, to: &mut [u8]) -> usize
     ensures { (text : List ℕ) × (result ≡ length text) × WritesCut text to.old to.new }
 {

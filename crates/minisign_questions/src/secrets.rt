@@ -36,8 +36,8 @@ impl State {
     /// sealed, with one a sealed one. A sealed key takes scrypt's memory and time, 32 MiB or 1 GiB by its limits.
     ///
     /// Refused are, in this order: a wrong use; a text or a password that is not UTF-8; a text, as
-    /// `open_unsealed` refuses it without a password, and `SecretKey::from_box` with one. Want of
-    /// memory may come at any time. After a refusal the state and the questions are as they were.
+    /// `open_unsealed` refuses it without a password, and `SecretKey::from_box` with one. It may
+    /// run out of memory at any time. After a refusal the state and the questions are as they were.
     pub fn ask_signing(
         &mut self,
         alloc: Global,

@@ -23,7 +23,7 @@ const PREHASHED: [u8; 2] = [b'E', b'D'];
 /// the identifier of the key, with the trusted comment that the second answer is over and an untrusted one.
 ///
 /// Refused are comments that would not be read back as they are: one with a line feed, an untrusted one with a
-/// carriage return at its end, a trusted one with white space at either end. Want of memory may come at any time.
+/// carriage return at its end, a trusted one with white space at either end. It may run out of memory at any time.
 pub fn signed_text(
     alloc: Global,
     key_id: &[u8; 8],

@@ -28,7 +28,7 @@ impl Model for Texts {
 
 impl Texts {
     /// Reads the two texts. The one of the public key is refused first, as `PublicKey::from_box` refuses it,
-    /// then that of the signature, as `SignatureBox::from_string` does. Want of memory may come at any time.
+    /// then that of the signature, as `SignatureBox::from_string` does. It may run out of memory at any time.
     pub fn read(alloc: Global, pk_text: &str, sig_text: &str) -> Result<Texts>
         ensures read { IfOk result (λ t. ReadTexts pk_text.now sig_text.now t.key t.box) }
         ensures refused { IfErr result (λ e. (e ≡ out_of_memory) ⊎ ((legacy : Bool) → IsRefusedUnasked pk_text.now sig_text.now legacy e)) }
@@ -122,7 +122,7 @@ impl Texts {
     }
 
     /// Writes the message of the second question to the front of `message`: the signature of the first one
-    /// followed by the trusted comment. Answers its length; nothing is written where there is no room.
+    /// followed by the trusted comment. Returns its length; nothing is written where there is no room.
     pub fn write_comment_message(&self, message: &mut [u8]) -> Option<usize>
         ensures written { (c : CommentsRecord) → self.now.box.comments ≡ Some c
             → MatchOption result (length message.old < 64 + length c.trusted)
@@ -147,7 +147,7 @@ fn first_bytes(bytes: &[u8]) -> Option<[u8; 64]>
     Some(first)
 }
 
-// Writes the two to the front of `to`, and answers their length.
+// Writes the two to the front of `to`, and returns their length.
 pub(crate) fn write_joined(to: &mut [u8], left: &[u8; 64], right: &[u8]) -> Option<usize>
     ensures written { MatchOption result (length to.old < 64 + length right.now)
         (λ n. (n ≡ 64 + length right.now) × (n ≤ length to.new) × (take n to.new ≡ left.now ++ right.now)) }

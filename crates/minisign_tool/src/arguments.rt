@@ -29,8 +29,8 @@ impl<R: Env> Env for BehindProgram<'_, R> {
     }
 }
 
-/// The arguments behind the program's path, or none where one of them is not UTF-8. Only want of
-/// memory is refused.
+/// The arguments behind the program's path, or none where one of them is not UTF-8. Only running
+/// out of memory is refused.
 pub fn read_arguments<R: Env + AllocGlobal>(rt: &R) -> Result<Option<Vec<String>>>
     ensures { IfErr result (λ e. e ≡ out_of_memory) }
 {
