@@ -76,7 +76,7 @@ fn accepts(signature: &[u8; 64], message: &[u8], public_key: &[u8; 32]) -> u32 {
     (refused == 0) as u32
 }
 
-/// The trusted comment where the texts vouch for all of the data, else the number of the first error.
+/// The trusted comment where the texts vouch for all of the data, otherwise the number of the first error.
 fn verify(pk_text: &[u8], sig_text: &[u8], data: &mut impl Read) -> io::Result<Result<Vec<u8>, u32>> {
     let mut state = minisign::State::new();
     io::copy(data, &mut state)?;

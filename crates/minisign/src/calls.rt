@@ -195,7 +195,7 @@ fn verify_source<S: Scheme, R: Rereader>(
 /// success `out` is flushed.
 ///
 /// ```
-/// let comment = copy_verified(alloc, &scheme, PUBLIC_KEY, signature, &mut download, &mut installed)?;
+/// let comment = copy_verified(alloc, &scheme, PUBLIC_KEY, signature, &mut download, &mut new_file)?;
 /// ```
 pub fn copy_verified<S: Scheme, R: Rereader, O: Sink>(
     alloc: Global,

@@ -231,7 +231,7 @@ fn read_key_line(alloc: Global, line: &str) -> Result<PublicKey>
     }
 }
 
-// The key that a text is the base64 of; nothing where the text is no base64.
+// The key that a text is the base64 of; nothing where the text is not base64.
 fn decode_key(alloc: Global, text: &str) -> Result<Option<PublicKey>>
     ensures key { IfOk result (λ o. IfSome o (EncodesPublicKey text.now)) }
     ensures none { IfOk result (λ o. IfNone o (is_base64 text.now ≡ false)) }

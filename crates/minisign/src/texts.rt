@@ -26,7 +26,7 @@ pub(crate) fn next_line<'a>(rest: &mut Lines<'a>) -> Option<&'a str>
     }
 }
 
-// The bytes that a text is the base64 of; nothing where it is no base64.
+// The bytes that a text is the base64 of; nothing where it is not base64.
 pub(crate) fn decode(alloc: Global, text: &str) -> Result<Option<Vec<u8>>>
     ensures bytes { IfOk result (λ o. IfSome o (λ v. IsBase64Of text.now v.items)) }
     ensures none { IfOk result (λ o. IfNone o (is_base64 text.now ≡ false)) }

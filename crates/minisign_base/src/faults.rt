@@ -152,7 +152,7 @@ pub fn untrusted_comment_prefix() -> PError
     )
 }
 
-/// A line of a signature text is no base64.
+/// A line of a signature text is not base64.
 #[tactic(auto, unfolding(crate::specs::Faults::signature_not_base64))]
 pub fn signature_not_base64() -> PError
     ensures { result ≡ named.signature_not_base64 }
@@ -206,7 +206,7 @@ pub fn public_key_line_length() -> PError
     )
 }
 
-/// The second line of a public key text is no base64.
+/// The second line of a public key text is not base64.
 #[tactic(auto, unfolding(crate::specs::Faults::public_key_line_not_base64))]
 pub fn public_key_line_not_base64() -> PError
     ensures { result ≡ named.public_key_line_not_base64 }
@@ -228,7 +228,7 @@ pub fn bare_public_key_length() -> PError
     )
 }
 
-/// A public key given as base64 alone is no base64.
+/// A public key given as base64 alone is not base64.
 #[tactic(auto, unfolding(crate::specs::Faults::bare_public_key_not_base64))]
 pub fn bare_public_key_not_base64() -> PError
     ensures { result ≡ named.bare_public_key_not_base64 }
@@ -255,7 +255,7 @@ pub fn missing_encoded_secret_key() -> PError
     PError::fixed(ErrorKind::Io, "Missing encoded key in secret key")
 }
 
-/// The second line of a secret key text is no base64.
+/// The second line of a secret key text is not base64.
 #[tactic(auto, unfolding(crate::specs::Faults::secret_key_not_base64))]
 pub fn secret_key_not_base64() -> PError
     ensures { result ≡ named.secret_key_not_base64 }

@@ -142,7 +142,7 @@ pub extern "C" fn minisign_ask_signing(
     }
 }
 
-// The password that two arguments hand in.
+// The password that two arguments pass in.
 fn given(with_password: u32, password: &[u8]) -> Option<&[u8]>
     ensures { option_map (λ p. p.now) result ≡ handed_in with_password password.now }
 {

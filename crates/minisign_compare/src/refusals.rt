@@ -11,7 +11,7 @@ use std::alloc::{AllocError, AllocFailed};
 /// Why a request gets no fields for an answer.
 #[derive(Drop)]
 pub enum Refusal {
-    /// The library's call answered a fault.
+    /// The library's call returned a fault.
     Fault(PError),
     /// The call has a condition that the request does not meet.
     OutsideConditions,

@@ -1,4 +1,4 @@
-//! The answer to a request: what the call answered, and what it wrote, read and drew meanwhile.
+//! The answer to a request: what the call returned, and what it wrote, read and drew meanwhile.
 
 ghost use Rattle.std.specs.Prelude.{◌≡◌, [], ◌++◌, OnOk, codes, if◌then◌else◌, string_bytes};
 ghost use Rattle.hex.specs.Hex.{encode_lower};
@@ -75,7 +75,7 @@ impl Fields {
     }
 }
 
-/// What a request's call answered and did.
+/// What a request's call returned and did.
 #[derive(Drop)]
 pub struct Reply {
     /// The fields of the answer.
@@ -91,7 +91,7 @@ pub struct Reply {
 }
 
 impl Reply {
-    /// Nothing was answered or done yet.
+    /// Nothing was returned or done yet.
     pub fn new(alloc: Global) -> Reply {
         Reply {
             fields: Fields::new(alloc),

@@ -50,7 +50,7 @@ named_fault n =
     if n == 42 then fault.wrong_password else
     fault.out_of_memory
 
--- the number of a fault: 7 is out of memory, which may also have been wanting for telling faults apart
+-- the number of a fault: 7 is out of memory, which may also have run out while telling faults apart
 abbrev pub IsFaultNumber : Fault → ℕ → Type 0
 IsFaultNumber e n =
     (n ≡ 7)

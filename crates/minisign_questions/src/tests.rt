@@ -97,7 +97,7 @@ fn number(alloc: Global, outcome: Result<(), Refusal>, questions: &Questions) ->
     }
 }
 
-// The number that asking answers of two texts, with legacy signatures allowed or not.
+// The number that asking returns for two texts, with legacy signatures allowed or not.
 fn asked(alloc: Global, state: &mut State, pk_text: &str, sig_text: &str, legacy: bool) -> u32 {
     let mut questions = no_questions();
     let mut message = [0u8; 512];
@@ -220,7 +220,7 @@ fn a_wrong_use_is_refused_and_changes_nothing(rt: HostRuntime) -> Result<(), Fai
     Ok(())
 }
 
-// The number that asking for signatures answers, with a password or without.
+// The number that asking for signatures returns, with a password or without.
 fn asked_to_sign(
     alloc: Global,
     sk_text: &str,

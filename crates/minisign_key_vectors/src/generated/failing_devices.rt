@@ -47,7 +47,7 @@ fn generate<R: Source, W: Sink, P: Sink, K: Sink>(
     )
 }
 
-// Whether generation over these two sinks answers this, with so much of both texts taken and all shown.
+// Whether generation over these two sinks returns this, with so much of both texts taken and all shown.
 fn takes(
     alloc: Global,
     public: LimitedSink,

@@ -34,7 +34,7 @@ fn sealed_box(alloc: Global) -> Result<SecretKeyBox> {
     pair.sk.to_box(alloc, None)
 }
 
-// What a key that opening answered has as its record, or which fault there was.
+// What a key that opening returned has as its record, or which fault there was.
 fn shown(alloc: Global, answer: Result<SecretKey>) -> Result<Vec<u8>> {
     answer?.to_bytes(alloc)
 }
