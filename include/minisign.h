@@ -207,7 +207,7 @@ uint32_t minisign_ask(minisign_state *state, const uint8_t *pk_text, size_t pk_t
  * MINISIGN_OK exactly where the two texts vouch for all of the data that was fed, under the scheme that
  * answered so: the texts read as a key and a signature of the same identifier, of an algorithm that is
  * allowed, Ed25519 accepts the signature, and for that signature followed by the trusted comment the other.
- * Otherwise MINISIGN_SIGNATURE_REFUSED, or otherwise MINISIGN_COMMENT_SIGNATURE_REFUSED: the first of these that
+ * Otherwise MINISIGN_SIGNATURE_REFUSED or MINISIGN_COMMENT_SIGNATURE_REFUSED: the first of these that
  * fails.
  *
  * MINISIGN_NO_ANSWER, then MINISIGN_NOT_BEGUN, MINISIGN_NOT_ASKED: the state stays as it was.

@@ -45,9 +45,9 @@ pub fn open_with_password(alloc: Global, sk_text: &str, password: &str) -> Resul
     if sk.kdf_alg == KDF_NONE {
         return unsealed(sk);
     }
-    let handed_in = Some(String::from_str(alloc, password)?);
+    let passed_in = Some(String::from_str(alloc, password)?);
     let mut unasked = Prompt::new(MemorySource::new(b""), NoSink);
-    sk.open(alloc, handed_in, &mut unasked, None, 1)
+    sk.open(alloc, passed_in, &mut unasked, None, 1)
 }
 
 // The key, where it was never sealed and its checksum matches.

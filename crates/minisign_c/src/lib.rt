@@ -10,7 +10,7 @@ ghost use Rattle.minisign.specs.Records.{PublicKeyRecord, SecretKeyRecord, Signa
 ghost use Rattle.minisign.specs.Acceptance.{Verifier};
 ghost use Rattle.minisign_questions.specs.Questions.{AnswersTexts, AreOpen};
 ghost use Rattle.minisign_questions.specs.Numbers.{WritesCut, misuse_number};
-ghost use Rattle.minisign_questions.specs.Signing.{GivesSecretKey, HoldsText, IsSigningNumber, IsWritingNumber, TellsKey, comments_of, handed_in};
+ghost use Rattle.minisign_questions.specs.Signing.{GivesSecretKey, HoldsText, IsSigningNumber, IsWritingNumber, TellsKey, comments_of, passed_in};
 ghost use Rattle.minisign_questions.specs.declared.state.Misuse.TheVariants.{NoRoom};
 ghost use Rattle.minisign_questions.specs.States.{AreQuestions, GivesNumber, HasAsked, HasEnded, IsAnswer, IsAskingNumber, IsFed, IsMarkedFed, IsVerdictMisuse, feeding_misuse};
 
@@ -123,14 +123,14 @@ pub extern "C" fn minisign_ask_signing(
 ) -> u32
     // The secret and the identifier of the key that the text gives, and the digest of what the state was fed.
     ensures asked { result ≡ 0 → (key : SecretKeyRecord)
-        × GivesSecretKey sk_text.now (handed_in with_password password.now) key × TellsKey questions.new key }
+        × GivesSecretKey sk_text.now (passed_in with_password password.now) key × TellsKey questions.new key }
     ensures digest { result ≡ 0 → (m : List ℕ) → IsFed state.old m → questions.new.digest ≡ blake2b_digest 64 m }
     ensures begun { result ≡ 0 → IsMarkedFed state.old }
     ensures ended { result ≡ 0 → state.new.mark ≡ 0 }
     ensures number { result ≡ 0 → with_password < 2 }
 
     // Why they were not asked.
-    ensures refused { 0 < result → IsSigningNumber state.old sk_text.now (handed_in with_password password.now) with_password result }
+    ensures refused { 0 < result → IsSigningNumber state.old sk_text.now (passed_in with_password password.now) with_password result }
     ensures kept { 0 < result → (state.new ≡ state.old) × (questions.new ≡ questions.old) }
 {
     if with_password > 1 {
@@ -144,7 +144,7 @@ pub extern "C" fn minisign_ask_signing(
 
 // The password that two arguments pass in.
 fn given(with_password: u32, password: &[u8]) -> Option<&[u8]>
-    ensures { option_map (λ p. p.now) result ≡ handed_in with_password password.now }
+    ensures { option_map (λ p. p.now) result ≡ passed_in with_password password.now }
 {
     if with_password == 0 {
         None

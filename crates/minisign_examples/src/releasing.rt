@@ -69,9 +69,9 @@ pub fn make_keys<S: Scheme, Z: RandomSource>(
         × ArePairTexts (S.public_of scheme.now) password.now (string_bytes t.pk_text) (string_bytes t.sk_text) pk sk) }
     ensures refused { IfErr result IsMemoryOrRandomFault }
 {
-    let handed_in = Some(String::from_str(alloc, password)?);
+    let passed_in = Some(String::from_str(alloc, password)?);
     let mut unasked = Prompt::new(SliceSource::new(b""), VecSink::new(alloc));
-    let pair = KeyPair::generate_encrypted_keypair(alloc, scheme, random, handed_in, &mut unasked)?;
+    let pair = KeyPair::generate_encrypted_keypair(alloc, scheme, random, passed_in, &mut unasked)?;
     Ok(KeyTexts {
         pk_text: pair.pk.to_box(alloc)?.into_string(),
         sk_text: pair.sk.to_box(alloc, None)?.into_string(),

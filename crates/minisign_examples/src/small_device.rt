@@ -20,7 +20,7 @@ pub fn open_in_little_memory(alloc: Global, sk_text: &str, password: &str) -> Re
         (λ e. (e ≡ out_of_memory) ⊎ RefusesOpening sk_text.now password.now None e) }
 {
     let sk_box = SecretKeyBox::from_string(alloc, sk_text)?;
-    let handed_in = Some(String::from_str(alloc, password)?);
+    let passed_in = Some(String::from_str(alloc, password)?);
     let mut unasked = Prompt::new(SliceSource::new(b""), VecSink::new(alloc));
-    SecretKey::from_box_keeping(alloc, sk_box, handed_in, &mut unasked, KEPT_EVERY)
+    SecretKey::from_box_keeping(alloc, sk_box, passed_in, &mut unasked, KEPT_EVERY)
 }

@@ -122,5 +122,5 @@ abbrev pub IsWritingNumber : List ℕ → ChosenComments → List ℕ → List �
 IsWritingNumber key_id chosen first second bytes n = (r : Refusal) × IsNumberOf r n × IsWritingRefusal key_id chosen first second bytes r
 
 -- the password that a caller passes in by two arguments: none with 0, these bytes with 1
-abbrev pub handed_in : ℕ → List ℕ → Option (List ℕ)
-handed_in with_password bytes = if with_password == 0 then None else Some bytes
+abbrev pub passed_in : ℕ → List ℕ → Option (List ℕ)
+passed_in with_password bytes = if with_password == 0 then None else Some bytes
