@@ -1,5 +1,5 @@
-//! Runs one job of the library for a benchmark, and prints what came of it. The same jobs run over the Rust
-//! crate, in `bench/beside_rust.rs`:
+//! Runs one job of the library for a benchmark, and prints what came of it. The same jobs run over
+//! the Rust crate, in `bench/beside_rust.rs`:
 //!
 //!     hash FILE ROUNDS         digests of the file's bytes, so many times
 //!     verify PK SIG FILE       a file with the texts of a public key and of a signature

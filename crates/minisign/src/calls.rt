@@ -21,12 +21,12 @@ use std::alloc::Global;
 use std::fs;
 use std::rt::Files;
 
-/// Verifies that the texts of a public key and of a signature vouch for all the data ahead of `data_reader`, as
-/// `verify_texts` does, with options in place of three flags, and returns the trusted comment, which was signed
-/// with the data.
+/// Verifies that the texts of a public key and of a signature vouch for all the data ahead of
+/// `data_reader`, as `verify_texts` does, with options in place of three flags, and returns the
+/// trusted comment, which was signed with the data.
 ///
-/// What is refused, and in which order, is as `verify_texts` says. Until the comment is held in memory nothing is
-/// read from `data_reader`, and nothing is said or copied.
+/// What is refused, and in which order, is as `verify_texts` says. Until the comment is held in
+/// memory nothing is read from `data_reader`, and nothing is said or copied.
 pub fn verify_with<S: Scheme, R: Rereader, W: Sink, O: Sink>(
     alloc: Global,
     scheme: &S,
@@ -37,8 +37,9 @@ pub fn verify_with<S: Scheme, R: Rereader, W: Sink, O: Sink>(
     status: &mut W,
     out: &mut O,
 ) -> Result<String>
-    // Over data that is told, where memory is found and no device fails, and over a steady source where the data
-    // is copied: success exactly where the texts vouch for the data, and otherwise the first failing case.
+    // Over data that is told, where memory is found and no device fails, and over a steady source
+    // where the data is copied: success exactly where the texts vouch for the data, and otherwise
+    // the first failing case.
     ensures headline { VerifiesExactly (S.accepts scheme.now) pk_text.now sig_text.now
         (record { quiet = options.quiet; output = options.output; legacy = options.allow_legacy })
         (rereader_passage R.Source R.steady data_reader.old data_reader.new)
@@ -94,13 +95,14 @@ fn read_texts(
     Ok((pk, signature_box, comment))
 }
 
-/// Verifies that the texts of a public key and of a signature vouch for the data in memory, and returns the
-/// trusted comment, which was signed with the data.
+/// Verifies that the texts of a public key and of a signature vouch for the data in memory, and
+/// returns the trusted comment, which was signed with the data.
 ///
-/// Refused are, in this order: the text of the public key, as `PublicKey::from_box` says; the text of the
-/// signature, as `SignatureBox::from_string` says; an identifier other than the public key's, a signature over
-/// the data itself, a signature that the scheme does not accept, a comment signature that has under 64 bytes or is
-/// not accepted. It may run out of memory at any time; the data is not copied.
+/// Refused are, in this order: the text of the public key, as `PublicKey::from_box` says; the text
+/// of the signature, as `SignatureBox::from_string` says; an identifier other than the public
+/// key's, a signature over the data itself, a signature that the scheme does not accept, a comment
+/// signature that has under 64 bytes or is not accepted. It may run out of memory at any time; the
+/// data is not copied.
 ///
 /// ```
 /// let comment = verify_bytes(alloc, &scheme, PUBLIC_KEY, signature, update)?;
@@ -126,14 +128,15 @@ pub fn verify_bytes<S: Scheme>(
     )
 }
 
-/// Verifies that the text of a public key and the signature text in the file at `sig_path` vouch for the data in
-/// the file at `data_path`, and returns the trusted comment, which was signed with the data. The paths are taken
-/// as they stand. The data is read in pieces of 64 KiB, so that memory does not grow with it.
+/// Verifies that the text of a public key and the signature text in the file at `sig_path` vouch
+/// for the data in the file at `data_path`, and returns the trusted comment, which was signed with
+/// the data. The paths are taken as they stand. The data is read in pieces of 64 KiB, so that
+/// memory does not grow with it.
 ///
-/// Refused are, in this order: a signature file that cannot be opened or read, `reading_failed`; one that is
-/// not UTF-8, `not_utf8`; a data file that cannot be opened, `reading_failed`; a text, as `verify_bytes` says; a
-/// data file that cannot be read, `reading_failed`; and what `verify_bytes` refuses of the data. It may run out of
-/// memory at any time.
+/// Refused are, in this order: a signature file that cannot be opened or read, `reading_failed`;
+/// one that is not UTF-8, `not_utf8`; a data file that cannot be opened, `reading_failed`; a text,
+/// as `verify_bytes` says; a data file that cannot be read, `reading_failed`; and what
+/// `verify_bytes` refuses of the data. It may run out of memory at any time.
 ///
 /// ```
 /// let comment = verify_file(&rt, rt.alloc(), &scheme, PUBLIC_KEY, "update.tar.minisig", "update.tar")?;
@@ -183,16 +186,17 @@ fn verify_source<S: Scheme, R: Rereader>(
     )
 }
 
-/// Copies all the data ahead of `data_reader` to `out`, where the texts of a public key and of a signature vouch
-/// for it, and returns the trusted comment, which was signed with the data.
+/// Copies all the data ahead of `data_reader` to `out`, where the texts of a public key and of a
+/// signature vouch for it, and returns the trusted comment, which was signed with the data.
 ///
-/// The data is read twice in pieces of 64 KiB, so that memory does not grow with it, and nothing is copied before
-/// it is vouched for. Refused are, in this order: a text; for a prehashed signature a place that cannot be marked,
-/// `going_back_failed`; a first reading that fails, `reading_failed`; what `verify_bytes` refuses of the data; all
-/// these with `out` untouched. Then a source that cannot go back, `going_back_failed`; a second reading or an `out`
-/// that fails, whichever comes first; a second reading that has another digest, `data_changed`; an `out` that fails
-/// at its flush. It may run out of memory at any time. After any refusal nobody may rely on what `out` holds. On
-/// success `out` is flushed.
+/// The data is read twice in pieces of 64 KiB, so that memory does not grow with it, and nothing is
+/// copied before it is vouched for. Refused are, in this order: a text; for a prehashed signature a
+/// place that cannot be marked, `going_back_failed`; a first reading that fails, `reading_failed`;
+/// what `verify_bytes` refuses of the data; all these with `out` untouched. Then a source that
+/// cannot go back, `going_back_failed`; a second reading or an `out` that fails, whichever comes
+/// first; a second reading that has another digest, `data_changed`; an `out` that fails at its
+/// flush. It may run out of memory at any time. After any refusal nobody may rely on what `out`
+/// holds. On success `out` is flushed.
 ///
 /// ```
 /// let comment = copy_verified(alloc, &scheme, PUBLIC_KEY, signature, &mut download, &mut new_file)?;
@@ -205,8 +209,8 @@ pub fn copy_verified<S: Scheme, R: Rereader, O: Sink>(
     data_reader: &mut R,
     out: &mut O,
 ) -> Result<String>
-    // Over data that a steady source tells, where no device fails, memory aside: success exactly where the texts
-    // vouch for the data, and otherwise the first failing case.
+    // Over data that a steady source tells, where no device fails, memory aside: success exactly
+    // where the texts vouch for the data, and otherwise the first failing case.
     ensures headline { CopiesExactly string_bytes (S.accepts scheme.now) pk_text.now sig_text.now
         (rereader_passage R.Source R.steady data_reader.old data_reader.new) (sink_passage O.Sink out.old out.new) result }
 

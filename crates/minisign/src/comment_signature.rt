@@ -11,8 +11,8 @@ use minisign_base::Result;
 use minisign_base::scheme::Scheme;
 use std::alloc::Global;
 
-// Whether the comment signature is accepted; a bare signature has none to test. Only the 32 bytes of
-// the key count.
+// Whether the comment signature is accepted; a bare signature has none to test. Only the 32 bytes
+// of the key count.
 pub(crate) fn accepts_comments<S: Scheme>(
     alloc: Global,
     scheme: &S,
@@ -29,8 +29,8 @@ pub(crate) fn accepts_comments<S: Scheme>(
     }
 }
 
-// Whether the comment signature has at least 64 bytes, and the first 64 are accepted for the signature
-// followed by the trusted comment.
+// Whether the comment signature has at least 64 bytes, and the first 64 are accepted for the
+// signature followed by the trusted comment.
 fn accepts_comment<S: Scheme>(
     alloc: Global,
     scheme: &S,

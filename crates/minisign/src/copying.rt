@@ -1,5 +1,5 @@
-//! Copying the data of a box that was accepted: the data that was kept, or a second pass over the source
-//! that has to give the digest of the first.
+//! Copying the data of a box that was accepted: the data that was kept, or a second pass over the
+//! source that has to give the digest of the first.
 
 ghost use Rattle.std.specs.Prelude.{◌≡◌, ℕ, ◌<◌, ◌++◌, ◌⊎◌, List, true, false, length, IfSome, IfOk, IfErr, OnOk, OnErr};
 ghost use Rattle.std.specs.Io.KnownBytes.{Appends, IsAtEnd, Keeps};

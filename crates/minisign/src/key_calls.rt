@@ -23,13 +23,13 @@ use minisign_base::prompt::Prompt;
 use minisign_base::scheme::Scheme;
 use std::alloc::Global;
 
-/// The secret key that a text gives: a key that was never sealed as it stands, and any other opened with the
-/// password. Nothing is asked for and nothing is said.
+/// The secret key that a text gives: a key that was never sealed as it stands, and any other opened
+/// with the password. Nothing is asked for and nothing is said.
 ///
-/// Refused are, in this order: a text that reads as no key; of a key that was never sealed a checksum that does
-/// not match, `corrupted_key`; of any other what `SecretKey::from_box` refuses with a password that is passed in,
-/// `wrong_password` among it. It may run out of memory at any time: a sealed key takes 128 * 8 * N bytes, 32 MiB
-/// with the usual limits.
+/// Refused are, in this order: a text that reads as no key; of a key that was never sealed a
+/// checksum that does not match, `corrupted_key`; of any other what `SecretKey::from_box` refuses
+/// with a password that is passed in, `wrong_password` among it. It may run out of memory at any
+/// time: a sealed key takes 128 * 8 * N bytes, 32 MiB with the usual limits.
 ///
 /// ```
 /// let sk = open_with_password(alloc, sk_text, password)?;
@@ -59,13 +59,14 @@ fn unsealed(sk: SecretKey) -> Result<SecretKey>
     Ok(sk)
 }
 
-/// Signs the message in memory, and returns the text of the signature. Without a trusted comment it gets
-/// `timestamp:` and the `moment`, in seconds since 1970; the untrusted one is `signature from rsign secret key`.
-/// Two draws of 64 random bytes are made.
+/// Signs the message in memory, and returns the text of the signature. Without a trusted comment it
+/// gets `timestamp:` and the `moment`, in seconds since 1970; the untrusted one is
+/// `signature from rsign secret key`. Two draws of 64 random bytes are made.
 ///
-/// Refused are, in this order: a sealed key, `encrypted_key_refused`, with nothing drawn; a failing `random`. It
-/// may run out of memory at any time after the key was tested. A trusted comment with a line feed, or with white
-/// space at its ends, is written as it stands: the text need not verify then, or may read with another comment.
+/// Refused are, in this order: a sealed key, `encrypted_key_refused`, with nothing drawn; a failing
+/// `random`. It may run out of memory at any time after the key was tested. A trusted comment with
+/// a line feed, or with white space at its ends, is written as it stands: the text need not verify
+/// then, or may read with another comment.
 ///
 /// ```
 /// let sig_text = sign_bytes(alloc, &scheme, &sk, update, Some("update-1.2.tar"), &mut random, moment)?;

@@ -31,8 +31,8 @@ impl Eq for KeynumPK {
     ghost laws = { and_equiv (on_equiv (λ k. k.keynum) nat_list_eq_equiv) (on_equiv (λ k. k.pk) nat_list_eq_equiv) };
 }
 
-/// A secret key: an identifier of 8 bytes, the 64 secret bytes, which are those of a seed and of its
-/// public key, and a checksum of 32.
+/// A secret key: an identifier of 8 bytes, the 64 secret bytes, which are those of a seed and of
+/// its public key, and a checksum of 32.
 #[derive(Clone, Drop)]
 pub struct KeynumSK {
     /// The identifier, which a signature repeats.
@@ -52,7 +52,8 @@ impl KeynumSK {
     }
 }
 
-/// Prints the secret: its 64 bytes in lower hexadecimal, each without leading zeros. Keep it out of logs.
+/// Prints the secret: its 64 bytes in lower hexadecimal, each without leading zeros. Keep it out of
+/// logs.
 impl fmt::Debug for KeynumSK {
     ghost debug_output = { λ k. Some (secret_text k.sk) };
 

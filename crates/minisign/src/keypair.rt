@@ -60,7 +60,8 @@ impl KeyPair {
         ensures genuine { IfOk result
             (λ pair. IsGenuinePair (S.public_of scheme.now) pair.pk pair.sk) }
         ensures unencrypted { IfOk result (λ pair. IsUnencrypted pair.sk) }
-        // Each text that reads as the secret key is one that `SecretKey::from_unencrypted_box` takes.
+        // Each text that reads as the secret key is one that `SecretKey::from_unencrypted_box`
+        // takes.
         ensures texts { IfOk result
             (λ pair. (text : List ℕ) → SecretKeyText text pair.sk
             → IsUnencryptedText text pair.sk) }
@@ -73,13 +74,13 @@ impl KeyPair {
         Ok(make_pair(scheme, &seed, keynum))
     }
 
-    /// Makes a pair that is not sealed, and writes the 42 bytes of its public key to `pk_sink` and the 158
-    /// of its secret key to `sk_sink`.
+    /// Makes a pair that is not sealed, and writes the 42 bytes of its public key to `pk_sink` and
+    /// the 158 of its secret key to `sk_sink`.
     ///
-    /// Refused are, in this order: a failing `random`; memory for the bytes of both keys, with neither sink
-    /// touched; a failing `pk_sink`; and a failing `sk_sink`. The public key is written and flushed before
-    /// the secret one is begun, and the secret one is flushed at the end. A sink that failed took a
-    /// beginning of its key.
+    /// Refused are, in this order: a failing `random`; memory for the bytes of both keys, with
+    /// neither sink touched; a failing `pk_sink`; and a failing `sk_sink`. The public key is
+    /// written and flushed before the secret one is begun, and the secret one is flushed at the
+    /// end. A sink that failed took a beginning of its key.
     pub fn generate_and_write_unencrypted_keypair<S: Scheme, Z: RandomSource, P: Sink, K: Sink>(
         alloc: Global,
         scheme: &S,
@@ -117,16 +118,17 @@ impl KeyPair {
         Ok(pair)
     }
 
-    /// Makes a pair whose secret key is sealed under a password, of 32 random bytes of a seed, then 8 of an
-    /// identifier, and then 32 of a salt. All of them are drawn before anything is asked.
+    /// Makes a pair whose secret key is sealed under a password, of 32 random bytes of a seed, then
+    /// 8 of an identifier, and then 32 of a salt. All of them are drawn before anything is asked.
     ///
-    /// Where no `password` is passed in, the prompt says what it is for, asks for it twice, and tells of the
-    /// derivation, which takes some 32 MiB of memory; otherwise the prompt is left alone. The secret key is opened
-    /// again by `SecretKey::from_box` with the same password.
+    /// Where no `password` is passed in, the prompt says what it is for, asks for it twice, and
+    /// tells of the derivation, which takes some 32 MiB of memory; otherwise the prompt is left
+    /// alone. The secret key is opened again by `SecretKey::from_box` with the same password.
     ///
-    /// Refused are, in this order: a failing `random`, with nothing asked; what `get_password` refuses, at the
-    /// first question and then at the second; two passwords that differ (`passwords_differ`); memory for the
-    /// derivation. A prompt that cannot be written to is refused at each text.
+    /// Refused are, in this order: a failing `random`, with nothing asked; what `get_password`
+    /// refuses, at the first question and then at the second; two passwords that differ
+    /// (`passwords_differ`); memory for the derivation. A prompt that cannot be written to is
+    /// refused at each text.
     pub fn generate_encrypted_keypair<S: Scheme, Z: RandomSource, R: Source, W: Sink>(
         alloc: Global,
         scheme: &S,
@@ -150,13 +152,14 @@ impl KeyPair {
         seal_pair(alloc, scheme, &drawn, password, prompt)
     }
 
-    /// Makes a sealed pair as `generate_encrypted_keypair` does, and writes the text of its public key to
-    /// `pk_sink` and the one of its secret key, with the `comment` or the one by default, to `sk_sink`.
+    /// Makes a sealed pair as `generate_encrypted_keypair` does, and writes the text of its public
+    /// key to `pk_sink` and the one of its secret key, with the `comment` or the one by default, to
+    /// `sk_sink`.
     ///
-    /// Refused are, in this order: what that call refuses, and memory for the two texts, with neither sink
-    /// touched; a failing `pk_sink`; and a failing `sk_sink`. The public key is written and flushed before
-    /// the secret one is begun, and the secret one is flushed at the end. A sink that failed took a
-    /// beginning of its text.
+    /// Refused are, in this order: what that call refuses, and memory for the two texts, with
+    /// neither sink touched; a failing `pk_sink`; and a failing `sk_sink`. The public key is
+    /// written and flushed before the secret one is begun, and the secret one is flushed at the
+    /// end. A sink that failed took a beginning of its text.
     pub fn generate_and_write_encrypted_keypair<
         S: Scheme,
         Z: RandomSource,

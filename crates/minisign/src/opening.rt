@@ -52,13 +52,13 @@ impl SecretKeyBox {
 }
 
 impl SecretKey {
-    /// Reads the secret key text that the file at `path` holds, and opens the key with the password, as
-    /// `from_box` does. The path is taken as it stands.
+    /// Reads the secret key text that the file at `path` holds, and opens the key with the
+    /// password, as `from_box` does. The path is taken as it stands.
     ///
-    /// These are refused, in this order: a file that cannot be opened or read, `reading_failed`; one that is
-    /// not UTF-8, `not_utf8`; and what `from_box` refuses. It may run out of memory at any time. Until the file
-    /// is read the prompt is left alone. Std's files tell no bytes, so of the text it is only said that there
-    /// is one.
+    /// These are refused, in this order: a file that cannot be opened or read, `reading_failed`;
+    /// one that is not UTF-8, `not_utf8`; and what `from_box` refuses. It may run out of memory at
+    /// any time. Until the file is read the prompt is left alone. Std's files tell no bytes, so of
+    /// the text it is only said that there is one.
     pub fn from_file<F: Files, R: Source, W: Sink>(
         files: &F,
         alloc: Global,
@@ -73,8 +73,8 @@ impl SecretKey {
         SecretKey::from_box(alloc, SecretKeyBox::from(text), password, prompt)
     }
 
-    /// Reads a sealed key and opens it with the password: as `from_box_within`, with no bound, so that
-    /// `work_too_high` never comes.
+    /// Reads a sealed key and opens it with the password: as `from_box_within`, with no bound, so
+    /// that `work_too_high` never comes.
     pub fn from_box<R: Source, W: Sink>(
         alloc: Global,
         sk_box: SecretKeyBox,
@@ -89,10 +89,11 @@ impl SecretKey {
         SecretKey::open_box(alloc, sk_box, password, prompt, None, 1)
     }
 
-    /// Reads a sealed key and opens it with the password in a fraction of the memory: `from_box` with only
-    /// every k-th of scrypt's rows kept, for k from 1 on. The others are made again when they are named, so
-    /// that what is opened and what is refused is the same for every k, and the time grows with it. Memory
-    /// for the kept rows is asked for once, 128 * 8 bytes for each of N / k, rounded up.
+    /// Reads a sealed key and opens it with the password in a fraction of the memory: `from_box`
+    /// with only every k-th of scrypt's rows kept, for k from 1 on. The others are made again when
+    /// they are named, so that what is opened and what is refused is the same for every k, and the
+    /// time grows with it. Memory for the kept rows is asked for once, 128 * 8 bytes for each of N
+    /// / k, rounded up.
     pub fn from_box_keeping<R: Source, W: Sink>(
         alloc: Global,
         sk_box: SecretKeyBox,
@@ -110,20 +111,21 @@ impl SecretKey {
         SecretKey::open_box(alloc, sk_box, password, prompt, None, k)
     }
 
-    /// Reads a sealed key and opens it with the password, within a bound on the work of a stranger's key:
-    /// `max_p` is the greatest parallelization p of scrypt (RFC 7914, section 2) that is allowed. Memory
-    /// for the rows of scrypt is asked for once, 128 * 8 * N bytes.
+    /// Reads a sealed key and opens it with the password, within a bound on the work of a
+    /// stranger's key: `max_p` is the greatest parallelization p of scrypt (RFC 7914, section 2)
+    /// that is allowed. Memory for the rows of scrypt is asked for once, 128 * 8 * N bytes.
     ///
     /// Where no password is passed in, the prompt writes `Password: ` and reads a line, writes
-    /// `Deriving a key from the password and decrypting the secret key... `, and after the derivation
-    /// `done` and a line feed; a password that is passed in leaves the prompt untouched.
+    /// `Deriving a key from the password and decrypting the secret key... `, and after the
+    /// derivation `done` and a line feed; a password that is passed in leaves the prompt untouched.
     ///
-    /// Refused are, in this order: a text without a first line, without a second one, with a second line
-    /// that is not base64, or of fewer than 158 bytes; a key that was never sealed, `key_not_encrypted`; one
-    /// that is not sealed by scrypt, `unsupported_encryption_algorithm`; what `get_password` refuses; a
-    /// writer that fails before the derivation; a memory limit above 1073741824 bytes or a cost above 2^20, `parameters_too_high`; limits that lead to
-    /// parameters that scrypt does not take, `invalid_parameters`; p above `max_p`, `work_too_high`; a
-    /// writer that fails at `done`; a checksum that opening does not restore, `wrong_password`. What the
+    /// Refused are, in this order: a text without a first line, without a second one, with a second
+    /// line that is not base64, or of fewer than 158 bytes; a key that was never sealed,
+    /// `key_not_encrypted`; one that is not sealed by scrypt, `unsupported_encryption_algorithm`;
+    /// what `get_password` refuses; a writer that fails before the derivation; a memory limit above
+    /// 1073741824 bytes or a cost above 2^20, `parameters_too_high`; limits that lead to parameters
+    /// that scrypt does not take, `invalid_parameters`; p above `max_p`, `work_too_high`; a writer
+    /// that fails at `done`; a checksum that opening does not restore, `wrong_password`. What the
     /// limits and the bound refuse takes no memory for rows.
     pub fn from_box_within<R: Source, W: Sink>(
         alloc: Global,
@@ -140,12 +142,13 @@ impl SecretKey {
         SecretKey::open_box(alloc, sk_box, password, prompt, Some(max_p), 1)
     }
 
-    /// Reads a key that was never sealed. Its text is read as two lines: one of comment, and one that is the
-    /// base64 of the key's 158 bytes, with nothing trimmed off; later bytes and later lines are ignored.
+    /// Reads a key that was never sealed. Its text is read as two lines: one of comment, and one
+    /// that is the base64 of the key's 158 bytes, with nothing trimmed off; later bytes and later
+    /// lines are ignored.
     ///
-    /// Refused are, in this order: a text without a first line, without a second one, with a second line
-    /// that is not base64, or of fewer than 158 bytes; a key derivation other than two zero bytes; a checksum
-    /// that does not match.
+    /// Refused are, in this order: a text without a first line, without a second one, with a second
+    /// line that is not base64, or of fewer than 158 bytes; a key derivation other than two zero
+    /// bytes; a checksum that does not match.
     pub fn from_unencrypted_box(alloc: Global, sk_box: SecretKeyBox) -> Result<SecretKey>
         ensures outcome { MatchResult result (IsUnencryptedText sk_box)
             (λ e. (e ≡ out_of_memory) ⊎ RefusesUnencrypted sk_box e) }
@@ -158,8 +161,8 @@ impl SecretKey {
         SecretKey::unencrypted_from_text(alloc, sk_box.as_str())
     }
 
-    // Reads a sealed key and opens it, within a bound on the parallelization where there is one, with every
-    // k-th row kept.
+    // Reads a sealed key and opens it, within a bound on the parallelization where there is one,
+    // with every k-th row kept.
     fn open_box<R: Source, W: Sink>(
         alloc: Global,
         sk_box: SecretKeyBox,

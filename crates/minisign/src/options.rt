@@ -2,8 +2,8 @@
 
 ghost use Rattle.std.specs.Prelude.{◌≡◌, true, false};
 
-/// How data is verified. The default says the status, copies nothing, and refuses a signature that is over the
-/// data itself.
+/// How data is verified. The default says the status, copies nothing, and refuses a signature that
+/// is over the data itself.
 #[derive(Clone, Copy, Debug, Drop)]
 pub struct VerifyOptions {
     /// Write no status lines.

@@ -30,8 +30,8 @@ impl SignatureBox {
         &self.signature
     }
 
-    /// The comment that is signed, and the signature of the box's signature and that comment, as many
-    /// bytes as its text has; a bare signature has none.
+    /// The comment that is signed, and the signature of the box's signature and that comment, as
+    /// many bytes as its text has; a bare signature has none.
     pub fn signed_comment(&self) -> Option<(&str, &[u8])>
         ensures { MatchOption self.now.comments (result ≡ None)
             (λ c. IsSomeAnd result

@@ -26,8 +26,8 @@ use std::rt::Files;
 // The length of a public key in base64.
 const ENCODED_BYTES: usize = 56;
 
-/// A public key: an algorithm of 2 bytes, an identifier of 8 and a key of 32. The algorithm is kept as
-/// it was read and never tested.
+/// A public key: an algorithm of 2 bytes, an identifier of 8 and a key of 32. The algorithm is kept
+/// as it was read and never tested.
 #[derive(Clone, Debug, Drop)]
 pub struct PublicKey {
     pub(crate) sig_alg: [u8; 2],
@@ -52,8 +52,8 @@ impl PublicKey {
         &self.keynum_pk.keynum[..]
     }
 
-    /// Reads the 42 bytes at the front: algorithm, identifier, key. Fewer bytes are refused, and later
-    /// ones are ignored. Takes no memory.
+    /// Reads the 42 bytes at the front: algorithm, identifier, key. Fewer bytes are refused, and
+    /// later ones are ignored. Takes no memory.
     pub fn from_bytes(bytes: &[u8]) -> Result<PublicKey>
         ensures { MatchResult result (ReadsPublicKey bytes.now)
             (λ e. (e ≡ record_too_short) × (length bytes.now < 42)) }
@@ -70,8 +70,9 @@ impl PublicKey {
     /// Reads a public key text: a first line that may be anything, and a second of 56 bytes that,
     /// trimmed of white space, is the base64 of the 42 bytes of a key. Later lines are ignored.
     ///
-    /// These are refused, in this order: a text with no first line, one with no second line, another
-    /// length of that line, what is not base64, fewer than 42 bytes. It may run out of memory at any time.
+    /// These are refused, in this order: a text with no first line, one with no second line,
+    /// another length of that line, what is not base64, fewer than 42 bytes. It may run out of
+    /// memory at any time.
     pub fn from_box(alloc: Global, public_key_box: PublicKeyBox) -> Result<PublicKey>
         ensures read { IfOk result (PublicKeyText public_key_box) }
         ensures exact { (k : PublicKeyRecord) → PublicKeyText public_key_box k →
@@ -84,12 +85,12 @@ impl PublicKey {
         read_text(alloc, public_key_box.as_str())
     }
 
-    /// Reads the public key text that the file at `path` holds, as `from_box` does. The path is taken as it
-    /// stands.
+    /// Reads the public key text that the file at `path` holds, as `from_box` does. The path is
+    /// taken as it stands.
     ///
-    /// These are refused, in this order: a file that cannot be opened or read, `reading_failed`; one that is
-    /// not UTF-8, `not_utf8`; and what `from_box` refuses. It may run out of memory at any time. Std's files
-    /// tell no bytes, so of the text it is only said that there is one.
+    /// These are refused, in this order: a file that cannot be opened or read, `reading_failed`;
+    /// one that is not UTF-8, `not_utf8`; and what `from_box` refuses. It may run out of memory at
+    /// any time. Std's files tell no bytes, so of the text it is only said that there is one.
     pub fn from_file<F: Files>(files: &F, alloc: Global, path: &str) -> Result<PublicKey>
         ensures read { IfOk result (λ k. (text : List ℕ) × PublicKeyText text k) }
         ensures refused { IfErr result (λ e. IsTextFileFault e
@@ -101,8 +102,8 @@ impl PublicKey {
 
     /// Reads the bare base64 of a key, 56 bytes with nothing around them.
     ///
-    /// These are refused, in this order: a text that, trimmed of white space, has another length, what
-    /// is not base64 as it stands, fewer than 42 bytes. It may run out of memory at any time.
+    /// These are refused, in this order: a text that, trimmed of white space, has another length,
+    /// what is not base64 as it stands, fewer than 42 bytes. It may run out of memory at any time.
     pub fn from_base64(alloc: Global, text: &str) -> Result<PublicKey>
         ensures read { IfOk result (BarePublicKey text.now) }
         ensures exact { (k : PublicKeyRecord) → BarePublicKey text.now k →
@@ -132,9 +133,9 @@ impl PublicKey {
         })
     }
 
-    /// The text of the key, two lines: `untrusted comment: minisign public key: ` and the identifier,
-    /// read little endian, in 16 upper hexadecimal digits; the base64 of the 42 bytes. Only running
-    /// out of memory is refused.
+    /// The text of the key, two lines: `untrusted comment: minisign public key: ` and the
+    /// identifier, read little endian, in 16 upper hexadecimal digits; the base64 of the 42 bytes.
+    /// Only running out of memory is refused.
     pub fn to_box(&self, alloc: Global) -> Result<PublicKeyBox>
         ensures text { IfOk result (λ b. b ≡ public_key_text self.now) }
         ensures reads_back { IfOk result (λ b. PublicKeyText b self.now) }

@@ -12,8 +12,8 @@ use std::alloc::Global;
 use std::fmt;
 use std::marker::Model;
 
-/// A text that may hold a public key; nothing is tested before a key is read from it. `Display` writes
-/// the text.
+/// A text that may hold a public key; nothing is tested before a key is read from it. `Display`
+/// writes the text.
 #[derive(Debug, Drop)]
 pub struct PublicKeyBox(String);
 

@@ -19,8 +19,8 @@ use std::rt::Files;
 // How many bytes a read asks for.
 const PIECE_BYTES: usize = 65536;
 
-// The text that the file at this path holds. A file that cannot be opened is refused as one that cannot be
-// read.
+// The text that the file at this path holds. A file that cannot be opened is refused as one that
+// cannot be read.
 pub(crate) fn read_text_file<F: Files>(files: &F, alloc: Global, path: &str) -> Result<String>
     ensures { IfErr result IsTextFileFault }
 {
@@ -30,8 +30,8 @@ pub(crate) fn read_text_file<F: Files>(files: &F, alloc: Global, path: &str) -> 
     }
 }
 
-/// All that is ahead, as a text in memory. Refused are a failing source (`reading_failed`), bytes that are
-/// not UTF-8 (`not_utf8`), and running out of memory, which may come at any time.
+/// All that is ahead, as a text in memory. Refused are a failing source (`reading_failed`), bytes
+/// that are not UTF-8 (`not_utf8`), and running out of memory, which may come at any time.
 pub fn read_text<S: Source>(alloc: Global, source: &mut S) -> Result<String>
     ensures text { IfOk result (λ t. ReadsWhole S.Source source.old source.new (string_bytes t)) }
     ensures refused { IfErr result (IsTextFault S.Source source.old source.new) }
@@ -44,8 +44,9 @@ pub fn read_text<S: Source>(alloc: Global, source: &mut S) -> Result<String>
     }
 }
 
-/// All that is ahead, in memory. It is read in pieces of 64 KiB. Refused are a failing source, and running out of
-/// memory, for the buffer or for what is kept; some bytes may have been read by then.
+/// All that is ahead, in memory. It is read in pieces of 64 KiB. Refused are a failing source, and
+/// running out of memory, for the buffer or for what is kept; some bytes may have been read by
+/// then.
 pub fn read_to_end<S: Source>(alloc: Global, source: &mut S) -> Result<Vec<u8>>
     ensures bytes { IfOk result (λ v. ReadsWhole S.Source source.old source.new v.items) }
     ensures refused { IfErr result (IsReadFault S.Source source.old source.new) }

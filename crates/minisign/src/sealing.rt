@@ -51,9 +51,10 @@ impl SecretKey {
         sk
     }
 
-    // Xors the last 104 bytes of the record with the stream under the password: opens a sealed key, and
-    // seals an opened one. Limits that are not allowed are refused before anything is derived, and then
-    // a parallelization above the bound; neither takes memory. Every k-th row of scrypt is kept.
+    // Xors the last 104 bytes of the record with the stream under the password: opens a sealed key,
+    // and seals an opened one. Limits that are not allowed are refused before anything is derived,
+    // and then a parallelization above the bound; neither takes memory. Every k-th row of scrypt is
+    // kept.
     #[tactic(auto, using(crate::proofs::SealedParts::restored_key))]
     pub(crate) fn apply_stream(
         &mut self,
@@ -76,7 +77,8 @@ impl SecretKey {
         Ok(())
     }
 
-    // Xors the last 104 bytes of the record, as one list. Once more with the same stream restores them.
+    // Xors the last 104 bytes of the record, as one list. Once more with the same stream restores
+    // them.
     fn xor_keynum(&mut self, stream: &[u8; 104])
         ensures xored { self.new ≡ key_xor self.old stream.now }
         ensures restores { key_xor self.new stream.now ≡ self.old }
@@ -154,8 +156,8 @@ fn key_params(sk: &SecretKey) -> Result<Params>
     sealing_params(memlimit, opslimit)
 }
 
-// The parameters that a memory limit in bytes and an operations limit lead to, where sealing and opening
-// allow them.
+// The parameters that a memory limit in bytes and an operations limit lead to, where sealing and
+// opening allow them.
 fn sealing_params(memlimit: u64, opslimit: u64) -> Result<Params>
     ensures { result ≡ sealing_limits memlimit opslimit }
 {

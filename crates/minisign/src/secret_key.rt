@@ -15,10 +15,10 @@ use std::alloc::Global;
 use std::fmt;
 use std::marker::Model;
 
-/// A secret key: an algorithm of 2 bytes, the key derivation of 2, the checksum's algorithm of 2, a salt
-/// of 32, the limits of the key derivation of 8 each, and then an identifier of 8, a secret of 64 and a
-/// checksum of 32, which are sealed where the key is. The two algorithms are kept as they were read and
-/// never tested.
+/// A secret key: an algorithm of 2 bytes, the key derivation of 2, the checksum's algorithm of 2, a
+/// salt of 32, the limits of the key derivation of 8 each, and then an identifier of 8, a secret of
+/// 64 and a checksum of 32, which are sealed where the key is. The two algorithms are kept as they
+/// were read and never tested.
 #[derive(Clone, Drop)]
 pub struct SecretKey {
     pub(crate) sig_alg: [u8; 2],
@@ -79,16 +79,16 @@ impl SecretKey {
         &self.keynum_sk.keynum[..]
     }
 
-    /// Whether the key is sealed and has to be opened before it signs: it names a key derivation, and its
-    /// checksum does not match. Takes no memory.
+    /// Whether the key is sealed and has to be opened before it signs: it names a key derivation,
+    /// and its checksum does not match. Takes no memory.
     pub fn is_encrypted(&self) -> bool
         ensures { result ≡ is_encrypted self.now }
     {
         self.kdf_alg != KDF_NONE && self.keynum_sk.chk != self.read_checksum()
     }
 
-    /// Reads the 158 bytes at the front. Fewer bytes are refused, and later ones are ignored. The bytes
-    /// are kept as they stand: nothing is opened or tested. Takes no memory.
+    /// Reads the 158 bytes at the front. Fewer bytes are refused, and later ones are ignored. The
+    /// bytes are kept as they stand: nothing is opened or tested. Takes no memory.
     pub fn from_bytes(bytes: &[u8]) -> Result<SecretKey>
         ensures { MatchResult result (ReadsSecretKey bytes.now)
             (λ e. (e ≡ record_too_short) × (length bytes.now < 158)) }
@@ -150,7 +150,8 @@ impl Eq for SecretKey {
     ghost laws = { on_equiv (λ k. k.secret) nat_list_eq_equiv };
 }
 
-/// Prints the secret: its 64 bytes in lower hexadecimal, each without leading zeros. Keep it out of logs.
+/// Prints the secret: its 64 bytes in lower hexadecimal, each without leading zeros. Keep it out of
+/// logs.
 impl fmt::Debug for SecretKey {
     ghost use Rattle.minisign.specs.Records.{secret_text};
 

@@ -16,7 +16,8 @@ use minisign_base::{Result, faults};
 use std::alloc::Global;
 
 impl SecretKey {
-    // Reads the second line of the text, which nothing is trimmed off; the first one is not looked at.
+    // Reads the second line of the text, which nothing is trimmed off; the first one is not looked
+    // at.
     pub(crate) fn from_text(alloc: Global, text: &str) -> Result<SecretKey>
         ensures outcome { MatchResult result (SecretKeyText text.now)
             (λ e. (e ≡ out_of_memory)
@@ -37,11 +38,12 @@ impl SecretKey {
         SecretKey::from_bytes(&bytes)
     }
 
-    /// Writes the key as a text: `untrusted comment: ` and the comment, or `rsign encrypted secret key`
-    /// where none is given, on one line, and the base64 of the 158 bytes on another, each ended by a line
-    /// feed. The bytes are written as they stand: of an opened sealed key the opened ones, still under
-    /// the name of its key derivation. Where no line feed stands in the comment, the text reads as the key
-    /// again. Only running out of memory is refused.
+    /// Writes the key as a text: `untrusted comment: ` and the comment, or
+    /// `rsign encrypted secret key` where none is given, on one line, and the base64 of the 158
+    /// bytes on another, each ended by a line feed. The bytes are written as they stand: of an
+    /// opened sealed key the opened ones, still under the name of its key derivation. Where no line
+    /// feed stands in the comment, the text reads as the key again. Only running out of memory is
+    /// refused.
     #[tactic(auto, unfolding(crate::specs::SecretKeyText::secret_key_text, crate::specs::SecretKeyText::default_secret_key_comment))]
     pub fn to_box(&self, alloc: Global, comment: Option<&str>) -> Result<SecretKeyBox>
         ensures text { IfOk result

@@ -38,7 +38,8 @@ impl Signature {
     /// The length of a stored signature in bytes.
     pub const BYTES: usize = 74;
 
-    /// The 74 bytes that `from_bytes` reads as this signature. Only running out of memory is refused.
+    /// The 74 bytes that `from_bytes` reads as this signature. Only running out of memory is
+    /// refused.
     pub fn to_bytes(&self, alloc: Global) -> Result<Vec<u8>>
         ensures bytes { IfOk result (λ v. v.items ≡ signature_bytes self.now) }
         ensures reads_back { IfOk result (λ v. ReadsSignature v.items self.now) }
@@ -54,8 +55,8 @@ impl Signature {
         Ok(bytes)
     }
 
-    /// Reads the 74 bytes at the front: algorithm, identifier, signature. Fewer bytes are refused, and
-    /// later ones are ignored. Takes no memory.
+    /// Reads the 74 bytes at the front: algorithm, identifier, signature. Fewer bytes are refused,
+    /// and later ones are ignored. Takes no memory.
     pub fn from_bytes(bytes: &[u8]) -> Result<Signature>
         ensures { MatchResult result (ReadsSignature bytes.now)
             (λ e. (e ≡ record_too_short) × (length bytes.now < 74)) }

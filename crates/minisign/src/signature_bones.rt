@@ -39,8 +39,8 @@ impl SignatureBones {
         self.signature.sig_alg == SIGALG_PREHASHED
     }
 
-    /// Reads the 74 bytes at the front. Fewer bytes are refused, then an algorithm other than `Ed` and
-    /// `ED`; later bytes are ignored. Takes no memory.
+    /// Reads the 74 bytes at the front. Fewer bytes are refused, then an algorithm other than `Ed`
+    /// and `ED`; later bytes are ignored. Takes no memory.
     pub fn from_bytes(bytes: &[u8]) -> Result<SignatureBones>
         ensures read { IfOk result
             (λ s. ReadsSignature bytes.now s × IsKnownAlgorithm s.algorithm) }
@@ -53,7 +53,8 @@ impl SignatureBones {
         Ok(SignatureBones { signature })
     }
 
-    /// The 74 bytes that `from_bytes` reads as this signature. Only running out of memory is refused.
+    /// The 74 bytes that `from_bytes` reads as this signature. Only running out of memory is
+    /// refused.
     pub fn to_bytes(&self, alloc: Global) -> Result<Vec<u8>>
         ensures bytes { IfOk result (λ v. v.items ≡ signature_bytes self.now) }
         ensures reads_back { IfOk result (λ v. ReadsSignature v.items self.now) }

@@ -18,15 +18,16 @@ use std::alloc::Global;
 use std::marker::Model;
 use std::rt::Files;
 
-/// A signature of an algorithm that is known, and the comments unless it was made from a bare signature.
+/// A signature of an algorithm that is known, and the comments unless it was made from a bare
+/// signature.
 #[derive(Drop)]
 pub struct SignatureBox {
     pub(crate) signature: Signature,
     pub(crate) comments: Option<Comments>,
 }
 
-// The comments of a signature box. The last field is the signature of the box's signature followed by
-// the trusted comment.
+// The comments of a signature box. The last field is the signature of the box's signature followed
+// by the trusted comment.
 #[derive(Drop)]
 pub(crate) struct Comments {
     pub(crate) untrusted_comment: String,
@@ -71,15 +72,16 @@ impl SignatureBox {
         }
     }
 
-    /// Reads a signature text of four lines: `untrusted comment: ` and a comment; the base64 of the 74
-    /// bytes of a signature; `trusted comment: ` and the comment that is signed; the base64 of the comment
-    /// signature, of any length. The second and the fourth line and the trusted comment are trimmed of
-    /// white space, the untrusted comment is kept as it stands, and later lines are ignored.
+    /// Reads a signature text of four lines: `untrusted comment: ` and a comment; the base64 of the
+    /// 74 bytes of a signature; `trusted comment: ` and the comment that is signed; the base64 of
+    /// the comment signature, of any length. The second and the fourth line and the trusted comment
+    /// are trimmed of white space, the untrusted comment is kept as it stands, and later lines are
+    /// ignored.
     ///
-    /// These are refused, in this order: a missing line, the first one first; another beginning of the first
-    /// line; a second line that is not base64, or of fewer than 74 bytes; another beginning of the third line;
-    /// an algorithm other than `Ed` and `ED`; a fourth line that is not base64. It may run out of memory at any
-    /// time.
+    /// These are refused, in this order: a missing line, the first one first; another beginning of
+    /// the first line; a second line that is not base64, or of fewer than 74 bytes; another
+    /// beginning of the third line; an algorithm other than `Ed` and `ED`; a fourth line that is
+    /// not base64. It may run out of memory at any time.
     pub fn from_string(alloc: Global, text: &str) -> Result<SignatureBox>
         ensures read { IfOk result (SignatureText text.now) }
         ensures exact { (x : SignatureBoxRecord) → SignatureText text.now x →
@@ -103,12 +105,12 @@ impl SignatureBox {
         read_text(alloc, text.as_str())
     }
 
-    /// Reads the signature text that the file at `path` holds, as `from_string` does. The path is taken as it
-    /// stands.
+    /// Reads the signature text that the file at `path` holds, as `from_string` does. The path is
+    /// taken as it stands.
     ///
-    /// These are refused, in this order: a file that cannot be opened or read, `reading_failed`; one that is
-    /// not UTF-8, `not_utf8`; and what `from_string` refuses. It may run out of memory at any time. Std's files
-    /// tell no bytes, so of the text it is only said that there is one.
+    /// These are refused, in this order: a file that cannot be opened or read, `reading_failed`;
+    /// one that is not UTF-8, `not_utf8`; and what `from_string` refuses. It may run out of memory
+    /// at any time. Std's files tell no bytes, so of the text it is only said that there is one.
     pub fn from_file<F: Files>(files: &F, alloc: Global, path: &str) -> Result<SignatureBox>
         ensures read { IfOk result (λ x. (text : List ℕ) × SignatureText text x) }
         ensures refused { IfErr result (λ e. IsTextFileFault e
@@ -118,12 +120,13 @@ impl SignatureBox {
         SignatureBox::from_string(alloc, text.as_str())
     }
 
-    /// The text of the box, the four lines that `from_string` reads, each ended by a line feed. A box that
-    /// was made from a bare signature is refused, and running out of memory.
+    /// The text of the box, the four lines that `from_string` reads, each ended by a line feed. A
+    /// box that was made from a bare signature is refused, and running out of memory.
     ///
-    /// Comments are written as they stand: they are read back where the untrusted one has no line feed and
-    /// no carriage return at its end, and the trusted one no line feed and no white space at its ends. Where
-    /// the untrusted one ends in a carriage return, it is read back without that one.
+    /// Comments are written as they stand: they are read back where the untrusted one has no line
+    /// feed and no carriage return at its end, and the trusted one no line feed and no white space
+    /// at its ends. Where the untrusted one ends in a carriage return, it is read back without that
+    /// one.
     pub fn to_string(&self, alloc: Global) -> Result<String>
         ensures text { MatchOption self.now.comments (result ≡ Err signature_box_incomplete)
             (λ c. MatchResult result (λ t. string_bytes t ≡ signature_text self.now.signature c)
@@ -185,8 +188,8 @@ impl SignatureBox {
         self.signature.sig_alg == SIGALG_PREHASHED
     }
 
-    /// The comment that nothing vouches for; a bare signature has an empty one. Only running out of memory is
-    /// refused.
+    /// The comment that nothing vouches for; a bare signature has an empty one. Only running out of
+    /// memory is refused.
     pub fn untrusted_comment(&self, alloc: Global) -> Result<String>
         ensures comment { IfOk result (λ t. string_bytes t ≡ untrusted_comment_of self.now) }
         ensures refused { IfErr result (λ e. e ≡ out_of_memory) }
@@ -197,8 +200,8 @@ impl SignatureBox {
         }
     }
 
-    /// The comment that the comment signature vouches for. A bare signature, which has none, is refused,
-    /// and running out of memory.
+    /// The comment that the comment signature vouches for. A bare signature, which has none, is
+    /// refused, and running out of memory.
     pub fn trusted_comment(&self, alloc: Global) -> Result<String>
         ensures { MatchOption self.now.comments (result ≡ Err trusted_comment_absent)
             (λ c. MatchResult result (λ t. string_bytes t ≡ c.trusted) (λ e. e ≡ out_of_memory)) }

@@ -18,7 +18,8 @@ pub(crate) enum SignedData {
     Digest([u8; 64]),
     // The data.
     Kept(Vec<u8>),
-    // Nothing of data whose signature is over itself, where that is not allowed: no signature is judged then.
+    // Nothing of data whose signature is over itself, where that is not allowed: no signature is
+    // judged then.
     Unkept,
 }
 
@@ -35,8 +36,8 @@ impl SignedData {
     }
 }
 
-// Reads all that is ahead in pieces. It is kept in memory where the signature is over the data itself and that
-// is allowed, and otherwise hashed, so that memory does not grow with it.
+// Reads all that is ahead in pieces. It is kept in memory where the signature is over the data
+// itself and that is allowed, and otherwise hashed, so that memory does not grow with it.
 pub(crate) fn read_signed_data<R: Source>(
     alloc: Global,
     signature_box: &SignatureBox,

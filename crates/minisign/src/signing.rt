@@ -29,13 +29,14 @@ use std::alloc::Global;
 /// Signs all the data ahead of `data_reader` with `sk`, and returns a box with both comments.
 ///
 /// The data is hashed in pieces of 64 KiB, so that memory does not grow with it. Without a trusted
-/// comment the box gets `timestamp:` and the `moment`, in seconds since 1970, and without an untrusted
-/// one `signature from rsign secret key`. Two draws of 64 random bytes are made.
+/// comment the box gets `timestamp:` and the `moment`, in seconds since 1970, and without an
+/// untrusted one `signature from rsign secret key`. Two draws of 64 random bytes are made.
 ///
 /// Refused are, in this order: a sealed key, with nothing read or drawn; a failing `data_reader`; a
-/// failing `random`, once the data was read; and, where `pk` is given, a comment signature that its 32
-/// key bytes do not accept. Identifiers are not compared. Memory may run out once the key was tested: for
-/// the buffer of the reading, the two comments, and the comment signature and what it is over.
+/// failing `random`, once the data was read; and, where `pk` is given, a comment signature that its
+/// 32 key bytes do not accept. Identifiers are not compared. Memory may run out once the key was
+/// tested: for the buffer of the reading, the two comments, and the comment signature and what it
+/// is over.
 pub fn sign<S: Scheme, R: Source, Z: RandomSource>(
     alloc: Global,
     scheme: &S,
@@ -47,8 +48,8 @@ pub fn sign<S: Scheme, R: Source, Z: RandomSource>(
     random: &mut Z,
     moment: u64,
 ) -> Result<SignatureBox>
-    // The box that is returned, made with an opened key from all of the data, and what vouches for it: a
-    // genuine key's box is accepted under its own public key, whatever the comments.
+    // The box that is returned, made with an opened key from all of the data, and what vouches for
+    // it: a genuine key's box is accepted under its own public key, whatever the comments.
     ensures signed { IfOk result
         (λ x. (message : List ℕ) × ReadsWhole R.Source data_reader.old data_reader.new message
         × IsSigned (S.signature_of scheme.now) sk.now message

@@ -22,18 +22,20 @@ use minisign_base::prompt::Prompt;
 use minisign_base::scheme::Scheme;
 use std::alloc::Global;
 
-/// Signs all the data ahead of `data_reader` with the key of a text, and returns the text of the signature.
+/// Signs all the data ahead of `data_reader` with the key of a text, and returns the text of the
+/// signature.
 ///
-/// A key that was never sealed is taken as it stands, where its checksum matches (`from_unencrypted_box`);
-/// any other is opened with the password that is passed in, or with one that the prompt asks for
-/// (`from_box`). Then the data is signed (`sign`, without a public key to test), and the box is written
-/// (`to_string`).
+/// A key that was never sealed is taken as it stands, where its checksum matches
+/// (`from_unencrypted_box`); any other is opened with the password that is passed in, or with one
+/// that the prompt asks for (`from_box`). Then the data is signed (`sign`, without a public key to
+/// test), and the box is written (`to_string`).
 ///
-/// Refused are, in this order: a text that reads as no key; a checksum of a key that was never sealed, or
-/// what `from_box` refuses; a failing `data_reader`; a failing `random`, once the data was read. Until the key
-/// is opened nothing is read from `data_reader` and nothing drawn. It may run out of memory at any time. A comment
-/// with a line feed, or a trusted one with white space at its ends, is written as it stands: the text need not
-/// verify then, or may read with another comment.
+/// Refused are, in this order: a text that reads as no key; a checksum of a key that was never
+/// sealed, or what `from_box` refuses; a failing `data_reader`; a failing `random`, once the data
+/// was read. Until the key is opened nothing is read from `data_reader` and nothing drawn. It may
+/// run out of memory at any time. A comment with a line feed, or a trusted one with white space at
+/// its ends, is written as it stands: the text need not verify then, or may read with another
+/// comment.
 pub fn sign_texts<S: Scheme, P: Source, Q: Sink, R: Source, Z: RandomSource>(
     alloc: Global,
     scheme: &S,
@@ -46,8 +48,8 @@ pub fn sign_texts<S: Scheme, P: Source, Q: Sink, R: Source, Z: RandomSource>(
     random: &mut Z,
     moment: u64,
 ) -> Result<String>
-    // What a genuine key signed verifies after being written and read back: every public key of its seed and
-    // identifier vouches for all of the data with the text.
+    // What a genuine key signed verifies after being written and read back: every public key of its
+    // seed and identifier vouches for all of the data with the text.
     ensures headline { IfOk result
         (λ t. (sk : SecretKeyRecord) × (message : List ℕ)
         × IsAhead (R.ahead data_reader.old) message
@@ -71,7 +73,8 @@ pub fn sign_texts<S: Scheme, P: Source, Q: Sink, R: Source, Z: RandomSource>(
         (random_passage Z.RandomSource random.old random.new) (string_bytes t)) }
     ensures random_calm { OnOk result (Z.random_faults random.new ≡ Z.random_faults random.old) }
 
-    // Why it was refused: the text gives no key, with nothing read or drawn, or signing with its key failed.
+    // Why it was refused: the text gives no key, with nothing read or drawn, or signing with its
+    // key failed.
     ensures refused { IfErr result
         (TextSigningFails (prompt_passage P.Source Q.Sink prompt.old prompt.new)
         (option_map (λ s. string_bytes s) password) sk_text.now

@@ -21,25 +21,27 @@ use minisign_base::scheme::Scheme;
 use minisign_base::{Result, faults};
 use std::alloc::Global;
 
-/// Verifies that `signature_box` vouches for all the data ahead of `data_reader` under `pk`, and copies that
-/// data to `out` where `output` asks for it.
+/// Verifies that `signature_box` vouches for all the data ahead of `data_reader` under `pk`, and
+/// copies that data to `out` where `output` asks for it.
 ///
-/// The data is read to its end first, in pieces of 64 KiB. It is kept in memory where the box is over the data
-/// itself and that is allowed; otherwise it is hashed, so that memory does not grow with it. Then these are refused, in this order: an identifier other than the
-/// public key's, a signature over the data itself unless `allow_legacy`, a signature that the scheme
-/// does not accept, a comment signature that has under 64 bytes or is not accepted. After such a refusal
-/// `status` and `out` are untouched; on success `status` gets a line, and another one with the trusted comment
-/// where there is one, unless `quiet`. `status` is not flushed.
+/// The data is read to its end first, in pieces of 64 KiB. It is kept in memory where the box is
+/// over the data itself and that is allowed; otherwise it is hashed, so that memory does not grow
+/// with it. Then these are refused, in this order: an identifier other than the public key's, a
+/// signature over the data itself unless `allow_legacy`, a signature that the scheme does not
+/// accept, a comment signature that has under 64 bytes or is not accepted. After such a refusal
+/// `status` and `out` are untouched; on success `status` gets a line, and another one with the
+/// trusted comment where there is one, unless `quiet`. `status` is not flushed.
 ///
-/// With `output` the data of a prehashed box is read twice: its place is marked first, and gone back to after
-/// the verdict; the second pass is hashed while it is copied. Where its digest is the first one's, `out` is
-/// flushed; otherwise `data_changed` is returned, `out` holds what the second pass gave, and is not flushed: nobody
-/// may rely on it. The kept data of a legacy box is written and flushed without a second reading.
+/// With `output` the data of a prehashed box is read twice: its place is marked first, and gone
+/// back to after the verdict; the second pass is hashed while it is copied. Where its digest is the
+/// first one's, `out` is flushed; otherwise `data_changed` is returned, `out` holds what the second
+/// pass gave, and is not flushed: nobody may rely on it. The kept data of a legacy box is written
+/// and flushed without a second reading.
 ///
-/// A failing `data_reader` is refused before anything is judged, then a failing `status`, and a failing `out`
-/// last. Memory may run out for the buffer of a reading, for the data of a legacy box, for the trusted
-/// comment behind the signature, and for the lines of the status, with `status` and `out` untouched, and for
-/// the buffer of the second reading.
+/// A failing `data_reader` is refused before anything is judged, then a failing `status`, and a
+/// failing `out` last. Memory may run out for the buffer of a reading, for the data of a legacy
+/// box, for the trusted comment behind the signature, and for the lines of the status, with
+/// `status` and `out` untouched, and for the buffer of the second reading.
 #[tactic(auto, using(crate::proofs::Unvouched::unvouched_same))]
 pub fn verify<S: Scheme, R: Rereader, W: Sink, O: Sink>(
     alloc: Global,

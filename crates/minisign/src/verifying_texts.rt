@@ -18,12 +18,13 @@ use minisign_base::devices::sources::Rereader;
 use minisign_base::scheme::Scheme;
 use std::alloc::Global;
 
-/// Verifies that the texts of a public key and of a signature, as signing tools write them, vouch for all
-/// the data ahead of `data_reader`: `PublicKey::from_box` of the one, `SignatureBox::from_string` of the
-/// other, and `verify` with what they read as.
+/// Verifies that the texts of a public key and of a signature, as signing tools write them, vouch
+/// for all the data ahead of `data_reader`: `PublicKey::from_box` of the one,
+/// `SignatureBox::from_string` of the other, and `verify` with what they read as.
 ///
-/// The public key text is judged first, then the signature text, both before anything is read. After a
-/// refused text `data_reader`, `status` and `out` are untouched. All else is as `verify` says.
+/// The public key text is judged first, then the signature text, both before anything is read.
+/// After a refused text `data_reader`, `status` and `out` are untouched. All else is as `verify`
+/// says.
 pub fn verify_texts<S: Scheme, R: Rereader, W: Sink, O: Sink>(
     alloc: Global,
     scheme: &S,
@@ -36,8 +37,9 @@ pub fn verify_texts<S: Scheme, R: Rereader, W: Sink, O: Sink>(
     status: &mut W,
     out: &mut O,
 ) -> Result<()>
-    // Over data that is told, where memory is found and no device fails, and over a steady source where the data
-    // is copied: success exactly where the texts vouch for the data, and otherwise the first failing case.
+    // Over data that is told, where memory is found and no device fails, and over a steady source
+    // where the data is copied: success exactly where the texts vouch for the data, and otherwise
+    // the first failing case.
     ensures headline { VerifiesExactly (S.accepts scheme.now) pk_text.now sig_text.now
         (record { quiet = quiet; output = output; legacy = allow_legacy })
         (rereader_passage R.Source R.steady data_reader.old data_reader.new)

@@ -1,5 +1,5 @@
-//! What can go wrong: a kind and a text, and what the faults of std, of key derivation and of base64
-//! become.
+//! What can go wrong: a kind and a text, and what the faults of std, of key derivation and of
+//! base64 become.
 
 ghost use Rattle.std.specs.Prelude.{◌≡◌, Some, string_bytes};
 ghost use Rattle.minisign_base.specs.Fault.{different_key_ids_text, refused_by_given_key_text};

@@ -1,5 +1,5 @@
-//! Numbers as bytes, the parameters of scrypt that a key's limits lead to, asking for a password, and
-//! the clock.
+//! Numbers as bytes, the parameters of scrypt that a key's limits lead to, asking for a password,
+//! and the clock.
 
 ghost use Rattle.std.specs.Prelude.{◌≡◌, ℕ, ◌/◌, ◌^◌, ◌<◌, ◌≤◌, List, Ok, Err, IfOk, IfErr, length, string_bytes, take};
 ghost use Rattle.std.specs.Int.{from_le_bytes, to_le_bytes, w64};
@@ -28,8 +28,8 @@ pub fn store_u64_le(x: u64) -> [u8; 8]
     x.to_le_bytes()
 }
 
-/// The number that the first eight of at least eight bytes spell, the least significant first. Takes
-/// no memory.
+/// The number that the first eight of at least eight bytes spell, the least significant first.
+/// Takes no memory.
 pub fn load_u64_le(bytes: &[u8]) -> u64
     requires { 8 ≤ length bytes.now }
     ensures { result ≡ from_le_bytes w64 (take 8 bytes.now) }
@@ -40,14 +40,15 @@ pub fn load_u64_le(bytes: &[u8]) -> u64
     u64::from_le_bytes(first)
 }
 
-/// Asks for a password: writes the text and flushes it, and reads a line, byte by byte, up to a line feed
-/// or the end. The line feed and one carriage return before it are no part of the password. Where the
-/// password is empty, `<empty>` and a line feed are written and flushed.
+/// Asks for a password: writes the text and flushes it, and reads a line, byte by byte, up to a
+/// line feed or the end. The line feed and one carriage return before it are no part of the
+/// password. Where the password is empty, `<empty>` and a line feed are written and flushed.
 ///
 /// Memory for one line is wanted first; where it runs out, that is `out_of_memory` and nothing was
-/// written or read. Then, in this order: `writing_failed` and `reading_failed` where a device fails,
-/// `end_of_input` where the input ends at once, `password_too_long` where 1026 bytes hold no line feed, of
-/// which no more are read, `not_utf8`, and `password_too_long` for more than 1024 bytes.
+/// written or read. Then, in this order: `writing_failed` and `reading_failed` where a device
+/// fails, `end_of_input` where the input ends at once, `password_too_long` where 1026 bytes hold no
+/// line feed, of which no more are read, `not_utf8`, and `password_too_long` for more than 1024
+/// bytes.
 pub fn get_password<R: Source, W: Sink>(
     alloc: Global,
     prompt: &mut Prompt<R, W>,
@@ -66,7 +67,8 @@ pub fn get_password<R: Source, W: Sink>(
     Ok(password)
 }
 
-// Room for the longest line that is read: a password of 1024 bytes, a carriage return and a line feed.
+// Room for the longest line that is read: a password of 1024 bytes, a carriage return and a line
+// feed.
 fn line_buffer(alloc: Global) -> Result<Vec<u8>>
     ensures length { IfOk result (λ v. length v.items ≡ 1026) }
     ensures refused { IfErr result (λ e. e ≡ out_of_memory) }
@@ -74,8 +76,8 @@ fn line_buffer(alloc: Global) -> Result<Vec<u8>>
     Ok(vec![in alloc; 0u8; LINE_BYTES]?)
 }
 
-/// The seconds since 1970, rounded down. Where the clock can't be read or is set before 1970, that is
-/// `clock_incorrect`. Takes no memory.
+/// The seconds since 1970, rounded down. Where the clock can't be read or is set before 1970, that
+/// is `clock_incorrect`. Takes no memory.
 pub fn unix_timestamp(clock: &impl Clock) -> Result<u64>
     ensures { IfErr result (λ e. e ≡ clock_incorrect) }
 {
@@ -95,11 +97,12 @@ fn seconds_since_1970(now: SystemTime) -> Result<u64>
 
 /// The parameters of scrypt that a memory limit in bytes and an operations limit lead to, as
 /// `specs/Limits` says: r is 8, the operations count for at least 32768, and where they are below a
-/// 32nd of the memory they bound N and p is 1, otherwise the memory bounds N and the operations give p.
+/// 32nd of the memory they bound N and p is 1, otherwise the memory bounds N and the operations
+/// give p.
 ///
 /// `parameters_too_high` is returned exactly where N would be above 2^`n_log2_max`, and otherwise
-/// `invalid_parameters` exactly where scrypt does not take the parameters (RFC 7914, section 2). Takes
-/// no memory.
+/// `invalid_parameters` exactly where scrypt does not take the parameters (RFC 7914, section 2).
+/// Takes no memory.
 #[tactic(auto, unfolding(crate::specs::Limits::limits))]
 pub fn raw_scrypt_params(memlimit: u64, opslimit: u64, n_log2_max: u8) -> Result<Params>
     ensures outcome { result ≡ limits memlimit opslimit n_log2_max }

@@ -13,13 +13,15 @@ use crate::devices::sources::Source;
 use crate::errors::Result;
 use crate::faults;
 
-// The most bytes that are read for a line: a password of 1024 bytes, a carriage return and a line feed.
+// The most bytes that are read for a line: a password of 1024 bytes, a carriage return and a line
+// feed.
 pub(crate) const LINE_BYTES: usize = 1026;
 
 // The most bytes of a typed password.
 const PASSWORD_BYTES: usize = 1024;
 
-/// What a person types into, and what is shown: a reader and a writer, such as a terminal's two sides.
+/// What a person types into, and what is shown: a reader and a writer, such as a terminal's two
+/// sides.
 #[derive(Debug, Drop)]
 pub struct Prompt<R, W> {
     /// What lines are read from.
@@ -44,8 +46,8 @@ impl<R: Source, W: Sink> Prompt<R, W> {
         (reader, writer)
     }
 
-    /// Writes a text and flushes it. After a fault the writer took a beginning of the text. Takes no
-    /// memory, and leaves the reader alone.
+    /// Writes a text and flushes it. After a fault the writer took a beginning of the text. Takes
+    /// no memory, and leaves the reader alone.
     pub fn say(&mut self, text: &str) -> Result<()>
         ensures said { OnOk result
             (HasSaid (prompt_passage R.Source W.Sink self.old self.new) text.now) }
@@ -91,8 +93,8 @@ impl<R: Source, W: Sink> Prompt<R, W> {
     }
 }
 
-// Moves a line into the buffer and returns how long it is: the line feed and one carriage return before it
-// are no part of it. No more than 1026 bytes are read, one at a time.
+// Moves a line into the buffer and returns how long it is: the line feed and one carriage return
+// before it are no part of it. No more than 1026 bytes are read, one at a time.
 fn read_line<R: Source>(source: &mut R, line: &mut [u8]) -> Result<usize>
     requires { length line.old ≡ 1026 }
     ensures outcome { MatchResult result

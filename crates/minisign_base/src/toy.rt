@@ -12,11 +12,11 @@ use std::simd::u8x32;
 ///
 /// The public key is the seed with each byte xored with `5a`. A signature is a random half of 32
 /// bytes, zeros where no random bytes were given, and the xor of that half, the public key and the
-/// folded message; a message is folded into 32 bytes, of which byte i is the xor of its bytes number
-/// i, i + 32, i + 64 and so on.
+/// folded message; a message is folded into 32 bytes, of which byte i is the xor of its bytes
+/// number i, i + 32, i + 64 and so on.
 ///
-/// With a table it also accepts the triples that stand there, so that signatures of other schemes can be
-/// tried without them.
+/// With a table it also accepts the triples that stand there, so that signatures of other schemes
+/// can be tried without them.
 #[derive(Clone, Copy, Debug)]
 pub struct ToyScheme<'a> {
     table: &'a [Triple<'a>],

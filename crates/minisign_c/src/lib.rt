@@ -1,5 +1,5 @@
-//! Verifying and making minisign signatures from C, with an Ed25519 of the caller's own: `include/minisign.h` declares
-//! these functions and says what a caller owes.
+//! Verifying and making minisign signatures from C, with an Ed25519 of the caller's own:
+//! `include/minisign.h` declares these functions and says what a caller owes.
 
 #![tactic(auto)]
 
@@ -20,8 +20,8 @@ use minisign_questions::signed_texts::{write_comment_message, write_signed_text}
 use minisign_questions::state::{Misuse, Questions, Refusal, State};
 use std::alloc::Global;
 
-/// Writes what an error number means: the text, cut where there is no room for more, and a 0. Returns the
-/// length of the whole text.
+/// Writes what an error number means: the text, cut where there is no room for more, and a 0.
+/// Returns the length of the whole text.
 #[unsafe(no_mangle)]
 pub extern "C" fn minisign_error_text(error: u32, text: &mut [u8]) -> usize
     ensures { (meaning : List ℕ) × (result ≡ length meaning) × WritesCut meaning text.old text.new }
@@ -90,7 +90,8 @@ pub extern "C" fn minisign_ask(
     }
 }
 
-/// The verdict from what Ed25519 answered to the two questions, 1 for yes and 0 for no. It ends the state.
+/// The verdict from what Ed25519 answered to the two questions, 1 for yes and 0 for no. It ends the
+/// state.
 #[unsafe(no_mangle)]
 pub extern "C" fn minisign_verdict(state: &mut State, first: u32, second: u32) -> u32
     ensures verdict { (pk_text sig_text message : List ℕ) (legacy : Bool) (accepts : Verifier)
@@ -110,8 +111,8 @@ pub extern "C" fn minisign_verdict(state: &mut State, first: u32, second: u32) -
     }
 }
 
-/// Asks for signatures: tells the secret of the key that the text gives, and the digest of the data. It ends the
-/// state.
+/// Asks for signatures: tells the secret of the key that the text gives, and the digest of the
+/// data. It ends the state.
 #[unsafe(no_mangle)]
 pub extern "C" fn minisign_ask_signing(
     alloc: Global,
@@ -121,7 +122,8 @@ pub extern "C" fn minisign_ask_signing(
     password: &[u8],
     questions: &mut SigningQuestions,
 ) -> u32
-    // The secret and the identifier of the key that the text gives, and the digest of what the state was fed.
+    // The secret and the identifier of the key that the text gives, and the digest of what the
+    // state was fed.
     ensures asked { result ≡ 0 → (key : SecretKeyRecord)
         × GivesSecretKey sk_text.now (passed_in with_password password.now) key × TellsKey questions.new key }
     ensures digest { result ≡ 0 → (m : List ℕ) → IsFed state.old m → questions.new.digest ≡ blake2b_digest 64 m }

@@ -16,8 +16,9 @@ use std::alloc::Global;
 // How many bytes of a counter are made: more than any call draws.
 const COUNTED_BYTES: u16 = 512;
 
-/// Data as a request describes it: `x..[,pos=P][,chunk=C][,fail=N][,second=x..]`, the bytes, the place
-/// where they are begun, the most bytes of a read, the read that fails, and what is there after going back.
+/// Data as a request describes it: `x..[,pos=P][,chunk=C][,fail=N][,second=x..]`, the bytes, the
+/// place where they are begun, the most bytes of a read, the read that fails, and what is there
+/// after going back.
 #[derive(Drop)]
 pub struct DataWord {
     bytes: Vec<u8>,
@@ -182,7 +183,8 @@ pub struct BoundedSink {
 }
 
 impl BoundedSink {
-    /// Reads `-` (takes all), `N` (takes so many bytes), `f` or `fN` (as these, and its flush fails).
+    /// Reads `-` (takes all), `N` (takes so many bytes), `f` or `fN` (as these, and its flush
+    /// fails).
     pub fn read(alloc: Global, word: &str) -> Result<BoundedSink, Refusal> {
         let (flush_fails, room) = match word.strip_prefix("f") {
             Some(room) => (true, room),

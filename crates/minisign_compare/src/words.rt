@@ -69,7 +69,8 @@ impl<'a> Words<'a> {
         Ok(self.number::<u8>()? != 0)
     }
 
-    /// Typed lines, each with a line feed: none where the next word is `-`, otherwise texts parted by commas.
+    /// Typed lines, each with a line feed: none where the next word is `-`, otherwise texts parted
+    /// by commas.
     pub fn typed_lines(&mut self, alloc: Global) -> Result<Vec<u8>, Refusal> {
         let mut typed = Vec::new(alloc);
         let word = self.next()?;

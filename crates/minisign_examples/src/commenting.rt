@@ -1,4 +1,5 @@
-//! A caller that reads the comment that was signed: which file, or which version of it, the signature is of.
+//! A caller that reads the comment that was signed: which file, or which version of it, the
+//! signature is of.
 
 ghost use Rattle.std.specs.Prelude.{◌≡◌, ◌⊎◌, ℕ, List, false, bytes_eq, MatchResult};
 ghost use Rattle.minisign_base.specs.Faults.{out_of_memory};
@@ -9,9 +10,9 @@ use minisign::{Result, verify_bytes};
 use minisign_base::scheme::Scheme;
 use std::alloc::Global;
 
-/// Whether the comment that was signed with the update is this name, as `file:update-1.2.tar`, so that nobody
-/// passes off an older release for a newer one. An update that the texts do not vouch for is refused with the first
-/// reason; it may run out of memory.
+/// Whether the comment that was signed with the update is this name, as `file:update-1.2.tar`, so
+/// that nobody passes off an older release for a newer one. An update that the texts do not vouch
+/// for is refused with the first reason; it may run out of memory.
 pub fn is_update_named<S: Scheme>(
     alloc: Global,
     scheme: &S,

@@ -16,8 +16,8 @@ use std::alloc::Global;
 /// Signs the message, and verifies what was signed under the public key. The trusted comment is the
 /// moment, in seconds since 1970.
 ///
-/// The text that is returned vouches for the message. With a genuine secret key and its own public key only
-/// running out of memory and a failing random source are refused, never the signature.
+/// The text that is returned vouches for the message. With a genuine secret key and its own public
+/// key only running out of memory and a failing random source are refused, never the signature.
 pub fn sign_and_verify<S: Scheme, Z: RandomSource>(
     alloc: Global,
     scheme: &S,

@@ -1,5 +1,5 @@
-//! A signing tool in small: keys are made and kept as texts, and what they signed is published with a text
-//! of the signature.
+//! A signing tool in small: keys are made and kept as texts, and what they signed is published with
+//! a text of the signature.
 
 ghost use Rattle.std.specs.Prelude.{false, string_bytes, MatchResult, IfOk, IfErr};
 ghost use Rattle.minisign.specs.Records.{PublicKeyRecord, SecretKeyRecord, SignatureBoxRecord};
@@ -36,8 +36,8 @@ pub struct KeyTexts {
     pub sk_text: String,
 }
 
-/// Makes a pair sealed under the password, signs the update with the text of its secret key, and verifies
-/// with what is published. The trusted comment is the moment, in seconds since 1970.
+/// Makes a pair sealed under the password, signs the update with the text of its secret key, and
+/// verifies with what is published. The trusted comment is the moment, in seconds since 1970.
 ///
 /// Only running out of memory and a failing random source are refused.
 pub fn sign_release<S: Scheme, Z: RandomSource>(

@@ -1,4 +1,5 @@
-//! A caller that knows an old public key and learns a new one: the old key vouches for the text of the new one.
+//! A caller that knows an old public key and learns a new one: the old key vouches for the text of
+//! the new one.
 
 ghost use Rattle.std.specs.Prelude.{◌≡◌, ◌⊎◌, false, MatchResult};
 ghost use Rattle.minisign_base.specs.Faults.{out_of_memory};
@@ -18,8 +19,8 @@ pub struct NewKey<'a> {
     pub sig_text: &'a str,
 }
 
-/// Success exactly where the old key vouches for the text of the new one, and the new key for the update. Otherwise
-/// the first reason, of the new key before the update; it may run out of memory.
+/// Success exactly where the old key vouches for the text of the new one, and the new key for the
+/// update. Otherwise the first reason, of the new key before the update; it may run out of memory.
 pub fn check_with_new_key<S: Scheme>(
     alloc: Global,
     scheme: &S,

@@ -13,8 +13,8 @@ use std::alloc::Global;
 // Every how many rows of scrypt one is kept: an eighth of the memory, for twice the time.
 const KEPT_EVERY: u64 = 8;
 
-/// Opens the sealed secret key of a text with the password in an eighth of the memory that it takes otherwise: 4 MiB
-/// with the usual limits. What is opened and what is refused is the same.
+/// Opens the sealed secret key of a text with the password in an eighth of the memory that it takes
+/// otherwise: 4 MiB with the usual limits. What is opened and what is refused is the same.
 pub fn open_in_little_memory(alloc: Global, sk_text: &str, password: &str) -> Result<SecretKey>
     ensures { MatchResult result (IsOpened sk_text.now password.now None)
         (λ e. (e ≡ out_of_memory) ⊎ RefusesOpening sk_text.now password.now None e) }

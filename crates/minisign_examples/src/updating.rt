@@ -8,8 +8,8 @@ use minisign::{Result, verify_bytes};
 use minisign_base::scheme::Scheme;
 use std::alloc::Global;
 
-/// Success exactly where the texts of a public key and of a signature vouch for the update, and otherwise the
-/// first reason why not; it may run out of memory.
+/// Success exactly where the texts of a public key and of a signature vouch for the update, and
+/// otherwise the first reason why not; it may run out of memory.
 pub fn check_update<S: Scheme>(
     alloc: Global,
     scheme: &S,

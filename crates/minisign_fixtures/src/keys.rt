@@ -1,8 +1,8 @@
 //! Key A, whose secret and public key the tests use, and the values that belong to it.
 //!
-//! Key A is the toy's pair of 32 zeros: its public bytes are 32 times `5a`. The toy's signature with
-//! random bytes that are zeros is 32 zeros, and then the public key xored with the folded message; the
-//! values here were worked out so from digests of Python's hashlib.
+//! Key A is the toy's pair of 32 zeros: its public bytes are 32 times `5a`. The toy's signature
+//! with random bytes that are zeros is 32 zeros, and then the public key xored with the folded
+//! message; the values here were worked out so from digests of Python's hashlib.
 
 /// The identifier of key A.
 pub const IDENTIFIER: [u8; 8] = [1, 2, 3, 4, 5, 6, 7, 8];
@@ -88,7 +88,8 @@ pub fn signature_record(algorithm: &[u8; 2], identifier: &[u8; 8], tied: &[u8; 3
     record
 }
 
-/// Key A's secret record with this key derivation and this checksum. Salt, limits and seed are zeros.
+/// Key A's secret record with this key derivation and this checksum. Salt, limits and seed are
+/// zeros.
 pub fn secret_record(kdf: &[u8; 2], checksum: &[u8; 32]) -> [u8; 158] {
     let mut record = [0u8; 158];
     let (front, back) = record.split_at_mut(62);

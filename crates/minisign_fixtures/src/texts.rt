@@ -1,8 +1,9 @@
-//! Texts of key A and of its signatures, of sealed keys, and of the pair that is made of random bytes that
-//! count up from 0.
+//! Texts of key A and of its signatures, of sealed keys, and of the pair that is made of random
+//! bytes that count up from 0.
 //!
-//! They hold the base64 of Python's base64 module. What is sealed was xored with scrypt of Python's hashlib; key A
-//! is sealed under the salt whose bytes count up from 0x20, by `tests/sealed_keys.py`.
+//! They hold the base64 of Python's base64 module. What is sealed was xored with scrypt of Python's
+//! hashlib; key A is sealed under the salt whose bytes count up from 0x20, by
+//! `tests/sealed_keys.py`.
 
 /// Key A's public text: 114 bytes, of which 57 are the first line.
 pub const KEY_TEXT: &str =
@@ -12,8 +13,8 @@ pub const KEY_TEXT: &str =
 pub const SECRET_TEXT: &str =
     "untrusted comment: rsign encrypted secret key\nRWQAAEIyAAAAAAAAAAAAAAAAAAAAAAAAAAAAAAAAAAAAAAAAAAAAAAAAAAAAAAAAAAAAAAAAAQIDBAUGBwgAAAAAAAAAAAAAAAAAAAAAAAAAAAAAAAAAAAAAAAAAAFpaWlpaWlpaWlpaWlpaWlpaWlpaWlpaWlpaWlpaWlpazoeDdHm2Hr/pRluKO3DYzP11U/WDPdZWSdZKEnx6ifg=\n";
 
-/// Sealed with `password`; the memory limit is 1048576 and the operations limit 0, so that N is 1024 and
-/// p is 1.
+/// Sealed with `password`; the memory limit is 1048576 and the operations limit 0, so that N is
+/// 1024 and p is 1.
 pub const SEALED: &str =
     "c\nRWRTY0IyICEiIyQlJicoKSorLC0uLzAxMjM0NTY3ODk6Ozw9Pj8AAAAAAAAAAAAAEAAAAAAANzLJ/MLV6VpKMIMxcHP/PKMk4Bi0eFdmecBNpsg4ynwt/HpMxIwJcRDauwXAlysg905AtUdJ1s3zc9686k8nFa2Pz7MgLfQOna+YbhXPDg/sopzDAu0uhPc67LTI7waUd6Z1TNToWRQ=\n";
 
@@ -21,12 +22,13 @@ pub const SEALED: &str =
 pub const SEALED_WITH_NOTHING: &str =
     "c\nRWRTY0IyICEiIyQlJicoKSorLC0uLzAxMjM0NTY3ODk6Ozw9Pj8AAAAAAAAAAAAAEAAAAAAA1DkFeSFrLVKcwd/U0CI9mSavW9NxS4F4EQL92MDkC8uWs0JuRQz6LvKq8SxCaEzQ9atdFcGf+AzNzb5P/9sKQMB2AMmAjhrMMVLg/zh9xJgdEhLMHykwaQZcV4+yRqrbnzM9EwHWjT8=\n";
 
-/// Sealed with `password`; the memory limit is 33554432 and the operations limit 1048576, so that N is 32768 and p
-/// is 1.
+/// Sealed with `password`; the memory limit is 33554432 and the operations limit 1048576, so that N
+/// is 32768 and p is 1.
 pub const SEALED_AS_USUAL: &str =
     "c\nRWRTY0IyICEiIyQlJicoKSorLC0uLzAxMjM0NTY3ODk6Ozw9Pj8AABAAAAAAAAAAAAIAAAAAjUss1iTpx2jHan0ASsaZQwP1dCaRM+oU2FIKEwvLutgH2C0JcjxT/CuY4tv6CM1b3wkKEKHGEe71QgwDScCLEz6+FcNBj3NBoDjmf+b5TY9u8fOF0PBBHUDJaJTqFTelg2U253BVfy0=\n";
 
-/// Sealed with `password` under the limits of the C program, 1073741824 and 33554432, so that N is 1048576 and p is 1.
+/// Sealed with `password` under the limits of the C program, 1073741824 and 33554432, so that N is
+/// 1048576 and p is 1.
 pub const SEALED_AS_MINISIGN: &str =
     "c\nRWRTY0IyICEiIyQlJicoKSorLC0uLzAxMjM0NTY3ODk6Ozw9Pj8AAAACAAAAAAAAAEAAAAAAfNjz++TIKpp4IyGrjJGmCSx73rDg3YioSercimsbLYSEmCVnqNXlkhOlMnO28DQkrhqE6TPG4CHMRLKTyPTH/aM8cigR6hHlyOu2QlHuGt7c7Ymi2nZ4nmOlTg5ZxOkXvKWEU0RI3L4=\n";
 

@@ -6,7 +6,8 @@ ghost use Rattle.minisign_fixtures.specs.Equal.{bytes_eq-same};
 use minisign_base::scheme::Scheme;
 
 /// A scheme under which one message has one signature, and all other messages have another one,
-/// whatever the key and the random bytes. So it accepts a box only for the very bytes that are expected.
+/// whatever the key and the random bytes. So it accepts a box only for the very bytes that are
+/// expected.
 #[derive(Clone, Copy)]
 pub struct TwoSignatures {
     message: [u8; 64],

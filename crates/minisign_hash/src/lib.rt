@@ -1,4 +1,5 @@
-//! Blake2b without key (RFC 7693), fed in pieces, and words of 32 and 64 bits in little endian bytes.
+//! Blake2b without key (RFC 7693), fed in pieces, and words of 32 and 64 bits in little endian
+//! bytes.
 //!
 //! ```rust
 //! use minisign_hash::Blake2b;

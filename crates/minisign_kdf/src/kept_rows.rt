@@ -1,5 +1,5 @@
-//! The rows of scryptROMix (RFC 7914, section 5) of which every k-th is kept, in one vector of words: the
-//! words of each block stand in diagonal order.
+//! The rows of scryptROMix (RFC 7914, section 5) of which every k-th is kept, in one vector of
+//! words: the words of each block stand in diagonal order.
 
 ghost use Rattle.std.specs.Prelude.{◌≡◌, ℕ, ◌+◌, ◌*◌, ◌%◌, ◌/◌, ◌^◌, ◌<◌, ◌≤◌, ◌++◌, IfErr, IfOk, length, vec_capacity, vec_len};
 ghost use Rattle.std.specs.Int.{div_ceil};
@@ -14,8 +14,8 @@ use crate::order::load_part;
 use std::alloc::{AllocError, Global};
 use std::marker::Model;
 
-/// Every k-th row of scryptROMix (RFC 7914, section 5) of one block, the rows V_0, V_k, V_2k, .. with
-/// numbers below N. A contract sees them as bytes in the RFC's order, with r, N and k.
+/// Every k-th row of scryptROMix (RFC 7914, section 5) of one block, the rows V_0, V_k, V_2k, ..
+/// with numbers below N. A contract sees them as bytes in the RFC's order, with r, N and k.
 #[derive(Drop)]
 pub struct Rows {
     words: Vec<u32>,
@@ -33,12 +33,13 @@ impl Model for Rows {
 }
 
 impl Rows {
-    /// Makes the rows of a block of 128 * r bytes, for r from 1 on, with N = 2^`n_log2`, and keeps every
-    /// k-th: V_0 is the block, and each further row is the one before it mixed by scryptBlockMix. `n_log2`
-    /// lies from 1 to 63, and k is at least 1. Nothing is mixed further than to the last kept row.
+    /// Makes the rows of a block of 128 * r bytes, for r from 1 on, with N = 2^`n_log2`, and keeps
+    /// every k-th: V_0 is the block, and each further row is the one before it mixed by
+    /// scryptBlockMix. `n_log2` lies from 1 to 63, and k is at least 1. Nothing is mixed further
+    /// than to the last kept row.
     ///
-    /// `OutOfMemory` is returned where a growth was refused: 128 * r bytes for each of the N / k rows,
-    /// rounded up, in one request, and then 256 * r bytes, before any mixing.
+    /// `OutOfMemory` is returned where a growth was refused: 128 * r bytes for each of the N / k
+    /// rows, rounded up, in one request, and then 256 * r bytes, before any mixing.
     pub fn fill(alloc: Global, block: &[u8], n_log2: u8, k: u64) -> Result<Rows, KdfError>
         requires some { 0 < length block.now }
         requires whole { length block.now % 128 ≡ 0 }
@@ -69,8 +70,8 @@ impl Rows {
         kept_count(self.n_log2, self.k) as u64
     }
 
-    /// The words of the kept rows, 32 * r of each, read low byte first. Those of each block of sixteen
-    /// stand in diagonal order: place q holds word 5 * q mod 16. Takes no memory.
+    /// The words of the kept rows, 32 * r of each, read low byte first. Those of each block of
+    /// sixteen stand in diagonal order: place q holds word 5 * q mod 16. Takes no memory.
     pub fn words(&self) -> &[u32]
         ensures rows { rows_of self.now.r (div_ceil self.now.n self.now.k) result.now
             ≡ self.now.rows }
@@ -144,8 +145,8 @@ pub(crate) fn row_count(n_log2: u8) -> usize
     1usize << n_log2
 }
 
-// Makes so many kept rows: x, and each further one by mixing the one before it k times. What the rows and
-// `work` held is not read, and x is left with the last row.
+// Makes so many kept rows: x, and each further one by mixing the one before it k times. What the
+// rows and `work` held is not read, and x is left with the last row.
 fn fill_rows(r: usize, count: usize, k: usize, rows: &mut Vec<u32>, x: &mut [u32], work: &mut [u32])
     requires some { 1 ≤ r }
     requires count { 1 ≤ count }

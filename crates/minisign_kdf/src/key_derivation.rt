@@ -19,9 +19,10 @@ const LONGEST_KEY: usize = 137438953440;
 /// Derives a key that fills `out` from a password and a salt, by scrypt (RFC 7914, section 6):
 /// `scrypt_keeping` with every row kept, which is the fastest.
 ///
-/// `InvalidOutputLen` is returned exactly where `out` is empty or longer than 137438953440 bytes, before
-/// any memory is asked for; `OutOfMemory` where a growth was refused: 128 * r * N bytes for the rows, in
-/// one request, then 128 * r * (p + 3) bytes, all before any mixing. A refusal leaves `out` as it was.
+/// `InvalidOutputLen` is returned exactly where `out` is empty or longer than 137438953440 bytes,
+/// before any memory is asked for; `OutOfMemory` where a growth was refused: 128 * r * N bytes for
+/// the rows, in one request, then 128 * r * (p + 3) bytes, all before any mixing. A refusal leaves
+/// `out` as it was.
 ///
 /// ```
 /// let params = Params::new(15, 8, 1)?;
@@ -47,15 +48,18 @@ pub fn scrypt(
     Ok(())
 }
 
-/// Derives the same key with every k-th row of a part kept, for k from 1 on, and makes the others again
-/// when they are named: memory for time. Returns how many rows are kept for each part, N / k, rounded up.
+/// Derives the same key with every k-th row of a part kept, for k from 1 on, and makes the others
+/// again when they are named: memory for time. Returns how many rows are kept for each part, N / k,
+/// rounded up.
 ///
-/// `InvalidOutputLen` is returned exactly where `out` is empty or longer than 137438953440 bytes, before
-/// any memory is asked for; `OutOfMemory` where a growth was refused: 128 * r bytes for each kept row, in
-/// one request, then 128 * r * (p + 3) bytes, all before any mixing. A refusal leaves `out` as it was.
+/// `InvalidOutputLen` is returned exactly where `out` is empty or longer than 137438953440 bytes,
+/// before any memory is asked for; `OutOfMemory` where a growth was refused: 128 * r bytes for each
+/// kept row, in one request, then 128 * r * (p + 3) bytes, all before any mixing. A refusal leaves
+/// `out` as it was.
 ///
-/// For each of the p parts scryptBlockMix is called 2 * N times, as with every row kept, and besides for
-/// each of N rows that are named (k - 1) / 2 times on average, less where k is no divisor of N.
+/// For each of the p parts scryptBlockMix is called 2 * N times, as with every row kept, and
+/// besides for each of N rows that are named (k - 1) / 2 times on average, less where k is no
+/// divisor of N.
 ///
 /// ```
 /// // 2 MiB of rows in place of 32.

@@ -1,6 +1,6 @@
-//! scryptROMix (RFC 7914, section 5) over rows of which every k-th is kept, in one slice of words: the
-//! words of each block stand in diagonal order, and each other row is made again from the kept one before
-//! it.
+//! scryptROMix (RFC 7914, section 5) over rows of which every k-th is kept, in one slice of words:
+//! the words of each block stand in diagonal order, and each other row is made again from the kept
+//! one before it.
 
 ghost use Rattle.std.specs.Prelude.{◌≡◌, ℕ, ◌+◌, ◌-◌, ◌*◌, ◌/◌, ◌%◌, ◌^◌, ◌<◌, ◌≤◌, List, length, bit_xor};
 ghost use Rattle.std.specs.Int.{div_ceil};
@@ -15,14 +15,14 @@ use crate::kept_rows::{kept_count, row_count};
 use crate::order::store_part;
 use std::simd::u32x4;
 
-/// Writes scryptROMix (RFC 7914, section 5) with N = 2^`n_log2` over `rows`, of which every k-th is kept:
-/// the words of N / k rows, rounded up, laid out as `Rows::words` has them, but of any content. Row j is
-/// made by mixing the kept row j / k another j mod k times; over the rows that `Rows::fill` made of a
-/// block, this is scryptROMix of that block.
+/// Writes scryptROMix (RFC 7914, section 5) with N = 2^`n_log2` over `rows`, of which every k-th is
+/// kept: the words of N / k rows, rounded up, laid out as `Rows::words` has them, but of any
+/// content. Row j is made by mixing the kept row j / k another j mod k times; over the rows that
+/// `Rows::fill` made of a block, this is scryptROMix of that block.
 ///
-/// `out` has the length of a row, 128 * r bytes for some r from 1 on, `work` has at least 96 * r words,
-/// which is three rows, `n_log2` lies from 1 to 63, and k is at least 1. What `out` and `work` held is not
-/// read, and what `work` is left with is open. Takes no memory.
+/// `out` has the length of a row, 128 * r bytes for some r from 1 on, `work` has at least 96 * r
+/// words, which is three rows, `n_log2` lies from 1 to 63, and k is at least 1. What `out` and
+/// `work` held is not read, and what `work` is left with is open. Takes no memory.
 pub fn mix_kept(rows: &[u32], n_log2: u8, k: u64, out: &mut [u8], work: &mut [u32])
     requires even { 1 ≤ n_log2 }
     requires cost { n_log2 < 64 }
@@ -172,8 +172,9 @@ fn integerify(r: usize, x: &[u32]) -> u64
     u64::from(x[last]) + (u64::from(x[last + 13]) << 32)
 }
 
-// Reads a vector of each of the row's first r blocks and of its last one, so that what follows waits for
-// memory once and not block by block. What is read goes into `out`, which is written over afterwards.
+// Reads a vector of each of the row's first r blocks and of its last one, so that what follows
+// waits for memory once and not block by block. What is read goes into `out`, which is written over
+// afterwards.
 fn touch_row(r: usize, row: &[u32], out: &mut [u32])
     requires some { 1 ≤ r }
     requires row_len { length row.now ≡ 32 * r }

@@ -1,5 +1,5 @@
-//! The Salsa20/8 Core (RFC 7914, section 3), on blocks whose words stand in diagonal order: both rounds
-//! are then steps on whole rows of four words.
+//! The Salsa20/8 Core (RFC 7914, section 3), on blocks whose words stand in diagonal order: both
+//! rounds are then steps on whole rows of four words.
 
 ghost use Rattle.std.specs.Prelude.{◌≡◌, ◌<◌, length, map, bit_xor};
 ghost use Rattle.std.specs.Int.{w32, rotate_left};
@@ -9,8 +9,8 @@ ghost use Rattle.minisign_kdf.specs.Salsa20.{add32, column_round, double_round, 
 
 use std::simd::u32x4;
 
-/// A block's sixteen words in diagonal order: the rows hold the words 0, 5, 10, 15, the words 4, 9, 14, 3,
-/// the words 8, 13, 2, 7 and the words 12, 1, 6, 11.
+/// A block's sixteen words in diagonal order: the rows hold the words 0, 5, 10, 15, the words 4, 9,
+/// 14, 3, the words 8, 13, 2, 7 and the words 12, 1, 6, 11.
 #[derive(Clone, Copy)]
 pub(crate) struct Block {
     a: [u32; 4],

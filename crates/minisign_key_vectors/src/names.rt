@@ -1,5 +1,6 @@
-//! The names at the roots of the crates, which a caller of `minisign` writes: its own, those of the devices, the scheme
-//! and the parameters, and `minisign_base` and `minisign_hash` through it. Each is called, and gives the worked values.
+//! The names at the roots of the crates, which a caller of `minisign` writes: its own, those of the
+//! devices, the scheme and the parameters, and `minisign_base` and `minisign_hash` through it. Each
+//! is called, and gives the worked values.
 
 use minisign::minisign_base::{
     Identifier, fill_from, get_password, load_u64_le, put_all, put_and_flush, put_line,

@@ -1,6 +1,7 @@
-//! Calls on keys whose result is right or is out of memory, whichever growth is refused: with ample memory each test
-//! sees its call succeed, and `tests/refused_memory.py` runs it with each of its requests refused in turn. A buffer that
-//! cannot grow is a sink that fails, so that a call with one may return a failed write too.
+//! Calls on keys whose result is right or is out of memory, whichever growth is refused: with ample
+//! memory each test sees its call succeed, and `tests/refused_memory.py` runs it with each of its
+//! requests refused in turn. A buffer that cannot grow is a sink that fails, so that a call with
+//! one may return a failed write too.
 
 use crate::sealed::in_parts::sealed_in_parts;
 use minisign::{ErrorKind, KeyPair, PublicKey, Result, SecretKey, SecretKeyBox};

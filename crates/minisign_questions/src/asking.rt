@@ -19,15 +19,15 @@ use minisign_base::faults;
 use std::alloc::Global;
 
 impl State {
-    /// Asks: what a scheme has to answer before it is known whether the two texts vouch for what the state was
-    /// fed. The message of the second question is written to the front of `message`; as many bytes as
-    /// `sig_text` has are always room enough.
+    /// Asks: what a scheme has to answer before it is known whether the two texts vouch for what
+    /// the state was fed. The message of the second question is written to the front of `message`;
+    /// as many bytes as `sig_text` has are always room enough.
     ///
     /// Refused are, in this order: a wrong use; a text that is not UTF-8; a public key text, as
-    /// `PublicKey::from_box` refuses it; a signature text, as `SignatureBox::from_string` does; identifiers
-    /// that differ; a signature over the data itself unless `allow_legacy`; too short a buffer. It may run
-    /// out of memory at any time. After a refusal the state and the message are as they were; the two identifiers
-    /// are written to `questions` where both texts read.
+    /// `PublicKey::from_box` refuses it; a signature text, as `SignatureBox::from_string` does;
+    /// identifiers that differ; a signature over the data itself unless `allow_legacy`; too short a
+    /// buffer. It may run out of memory at any time. After a refusal the state and the message are
+    /// as they were; the two identifiers are written to `questions` where both texts read.
     pub fn ask(
         &mut self,
         alloc: Global,
@@ -63,9 +63,9 @@ impl State {
 
     /// The verdict from the answers of the scheme, which ends the state.
     ///
-    /// Success exactly where the two texts vouch for what the state was fed under the scheme that answered so, else
-    /// the first condition that fails. A state that has not asked is refused, and stays as it was. Takes no
-    /// memory.
+    /// Success exactly where the two texts vouch for what the state was fed under the scheme that
+    /// answered so, else the first condition that fails. A state that has not asked is refused, and
+    /// stays as it was. Takes no memory.
     pub fn verdict(&mut self, first: bool, second: bool) -> std::result::Result<(), Refusal>
         ensures verdict { (pk_text sig_text message : List ℕ) (legacy : Bool) (accepts : Verifier)
             → HasAsked self.old pk_text sig_text legacy → AnswersTexts accepts pk_text sig_text message first second
@@ -104,8 +104,8 @@ fn read_bytes(alloc: Global, pk_text: &[u8], sig_text: &[u8]) -> Result<Texts>
     Texts::read(alloc, pk_text, sig_text)
 }
 
-// Writes the questions of the texts about data of this digest, and the message of the second: returns whether it
-// can be asked. Where there is no room for the message, nothing is written.
+// Writes the questions of the texts about data of this digest, and the message of the second:
+// returns whether it can be asked. Where there is no room for the message, nothing is written.
 fn write_questions(
     texts: &Texts,
     digest: &[u8; 64],

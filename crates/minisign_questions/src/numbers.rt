@@ -17,8 +17,9 @@ const END: u32 = 43;
 const DIFFERENT_KEY_IDS: u32 = 29;
 
 impl Refusal {
-    /// The number of the refusal. Faults are told apart by their kinds and texts, for which memory may run out:
-    /// then the number is that of running out of memory. The identifiers are those of the signature and the key.
+    /// The number of the refusal. Faults are told apart by their kinds and texts, for which memory
+    /// may run out: then the number is that of running out of memory. The identifiers are those of
+    /// the signature and the key.
     pub fn number(&self, alloc: Global, signature: [u8; 8], key: [u8; 8]) -> u32
         ensures number { IsNumberOf self.now result }
         ensures some { 0 < result }
@@ -117,8 +118,9 @@ fn fault_of(number: u32) -> PError
     }
 }
 
-/// Writes what a number means, in English, to the front of `to`, ended by a 0 and cut where there is no room for
-/// more: returns the length of the whole text. Where `to` has no byte nothing is written.
+/// Writes what a number means, in English, to the front of `to`, ended by a 0 and cut where there
+/// is no room for more: returns the length of the whole text. Where `to` has no byte nothing is
+/// written.
 pub fn write_error_text(number: u32, to: &mut [u8]) -> usize
     ensures { (text : List ℕ) × (result ≡ length text) × WritesCut text to.old to.new }
 {

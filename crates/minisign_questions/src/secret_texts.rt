@@ -22,8 +22,8 @@ const UNSEALED: [u8; 2] = [0, 0];
 // What Minisign writes in place of a checksum where it does not seal the key.
 const NO_CHECKSUM: [u8; 32] = [0; 32];
 
-/// The key of a text, which was never sealed: one with 32 zeros in place of its checksum, as Minisign writes it, or else
-/// what `SecretKey::from_unencrypted_box` takes, and refused as there.
+/// The key of a text, which was never sealed: one with 32 zeros in place of its checksum, as
+/// Minisign writes it, or else what `SecretKey::from_unencrypted_box` takes, and refused as there.
 pub fn open_unsealed(alloc: Global, sk_text: &str) -> Result<SecretKey>
     ensures given { IfOk result (GivesUnsealedKey sk_text.now) }
     ensures refused { IfErr result (λ e. (e ≡ out_of_memory) ⊎ RefusesUnsealed sk_text.now e) }

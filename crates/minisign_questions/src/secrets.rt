@@ -1,4 +1,5 @@
-//! Asking for signatures: which bytes have to be signed with which secret. The secret leaves the library here.
+//! Asking for signatures: which bytes have to be signed with which secret. The secret leaves the
+//! library here.
 
 ghost use Rattle.std.specs.Prelude.{◌≡◌, ◌⊎◌, ℕ, List, Some, OnOk, OnErr, IfOk, IfErr, IfSome, MatchResult};
 ghost use Rattle.std.specs.Option.{option_map};
@@ -31,9 +32,10 @@ pub struct SigningQuestions {
 }
 
 impl State {
-    /// Asks for signatures: opens the secret key of a text, and tells its secret, its identifier and the digest of
-    /// what the state was fed, which ends the state. Without a password the key has to be one that was never
-    /// sealed, with one a sealed one. A sealed key takes scrypt's memory and time, 32 MiB or 1 GiB by its limits.
+    /// Asks for signatures: opens the secret key of a text, and tells its secret, its identifier
+    /// and the digest of what the state was fed, which ends the state. Without a password the key
+    /// has to be one that was never sealed, with one a sealed one. A sealed key takes scrypt's
+    /// memory and time, 32 MiB or 1 GiB by its limits.
     ///
     /// Refused are, in this order: a wrong use; a text or a password that is not UTF-8; a text, as
     /// `open_unsealed` refuses it without a password, and `SecretKey::from_box` with one. It may
@@ -45,7 +47,8 @@ impl State {
         password: Option<&[u8]>,
         questions: &mut SigningQuestions,
     ) -> std::result::Result<(), Refusal>
-        // The secret and the identifier of the key that the text gives, and the digest of what the state was fed.
+        // The secret and the identifier of the key that the text gives, and the digest of what the
+        // state was fed.
         ensures asked { OnOk result ((key : SecretKeyRecord)
             × GivesSecretKey sk_text.now (option_map (λ p. p.now) password.entry) key × TellsKey questions.new key) }
         ensures digest { OnOk result ((m : List ℕ) → IsFed self.old m → questions.new.digest ≡ blake2b_digest 64 m) }

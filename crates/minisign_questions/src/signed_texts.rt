@@ -19,11 +19,13 @@ use std::alloc::Global;
 // A signature over the digest of the data.
 const PREHASHED: [u8; 2] = [b'E', b'D'];
 
-/// The text of a signature, the four lines that Minisign reads, from the two answers of a signature scheme: under
-/// the identifier of the key, with the trusted comment that the second answer is over and an untrusted one.
+/// The text of a signature, the four lines that Minisign reads, from the two answers of a signature
+/// scheme: under the identifier of the key, with the trusted comment that the second answer is over
+/// and an untrusted one.
 ///
-/// Refused are comments that would not be read back as they are: one with a line feed, an untrusted one with a
-/// carriage return at its end, a trusted one with white space at either end. It may run out of memory at any time.
+/// Refused are comments that would not be read back as they are: one with a line feed, an untrusted
+/// one with a carriage return at its end, a trusted one with white space at either end. It may run
+/// out of memory at any time.
 pub fn signed_text(
     alloc: Global,
     key_id: &[u8; 8],
@@ -42,8 +44,9 @@ pub fn signed_text(
     Ok(written(alloc, key_id, first, second, trusted, untrusted)?)
 }
 
-/// Writes that text to the front of `to`, and returns its length: comments that are not UTF-8 are refused, then what
-/// `signed_text` refuses, then too short a buffer. After a refusal the buffer is as it was.
+/// Writes that text to the front of `to`, and returns its length: comments that are not UTF-8 are
+/// refused, then what `signed_text` refuses, then too short a buffer. After a refusal the buffer is
+/// as it was.
 pub fn write_signed_text(
     alloc: Global,
     key_id: &[u8; 8],
@@ -84,8 +87,9 @@ fn write_front(bytes: &[u8], to: &mut [u8]) -> Option<usize>
     Some(bytes.len())
 }
 
-/// Writes the message of the second question to the front of `message`: the first answer followed by the trusted
-/// comment, which is 64 bytes longer than the comment. Where there is no room nothing is written.
+/// Writes the message of the second question to the front of `message`: the first answer followed
+/// by the trusted comment, which is 64 bytes longer than the comment. Where there is no room
+/// nothing is written.
 pub fn write_comment_message(
     first: &[u8; 64],
     trusted: &[u8],

@@ -1,5 +1,5 @@
-//! A state of fixed size that a program in another language holds: it is fed the data in pieces, asks the
-//! questions of two texts, and gives the verdict.
+//! A state of fixed size that a program in another language holds: it is fed the data in pieces,
+//! asks the questions of two texts, and gives the verdict.
 
 ghost use Rattle.std.specs.Prelude.{◌≡◌, ◌++◌, ℕ, List, [], false, Ok, OnOk, IfOk, IfErr, MatchResult, length};
 ghost use Rattle.minisign_hash.specs.Blake2b.{blake2b_digest};
@@ -11,7 +11,8 @@ use minisign_base::PError;
 use minisign_hash::blake2b::Blake2b;
 use minisign_hash::blake2b::stored::StoredBlake2b;
 
-// A state that is being fed begins with the letters `minisign`, one whose questions were asked with `minisask`.
+// A state that is being fed begins with the letters `minisign`, one whose questions were asked with
+// `minisask`.
 pub(crate) const FED: u64 = 7955443211184269677;
 
 pub(crate) const ASKED: u64 = 7742639332697991533;
@@ -35,7 +36,8 @@ pub struct Questions {
     pub public_key: [u8; 32],
     /// The digest of the data.
     pub digest: [u8; 64],
-    /// The signature of the first question, whose message is the digest, or the data itself where `legacy` is 1.
+    /// The signature of the first question, whose message is the digest, or the data itself where
+    /// `legacy` is 1.
     pub signature: [u8; 64],
     /// The signature of the second question; zeros where the text has fewer than 64 bytes.
     pub comment_signature: [u8; 64],
@@ -110,8 +112,8 @@ impl State {
         }
     }
 
-    /// Feeds the next bytes of the data. Takes no memory. A state that was never begun is refused, and one whose
-    /// questions were asked; then it stays as it was.
+    /// Feeds the next bytes of the data. Takes no memory. A state that was never begun is refused,
+    /// and one whose questions were asked; then it stays as it was.
     pub fn update(&mut self, piece: &[u8]) -> Result<(), Misuse>
         ensures fed { (m : List ℕ) → IsFed self.old m → MatchResult result (λ _. IsFed self.new (m ++ piece.now)) (λ _. ⊥) }
         ensures begun { OnOk result (IsMarkedFed self.old) }

@@ -1,7 +1,8 @@
-//! The steps of verifying and signing on keys and signatures that minisign 0.11 made of the bytes `hello` and a line
-//! feed.
+//! The steps of verifying and signing on keys and signatures that minisign 0.11 made of the bytes
+//! `hello` and a line feed.
 //!
-//! The expected bytes were read from the texts by Python's base64, and the digest is that of its hashlib.
+//! The expected bytes were read from the texts by Python's base64, and the digest is that of its
+//! hashlib.
 
 use crate::secrets::SigningQuestions;
 use crate::signed_texts::{signed_text, write_comment_message, write_signed_text};

@@ -27,8 +27,9 @@ impl Model for Texts {
 }
 
 impl Texts {
-    /// Reads the two texts. The one of the public key is refused first, as `PublicKey::from_box` refuses it,
-    /// then that of the signature, as `SignatureBox::from_string` does. It may run out of memory at any time.
+    /// Reads the two texts. The one of the public key is refused first, as `PublicKey::from_box`
+    /// refuses it, then that of the signature, as `SignatureBox::from_string` does. It may run out
+    /// of memory at any time.
     pub fn read(alloc: Global, pk_text: &str, sig_text: &str) -> Result<Texts>
         ensures read { IfOk result (λ t. ReadTexts pk_text.now sig_text.now t.key t.box) }
         ensures refused { IfErr result (λ e. (e ≡ out_of_memory) ⊎ ((legacy : Bool) → IsRefusedUnasked pk_text.now sig_text.now legacy e)) }
@@ -38,8 +39,8 @@ impl Texts {
         Ok(Texts { pk, signature_box })
     }
 
-    /// Tests what needs no scheme. Refused are, in this order: identifiers that differ, a signature over the data
-    /// itself unless `allow_legacy`. Takes no memory.
+    /// Tests what needs no scheme. Refused are, in this order: identifiers that differ, a signature
+    /// over the data itself unless `allow_legacy`. Takes no memory.
     pub fn test(&self, allow_legacy: bool) -> Result<()>
         ensures { (pk_text sig_text : List ℕ) → ReadTexts pk_text sig_text self.now.key self.now.box
             → MatchResult result (λ _. (c : CommentsRecord) × AreOpen pk_text sig_text allow_legacy self.now.key self.now.box c)
@@ -101,7 +102,8 @@ impl Texts {
         &self.signature_box.signature().sig
     }
 
-    /// The signature of the second question, 64 bytes; nothing where the comment signature has fewer.
+    /// The signature of the second question, 64 bytes; nothing where the comment signature has
+    /// fewer.
     pub fn comment_signature(&self) -> Option<[u8; 64]>
         ensures { (c : CommentsRecord) → self.now.box.comments ≡ Some c
             → MatchOption result (has_whole_signature c ≡ false) (λ s. (s ≡ take 64 c.signature) × (has_whole_signature c ≡ true)) }
@@ -121,8 +123,9 @@ impl Texts {
         }
     }
 
-    /// Writes the message of the second question to the front of `message`: the signature of the first one
-    /// followed by the trusted comment. Returns its length; nothing is written where there is no room.
+    /// Writes the message of the second question to the front of `message`: the signature of the
+    /// first one followed by the trusted comment. Returns its length; nothing is written where
+    /// there is no room.
     pub fn write_comment_message(&self, message: &mut [u8]) -> Option<usize>
         ensures written { (c : CommentsRecord) → self.now.box.comments ≡ Some c
             → MatchOption result (length message.old < 64 + length c.trusted)

@@ -9,11 +9,11 @@ ghost use Rattle.minisign_questions.specs.Questions.{AreOpen, AnswersSo, has_who
 
 use minisign_base::{Result, faults};
 
-/// The verdict on two texts and a message from the answers to their two questions. `whole` says whether the
-/// second one could be asked: the comment signature has its 64 bytes.
+/// The verdict on two texts and a message from the answers to their two questions. `whole` says
+/// whether the second one could be asked: the comment signature has its 64 bytes.
 ///
-/// Takes no memory. Refused are, in this order: a signature that is not accepted, a comment signature that
-/// is too short or not accepted.
+/// Takes no memory. Refused are, in this order: a signature that is not accepted, a comment
+/// signature that is too short or not accepted.
 pub fn verdict(whole: bool, first: bool, second: bool) -> Result<()>
     ensures verdict { (pk_text sig_text message : List ℕ) (legacy : Bool) (pk : PublicKeyRecord) (x : SignatureBoxRecord) (c : CommentsRecord) (accepts : Verifier)
         → AreOpen pk_text sig_text legacy pk x c → whole ≡ has_whole_signature c → AnswersSo accepts pk x c message first second

@@ -1,7 +1,9 @@
-//! Signatures, run as tests: their texts, signing and verifying, over devices that fail and with memory refused.
+//! Signatures, run as tests: their texts, signing and verifying, over devices that fail and with
+//! memory refused.
 //!
-//! Each expected value comes from outside: from a standard, from Python's hashlib, from the upstream tool, or
-//! worked out by hand from a definition. None is what a crate of this repository answered.
+//! Each expected value comes from outside: from a standard, from Python's hashlib, from the
+//! upstream tool, or worked out by hand from a definition. None is what a crate of this repository
+//! answered.
 
 #![tactic(auto)]
 

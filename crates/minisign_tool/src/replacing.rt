@@ -364,8 +364,8 @@ fn write_stream(rt: &HostRuntime, contents: Contents<'_>) -> Result<()>
     }
 }
 
-// What the system returns from a call of writing: all that it refuses, except running out of memory, is
-// `writing_failed`.
+// What the system returns from a call of writing: all that it refuses, except running out of
+// memory, is `writing_failed`.
 fn written<T>(answer: io::Result<T>) -> Result<T>
     ensures { IfErr result IsWriteFault }
 {

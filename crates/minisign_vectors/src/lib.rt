@@ -1,7 +1,7 @@
 //! Published vectors and worked examples of hashing, key derivation and the devices, run as tests.
 //!
-//! Each expected value comes from outside: from a standard, from Python's hashlib, or worked out by hand
-//! from a definition. None is what a crate of this repository answered.
+//! Each expected value comes from outside: from a standard, from Python's hashlib, or worked out by
+//! hand from a definition. None is what a crate of this repository answered.
 
 #![tactic(auto)]
 

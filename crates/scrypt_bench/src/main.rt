@@ -1,6 +1,6 @@
 //! Derives a key of 64 bytes with scrypt, and times it for a benchmark: of the arguments
-//! `PASSWORD SALT N_LOG2 R P K` it prints the key in hexadecimal, and on the error stream the time of the
-//! call in microseconds. Every k-th row is kept; where K is left out, every row.
+//! `PASSWORD SALT N_LOG2 R P K` it prints the key in hexadecimal, and on the error stream the time
+//! of the call in microseconds. Every k-th row is kept; where K is left out, every row.
 
 #![tactic(auto)]
 

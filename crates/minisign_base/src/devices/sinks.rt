@@ -18,8 +18,8 @@ pub trait Sink {
     // How many faults there were.
     ghost sink_faults: { Self → ℕ };
 
-    /// Takes a beginning of `bytes` and returns how long it is: of something at least one byte. After
-    /// a fault nothing was taken.
+    /// Takes a beginning of `bytes` and returns how long it is: of something at least one byte.
+    /// After a fault nothing was taken.
     fn write(&mut self, bytes: &[u8]) -> Result<usize, DeviceFault>
         ensures { HasWritten taken sink_faults self.old self.new bytes.now result };
 
@@ -130,11 +130,11 @@ impl<W: Write> Sink for WriterSink<W> {
     }
 }
 
-/// Writes a label, a text and a line feed in one call of `put_all`, so that programs that run side by
-/// side do not mix their lines: a sink that takes all that it is given gets one write.
+/// Writes a label, a text and a line feed in one call of `put_all`, so that programs that run side
+/// by side do not mix their lines: a sink that takes all that it is given gets one write.
 ///
-/// Memory is wanted for the line. Where it runs out, that is `out_of_memory`, and the sink is as it was.
-/// Where the sink fails, that is `writing_failed`, and the sink took a beginning of the line.
+/// Memory is wanted for the line. Where it runs out, that is `out_of_memory`, and the sink is as it
+/// was. Where the sink fails, that is `writing_failed`, and the sink took a beginning of the line.
 pub fn put_line<S: Sink>(
     alloc: Global,
     sink: &mut S,

@@ -40,13 +40,13 @@ pub trait Rereader: Source {
     // Going back brings the bytes that were ahead at the mark.
     ghost steady: { Self → Type 0 };
 
-    /// Remembers the place. The bytes ahead stay; after a fault they stay or are told no more, and no
-    /// place is marked.
+    /// Remembers the place. The bytes ahead stay; after a fault they stay or are told no more, and
+    /// no place is marked.
     fn mark(&mut self) -> Result<(), DeviceFault>
         ensures { HasMarked steady Self.ahead Self.behind Self.since Self.is_marked Self.faults self.old self.new result };
 
-    /// Returns to the place that was marked last. Without a mark it is a fault. After a fault no place
-    /// is marked.
+    /// Returns to the place that was marked last. Without a mark it is a fault. After a fault no
+    /// place is marked.
     fn back(&mut self) -> Result<(), DeviceFault>
         ensures { HasGoneBack Self.ahead Self.behind Self.since Self.is_marked Self.faults self.old self.new result };
 }
@@ -210,9 +210,10 @@ impl<R: Read> Rereader for ReaderSource<R> {
     }
 }
 
-/// The bytes of a file, or of anything else of std that is read and seeks, 2^63 - 1 at most: a read after
-/// that is a fault. It marks its place and goes back by seeking. It tells no bytes, since std's files tell
-/// none, and so it is not known to be steady: a file may change between two readings.
+/// The bytes of a file, or of anything else of std that is read and seeks, 2^63 - 1 at most: a read
+/// after that is a fault. It marks its place and goes back by seeking. It tells no bytes, since
+/// std's files tell none, and so it is not known to be steady: a file may change between two
+/// readings.
 #[derive(Debug, Drop)]
 pub struct FileSource<F> {
     reader: ReaderSource<F>,
@@ -270,8 +271,8 @@ impl<F: Read + Seek> Rereader for FileSource<F> {
         }
     }
 
-    // Where nothing is marked, the file is left where it is. It is a fault too where the file is not at the
-    // marked place after seeking it.
+    // Where nothing is marked, the file is left where it is. It is a fault too where the file is
+    // not at the marked place after seeking it.
     fn back(&mut self) -> Result<(), DeviceFault> {
         if let Some(marked) = self.marked {
             if let Ok(place) = self.reader.reader.seek(SeekFrom::Start(marked)) {

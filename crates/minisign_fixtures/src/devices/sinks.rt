@@ -7,8 +7,8 @@ use minisign_base::devices::DeviceFault;
 use minisign_base::devices::sinks::{Sink, VecSink};
 use std::alloc::Global;
 
-/// A buffer with room for so many bytes, that takes at most so many a write, is flushed so many times, and may fail
-/// at one call more. What it took can be seen whatever happens.
+/// A buffer with room for so many bytes, that takes at most so many a write, is flushed so many
+/// times, and may fail at one call more. What it took can be seen whatever happens.
 #[derive(Drop)]
 pub struct LimitedSink {
     taken: VecSink,
@@ -20,8 +20,8 @@ pub struct LimitedSink {
 }
 
 impl LimitedSink {
-    /// Nothing is taken, and there is room for so many bytes, at once or in parts. It is flushed as often as it is
-    /// asked to.
+    /// Nothing is taken, and there is room for so many bytes, at once or in parts. It is flushed as
+    /// often as it is asked to.
     pub fn new(alloc: Global, room: usize) -> LimitedSink
         ensures taken { ⟦<LimitedSink as Sink>⟧.taken result ≡ Some [] }
         ensures faults { ⟦<LimitedSink as Sink>⟧.sink_faults result ≡ 0 }

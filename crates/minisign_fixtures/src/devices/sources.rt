@@ -195,7 +195,8 @@ impl<'a> Rereader for FailingSource<'a> {
     }
 }
 
-/// The bytes of a slice, and those of another one once it went back. It fails only in `back` without a mark.
+/// The bytes of a slice, and those of another one once it went back. It fails only in `back`
+/// without a mark.
 #[derive(Drop)]
 pub struct Changes<'a> {
     source: SliceSource<'a>,

@@ -1,5 +1,5 @@
-//! Blake2b without key and with a digest of 64 bytes in scalar words, one message at once, as RFC 7693
-//! writes it: the plain body that the lanes of `minisign_hash` are compared with.
+//! Blake2b without key and with a digest of 64 bytes in scalar words, one message at once, as RFC
+//! 7693 writes it: the plain body that the lanes of `minisign_hash` are compared with.
 
 ghost use Rattle.std.specs.Prelude.{◌<◌};
 

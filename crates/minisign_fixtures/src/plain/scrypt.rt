@@ -1,5 +1,5 @@
-//! scrypt by scalar words in the standard's order (RFC 7914, sections 3 to 6), which `minisign_kdf` is
-//! compared with.
+//! scrypt by scalar words in the standard's order (RFC 7914, sections 3 to 6), which `minisign_kdf`
+//! is compared with.
 
 ghost use Rattle.std.specs.Prelude.{◌≡◌, ◌*◌, ◌^◌, ◌<◌, ◌≤◌, IfOk, length, vec_len};
 ghost use Rattle.minisign_kdf.specs.Pbkdf2.{longest_key};

@@ -6,8 +6,8 @@ ghost use Rattle.minisign_hash.specs.Stored.{WasFed};
 
 use crate::blake2b::{BUFFER_BYTES, Blake2b};
 
-/// What a state for a digest of 64 bytes holds, in 344 bytes with the layout of C. Whoever holds it may
-/// have changed it: `restore` refuses what no state holds, and cannot tell other changes.
+/// What a state for a digest of 64 bytes holds, in 344 bytes with the layout of C. Whoever holds it
+/// may have changed it: `restore` refuses what no state holds, and cannot tell other changes.
 #[repr(C)]
 #[derive(Clone, Copy)]
 pub struct StoredBlake2b {
@@ -39,8 +39,8 @@ impl StoredBlake2b {
         }
     }
 
-    /// A state for a digest of 64 bytes, not finalized, that was fed what this one was; nothing where more
-    /// bytes are told to be in the buffer than it has.
+    /// A state for a digest of 64 bytes, not finalized, that was fed what this one was; nothing
+    /// where more bytes are told to be in the buffer than it has.
     pub fn restore(&self) -> Option<Blake2b>
         ensures fed { IfSome result (λ b. (m : List ℕ) → WasFed self.now m → IsFed b m) }
         ensures length { IfSome result (λ b. output_length b ≡ 64) }

@@ -1,4 +1,5 @@
-//! Generation over devices that fail: at each byte, each read, each draw and each flush, one after the other.
+//! Generation over devices that fail: at each byte, each read, each draw and each flush, one after
+//! the other.
 
 use minisign::{KeyPair, Result};
 use minisign_base::devices::random_sources::SourceRandom;
@@ -27,7 +28,8 @@ const SECRET_TEXT: &str =
 const SHOWN: &str =
     "Please enter a password to protect the secret key.\nPassword: Password (one more time): Deriving a key from the password in order to encrypt the secret key... done\n";
 
-// Makes a sealed pair over a source of random bytes that fails after so many reads of one byte each.
+// Makes a sealed pair over a source of random bytes that fails after so many reads of one byte
+// each.
 fn generate<R: Source, W: Sink, P: Sink, K: Sink>(
     alloc: Global,
     draws: u64,
@@ -47,7 +49,8 @@ fn generate<R: Source, W: Sink, P: Sink, K: Sink>(
     )
 }
 
-// Whether generation over these two sinks returns this, with so much of both texts taken and all shown.
+// Whether generation over these two sinks returns this, with so much of both texts taken and all
+// shown.
 fn takes(
     alloc: Global,
     public: LimitedSink,
@@ -111,8 +114,8 @@ fn secret_sinks_that_fail(rt: HostRuntime) {
     }
 }
 
-// Whether a failed write is told where the prompt's writer has this room and is flushed so many times, with
-// so much shown and no key written.
+// Whether a failed write is told where the prompt's writer has this room and is flushed so many
+// times, with so much shown and no key written.
 fn shows(alloc: Global, room: usize, flushes: usize, length: usize) -> bool {
     let writer = LimitedSink::new(alloc, room).by(9).flushed(flushes);
     let mut prompt = Prompt::new(SliceSource::new(b"p\np\n"), writer);

@@ -1,5 +1,5 @@
-//! Pairs of keys that are made, under the toy: their bytes, what sinks and prompts take, and what is
-//! refused.
+//! Pairs of keys that are made, under the toy: their bytes, what sinks and prompts take, and what
+//! is refused.
 //!
 //! The sealed records were made with Python's hashlib, of random bytes that count up from 0.
 
@@ -118,8 +118,9 @@ fn verified(alloc: Global, pk: &PublicKey, signature_box: &SignatureBox, data: &
     outcome(alloc, &answer)
 }
 
-// The public sink gets 42 bytes and the secret one 158, and too few random bytes leave both alone. Each row: how
-// many random bytes there are, the room and the flushes of both sinks, the answer, and what both took.
+// The public sink gets 42 bytes and the secret one 158, and too few random bytes leave both alone.
+// Each row: how many random bytes there are, the room and the flushes of both sinks, the answer,
+// and what both took.
 #[test]
 fn raw_pairs_are_written(rt: HostRuntime) -> std::result::Result<(), Fail> {
     let alloc = rt.alloc();
@@ -166,7 +167,8 @@ fn raw_pairs_are_written(rt: HostRuntime) -> std::result::Result<(), Fail> {
     Ok(())
 }
 
-// What generation returns where the password is typed, what the prompt shows, and the secret key's line.
+// What generation returns where the password is typed, what the prompt shows, and the secret key's
+// line.
 #[test]
 fn sealed_pairs_are_made_of_typed_passwords(rt: HostRuntime) -> std::result::Result<(), Fail> {
     let alloc = rt.alloc();
@@ -269,8 +271,8 @@ fn sealed_pairs_are_made_of_typed_passwords(rt: HostRuntime) -> std::result::Res
     Ok(())
 }
 
-// What a whole and a failing public sink take of a sealed pair, whose password is passed in: the prompt stays
-// as it was.
+// What a whole and a failing public sink take of a sealed pair, whose password is passed in: the
+// prompt stays as it was.
 #[test]
 fn sealed_pairs_are_written(rt: HostRuntime) -> std::result::Result<(), Fail> {
     let alloc = rt.alloc();
@@ -315,8 +317,8 @@ fn sealed_pairs_are_written(rt: HostRuntime) -> std::result::Result<(), Fail> {
     Ok(())
 }
 
-// The text of a sealed key opens under its password; the opened key signs, and written again it is neither a
-// sealed key nor one that was never sealed.
+// The text of a sealed key opens under its password; the opened key signs, and written again it is
+// neither a sealed key nor one that was never sealed.
 #[test]
 fn sealed_keys_sign_once_they_are_opened(rt: HostRuntime) -> std::result::Result<(), Fail> {
     let alloc = rt.alloc();

@@ -140,8 +140,8 @@ fn all_goes_through_texts(rt: HostRuntime) -> std::result::Result<(), Fail> {
     Ok(())
 }
 
-// A text that no password opens, and one whose checksum is wrong, leave the prompt, the data and the random
-// bytes as they were.
+// A text that no password opens, and one whose checksum is wrong, leave the prompt, the data and
+// the random bytes as they were.
 #[test]
 fn what_gives_no_key_is_refused_at_once(rt: HostRuntime) -> std::result::Result<(), Fail> {
     let alloc = rt.alloc();

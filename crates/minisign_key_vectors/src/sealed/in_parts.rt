@@ -1,5 +1,5 @@
-//! Keys that are sealed in many parts: both limits are 0, so that N is 2, r is 8 and p is 512. The tests seal them by
-//! the public calls of key derivation.
+//! Keys that are sealed in many parts: both limits are 0, so that N is 2, r is 8 and p is 512. The
+//! tests seal them by the public calls of key derivation.
 
 use minisign::{KeyPair, Result, SecretKey, SecretKeyBox};
 use minisign_base::devices::random_sources::FixedRandom;

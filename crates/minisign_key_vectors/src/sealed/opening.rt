@@ -1,7 +1,8 @@
-//! Sealed secret keys: opened with a password that is passed in or typed, and refused in their order.
+//! Sealed secret keys: opened with a password that is passed in or typed, and refused in their
+//! order.
 //!
-//! The sealed texts hold key A, xored with scrypt of Python's hashlib, under the salt whose bytes count up
-//! from 0x20.
+//! The sealed texts hold key A, xored with scrypt of Python's hashlib, under the salt whose bytes
+//! count up from 0x20.
 
 use minisign::{Result, SecretKey, SecretKeyBox};
 use minisign_base::devices::sinks::VecSink;
@@ -189,8 +190,8 @@ fn a_key_of_the_c_program_opens_in_less_memory(rt: HostRuntime) -> std::result::
     Ok(())
 }
 
-// What opening returns where nothing is passed in, how many of two bytes are left unread, and how many
-// were written.
+// What opening returns where nothing is passed in, how many of two bytes are left unread, and how
+// many were written.
 fn unasked(alloc: Global, sk_box: SecretKeyBox) -> (String, usize, usize) {
     let mut prompt = typed(alloc, b"p\n");
     let answer = SecretKey::from_box(alloc, sk_box, None, &mut prompt);
@@ -299,8 +300,8 @@ fn limits_are_refused_behind_a_typed_password(rt: HostRuntime) -> std::result::R
     Ok(())
 }
 
-// A writer that fails at the line behind the derivation is told before a wrong password, and after the
-// limits.
+// A writer that fails at the line behind the derivation is told before a wrong password, and after
+// the limits.
 #[test]
 fn failing_writers_are_told_in_their_place(rt: HostRuntime) -> std::result::Result<(), Fail> {
     let alloc = rt.alloc();

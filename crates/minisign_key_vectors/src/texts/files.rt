@@ -33,8 +33,8 @@ const NO_TEXTS: [(&str, &str); 5] = [
     ("long", NOT_UTF8),
 ];
 
-// A new folder that holds the three texts, an empty file, a file of the byte `ff`, and one that is UTF-8 but
-// for its last byte, behind more than is read at once.
+// A new folder that holds the three texts, an empty file, a file of the byte `ff`, and one that is
+// UTF-8 but for its last byte, behind more than is read at once.
 fn make_folder(rt: &HostRuntime, test: &str) -> Result<String, Fail> {
     let alloc = rt.alloc();
     let id = process::id(rt.process());
@@ -200,8 +200,8 @@ fn files_without_rights_are_unreadable(rt: HostRuntime) -> Result<(), Fail> {
     Ok(())
 }
 
-// A file is read whole and as it stands: blanks at both ends, and more than is read at once, belong to its text. A path
-// is taken as it stands too.
+// A file is read whole and as it stands: blanks at both ends, and more than is read at once, belong
+// to its text. A path is taken as it stands too.
 #[test]
 fn files_are_read_as_they_stand(rt: HostRuntime) -> Result<(), Fail> {
     let alloc = rt.alloc();

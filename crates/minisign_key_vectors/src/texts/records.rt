@@ -1,4 +1,5 @@
-//! The records of keys and signatures, how they are compared and shown, and when a key counts as sealed.
+//! The records of keys and signatures, how they are compared and shown, and when a key counts as
+//! sealed.
 
 use minisign::keynum::{KeynumPK, KeynumSK};
 use minisign::{PublicKey, SecretKey, Signature, SignatureBones, SignatureBox};

@@ -66,8 +66,8 @@ fn a_box_is_its_text(rt: HostRuntime) -> std::result::Result<(), Fail> {
     Ok(())
 }
 
-// Where a text ends decides what is missing: the first line has 46 bytes, and the base64 in groups of 4
-// up to the 258th.
+// Where a text ends decides what is missing: the first line has 46 bytes, and the base64 in groups
+// of 4 up to the 258th.
 #[test]
 fn beginnings_of_a_text(rt: HostRuntime) -> std::result::Result<(), Fail> {
     let alloc = rt.alloc();

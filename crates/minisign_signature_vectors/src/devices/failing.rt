@@ -1,5 +1,5 @@
-//! Devices that fail at one of their calls and go on after it: each call of the library with each of its
-//! devices failing at each of its calls in turn, until a run meets no fault.
+//! Devices that fail at one of their calls and go on after it: each call of the library with each
+//! of its devices failing at each of its calls in turn, until a run meets no fault.
 
 use minisign::reading::read_to_end;
 use minisign::{SecretKey, SecretKeyBox, sign, sign_texts, verify_texts};
@@ -168,7 +168,8 @@ fn the_status_fails(rt: HostRuntime) {
     }
 }
 
-// The output is written and then flushed, but for data that changed: the flush would be its fourth call.
+// The output is written and then flushed, but for data that changed: the flush would be its fourth
+// call.
 #[test]
 fn the_output_fails(rt: HostRuntime) {
     let alloc = rt.alloc();
@@ -234,8 +235,8 @@ fn the_devices_of_signing_fail(rt: HostRuntime) -> std::result::Result<(), Fail>
     Ok(())
 }
 
-// Until a sealed key is opened its prompt alone is used. The reader is read up to the line feed, and the
-// writer writes and flushes three texts.
+// Until a sealed key is opened its prompt alone is used. The reader is read up to the line feed,
+// and the writer writes and flushes three texts.
 #[test]
 fn the_prompt_of_signing_fails(rt: HostRuntime) {
     let alloc = rt.alloc();
@@ -337,7 +338,8 @@ fn a_prompt_that_takes_four_bytes_leaves_the_data(rt: HostRuntime) {
     assert!(rt; is_record(&read_to_end(alloc, &mut data), b"abc"));
 }
 
-// The prompt of opening, where a password is typed and where an empty one is: it is told that it is empty.
+// The prompt of opening, where a password is typed and where an empty one is: it is told that it is
+// empty.
 #[test]
 fn the_prompt_of_opening_fails(rt: HostRuntime) -> std::result::Result<(), Fail> {
     let alloc = rt.alloc();

@@ -1,6 +1,7 @@
-//! Calls whose result is right or is out of memory, whichever growth is refused: with ample memory each test
-//! sees its call succeed, and `tests/refused_memory.py` runs it with each of its requests refused in turn. A buffer that
-//! cannot grow is a sink that fails, so that a call with one may return a failed write too.
+//! Calls whose result is right or is out of memory, whichever growth is refused: with ample memory
+//! each test sees its call succeed, and `tests/refused_memory.py` runs it with each of its requests
+//! refused in turn. A buffer that cannot grow is a sink that fails, so that a call with one may
+//! return a failed write too.
 
 use minisign::{
     ErrorKind, PublicKey, Result, SecretKey, SignatureBones, SignatureBox, sign, sign_texts,
@@ -79,7 +80,8 @@ fn signed(alloc: Global, sk_text: &str) -> Result<bool> {
     Ok(text.as_str() == SIGNATURE_TEXT)
 }
 
-// Whether a box that is made with a public key to test, and with the comments by default, has its own.
+// Whether a box that is made with a public key to test, and with the comments by default, has its
+// own.
 fn made(alloc: Global) -> Result<bool> {
     let secret = SecretKey::from_bytes(&secret_record(&[0, 0], &CHECKSUM))?;
     let public = PublicKey::from_secret_key(&secret)?;

@@ -37,8 +37,8 @@ fn key_a() -> std::result::Result<(SecretKey, PublicKey), Fail> {
     ))
 }
 
-// The outcome of verifying the box over the data, or nothing where `status` holds anything but `said`
-// after a success, or anything at all after a refusal.
+// The outcome of verifying the box over the data, or nothing where `status` holds anything but
+// `said` after a success, or anything at all after a refusal.
 fn told<S: Scheme>(
     alloc: Global,
     scheme: &S,
@@ -239,8 +239,9 @@ fn random_bytes_go_where_they_belong(rt: HostRuntime) -> std::result::Result<(),
     Ok(())
 }
 
-// What a refused or a good run leaves in the random source. Each row: the key derivation and the checksum of key A,
-// how many reads pass, how many random bytes there are, the answer, and how many of them are left.
+// What a refused or a good run leaves in the random source. Each row: the key derivation and the
+// checksum of key A, how many reads pass, how many random bytes there are, the answer, and how many
+// of them are left.
 #[test]
 fn signing_is_refused_in_its_order(rt: HostRuntime) -> std::result::Result<(), Fail> {
     let alloc = rt.alloc();

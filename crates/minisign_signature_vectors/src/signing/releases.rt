@@ -1,4 +1,5 @@
-//! The signing tool in small, run: the texts of a pair sealed under a password, and what its key signed.
+//! The signing tool in small, run: the texts of a pair sealed under a password, and what its key
+//! signed.
 
 use minisign::SignatureBox;
 use minisign_base::devices::random_sources::FixedRandom;

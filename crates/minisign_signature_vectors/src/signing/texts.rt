@@ -1,5 +1,5 @@
-//! Signing with the text of a secret key: the text that is returned, what is refused before anything is read,
-//! and what the prompt is told.
+//! Signing with the text of a secret key: the text that is returned, what is refused before
+//! anything is read, and what the prompt is told.
 
 use minisign::{Result, sign_texts};
 use minisign_base::devices::random_sources::FixedRandom;
@@ -17,8 +17,8 @@ use std::test::Fail;
 const SAID: &str =
     "Password: Deriving a key from the password and decrypting the secret key... done\n";
 
-// Signs what the source gives with the comments `t` and `c` and random bytes of zeros, and returns what the
-// prompt was told too. Without a password one is typed.
+// Signs what the source gives with the comments `t` and `c` and random bytes of zeros, and returns
+// what the prompt was told too. Without a password one is typed.
 fn signed<R: Rereader>(
     alloc: Global,
     text: &str,

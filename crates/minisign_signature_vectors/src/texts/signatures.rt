@@ -213,8 +213,8 @@ fn texts_in_the_order_of_their_tests(rt: HostRuntime) {
     }
 }
 
-// Each row: what stands before the text, behind its first three lines, before the trusted comment, and as
-// the fourth line.
+// Each row: what stands before the text, behind its first three lines, before the trusted comment,
+// and as the fourth line.
 #[test]
 fn odd_signature_texts(rt: HostRuntime) -> std::result::Result<(), Fail> {
     let alloc = rt.alloc();

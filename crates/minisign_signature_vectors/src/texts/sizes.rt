@@ -117,7 +117,8 @@ fn data_of_every_byte(rt: HostRuntime) -> std::result::Result<(), Fail> {
     Ok(())
 }
 
-// The last second of 32 bits with a sign and the one behind it, the same without a sign, and the last of all.
+// The last second of 32 bits with a sign and the one behind it, the same without a sign, and the
+// last of all.
 #[test]
 fn moments_after_2038_and_2106(rt: HostRuntime) -> std::result::Result<(), Fail> {
     let alloc = rt.alloc();

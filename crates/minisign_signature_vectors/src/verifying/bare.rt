@@ -201,7 +201,8 @@ fn a_long_message_is_judged(rt: HostRuntime) -> std::result::Result<(), Fail> {
     Ok(())
 }
 
-// A failing source is told before any verdict: at the first read, at the second, and at that of the end.
+// A failing source is told before any verdict: at the first read, at the second, and at that of the
+// end.
 #[test]
 fn failing_sources_are_told_from_verdicts(rt: HostRuntime) {
     let alloc = rt.alloc();

@@ -104,8 +104,8 @@ fn what_cannot_be_read_again_is_marked_in_vain(rt: HostRuntime) {
     }
 }
 
-// An output with room for three bytes takes all and fails at the flush, which comes after the digests are
-// compared.
+// An output with room for three bytes takes all and fails at the flush, which comes after the
+// digests are compared.
 #[test]
 fn a_failing_output_holds_a_beginning(rt: HostRuntime) {
     let alloc = rt.alloc();

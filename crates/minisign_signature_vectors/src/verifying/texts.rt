@@ -1,5 +1,5 @@
-//! Verifying with two texts: each verdict and each refusal, whatever the source gives a read, with and without
-//! output, and what is left of the source.
+//! Verifying with two texts: each verdict and each refusal, whatever the source gives a read, with
+//! and without output, and what is left of the source.
 //!
 //! The texts hold the base64 of Python's base64 module.
 
@@ -76,8 +76,8 @@ fn verified<R: Rereader, W: Sink, O: Sink>(
     outcome(alloc, &answer)
 }
 
-// Verifies and says whether all came out so: the answer, the status, the output, and what the source still
-// has ahead. A text that is refused leaves all of the data.
+// Verifies and says whether all came out so: the answer, the status, the output, and what the
+// source still has ahead. A text that is refused leaves all of the data.
 fn comes_out<R: Rereader>(
     alloc: Global,
     texts: (&str, &str),
@@ -246,8 +246,8 @@ fn data_is_copied_from_the_place_that_was_reached(rt: HostRuntime) {
     }
 }
 
-// What a second reading gives is copied as it comes, and told from the first once it is whole; an output that
-// cannot be flushed makes no other fault of it.
+// What a second reading gives is copied as it comes, and told from the first once it is whole; an
+// output that cannot be flushed makes no other fault of it.
 #[test]
 fn data_that_changes_is_told(rt: HostRuntime) {
     let alloc = rt.alloc();
@@ -277,8 +277,8 @@ fn data_that_changes_is_told(rt: HostRuntime) {
     }
 }
 
-// What cannot be read again is refused at the mark, before a byte is read, and only where it would be read
-// again.
+// What cannot be read again is refused at the mark, before a byte is read, and only where it would
+// be read again.
 #[test]
 fn data_that_cannot_be_read_again(rt: HostRuntime) {
     let alloc = rt.alloc();
@@ -309,7 +309,8 @@ fn data_that_cannot_be_read_again(rt: HostRuntime) {
     }
 }
 
-// The texts of the upstream tool, each under a table of its own two signatures, and what is said of them.
+// The texts of the upstream tool, each under a table of its own two signatures, and what is said of
+// them.
 #[test]
 fn texts_of_the_upstream_tool_are_told(rt: HostRuntime) -> std::result::Result<(), Fail> {
     let alloc = rt.alloc();

@@ -23,7 +23,8 @@ impl Clock for Shows {
     }
 }
 
-// The moments lie before and after those that 32 bits can hold, with a sign (2038) and without (2106).
+// The moments lie before and after those that 32 bits can hold, with a sign (2038) and without
+// (2106).
 #[test]
 fn moments_are_whole_seconds(rt: HostRuntime) -> Result<(), Fail> {
     for (seconds, nanoseconds) in [

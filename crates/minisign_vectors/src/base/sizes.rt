@@ -1,4 +1,5 @@
-//! Every adapter over every byte, and over sizes around each power of two up to 2^17, with ample memory.
+//! Every adapter over every byte, and over sizes around each power of two up to 2^17, with ample
+//! memory.
 
 use minisign_base::devices::sinks::{VecSink, WriterSink, put_all, put_line};
 use minisign_base::devices::sources::{FileSource, ReaderSource, Rereader, SliceSource, Source};

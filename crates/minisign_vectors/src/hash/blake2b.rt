@@ -141,8 +141,8 @@ fn digests_around_the_ends_of_blocks(rt: HostRuntime) -> Result<(), Fail> {
     Ok(())
 }
 
-// The digest of `message` in two updates, of which the first has `cut` bytes: as the first and as the
-// second call of `finalize` write it.
+// The digest of `message` in two updates, of which the first has `cut` bytes: as the first and as
+// the second call of `finalize` write it.
 fn digests_in_two_parts(message: &[u8], cut: usize) -> ([u8; 64], [u8; 64])
     requires { cut ≤ length message.now }
 {
@@ -158,8 +158,8 @@ fn digests_in_two_parts(message: &[u8], cut: usize) -> ([u8; 64], [u8; 64])
 }
 
 // Every length from 0 to 385, cut after each of these numbers of bytes, beside the scalar body. The
-// digests are chained: each is hashed behind the chain so far, which begins as 64 zeros. The last value
-// is hashlib's.
+// digests are chained: each is hashed behind the chain so far, which begins as 64 zeros. The last
+// value is hashlib's.
 #[test]
 fn lanes_beside_the_scalar_body(rt: HostRuntime) -> Result<(), Fail> {
     let mut message = [0u8; 385];

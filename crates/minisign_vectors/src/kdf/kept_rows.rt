@@ -1,8 +1,8 @@
-//! scrypt with every k-th row kept: published vectors for many k, how many rows are kept, and every k from
-//! 1 to N + 1 beside the plain body.
+//! scrypt with every k-th row kept: published vectors for many k, how many rows are kept, and every
+//! k from 1 to N + 1 beside the plain body.
 //!
-//! The block and what becomes of it: RFC 7914, sections 9 and 10. Keys: RFC 7914, section 12, and Python's
-//! hashlib (OpenSSL).
+//! The block and what becomes of it: RFC 7914, sections 9 and 10. Keys: RFC 7914, section 12, and
+//! Python's hashlib (OpenSSL).
 
 ghost use Rattle.std.specs.Prelude.{◌≡◌, ◌*◌, ◌^◌, ◌<◌, ◌≤◌, IfOk, length, vec_len};
 

@@ -1,7 +1,8 @@
 //! Published and computed vectors of key derivation.
 //!
-//! HMAC: RFC 4231, sections 4.2 to 4.8. PBKDF2: RFC 7914, section 11 (the vector with one iteration).
-//! scrypt: RFC 7914, section 12. The tables without a section hold values of Python's hashlib (OpenSSL).
+//! HMAC: RFC 4231, sections 4.2 to 4.8. PBKDF2: RFC 7914, section 11 (the vector with one
+//! iteration). scrypt: RFC 7914, section 12. The tables without a section hold values of Python's
+//! hashlib (OpenSSL).
 
 use minisign_fixtures::outcomes::hexadecimal;
 use minisign_kdf::{KdfError, Params, hmac_sha256, pbkdf2_once, scrypt};
