@@ -1,7 +1,7 @@
 //! Passwords that are asked for.
 
 use minisign_base::devices::sinks::{VecSink, WriterSink};
-use minisign_base::devices::sources::{SliceSource, Source};
+use minisign_base::devices::sources::{ReaderSource, SliceSource, Source};
 use minisign_base::helpers::get_password;
 use minisign_base::prompt::Prompt;
 use minisign_fixtures::devices::sinks::LimitedSink;
@@ -136,7 +136,7 @@ fn each_text_is_flushed(rt: HostRuntime) -> Result<(), Fail> {
             waiting: 0,
             flushes: 0,
         };
-        let reader = SliceSource::new(typed.as_bytes());
+        let reader = ReaderSource::new(typed.as_bytes());
         let mut prompt = Prompt::new(reader, WriterSink::new(&mut screen));
         get_password(rt.alloc(), &mut prompt, "Password: ")?;
         assert_eq!(rt; screen.waiting, 0);
