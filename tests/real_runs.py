@@ -104,16 +104,21 @@ def built_programs():
     return [it for it in (made, made + ".by-rattle") if os.path.exists(it)]
 
 
-def main(programs):
-    programs = programs or built_programs()
+def count_over(programs, run_all):
+    """Runs all cases over each program, or else over those that were built, prints the counts, and returns the exit status."""
+    programs = [os.path.abspath(it) for it in programs or built_programs()]
     if not programs:
         print("FAILED: the program was not built")
-    counts = [run_all(program) for program in programs]
+    try:
+        counts = [run_all(program) for program in programs]
+    except needs.Missing as why:
+        print(f"FAILED: {why}")
+        counts = []
     passed = sum(it[0] for it in counts)
-    failed = sum(it[1] for it in counts) if programs else 1
+    failed = sum(it[1] for it in counts) if counts else 1
     print(f"{passed} passed, {failed} failed")
     return 1 if failed else 0
 
 
 if __name__ == "__main__":
-    sys.exit(main(sys.argv[1:]))
+    sys.exit(count_over(sys.argv[1:], run_all))

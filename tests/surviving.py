@@ -21,10 +21,9 @@ import subprocess
 import sys
 import tempfile
 
-import needs
 import toy
 from keygen_runs import PK, SK, check_pair, public_record, record_of
-from real_runs import built_programs
+from real_runs import count_over
 from running import NOBODY, SECONDS, Failure, Skip, build_preload
 from sign_runs import FILE, OPEN_KEY, SIG, check_signature
 
@@ -458,20 +457,5 @@ def run_all(program):
     return passed, failed
 
 
-def main(programs):
-    programs = [os.path.abspath(it) for it in programs or built_programs()]
-    try:
-        counts = [run_all(program) for program in programs]
-    except needs.Missing as why:
-        print(f"FAILED: {why}")
-        counts = []
-    if not programs:
-        print("FAILED: the program was not built")
-    passed = sum(it[0] for it in counts)
-    failed = sum(it[1] for it in counts) if counts else 1
-    print(f"{passed} passed, {failed} failed")
-    return 1 if failed else 0
-
-
 if __name__ == "__main__":
-    sys.exit(main(sys.argv[1:]))
+    sys.exit(count_over(sys.argv[1:], run_all))

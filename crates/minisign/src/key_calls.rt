@@ -2,6 +2,7 @@
 
 ghost use Rattle.std.specs.Prelude.{◌≡◌, ◌⊎◌, List, ℕ, false, None, Some, string_bytes, IfOk, IfErr, OnOk, MatchResult};
 ghost use Rattle.std.specs.Option.{option_map};
+ghost use Rattle.minisign_base.specs.Devices.{HasGiven};
 ghost use Rattle.minisign_base.specs.Faults.{out_of_memory};
 ghost use Rattle.minisign_base.specs.Passages.{random_passage};
 ghost use Rattle.minisign.specs.Calls.{BytesSigningFails, GivesKeyWith, GivesNoKeyWith};
@@ -93,6 +94,9 @@ pub fn sign_bytes<S: Scheme, Z: RandomSource>(
     // The comments by default are read back as they were written.
     ensures defaults { AreKept (comments_or_defaults None None moment) }
     ensures random_calm { OnOk result (Z.random_faults random.new ≡ Z.random_faults random.old) }
+
+    // Whatever the result, random bytes were taken from the front or not at all.
+    ensures drawn { HasGiven (Z.random_ahead random.old) (Z.random_ahead random.new) }
 
     // Why it was refused.
     ensures refused { IfErr result (BytesSigningFails sk.now (random_passage Z.RandomSource random.old random.new)) }
