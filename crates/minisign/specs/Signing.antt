@@ -1,6 +1,7 @@
 -- The box that signing makes.
 use Rattle.std.specs.Prelude.{◌≡◌, ℕ, true, false, List, [], ◌++◌, length, Option, Some, ◌⊎◌, IsSomeAnd, codes}
-use Rattle.std.specs.Option.{option_map_or, unwrap_or}
+use denote.Ref.{Bor}
+use Rattle.std.specs.Option.{option_copied, option_map_or, unwrap_or}
 use Rattle.std.specs.Fmt.{decimal}
 use Rattle.std.specs.Io.KnownBytes.{Consumes}
 use Rattle.std.specs.Str.{trim}
@@ -37,6 +38,10 @@ pub record ChosenComments : Type 0 where
 abbrev pub comments_or_defaults : Option (List ℕ) → Option (List ℕ) → ℕ → ChosenComments
 comments_or_defaults trusted untrusted moment =
     record { trusted = unwrap_or trusted (default_trusted_comment moment); untrusted = unwrap_or untrusted default_untrusted_comment }
+
+-- the comments that a caller hands over, or else the defaults
+abbrev pub given_comments : Option (Bor (List ℕ)) → Option (Bor (List ℕ)) → ℕ → ChosenComments
+given_comments trusted untrusted moment = comments_or_defaults (option_copied trusted) (option_copied untrusted) moment
 
 -- the box that signing makes of the message: a signature of its digest, which has 64 bytes, with the first random
 -- bytes, and a signature of that signature and the trusted comment with the second

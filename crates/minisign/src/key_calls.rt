@@ -11,7 +11,7 @@ ghost use Rattle.minisign.specs.Opening.{IsUnencryptedText, RefusesUnencrypted};
 ghost use Rattle.minisign.specs.Sealing.{is_encrypted};
 ghost use Rattle.minisign.specs.Records.{SecretKeyRecord};
 ghost use Rattle.minisign.specs.SecretKeyText.{SecretKeyText};
-ghost use Rattle.minisign.specs.Signing.{AreKept, comments_or_defaults};
+ghost use Rattle.minisign.specs.Signing.{AreKept, comments_or_defaults, given_comments};
 ghost use Rattle.minisign.specs.SigningTexts.{IsSignedText};
 
 use crate::constants::KDF_NONE;
@@ -83,11 +83,11 @@ pub fn sign_bytes<S: Scheme, Z: RandomSource>(
 ) -> Result<String>
     // What a genuine key signed verifies after being written and read back.
     ensures headline { IfOk result (λ t. SigningHeadline (S.accepts scheme.now) (S.public_of scheme.now) sk.now message.now
-        (comments_or_defaults (option_map (λ s. s.now) trusted_comment.entry) None moment) (string_bytes t)) }
+        (given_comments trusted_comment.entry None moment) (string_bytes t)) }
 
     // The text of the box that the definition of signing makes, with an opened key.
     ensures signed { IfOk result (λ t. IsSignedText (S.signature_of scheme.now) sk.now message.now
-        (comments_or_defaults (option_map (λ s. s.now) trusted_comment.entry) None moment)
+        (given_comments trusted_comment.entry None moment)
         (random_passage Z.RandomSource random.old random.new) (string_bytes t)) }
     ensures opened { OnOk result (is_encrypted sk.now ≡ false) }
 

@@ -1,7 +1,7 @@
 //! Pairs of keys, and how they are made.
 
 ghost use Rattle.std.specs.Prelude.{◌≡◌, ◌⊎◌, ℕ, List, ◌++◌, length, string_bytes, IfSome, IfOk, IfErr, OnOk, OnErr};
-ghost use Rattle.std.specs.Option.{option_map};
+ghost use Rattle.std.specs.Option.{option_copied, option_map};
 ghost use Rattle.std.specs.Str.Iter.{LacksByte};
 ghost use Rattle.minisign_base.specs.Devices.{HasGiven};
 ghost use Rattle.minisign_base.specs.Passages.{prompt_passage, random_passage, sink_passage};
@@ -140,12 +140,12 @@ impl KeyPair {
             (λ pair. HasSealed (S.public_of scheme.now)
             (random_passage Z.RandomSource random.old random.new)
             (prompt_passage R.Source W.Sink prompt.old prompt.new)
-            (option_map (λ s. string_bytes s) password) pair.pk pair.sk) }
+            (option_map string_bytes password) pair.pk pair.sk) }
         ensures calm { OnOk result (Z.random_faults random.new ≡ Z.random_faults random.old) }
         ensures refused { IfErr result
             (SealedPairFails (random_passage Z.RandomSource random.old random.new)
             (prompt_passage R.Source W.Sink prompt.old prompt.new)
-            (option_map (λ s. string_bytes s) password)) }
+            (option_map string_bytes password)) }
         ensures given { HasGiven (Z.random_ahead random.old) (Z.random_ahead random.new) }
     {
         let drawn = draw_with_salt(random)?;
@@ -182,18 +182,18 @@ impl KeyPair {
             (λ pair. HasSealed (S.public_of scheme.now)
             (random_passage Z.RandomSource random.old random.new)
             (prompt_passage R.Source W.Sink prompt.old prompt.new)
-            (option_map (λ s. string_bytes s) password) pair.pk pair.sk) }
+            (option_map string_bytes password) pair.pk pair.sk) }
         ensures public { IfOk result
             (λ pair. TakesPart (sink_passage P.Sink pk_sink.old pk_sink.new)
             (public_key_text pair.pk)) }
         ensures secret { IfOk result
             (λ pair. TakesPart (sink_passage K.Sink sk_sink.old sk_sink.new)
-            (secret_key_text (option_map (λ s. s.now) comment.entry) pair.sk)) }
+            (secret_key_text (option_copied comment.entry) pair.sk)) }
         // That text opens under the password, where the comment has no line feed.
         ensures opens_again { IfSome comment.entry (λ s. LacksByte 10 s.now)
             → IfOk result (λ pair. (typed : List ℕ) →
             OpensToPair (S.public_of scheme.now) typed pair.pk pair.sk →
-            OpensOnlyTo (secret_key_text (option_map (λ s. s.now) comment.entry) pair.sk) typed
+            OpensOnlyTo (secret_key_text (option_copied comment.entry) pair.sk) typed
             (xored_key pair.sk typed)) }
         ensures calm { OnOk result (Z.random_faults random.new ≡ Z.random_faults random.old) }
 
@@ -202,10 +202,10 @@ impl KeyPair {
             (SealedTextsFail (S.public_of scheme.now)
             (random_passage Z.RandomSource random.old random.new)
             (prompt_passage R.Source W.Sink prompt.old prompt.new)
-            (option_map (λ s. string_bytes s) password)
+            (option_map string_bytes password)
             (sink_passage P.Sink pk_sink.old pk_sink.new)
             (sink_passage K.Sink sk_sink.old sk_sink.new)
-            (option_map (λ s. s.now) comment.entry)) }
+            (option_copied comment.entry)) }
         ensures given { HasGiven (Z.random_ahead random.old) (Z.random_ahead random.new) }
     {
         let pair = KeyPair::generate_encrypted_keypair(alloc, scheme, random, password, prompt)?;
@@ -226,11 +226,11 @@ fn seal_pair<S: Scheme, R: Source, W: Sink>(
 ) -> Result<KeyPair>
     ensures sealed { IfOk result (λ pair. (typed : List ℕ)
         × IsPassword (prompt_passage R.Source W.Sink prompt.old prompt.new)
-        (option_map (λ s. string_bytes s) password) typed
+        (option_map string_bytes password) typed
         × IsSealedOf (S.public_of scheme.now) drawn.now.seed drawn.now.keynum drawn.now.salt typed pair.pk pair.sk) }
     ensures refused { IfErr result
         (IsSealingFault (prompt_passage R.Source W.Sink prompt.old prompt.new)
-        (option_map (λ s. string_bytes s) password)) }
+        (option_map string_bytes password)) }
 {
     match password {
         Some(password) => make_sealed_pair(alloc, scheme, drawn, password.as_bytes()),

@@ -33,9 +33,9 @@ impl SecretKeyBox {
         prompt: &mut Prompt<R, W>,
     ) -> Result<SecretKey>
         ensures opens { IsOpening (prompt_passage R.Source W.Sink prompt.old prompt.new)
-            (option_map (λ s. string_bytes s) password) self None result }
+            (option_map string_bytes password) self None result }
         ensures headline { OpeningHeadline
-            (option_map (λ s. string_bytes s) password) self None result }
+            (option_map string_bytes password) self None result }
     {
         SecretKey::from_box(alloc, self, password, prompt)
     }
@@ -67,7 +67,7 @@ impl SecretKey {
         prompt: &mut Prompt<R, W>,
     ) -> Result<SecretKey>
         ensures opens { IsFileOpening (prompt_passage R.Source W.Sink prompt.old prompt.new)
-            (option_map (λ s. string_bytes s) password) None result }
+            (option_map string_bytes password) None result }
     {
         let text = read_text_file(files, alloc, path)?;
         SecretKey::from_box(alloc, SecretKeyBox::from(text), password, prompt)
@@ -82,9 +82,9 @@ impl SecretKey {
         prompt: &mut Prompt<R, W>,
     ) -> Result<SecretKey>
         ensures opens { IsOpening (prompt_passage R.Source W.Sink prompt.old prompt.new)
-            (option_map (λ s. string_bytes s) password) sk_box None result }
+            (option_map string_bytes password) sk_box None result }
         ensures headline { OpeningHeadline
-            (option_map (λ s. string_bytes s) password) sk_box None result }
+            (option_map string_bytes password) sk_box None result }
     {
         SecretKey::open_box(alloc, sk_box, password, prompt, None, 1)
     }
@@ -104,9 +104,9 @@ impl SecretKey {
         requires kept { 1 ≤ k }
 
         ensures opens { IsOpening (prompt_passage R.Source W.Sink prompt.old prompt.new)
-            (option_map (λ s. string_bytes s) password) sk_box None result }
+            (option_map string_bytes password) sk_box None result }
         ensures headline { OpeningHeadline
-            (option_map (λ s. string_bytes s) password) sk_box None result }
+            (option_map string_bytes password) sk_box None result }
     {
         SecretKey::open_box(alloc, sk_box, password, prompt, None, k)
     }
@@ -135,8 +135,8 @@ impl SecretKey {
         max_p: u32,
     ) -> Result<SecretKey>
         ensures opens { IsOpening (prompt_passage R.Source W.Sink prompt.old prompt.new)
-            (option_map (λ s. string_bytes s) password) sk_box (Some max_p) result }
-        ensures headline { OpeningHeadline (option_map (λ s. string_bytes s) password) sk_box
+            (option_map string_bytes password) sk_box (Some max_p) result }
+        ensures headline { OpeningHeadline (option_map string_bytes password) sk_box
             (Some max_p) result }
     {
         SecretKey::open_box(alloc, sk_box, password, prompt, Some(max_p), 1)
@@ -173,9 +173,9 @@ impl SecretKey {
     ) -> Result<SecretKey>
         requires kept { 1 ≤ k }
         ensures opens { IsOpening (prompt_passage R.Source W.Sink prompt.old prompt.new)
-            (option_map (λ s. string_bytes s) password) sk_box bound result }
+            (option_map string_bytes password) sk_box bound result }
         ensures headline { OpeningHeadline
-            (option_map (λ s. string_bytes s) password) sk_box bound result }
+            (option_map string_bytes password) sk_box bound result }
     {
         let sk = SecretKey::from_text(alloc, sk_box.as_str())?;
         sk.open(alloc, password, prompt, bound, k)
@@ -193,7 +193,7 @@ impl SecretKey {
         requires { 1 ≤ k }
         ensures opens { (text : List ℕ) → SecretKeyText text self →
             IsOpening (prompt_passage R.Source W.Sink prompt.old prompt.new)
-            (option_map (λ s. string_bytes s) password) text bound result }
+            (option_map string_bytes password) text bound result }
         ensures opened { IfOk result (λ v. is_encrypted v ≡ false) }
     {
         self.check_sealed()?;

@@ -2,7 +2,7 @@
 
 ghost use Rattle.std.specs.Prelude.{◌≡◌, ◌⊎◌, Some, MatchResult, IfOk, IfErr, IfSome};
 ghost use Rattle.std.specs.Str.Iter.{LacksByte};
-ghost use Rattle.std.specs.Option.{option_map};
+ghost use Rattle.std.specs.Option.{option_copied};
 ghost use Rattle.minisign_base.specs.Faults.{out_of_memory};
 ghost use Rattle.minisign.specs.Records.{SecretKeyRecord};
 ghost use Rattle.minisign.specs.SecretKeyText.{SecretKeyText, secret_key_refusal, secret_key_text};
@@ -47,7 +47,7 @@ impl SecretKey {
     #[tactic(auto, unfolding(crate::specs::SecretKeyText::secret_key_text, crate::specs::SecretKeyText::default_secret_key_comment))]
     pub fn to_box(&self, alloc: Global, comment: Option<&str>) -> Result<SecretKeyBox>
         ensures text { IfOk result
-            (λ b. b ≡ secret_key_text (option_map (λ s. s.now) comment.entry) self.now) }
+            (λ b. b ≡ secret_key_text (option_copied comment.entry) self.now) }
         ensures reads_back { IfSome comment.entry (λ s. LacksByte 10 s.now)
             → IfOk result (λ b. SecretKeyText b self.now) }
         ensures refused { IfErr result (λ e. e ≡ out_of_memory) }

@@ -1,7 +1,7 @@
 //! Signing with an opened secret key.
 
 ghost use Rattle.std.specs.Prelude.{◌≡◌, ℕ, true, false, List, ◌++◌, None, Some, ◌⊎◌, string_bytes, IfOk, IfErr, OnOk, IfSome};
-ghost use Rattle.std.specs.Option.{option_map, unwrap_or};
+ghost use Rattle.std.specs.Option.{option_copied, unwrap_or};
 ghost use Rattle.minisign_hash.specs.Blake2b.{blake2b_digest};
 ghost use Rattle.minisign_base.specs.Devices.{HasGiven};
 ghost use Rattle.minisign_base.specs.Passages.{random_passage, source_passage};
@@ -10,7 +10,7 @@ ghost use Rattle.minisign_base.specs.Faults.{out_of_memory};
 ghost use Rattle.minisign.specs.Reading.{ReadsWhole};
 ghost use Rattle.minisign.specs.Sealing.{is_encrypted};
 ghost use Rattle.minisign.specs.Acceptance.{accepts_comments};
-ghost use Rattle.minisign.specs.Signing.{AreKept, DrawFails, HasDrawn, IsSigned, SigningFails, VouchesWhereGenuine, comments_or_defaults, default_trusted_comment, default_untrusted_comment};
+ghost use Rattle.minisign.specs.Signing.{AreKept, DrawFails, HasDrawn, IsSigned, SigningFails, VouchesWhereGenuine, comments_or_defaults, default_trusted_comment, default_untrusted_comment, given_comments};
 
 use crate::comment_signature::accepts_comments;
 use crate::constants::{DEFAULT_COMMENT, SIGALG_PREHASHED};
@@ -53,8 +53,7 @@ pub fn sign<S: Scheme, R: Source, Z: RandomSource>(
     ensures signed { IfOk result
         (λ x. (message : List ℕ) × ReadsWhole R.Source data_reader.old data_reader.new message
         × IsSigned (S.signature_of scheme.now) sk.now message
-        (comments_or_defaults (option_map (λ s. s.now) trusted_comment.entry)
-        (option_map (λ s. s.now) untrusted_comment.entry) moment)
+        (given_comments trusted_comment.entry untrusted_comment.entry moment)
         (random_passage Z.RandomSource random.old random.new) x
         × VouchesWhereGenuine (S.accepts scheme.now) (S.public_of scheme.now) sk.now message x) }
     ensures opened { OnOk result (is_encrypted sk.now ≡ false) }
@@ -68,9 +67,8 @@ pub fn sign<S: Scheme, R: Source, Z: RandomSource>(
     // Why it was refused.
     ensures refused { IfErr result
         (SigningFails (S.accepts scheme.now) (S.signature_of scheme.now)
-        (option_map (λ p. p.now) pk.entry) sk.now
-        (comments_or_defaults (option_map (λ s. s.now) trusted_comment.entry)
-        (option_map (λ s. s.now) untrusted_comment.entry) moment)
+        (option_copied pk.entry) sk.now
+        (given_comments trusted_comment.entry untrusted_comment.entry moment)
         (source_passage R.Source data_reader.old data_reader.new)
         (random_passage Z.RandomSource random.old random.new)) }
     ensures given { HasGiven (R.ahead data_reader.old) (R.ahead data_reader.new) }
@@ -154,7 +152,7 @@ fn draw_twice<Z: RandomSource>(random: &mut Z) -> Result<([u8; 64], [u8; 64])>
 #[tactic(auto, unfolding(crate::specs::Signing::default_trusted_comment))]
 fn trusted_or_default(alloc: Global, comment: Option<&str>, moment: u64) -> Result<String>
     ensures comment { IfOk result
-        (λ t. string_bytes t ≡ unwrap_or (option_map (λ s. s.now) comment.entry)
+        (λ t. string_bytes t ≡ unwrap_or (option_copied comment.entry)
         (default_trusted_comment moment)) }
     ensures refused { IfErr result (λ e. e ≡ out_of_memory) }
 {
@@ -169,7 +167,7 @@ fn trusted_or_default(alloc: Global, comment: Option<&str>, moment: u64) -> Resu
 fn untrusted_or_default(alloc: Global, comment: Option<&str>) -> Result<String>
     ensures comment { IfOk result
         (λ t. string_bytes t
-        ≡ unwrap_or (option_map (λ s. s.now) comment.entry) default_untrusted_comment) }
+        ≡ unwrap_or (option_copied comment.entry) default_untrusted_comment) }
     ensures refused { IfErr result (λ e. e ≡ out_of_memory) }
 {
     match comment {

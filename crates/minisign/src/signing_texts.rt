@@ -7,7 +7,7 @@ ghost use Rattle.minisign_base.specs.Passages.{prompt_passage, random_passage, s
 ghost use Rattle.minisign.specs.Records.{SecretKeyRecord};
 ghost use Rattle.minisign.specs.Reading.{IsAhead, ReadsWhole};
 ghost use Rattle.minisign.specs.Sealing.{is_encrypted};
-ghost use Rattle.minisign.specs.Signing.{AreKept, OpenedSigningFails, comments_or_defaults};
+ghost use Rattle.minisign.specs.Signing.{AreKept, OpenedSigningFails, comments_or_defaults, given_comments};
 ghost use Rattle.minisign.specs.Headline.{SigningHeadline};
 ghost use Rattle.minisign.specs.SigningTexts.{GivesKey, IsGiving, IsSignedText, TextSigningFails};
 
@@ -54,10 +54,9 @@ pub fn sign_texts<S: Scheme, P: Source, Q: Sink, R: Source, Z: RandomSource>(
         (λ t. (sk : SecretKeyRecord) × (message : List ℕ)
         × IsAhead (R.ahead data_reader.old) message
         × GivesKey (prompt_passage P.Source Q.Sink prompt.old prompt.new)
-        (option_map (λ s. string_bytes s) password) sk_text.now sk
+        (option_map string_bytes password) sk_text.now sk
         × SigningHeadline (S.accepts scheme.now) (S.public_of scheme.now) sk message
-        (comments_or_defaults (option_map (λ s. s.now) trusted_comment.entry)
-        (option_map (λ s. s.now) untrusted_comment.entry) moment) (string_bytes t)) }
+        (given_comments trusted_comment.entry untrusted_comment.entry moment) (string_bytes t)) }
 
     // The comments by default are read back as they were written.
     ensures defaults { AreKept (comments_or_defaults None None moment) }
@@ -65,11 +64,10 @@ pub fn sign_texts<S: Scheme, P: Source, Q: Sink, R: Source, Z: RandomSource>(
     // The text of the box that the definition of signing makes.
     ensures signed { IfOk result (λ t. (sk : SecretKeyRecord) × (message : List ℕ)
         × GivesKey (prompt_passage P.Source Q.Sink prompt.old prompt.new)
-        (option_map (λ s. string_bytes s) password) sk_text.now sk
+        (option_map string_bytes password) sk_text.now sk
         × ReadsWhole R.Source data_reader.old data_reader.new message
         × IsSignedText (S.signature_of scheme.now) sk message
-        (comments_or_defaults (option_map (λ s. s.now) trusted_comment.entry)
-        (option_map (λ s. s.now) untrusted_comment.entry) moment)
+        (given_comments trusted_comment.entry untrusted_comment.entry moment)
         (random_passage Z.RandomSource random.old random.new) (string_bytes t)) }
     ensures random_calm { OnOk result (Z.random_faults random.new ≡ Z.random_faults random.old) }
 
@@ -77,7 +75,7 @@ pub fn sign_texts<S: Scheme, P: Source, Q: Sink, R: Source, Z: RandomSource>(
     // key failed.
     ensures refused { IfErr result
         (TextSigningFails (prompt_passage P.Source Q.Sink prompt.old prompt.new)
-        (option_map (λ s. string_bytes s) password) sk_text.now
+        (option_map string_bytes password) sk_text.now
         (source_passage R.Source data_reader.old data_reader.new)
         (random_passage Z.RandomSource random.old random.new)) }
     ensures untouched { IfSome password (λ _. prompt.new ≡ prompt.old) }
@@ -112,12 +110,10 @@ fn sign_opened<S: Scheme, R: Source, Z: RandomSource>(
     ensures signed { IfOk result
         (λ t. (message : List ℕ) × ReadsWhole R.Source data_reader.old data_reader.new message
         × IsSignedText (S.signature_of scheme.now) sk.now message
-        (comments_or_defaults (option_map (λ s. s.now) trusted_comment.entry)
-        (option_map (λ s. s.now) untrusted_comment.entry) moment)
+        (given_comments trusted_comment.entry untrusted_comment.entry moment)
         (random_passage Z.RandomSource random.old random.new) (string_bytes t)
         × SigningHeadline (S.accepts scheme.now) (S.public_of scheme.now) sk.now message
-        (comments_or_defaults (option_map (λ s. s.now) trusted_comment.entry)
-        (option_map (λ s. s.now) untrusted_comment.entry) moment) (string_bytes t)) }
+        (given_comments trusted_comment.entry untrusted_comment.entry moment) (string_bytes t)) }
     ensures random_calm { OnOk result (Z.random_faults random.new ≡ Z.random_faults random.old) }
     ensures refused { IfErr result
         (OpenedSigningFails (source_passage R.Source data_reader.old data_reader.new)
@@ -148,7 +144,7 @@ fn key_of_text<P: Source, Q: Sink>(
 ) -> Result<SecretKey>
     ensures opened { IfOk result (λ v. is_encrypted v ≡ false) }
     ensures gives { IsGiving (prompt_passage P.Source Q.Sink prompt.old prompt.new)
-        (option_map (λ s. string_bytes s) password) text.now result }
+        (option_map string_bytes password) text.now result }
     ensures untouched { IfSome password (λ _. prompt.new ≡ prompt.old) }
 {
     let sk = SecretKey::from_text(alloc, text)?;

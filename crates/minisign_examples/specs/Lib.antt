@@ -1,1 +1,2 @@
+pub mod NewKeys
 pub mod Releasing

@@ -1,9 +1,9 @@
 //! A caller that knows an old public key and learns a new one: the old key vouches for the text of
 //! the new one.
 
-ghost use Rattle.std.specs.Prelude.{◌≡◌, ◌⊎◌, false, MatchResult};
+ghost use Rattle.std.specs.Prelude.{◌≡◌, ◌⊎◌, MatchResult};
 ghost use Rattle.minisign_base.specs.Faults.{out_of_memory};
-ghost use Rattle.minisign.specs.Headline.{TextsRefuse, TextsVouchFor};
+ghost use Rattle.minisign_examples.specs.NewKeys.{RefuseThroughNewKey, VouchThroughNewKey};
 
 use crate::updating::check_update;
 use minisign::Result;
@@ -30,12 +30,10 @@ pub fn check_with_new_key<S: Scheme>(
     update: &[u8],
 ) -> Result<()>
     ensures { MatchResult result
-        (λ _. TextsVouchFor (S.accepts scheme.now) old_text.now new_key.entry.sig_text.now new_key.entry.pk_text.now false
-        × TextsVouchFor (S.accepts scheme.now) new_key.entry.pk_text.now sig_text.now update.now false)
-        (λ e. (e ≡ out_of_memory)
-        ⊎ TextsRefuse (S.accepts scheme.now) old_text.now new_key.entry.sig_text.now new_key.entry.pk_text.now false e
-        ⊎ (TextsVouchFor (S.accepts scheme.now) old_text.now new_key.entry.sig_text.now new_key.entry.pk_text.now false
-        × TextsRefuse (S.accepts scheme.now) new_key.entry.pk_text.now sig_text.now update.now false e)) }
+        (λ _. VouchThroughNewKey (S.accepts scheme.now) old_text.now new_key.entry.sig_text.now
+            new_key.entry.pk_text.now sig_text.now update.now)
+        (λ e. (e ≡ out_of_memory) ⊎ RefuseThroughNewKey (S.accepts scheme.now) old_text.now
+            new_key.entry.sig_text.now new_key.entry.pk_text.now sig_text.now update.now e) }
 {
     check_update(
         alloc,

@@ -1,0 +1,16 @@
+-- A new public key that an old one vouches for.
+use Rattle.std.specs.Prelude.{◌⊎◌, ℕ, false, List}
+use Rattle.minisign_base.specs.Fault.{Fault}
+use Rattle.minisign.specs.Acceptance.{Verifier}
+use Rattle.minisign.specs.Headline.{TextsRefuse, TextsVouchFor}
+
+-- the old key vouches for the text of the new one, and the new one for the update
+abbrev pub VouchThroughNewKey : Verifier → List ℕ → List ℕ → List ℕ → List ℕ → List ℕ → Type 0
+VouchThroughNewKey accepts old key_sig key sig update =
+    TextsVouchFor accepts old key_sig key false × TextsVouchFor accepts key sig update false
+
+-- why not: the first reason, of the new key before the update
+abbrev pub RefuseThroughNewKey : Verifier → List ℕ → List ℕ → List ℕ → List ℕ → List ℕ → Fault → Type 0
+RefuseThroughNewKey accepts old key_sig key sig update e =
+    TextsRefuse accepts old key_sig key false e
+    ⊎ (TextsVouchFor accepts old key_sig key false × TextsRefuse accepts key sig update false e)
