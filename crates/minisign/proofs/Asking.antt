@@ -11,7 +11,7 @@ use Rattle.minisign.specs.Records.{SecretKeyRecord}
 use Rattle.minisign_base.specs.Faults.{out_of_memory, writing_failed, wrong_password}
 use Rattle.minisign.specs.Sealing.{checksum_refusal, kdf_refusal, password_refusal, work_refusal, xored_key}
 use Rattle.minisign.specs.SecretKeyText.{SecretKeyText, secret_key_refusal}
-use Rattle.minisign.specs.Opening.{HasAskedAndSaid, HasAskedAndNotSaid, IsOpenedAsking, IsOpening, RefusesKey, IsToldRefusal, RefusesAsking, asking_text, deriving_text, done_text}
+use Rattle.minisign.specs.Opening.{HasAskedAndSaid, HasAskedAndNotSaid, IsAskedRefusal, IsOpenedAsking, IsOpening, RefusesKey, IsToldRefusal, RefusesAsking, asking_text, deriving_text, done_text}
 use Rattle.minisign.proofs.Openings.{any_password, kdf_held, opened_text, opening_outcome}
 use Rattle.minisign.specs.Texts.{IsRefused}
 
@@ -84,9 +84,7 @@ pub asked_refused : {R W : Type 0} (p : PromptPassage R W) (mid : Prompt R W)
     (k : SecretKeyRecord) (bound : Option ℕ) (bytes password : List ℕ) (r : Result SecretKeyRecord Fault)
     → HasAsked (record p { new = mid }) asking_text bytes (Ok password)
     → IfErr r (λ e. IsToldRefusal (HasSaid (record p { old = mid })) (HasNotSaid (record p { old = mid })) k password bound e)
-    → IfErr r (λ e. IsAskingFault p asking_text e
-    ⊎ ((bytes : List ℕ) × (password : List ℕ) × IsToldRefusal (HasAskedAndSaid p bytes password)
-    (HasAskedAndNotSaid p bytes password) k password bound e))
+    → IfErr r (IsAskedRefusal p k bound)
 asked_refused p mid k bound bytes password (Ok v) asked h = tt
 asked_refused p mid k bound bytes password (Err e) asked refused = inr (
   bytes,
@@ -117,9 +115,7 @@ asking_opened p text bound k (Err e) read kdf h = tt
 
 pub asking_refused : {R W : Type 0} (p : PromptPassage R W)
     (text : List ℕ) (bound : Option ℕ) (k : SecretKeyRecord) (r : Result SecretKeyRecord Fault) → SecretKeyText text k → kdf_refusal k ≡ None
-    → IfErr r (λ e. IsAskingFault p asking_text e
-    ⊎ ((bytes : List ℕ) × (password : List ℕ) × IsToldRefusal (HasAskedAndSaid p bytes password)
-    (HasAskedAndNotSaid p bytes password) k password bound e))
+    → IfErr r (IsAskedRefusal p k bound)
     → IfErr r (λ e. RefusesAsking p text bound e)
 asking_refused p text bound k (Ok v) read kdf h = tt
 asking_refused p text bound k (Err e) read kdf refused = inr (inr (k, read, kdf_held k kdf, refused))
@@ -157,9 +153,7 @@ pub asked_opening : {R W : Type 0} (p : PromptPassage R W) (text : List ℕ) (bo
     → SecretKeyText text k → kdf_refusal k ≡ None
     → IfOk r (λ v. (bytes : List ℕ) × (password : List ℕ) × (v ≡ xored_key k password) × (password_refusal k password bound ≡ None)
     × HasAskedAndSaid p bytes password (deriving_text ++ done_text))
-    → IfErr r (λ e. IsAskingFault p asking_text e
-    ⊎ ((bytes : List ℕ) × (password : List ℕ) × IsToldRefusal (HasAskedAndSaid p bytes password)
-    (HasAskedAndNotSaid p bytes password) k password bound e))
+    → IfErr r (IsAskedRefusal p k bound)
     → IsOpening p None text bound r
 asked_opening p text bound k r read kdf opened refused =
     match_of r _ _ (asking_opened p text bound k r read kdf opened) (asking_refused p text bound k r read kdf refused)

@@ -11,7 +11,7 @@ use Rattle.minisign_base.specs.declared.errors.ErrorKind.{ErrorKind}
 use Rattle.minisign_base.specs.declared.errors.ErrorKind.TheVariants.{Encoding, EncryptedKey, Generate, Hash, Io, KDF, Misc, OutOfMemory, RNG, Sign, Verify}
 use Rattle.minisign_base.specs.Passages.{RereaderPassage, SinkPassage}
 use Rattle.minisign.specs.Acceptance.{Flags, Refuses, Verifier, Vouches}
-use Rattle.minisign.specs.Calls.{CopyIsVouchedWith, CopyingBreaksOff, IsCommentOf, IsCommentVerdict, IsFileVerdict, NothingIsCopied, TextsVouchWith}
+use Rattle.minisign.specs.Calls.{CopyIsVouchedWith, CopyingFails, CopyingBreaksOff, IsCommentOf, IsCommentVerdict, IsFileVerdict, NothingIsCopied, TextsVouchWith}
 use Rattle.minisign.specs.Headline.{IsVerdict, TextsRefuse, TextsVouchFor}
 use Rattle.minisign.specs.Reading.{IsAhead, ReadingFails}
 use Rattle.minisign.specs.Records.{PublicKeyRecord, SignatureBoxRecord, is_prehashed, prehashed_algorithm}
@@ -180,7 +180,7 @@ prehashed accepts key box message vouches =
 -- why nothing, or not all, was copied
 pub copy_refused : {T R W O : Type 0} (accepts : Verifier) (pk sig : List ℕ) (reader : RereaderPassage R) (status : SinkPassage W) (out : SinkPassage O) (r : Result T Fault)
     → IfErr r (VerifyingTextsFails accepts pk sig (silently true) reader status out)
-    → IfErr r (λ e. NothingIsCopied accepts pk sig reader out e ⊎ CopyingBreaksOff accepts pk sig reader out e)
+    → IfErr r (CopyingFails accepts pk sig reader out)
 copy_refused accepts pk sig reader status out (Ok t) err = tt
 copy_refused accepts pk sig reader status out (Err e) err =
     ⊎_elim

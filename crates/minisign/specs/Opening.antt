@@ -75,6 +75,13 @@ IsToldRefusal Said NotSaid k password bound e =
     ⊎ ((work_refusal k bound ≡ None) × (checksum_refusal (xored_key k password) wrong_password ≡ Some e)
     × Said (deriving_text ++ done_text)))))
 
+-- why a sealed key was not opened where a password is asked for: no password, or what refuses the key with it
+abbrev pub IsAskedRefusal : {R W : Type 0} → PromptPassage R W → SecretKeyRecord → Option ℕ → Fault → Type 0
+IsAskedRefusal p k bound e =
+    IsAskingFault p asking_text e
+    ⊎ ((bytes : List ℕ) × (password : List ℕ)
+    × IsToldRefusal (HasAskedAndSaid p bytes password) (HasAskedAndNotSaid p bytes password) k password bound e)
+
 -- a password was asked for and the text's key opened with it
 abbrev pub IsOpenedAsking : {R W : Type 0} → PromptPassage R W → List ℕ → Option ℕ → SecretKeyRecord → Type 0
 IsOpenedAsking p text bound opened =
@@ -82,15 +89,13 @@ IsOpenedAsking p text bound opened =
     × HasAskedAndSaid p bytes password (deriving_text ++ done_text)
 
 -- why the text's key was not opened where a password is asked for: out of memory, or a text that no
--- password opens, with the prompt untouched; no password; or what refuses the key with a password
+-- password opens, with the prompt untouched; or what refuses the key then
 abbrev pub RefusesAsking : {R W : Type 0} → PromptPassage R W → List ℕ → Option ℕ → Fault → Type 0
 RefusesAsking p text bound e =
     ((e ≡ out_of_memory) × (p.new ≡ p.old))
     ⊎ ((RefusesKey text kdf_refusal e × (p.new ≡ p.old))
     ⊎ ((k : SecretKeyRecord) × SecretKeyText text k × (k.kdf ≡ scrypt_kdf)
-    × (IsAskingFault p asking_text e
-    ⊎ ((bytes : List ℕ) × (password : List ℕ)
-    × IsToldRefusal (HasAskedAndSaid p bytes password) (HasAskedAndNotSaid p bytes password) k password bound e))))
+    × IsAskedRefusal p k bound e))
 
 -- how opening the key of a text ends, within a bound on the parallelization, where there is one: with a
 -- password that is passed in the prompt is as it was; otherwise the prompt is asked for one

@@ -1,8 +1,8 @@
 //! Calls for callers: verifying with texts, and the comment that was signed.
 
-ghost use Rattle.std.specs.Prelude.{◌≡◌, ◌⊎◌, true, false, string_bytes, IfOk, IfErr, OnOk};
+ghost use Rattle.std.specs.Prelude.{◌≡◌, true, false, string_bytes, IfOk, IfErr, OnOk};
 ghost use Rattle.minisign_base.specs.Passages.{rereader_passage, sink_passage};
-ghost use Rattle.minisign.specs.Calls.{CopiesExactly, CopyIsVouchedWith, CopyingBreaksOff, IsCommentOf, IsCommentVerdict, IsFileVerdict, NothingIsCopied};
+ghost use Rattle.minisign.specs.Calls.{CopiesExactly, CopyIsVouchedWith, CopyingFails, IsCommentOf, IsCommentVerdict, IsFileVerdict};
 ghost use Rattle.minisign.specs.Headline.{VerifiesExactly};
 ghost use Rattle.minisign.specs.VerifyingTexts.{ReadTexts, TextsFail, VerifyingTextsFails, VerifyingTextsSucceeds};
 
@@ -219,11 +219,8 @@ pub fn copy_verified<S: Scheme, R: Rereader, O: Sink>(
         (rereader_passage R.Source R.steady data_reader.old data_reader.new) (sink_passage O.Sink out.old out.new) (string_bytes t)) }
 
     // Why it was refused.
-    ensures refused { IfErr result (λ e.
-        NothingIsCopied (S.accepts scheme.now) pk_text.now sig_text.now
-        (rereader_passage R.Source R.steady data_reader.old data_reader.new) (sink_passage O.Sink out.old out.new) e
-        ⊎ CopyingBreaksOff (S.accepts scheme.now) pk_text.now sig_text.now
-        (rereader_passage R.Source R.steady data_reader.old data_reader.new) (sink_passage O.Sink out.old out.new) e) }
+    ensures refused { IfErr result (CopyingFails (S.accepts scheme.now) pk_text.now sig_text.now
+        (rereader_passage R.Source R.steady data_reader.old data_reader.new) (sink_passage O.Sink out.old out.new)) }
 {
     verify_with(
         alloc,

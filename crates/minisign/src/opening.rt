@@ -8,7 +8,7 @@ ghost use Rattle.minisign.specs.SecretKeyText.{SecretKeyText, secret_key_refusal
 ghost use Rattle.minisign.specs.Texts.{IsDecided};
 ghost use Rattle.minisign.specs.Headline.{OpeningHeadline};
 ghost use Rattle.minisign.specs.Sealing.{checksum_refusal, is_encrypted, kdf_refusal, password_refusal, unencrypted_refusal, work_refusal, xored_key};
-ghost use Rattle.minisign.specs.Opening.{HasAskedAndNotSaid, HasAskedAndSaid, IsFileOpening, IsOpening, IsToldRefusal, IsUnencryptedText, RefusesKey, RefusesUnencrypted, asking_text, deriving_text, done_text};
+ghost use Rattle.minisign.specs.Opening.{HasAskedAndSaid, IsAskedRefusal, IsFileOpening, IsOpening, IsToldRefusal, IsUnencryptedText, RefusesKey, RefusesUnencrypted, asking_text, deriving_text, done_text};
 ghost use Rattle.minisign_base.specs.Passages.{prompt_passage};
 ghost use Rattle.minisign_base.specs.Prompts.{HasAsked, HasNotSaid, HasSaid, IsAskingFault};
 
@@ -259,12 +259,8 @@ impl SecretKey {
             × (password_refusal self password bound ≡ None)
             × HasAskedAndSaid (prompt_passage R.Source W.Sink prompt.old prompt.new) bytes password
             (deriving_text ++ done_text)) }
-        ensures refused { IfErr result (λ e.
-            IsAskingFault (prompt_passage R.Source W.Sink prompt.old prompt.new) asking_text e
-            ⊎ ((bytes : List ℕ) × (password : List ℕ)
-            × IsToldRefusal
-            (HasAskedAndSaid (prompt_passage R.Source W.Sink prompt.old prompt.new) bytes password)
-            (HasAskedAndNotSaid (prompt_passage R.Source W.Sink prompt.old prompt.new) bytes password) self password bound e)) }
+        ensures refused { IfErr result
+            (IsAskedRefusal (prompt_passage R.Source W.Sink prompt.old prompt.new) self bound) }
     {
         let password = ask_password(alloc, prompt)?;
         self.open_telling(alloc, password.as_bytes(), prompt, bound, k)
