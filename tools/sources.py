@@ -464,8 +464,8 @@ class Library:
             return
         if self.kit is None:
             return
-        mounts = {"lib": "logic/Lib", "mir": "logic/Mir", "mathlib": "antt/port/mathlib/src",
-                  "native": "antt/lib/native/src"}
+        mounts = {"lib": "logic/Lib", "mir": "logic/Mir", "denote": "logic/Denote",
+                  "mathlib": "antt/port/mathlib/src", "native": "antt/lib/native/src"}
         if first in mounts:
             yield os.path.join(self.kit, mounts[first], *rest) + ".antt"
 

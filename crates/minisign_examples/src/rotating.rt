@@ -31,9 +31,9 @@ pub fn check_with_new_key<S: Scheme>(
 ) -> Result<()>
     ensures { MatchResult result
         (λ _. VouchThroughNewKey (S.accepts scheme.now) old_text.now new_key.entry.sig_text.now
-            new_key.entry.pk_text.now sig_text.now update.now)
+        new_key.entry.pk_text.now sig_text.now update.now)
         (λ e. (e ≡ out_of_memory) ⊎ RefuseThroughNewKey (S.accepts scheme.now) old_text.now
-            new_key.entry.sig_text.now new_key.entry.pk_text.now sig_text.now update.now e) }
+        new_key.entry.sig_text.now new_key.entry.pk_text.now sig_text.now update.now e) }
 {
     check_update(
         alloc,
