@@ -1,7 +1,7 @@
 #!/usr/bin/env python3
 """Compares what the documents name with what is there: functions, clauses, definitions and fields of
 docs/PROMISES.md, the faults of docs/FORMATS.md, blocks of code, links, paths, names, and the old texts of the
-must-fail edits.
+must-fail edits. It also looks for crates that name the proofs of another one.
 
 It prints a line for each name that is not there; the last line is `N passed, M failed`. Needs Python 3.9 or later.
 """
@@ -241,6 +241,17 @@ def check_architecture(report, index):
         report.check(name == "Lib" or name in named, ARCHITECTURE, f"it does not name specs/{name} of minisign")
 
 
+def check_layers(report, index):
+    """No crate names the proofs of another one: what it knows of it is its contracts and its definitions."""
+    crates = index.library.crates
+    for crate, folder in crates.items():
+        for file in sources.files_below(folder, ".antt") + sources.files_below(folder, ".rt"):
+            shown = os.path.relpath(file, ROOT)
+            for number, line in enumerate(read(shown).split("\n"), 1):
+                for other in re.findall(r"\b(\w+)(?:\.|::)proofs\b", line):
+                    report.check(other == crate or other not in crates, f"{shown}:{number}", f"it names proofs of {other}")
+
+
 def check_edits(report):
     """Each old text of a must-fail edit stands exactly once in its file."""
     for crate in sorted(os.listdir(os.path.join(ROOT, "crates"))):
@@ -306,6 +317,7 @@ def main():
     check_faults(report, index)
     check_texts(report, index)
     check_architecture(report, index)
+    check_layers(report, index)
     check_edits(report)
     check_version(report, documents)
     print(f"{report.passed} passed, {report.failed} failed")

@@ -26,13 +26,13 @@ HERE = os.path.dirname(os.path.realpath(__file__))
 CRATES = os.path.join(HERE, "..", "crates")
 WORD = "wanting_memory"
 
-# Tests, by the names of their functions, that pass within so many MiB for all of the program: a key with the usual
-# limits opens with its rows of 32 MiB once, one with the limits of Minisign's own program with every 16th of its rows
-# of 1 GiB, and what the limits refuse takes no memory for rows.
+# Tests, by the names of their functions, that pass within so many MiB for all of the program, and that fail within so
+# many: a key with the usual limits opens with all its rows of 32 MiB, and those once, one with the limits of
+# Minisign's own program with every 16th of its rows of 1 GiB, and what the limits refuse takes no memory for rows.
 WITHIN = [
-    ("a_key_with_the_usual_limits_opens_within_one_part", 40),
-    ("a_key_of_the_c_program_opens_in_less_memory", 80),
-    ("limits_are_refused_behind_a_typed_password", 8),
+    ("a_key_with_the_usual_limits_opens_within_one_part", 40, 32),
+    ("a_key_of_the_c_program_opens_in_less_memory", 80, 64),
+    ("limits_are_refused_behind_a_typed_password", 8, 0),
 ]
 
 # Tests that ask for memory so many times: the rows of scrypt are reserved in one request, and what they are mixed
@@ -146,15 +146,18 @@ def refuse_all(listed, word, tally):
 
 
 def bound_all(listed, tally):
-    """Runs the tests that promise to take little memory within their bounds."""
-    for function, mebibytes in WITHIN:
+    """Runs the tests that promise to take little memory within their bounds, and with less than their rows take."""
+    for function, enough, too_little in WITHIN:
         found = [(tests, name) for tests, names in listed.items()
                  for name in names if name.split("::")[-1] == function]
         if len(found) != 1:
             tally.take(function, f"{len(found)} tests have this name", "")
         for tests, name in found:
-            within = passes_within(tests, name, mebibytes)
-            tally.take(name, "" if within else f"not within {mebibytes} MiB", f"within {mebibytes} MiB")
+            within = passes_within(tests, name, enough)
+            tally.take(name, "" if within else f"not within {enough} MiB", f"within {enough} MiB")
+            if too_little:
+                above = not passes_within(tests, name, too_little)
+                tally.take(name, "" if above else f"within {too_little} MiB", f"not within {too_little} MiB")
 
 
 def main():
@@ -165,7 +168,7 @@ def main():
         if len(sys.argv) > 1:
             refuse_all(listed_tests(sys.argv[1:2], tally), word, tally)
         else:
-            listed = listed_tests(programs_of([word, *(function for function, _ in WITHIN)]), tally)
+            listed = listed_tests(programs_of([word, *(function for function, *_ in WITHIN)]), tally)
             refuse_all(listed, word, tally)
             bound_all(listed, tally)
             for function in REQUESTS.keys() - {name.split("::")[-1] for names in listed.values() for name in names}:

@@ -6,7 +6,7 @@ use Rattle.minisign_base.specs.Passages.{PromptPassage, source_passage}
 use Rattle.minisign_base.specs.Devices.{Rose}
 use Rattle.minisign_base.specs.Fault.{Fault}
 use Rattle.minisign_base.specs.Prompts.{HasAsked, HasNotSaid, HasSaid, HasReadLine, IsAskingFault}
-use Rattle.minisign_base.proofs.DeviceFacts.{AppendsFront-after}
+use Rattle.minisign_base.specs.SinkLaws.{AppendsFront-after}
 use Rattle.minisign.specs.Records.{SecretKeyRecord}
 use Rattle.minisign_base.specs.Faults.{out_of_memory, writing_failed, wrong_password}
 use Rattle.minisign.specs.Sealing.{checksum_refusal, kdf_refusal, password_refusal, work_refusal, xored_key}

@@ -1,10 +1,15 @@
 //! The parts of keys and boxes that a caller needs whose signature scheme stands outside.
 
-ghost use Rattle.std.specs.Prelude.{◌≡◌, None, MatchOption, IsSomeAnd};
+ghost use Rattle.std.specs.Prelude.{◌≡◌, None, Some, IfOk, IfErr, MatchOption, IsSomeAnd};
+ghost use Rattle.minisign_base.specs.Faults.{out_of_memory};
+ghost use Rattle.minisign.specs.Records.{prehashed_algorithm};
 
+use crate::constants::SIGALG_PREHASHED;
 use crate::public_key::PublicKey;
 use crate::signature::Signature;
-use crate::signature_box::SignatureBox;
+use crate::signature_box::{Comments, SignatureBox};
+use minisign_base::Result;
+use std::alloc::Global;
 
 impl PublicKey {
     /// The 32 bytes of the key.
@@ -23,6 +28,38 @@ impl PublicKey {
 }
 
 impl SignatureBox {
+    /// The box of a signature over the digest of the data, under the identifier of the key that
+    /// signed, with both comments and the signature of that signature followed by the trusted one.
+    /// Nothing of it is tested. Only running out of memory is refused.
+    pub fn from_parts(
+        alloc: Global,
+        key_id: &[u8; 8],
+        signature: &[u8; 64],
+        untrusted_comment: &str,
+        trusted_comment: &str,
+        comment_signature: &[u8; 64],
+    ) -> Result<SignatureBox>
+        ensures parts { IfOk result (λ x. x ≡ record {
+          signature = record { algorithm = prehashed_algorithm; keynum = key_id.now; signature = signature.now };
+          comments = Some (record { untrusted = untrusted_comment.now; trusted = trusted_comment.now; signature = comment_signature.now });
+        }) }
+        ensures refused { IfErr result (λ e. e ≡ out_of_memory) }
+    {
+        let comments = Comments {
+            untrusted_comment: String::from_str(alloc, untrusted_comment)?,
+            trusted_comment: String::from_str(alloc, trusted_comment)?,
+            global_sig: Vec::from_slice(alloc, comment_signature)?,
+        };
+        Ok(SignatureBox {
+            signature: Signature {
+                sig_alg: SIGALG_PREHASHED,
+                keynum: *key_id,
+                sig: *signature,
+            },
+            comments: Some(comments),
+        })
+    }
+
     /// The signature, with its algorithm and the identifier of its key.
     pub fn signature(&self) -> &Signature
         ensures { result.now ≡ self.now.signature }

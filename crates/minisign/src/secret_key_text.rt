@@ -16,9 +16,13 @@ use minisign_base::{Result, faults};
 use std::alloc::Global;
 
 impl SecretKey {
-    // Reads the second line of the text, which nothing is trimmed off; the first one is not looked
-    // at.
-    pub(crate) fn from_text(alloc: Global, text: &str) -> Result<SecretKey>
+    /// Reads the text of a secret key as it stands, of a sealed key the sealed bytes: the second
+    /// line, which nothing is trimmed off, is the base64 of the key's 158 bytes. The first line is
+    /// not looked at; later bytes and later lines are ignored.
+    ///
+    /// Refused are, in this order: a text without a first line, without a second one, with a second
+    /// line that is not base64, or of fewer than 158 bytes. It may run out of memory at any time.
+    pub fn from_text(alloc: Global, text: &str) -> Result<SecretKey>
         ensures outcome { MatchResult result (SecretKeyText text.now)
             (λ e. (e ≡ out_of_memory)
             ⊎ IsRefused (SecretKeyText text.now) (secret_key_refusal text.now) e) }

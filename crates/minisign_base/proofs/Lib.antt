@@ -1,4 +1,3 @@
-pub mod DeviceFacts
 mod Filled
 mod Folding
 mod GivenParts

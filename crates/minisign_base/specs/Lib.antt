@@ -9,5 +9,6 @@ pub mod Members
 pub mod Passages
 pub mod Prompts
 pub mod Scheme
+pub mod SinkLaws
 pub mod Toy
 pub mod ToyLaw

@@ -1,7 +1,7 @@
 //! The rows of scryptROMix (RFC 7914, section 5) of which every k-th is kept, in one vector of
 //! words: the words of each block stand in diagonal order.
 
-ghost use Rattle.std.specs.Prelude.{◌≡◌, ℕ, ◌+◌, ◌*◌, ◌%◌, ◌/◌, ◌^◌, ◌<◌, ◌≤◌, ◌++◌, IfErr, IfOk, length, vec_capacity, vec_len};
+ghost use Rattle.std.specs.Prelude.{◌≡◌, ℕ, ◌+◌, ◌*◌, ◌%◌, ◌/◌, ◌^◌, ◌<◌, ◌≤◌, ◌++◌, IfErr, IfOk, OnOk, length, vec_capacity, vec_len};
 ghost use Rattle.std.specs.Int.{div_ceil};
 ghost use Rattle.minisign_kdf.specs.Blocks.{block};
 ghost use Rattle.minisign_kdf.specs.Diagonal.{diagonal_bytes};
@@ -13,6 +13,9 @@ use crate::errors::KdfError;
 use crate::order::load_part;
 use std::alloc::{AllocError, Global};
 use std::marker::Model;
+
+// The most words that memory has room for: fewer than 2^63 bytes.
+const MOST_WORDS: usize = 2305843009213693951;
 
 /// Every k-th row of scryptROMix (RFC 7914, section 5) of one block, the rows V_0, V_k, V_2k, ..
 /// with numbers below N. A contract sees them as bytes in the RFC's order, with r, N and k.
@@ -81,7 +84,7 @@ impl Rows {
     }
 }
 
-// Room for the kept rows, asked for at once.
+// Room for the kept rows and no more, asked for at once.
 pub(crate) fn room_for_rows(
     alloc: Global,
     r: usize,
@@ -91,13 +94,26 @@ pub(crate) fn room_for_rows(
     requires small { 32 * r < 2 ^ 64 }
     requires cost { n_log2 < 64 }
     requires kept { 1 ≤ k }
-    ensures room { IfOk result (λ v. 32 * r * div_ceil (2 ^ n_log2) k ≤ vec_capacity v) }
+    ensures room { IfOk result (λ v. vec_capacity v ≡ 32 * r * div_ceil (2 ^ n_log2) k) }
+    ensures fits { OnOk result (128 * r * div_ceil (2 ^ n_log2) k < 2 ^ 63) }
     ensures refused { IfErr result (λ e. e ≡ KdfError.OutOfMemory) }
 {
     let Some(len) = (32 * r).checked_mul(kept_count(n_log2, k)) else {
         return Err(KdfError::OutOfMemory);
     };
+    if len > MOST_WORDS {
+        return Err(KdfError::OutOfMemory);
+    }
     Ok(Vec::with_capacity(alloc, len)?)
+}
+
+// How many rows of 32 * r words these are.
+pub(crate) fn rows_in(words: &Vec<u32>, r: usize) -> u64
+    requires some { 1 ≤ r }
+    requires small { 32 * r < 2 ^ 64 }
+    ensures { (count : ℕ) → vec_len words.now ≡ 32 * r * count → result ≡ count }
+{
+    (words.len() / (32 * r)) as u64
 }
 
 // A buffer of so many words.

@@ -7,7 +7,7 @@ ghost use Rattle.minisign_kdf.specs.Pbkdf2.{longest_key};
 ghost use Rattle.minisign_kdf.specs.Scrypt.{is_key_length, rom_mix, scrypt};
 
 use crate::errors::{InvalidOutputLen, KdfError};
-use crate::kept_rows::{keep_rows, kept_count, room_for_rows, zeros};
+use crate::kept_rows::{keep_rows, room_for_rows, rows_in, zeros};
 use crate::params::Params;
 use crate::pbkdf2::pbkdf2_once;
 use crate::rom_mix::mix_kept;
@@ -21,8 +21,8 @@ const LONGEST_KEY: usize = 137438953440;
 ///
 /// `InvalidOutputLen` is returned exactly where `out` is empty or longer than 137438953440 bytes,
 /// before any memory is asked for; `OutOfMemory` where a growth was refused: 128 * r * N bytes for
-/// the rows, in one request, then 128 * r * (p + 3) bytes, all before any mixing. A refusal leaves
-/// `out` as it was.
+/// the rows, in one request, then 128 * r * (p + 3) bytes, all before any mixing. All rows stand in
+/// memory at once, so on success they have fewer than 2^63 bytes. A refusal leaves `out` as it was.
 ///
 /// ```
 /// let params = Params::new(15, 8, 1)?;
@@ -40,6 +40,7 @@ pub fn scrypt(
     ensures derived { OnOk result
         (out.new ≡ scrypt password.now salt.now (2 ^ params.now.n_log2) params.now.r params.now.p
         (length out.old)) }
+    ensures room { OnOk result (128 * params.now.r * 2 ^ params.now.n_log2 < 2 ^ 63) }
     ensures refused { IfErr result (λ e. e ≡ (if is_key_length (length out.old)
         then KdfError.OutOfMemory else KdfError.InvalidOutputLen)) }
     ensures unchanged { OnErr result (out.new ≡ out.old) }
@@ -50,7 +51,7 @@ pub fn scrypt(
 
 /// Derives the same key with every k-th row of a part kept, for k from 1 on, and makes the others
 /// again when they are named: memory for time. Returns how many rows are kept for each part, N / k,
-/// rounded up.
+/// rounded up, counted in the memory that holds them, which has fewer than 2^63 bytes.
 ///
 /// `InvalidOutputLen` is returned exactly where `out` is empty or longer than 137438953440 bytes,
 /// before any memory is asked for; `OutOfMemory` where a growth was refused: 128 * r bytes for each
@@ -81,6 +82,8 @@ pub fn scrypt_keeping(
         (out.new ≡ scrypt password.now salt.now (2 ^ params.now.n_log2) params.now.r params.now.p
         (length out.old)) }
     ensures count { IfOk result (λ n. n ≡ div_ceil (2 ^ params.now.n_log2) k) }
+    ensures room { OnOk result
+        (128 * params.now.r * div_ceil (2 ^ params.now.n_log2) k < 2 ^ 63) }
     ensures refused { IfErr result (λ e. e ≡ (if is_key_length (length out.old)
         then KdfError.OutOfMemory else KdfError.InvalidOutputLen)) }
     ensures unchanged { OnErr result (out.new ≡ out.old) }
@@ -94,7 +97,7 @@ pub fn scrypt_keeping(
     derive(
         password, salt, params, k, &mut parts, &mut rows, &mut work, out,
     );
-    Ok(kept_count(params.n_log2(), k) as u64)
+    Ok(rows_in(&rows, r))
 }
 
 // Refuses a length that no derived key has.
@@ -114,7 +117,8 @@ fn bytes(alloc: Global, len: usize) -> Result<Vec<u8>, AllocError>
     vec![in alloc; 0u8; len]
 }
 
-// Derives the key in buffers whose content is not read.
+// Derives the key in buffers whose content is not read. The rows are left as the last part's kept
+// ones.
 fn derive(
     password: &[u8],
     salt: &[u8],
@@ -127,11 +131,12 @@ fn derive(
 )
     requires kept { 1 ≤ k }
     requires parts_len { length parts.old ≡ 128 * params.now.r * params.now.p }
-    requires room { 32 * params.now.r * div_ceil (2 ^ params.now.n_log2) k ≤ vec_capacity rows.old }
+    requires room { vec_capacity rows.old ≡ 32 * params.now.r * div_ceil (2 ^ params.now.n_log2) k }
     requires work_len { length work.old ≡ 96 * params.now.r }
     requires out_len { length out.old ≤ longest_key }
-    ensures { out.new ≡ scrypt password.now salt.now
+    ensures derived { out.new ≡ scrypt password.now salt.now
         (2 ^ params.now.n_log2) params.now.r params.now.p (length out.old) }
+    ensures held { vec_len rows.new ≡ 32 * params.now.r * div_ceil (2 ^ params.now.n_log2) k }
 {
     let r = params.r() as usize;
     let p = params.p() as usize;
@@ -140,7 +145,8 @@ fn derive(
     pbkdf2_once(password, parts, out);
 }
 
-// scryptROMix of each of the p parts, in place. What the rows and `work` held is not read.
+// scryptROMix of each of the p parts, in place. What the rows and `work` held is not read; the rows
+// are left as the last part's kept ones.
 fn mix_parts(
     r: usize,
     n_log2: u8,
@@ -154,11 +160,13 @@ fn mix_parts(
     requires even { 1 ≤ n_log2 }
     requires cost { n_log2 < 64 }
     requires kept { 1 ≤ k }
+    requires parts { 1 ≤ p }
     requires parts_len { length parts.old ≡ 128 * r * p }
     requires room { 32 * r * div_ceil (2 ^ n_log2) k ≤ vec_capacity rows.old }
     requires work_len { length work.old ≡ 96 * r }
-    ensures { parts.new ≡ joined_lists
+    ensures mixed { parts.new ≡ joined_lists
         (λ i. rom_mix r (2 ^ n_log2) (block (128 * r) parts.old i)) p }
+    ensures held { vec_len rows.new ≡ 32 * r * div_ceil (2 ^ n_log2) k }
 {
     let len = 128 * r;
     'parts: for i in 0..p {
@@ -176,6 +184,7 @@ fn rom_mix(n_log2: u8, k: u64, part: &mut [u8], rows: &mut Vec<u32>, work: &mut 
     requires room { 32 * (length part.old / 128) * div_ceil (2 ^ n_log2) k ≤ vec_capacity rows.old }
     requires work_len { 3 * length part.old ≤ 4 * length work.old }
     ensures mixed { part.new ≡ rom_mix (length part.old / 128) (2 ^ n_log2) part.old }
+    ensures held { vec_len rows.new ≡ 32 * (length part.old / 128) * div_ceil (2 ^ n_log2) k }
     ensures room { vec_capacity rows.old ≤ vec_capacity rows.new }
 {
     keep_rows(part, n_log2, k, rows, work);

@@ -5,14 +5,13 @@ use Rattle.minisign.specs.Records.{SecretKeyRecord}
 use Rattle.minisign.specs.SignatureText.{SignatureText, signature_text}
 use Rattle.minisign.specs.Acceptance.{Verifier, VouchesUnderEachKey}
 use Rattle.minisign.specs.Signing.{ChosenComments, Signer, signed_box}
-use Rattle.minisign.proofs.SignedBoxes.{made_box}
 use Rattle.minisign_questions.specs.Signing.{AcceptsAnswers, IsAnsweredText, SignsSo, answered_box, answered_comments, answered_signature}
 
 pub answered_is_signed : (sign : Signer) (key : SecretKeyRecord) (message z1 z2 key_id : List ℕ) (chosen : ChosenComments) (first second : List ℕ)
     → key_id ≡ key.keynum → SignsSo sign key message chosen.trusted z1 z2 first second
     → answered_box key_id chosen first second ≡ signed_box sign key message chosen z1 z2
 answered_is_signed sign key message z1 z2 key_id chosen first second same answers =
-    made_box sign key message chosen z1 z2 key_id first second same (sym answers.to_first) (sym answers.to_second)
+    rw (same, sym answers.to_second, sym answers.to_first) refl
 
 pub answered_vouches : (accepts : Verifier) (public message key_id : List ℕ) (chosen : ChosenComments) (first second : List ℕ)
     → length second ≡ 64 → AcceptsAnswers accepts public message chosen.trusted first second

@@ -1,5 +1,5 @@
 -- Which case fails first where a question is answered by no.
-use Rattle.std.proofs.Common.{◌≡◌, ℕ, Bool, true, false, ◌⊎◌, List, Some, IsTrue, IfSome, inl, inr, bytes_eq, nat_le, length, subst, refl, arith}
+use Rattle.std.proofs.Common.{◌≡◌, ℕ, Bool, true, false, ◌⊎◌, List, Some, IsTrue, IfSome, inl, inr, bytes_eq, nat_le, length, subst, sym, refl, arith}
 use Rattle.std.proofs.lemmas.Slice.Eq.{bytes_eq-Decides}
 use Rattle.std.proofs.lemmas.Bool.Decides.{nat_tests}
 use Rattle.minisign_base.specs.Fault.{Fault}
@@ -7,20 +7,17 @@ use Rattle.minisign_base.specs.Faults.{different_key_ids, legacy_not_accepted, s
 use Rattle.minisign.specs.Records.{PublicKeyRecord, SignatureBoxRecord, CommentsRecord, is_prehashed, prehashed_algorithm}
 use Rattle.minisign.specs.Acceptance.{Verifier, Vouches, CommentIsSigned, signed_bytes, first_refusal, accepts_comment}
 use Rattle.minisign.specs.Headline.{TextsRefuse}
-use Rattle.minisign.specs.VerifyingTexts.{ReadTexts}
-use Rattle.minisign.proofs.PublicKeyTexts.{one_public_key_text}
-use Rattle.minisign.proofs.SignatureTexts.{one_signature_text}
-use Rattle.minisign_questions.specs.Questions.{AreOpen}
+use Rattle.minisign_questions.specs.Questions.{AreOpen, AreReadAs}
 
 -- what is refused of the key and the box is refused of the texts that read as them
 turned_down : (accepts : Verifier) (pk_text sig_text message : List ℕ) (legacy : Bool) (pk : PublicKeyRecord) (x : SignatureBoxRecord) (e : Fault)
-    → ReadTexts pk_text sig_text pk x → first_refusal accepts pk x message legacy ≡ Some e → ¬ (Vouches accepts pk x message legacy)
+    → AreReadAs pk_text sig_text pk x → first_refusal accepts pk x message legacy ≡ Some e → ¬ (Vouches accepts pk x message legacy)
     → TextsRefuse accepts pk_text sig_text message legacy e
 turned_down accepts pk_text sig_text message legacy pk x e read first none = record {
   first_case = inr (inr (pk, x, read.key_read, read.box_read, first));
   unvouched = λ v. none (
-      subst (λ k. Vouches accepts k x message legacy) (one_public_key_text pk_text _ _ v.key_read read.key_read)
-      (subst (λ y. Vouches accepts v.key y message legacy) (one_signature_text sig_text _ _ v.box_read read.box_read) v.vouches)
+      subst (λ k. Vouches accepts k x message legacy) (sym (read.one_key v.key v.key_read))
+      (subst (λ y. Vouches accepts v.key y message legacy) (sym (read.one_box v.box v.box_read)) v.vouches)
       );
 }
 
@@ -29,7 +26,7 @@ clash holds fails = absurd (grind (arith, holds, fails))
 
 -- the identifiers differ
 pub other_ids : (accepts : Verifier) (pk_text sig_text message : List ℕ) (legacy : Bool) (pk : PublicKeyRecord) (x : SignatureBoxRecord)
-    → ReadTexts pk_text sig_text pk x → bytes_eq x.signature.keynum pk.keynum ≡ false
+    → AreReadAs pk_text sig_text pk x → bytes_eq x.signature.keynum pk.keynum ≡ false
     → TextsRefuse accepts pk_text sig_text message legacy (different_key_ids x.signature.keynum pk.keynum)
 other_ids accepts pk_text sig_text message legacy pk x read differ =
     turned_down accepts pk_text sig_text message legacy pk x _ read (rw differ refl)
@@ -41,7 +38,7 @@ not_prehashed x legacy (inr t) = absurd (grind (arith, t))
 
 -- the signature is over the data itself, which is not allowed
 pub not_allowed : (accepts : Verifier) (pk_text sig_text message : List ℕ) (pk : PublicKeyRecord) (x : SignatureBoxRecord)
-    → ReadTexts pk_text sig_text pk x → bytes_eq x.signature.keynum pk.keynum ≡ true → is_prehashed x.signature ≡ false
+    → AreReadAs pk_text sig_text pk x → bytes_eq x.signature.keynum pk.keynum ≡ true → is_prehashed x.signature ≡ false
     → TextsRefuse accepts pk_text sig_text message false legacy_not_accepted
 not_allowed accepts pk_text sig_text message pk x read same legacy =
     turned_down accepts pk_text sig_text message false pk x _ read (rw (same, legacy) refl)
@@ -52,20 +49,17 @@ module _ (accepts : Verifier) (pk_text sig_text message : List ℕ) (legacy : Bo
   same_key : bytes_eq x.signature.keynum pk.keynum ≡ true
   same_key = (bytes_eq-Decides x.signature.keynum pk.keynum).1 asked.same_key
 
-  both_read : ReadTexts pk_text sig_text pk x
-  both_read = record { key_read = asked.key_read; box_read = asked.box_read }
-
   -- the first question was answered by no
   pub refused_first : accepts (signed_bytes x message) pk.key x.signature.signature ≡ false → TextsRefuse accepts pk_text sig_text message legacy signature_refused
   refused_first refused =
-      turned_down accepts pk_text sig_text message legacy pk x signature_refused both_read (rw (same_key, asked.allowed, refused) refl)
+      turned_down accepts pk_text sig_text message legacy pk x signature_refused asked.read (rw (same_key, asked.allowed, refused) refl)
       (λ v. absurd (grind (arith, v.signed, refused)))
 
   -- the second could not be asked, or was answered by no
   pub refused_second : accepts (signed_bytes x message) pk.key x.signature.signature ≡ true → accepts_comment accepts pk x.signature c ≡ false
       → TextsRefuse accepts pk_text sig_text message legacy comment_signature_refused
   refused_second accepted refused =
-      turned_down accepts pk_text sig_text message legacy pk x comment_signature_refused both_read (rw (same_key, asked.allowed, accepted, asked.comments, refused) refl)
+      turned_down accepts pk_text sig_text message legacy pk x comment_signature_refused asked.read (rw (same_key, asked.allowed, accepted, asked.comments, refused) refl)
       (λ v. let signed : CommentIsSigned accepts pk x.signature c = subst (λ o. IfSome o (CommentIsSigned accepts pk x.signature)) asked.comments v.comment_signed in
       let long : nat_le 64 (length c.signature) ≡ true = grind (arith, nat_tests, signed.long_enough) in
       absurd (grind (arith, refused, signed.signed, long)))

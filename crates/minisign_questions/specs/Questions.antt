@@ -31,11 +31,17 @@ comment_question pk s c = record { message = s.signature ++ c.trusted; key = pk.
 abbrev pub has_whole_signature : CommentsRecord → Bool
 has_whole_signature c = nat_le 64 (length c.signature)
 
+-- the two texts read as this key and this box, and as no others
+pub record AreReadAs (pk_text sig_text : List ℕ) (pk : PublicKeyRecord) (x : SignatureBoxRecord) : Type 0 where
+  pub key_read : PublicKeyText pk_text pk
+  pub box_read : SignatureText sig_text x
+  pub one_key : (other : PublicKeyRecord) → PublicKeyText pk_text other → pk ≡ other
+  pub one_box : (other : SignatureBoxRecord) → SignatureText sig_text other → x ≡ other
+
 -- the two texts read as this key and this box, and all conditions hold that need no scheme: what is left
 -- is to ask the two questions
 pub record AreOpen (pk_text sig_text : List ℕ) (legacy : Bool) (pk : PublicKeyRecord) (x : SignatureBoxRecord) (c : CommentsRecord) : Type 0 where
-  pub key_read : PublicKeyText pk_text pk
-  pub box_read : SignatureText sig_text x
+  pub read : AreReadAs pk_text sig_text pk x
   pub comments : x.comments ≡ Some c
   pub same_key : x.signature.keynum ≡ pk.keynum
   pub allowed : IsTrue (is_prehashed x.signature || legacy)

@@ -4,10 +4,9 @@ ghost use Rattle.std.specs.Prelude.{◌≡◌, ◌⊎◌, ◌<◌, ◌+◌, ℕ,
 ghost use Rattle.minisign_hash.specs.Blake2b.{blake2b_digest};
 ghost use Rattle.minisign.specs.Records.{PublicKeyRecord, SignatureBoxRecord, CommentsRecord};
 ghost use Rattle.minisign.specs.Acceptance.{Verifier};
-ghost use Rattle.minisign.specs.VerifyingTexts.{ReadTexts};
 ghost use Rattle.minisign_base.specs.Faults.{out_of_memory, not_utf8};
 ghost use Rattle.std.specs.Str.{IsUtf8};
-ghost use Rattle.minisign_questions.specs.Questions.{AnswersTexts, AreOpen, IsRefusedUnasked, has_whole_signature};
+ghost use Rattle.minisign_questions.specs.Questions.{AnswersTexts, AreOpen, AreReadAs, IsRefusedUnasked, has_whole_signature};
 ghost use Rattle.minisign_questions.specs.States.{AreQuestions, GivesVerdict, HasAsked, HasEnded, IsMarkedFed, IsAskingRefusal, IsFed, IsVerdictRefusal};
 ghost use Rattle.minisign_questions.specs.declared.state.Misuse.TheVariants.{NoRoom};
 
@@ -89,7 +88,7 @@ impl State {
 
 // Reads the two texts, each of which has to be UTF-8.
 fn read_bytes(alloc: Global, pk_text: &[u8], sig_text: &[u8]) -> Result<Texts>
-    ensures read { IfOk result (λ t. ReadTexts pk_text.now sig_text.now t.key t.box) }
+    ensures read { IfOk result (λ t. AreReadAs pk_text.now sig_text.now t.key t.box) }
     ensures utf8 { OnOk result (IsUtf8 pk_text.now × IsUtf8 sig_text.now) }
     ensures refused { IfErr result (λ e. (e ≡ out_of_memory)
         ⊎ ((e ≡ not_utf8) × ¬ (IsUtf8 pk_text.now × IsUtf8 sig_text.now))

@@ -4,20 +4,15 @@ ghost use Rattle.std.specs.Prelude.{◌≡◌, ◌⊎◌, ◌<◌, ◌≤◌, �
 ghost use Rattle.minisign_base.specs.Faults.{out_of_memory};
 ghost use Rattle.minisign.specs.Signing.{AreKept};
 ghost use Rattle.minisign.specs.SignatureText.{SignatureText, signature_text};
-ghost use Rattle.minisign.specs.Texts.{IsBase64Of, base64_of};
 ghost use Rattle.minisign_questions.specs.Signing.{HoldsText, IsAnsweredText, IsWritingRefusal, answered_box, answered_comments, answered_signature, comments_of};
 ghost use Rattle.minisign_questions.specs.declared.state.Misuse.TheVariants.{NoComment, NoRoom};
 ghost use Rattle.minisign_questions.specs.declared.state.Refusal.TheVariants.{Refused, WrongUse};
 
 use crate::state::{Misuse, Refusal};
 use crate::texts::write_joined;
-use base64::engine::general_purpose::STANDARD;
-use minisign::Signature;
+use minisign::SignatureBox;
 use minisign_base::faults;
 use std::alloc::Global;
-
-// A signature over the digest of the data.
-const PREHASHED: [u8; 2] = [b'E', b'D'];
 
 /// The text of a signature, the four lines that Minisign reads, from the two answers of a signature
 /// scheme: under the identifier of the key, with the trusted comment that the second answer is over
@@ -131,27 +126,6 @@ fn written(
         (answered_box key_id.now (comments_of trusted.now untrusted.now) first.now second.now)) }
     ensures refused { IfErr result (λ e. e ≡ out_of_memory) }
 {
-    let signature = Signature {
-        sig_alg: PREHASHED,
-        keynum: *key_id,
-        sig: *first,
-    };
-    let bytes = signature.to_bytes(alloc)?;
-    let encoded = encode(alloc, &bytes)?;
-    let global = encode(alloc, second)?;
-    let text = format!(in alloc;
-        "untrusted comment: {}\n{}\ntrusted comment: {}\n{}\n",
-        untrusted, encoded, trusted, global
-    )?;
-    Ok(text)
-}
-
-// The base64 of bytes.
-#[tactic(auto, unfolding(minisign::specs::Texts::base64_of))]
-fn encode(alloc: Global, bytes: &[u8]) -> minisign::Result<String>
-    ensures text { IfOk result (λ t. string_bytes t ≡ base64_of bytes.now) }
-    ensures base64 { IfOk result (λ t. IsBase64Of (string_bytes t) bytes.now) }
-    ensures refused { IfErr result (λ e. e ≡ out_of_memory) }
-{
-    Ok(STANDARD.encode(alloc, bytes)?)
+    let signature_box = SignatureBox::from_parts(alloc, key_id, first, untrusted, trusted, second)?;
+    signature_box.into_string(alloc)
 }

@@ -3,8 +3,7 @@
 ghost use Rattle.std.specs.Prelude.{◌≡◌, if◌then◌else◌, ◌⊎◌, ◌++◌, ◌||◌, ◌<◌, ◌≤◌, ◌+◌, ℕ, Bool, List, Some, true, false, None, not, nat_le, length, take, IsTrue, IfOk, IfErr, IfNone, MatchOption, MatchResult};
 ghost use Rattle.minisign_base.specs.Faults.{out_of_memory};
 ghost use Rattle.minisign.specs.Records.{CommentsRecord, is_prehashed};
-ghost use Rattle.minisign.specs.VerifyingTexts.{ReadTexts};
-ghost use Rattle.minisign_questions.specs.Questions.{AreOpen, HoldsMessage, IsRefusedUnasked, TextsRecord, has_whole_signature};
+ghost use Rattle.minisign_questions.specs.Questions.{AreOpen, AreReadAs, HoldsMessage, IsRefusedUnasked, TextsRecord, has_whole_signature};
 
 use minisign::{PublicKey, PublicKeyBox, Result, SignatureBox};
 use minisign_base::faults;
@@ -31,7 +30,7 @@ impl Texts {
     /// refuses it, then that of the signature, as `SignatureBox::from_string` does. It may run out
     /// of memory at any time.
     pub fn read(alloc: Global, pk_text: &str, sig_text: &str) -> Result<Texts>
-        ensures read { IfOk result (λ t. ReadTexts pk_text.now sig_text.now t.key t.box) }
+        ensures read { IfOk result (λ t. AreReadAs pk_text.now sig_text.now t.key t.box) }
         ensures refused { IfErr result (λ e. (e ≡ out_of_memory) ⊎ ((legacy : Bool) → IsRefusedUnasked pk_text.now sig_text.now legacy e)) }
     {
         let pk = PublicKey::from_box(alloc, PublicKeyBox::from_string(alloc, pk_text)?)?;
@@ -42,7 +41,7 @@ impl Texts {
     /// Tests what needs no scheme. Refused are, in this order: identifiers that differ, a signature
     /// over the data itself unless `allow_legacy`. Takes no memory.
     pub fn test(&self, allow_legacy: bool) -> Result<()>
-        ensures { (pk_text sig_text : List ℕ) → ReadTexts pk_text sig_text self.now.key self.now.box
+        ensures { (pk_text sig_text : List ℕ) → AreReadAs pk_text sig_text self.now.key self.now.box
             → MatchResult result (λ _. (c : CommentsRecord) × AreOpen pk_text sig_text allow_legacy self.now.key self.now.box c)
             (IsRefusedUnasked pk_text sig_text allow_legacy) }
     {

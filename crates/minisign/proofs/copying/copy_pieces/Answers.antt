@@ -1,6 +1,6 @@
 use Rattle.std.proofs.Common.{◌∙◌, append_assoc}
 use Rattle.std.proofs.KnownBytes.{Appends-trans, Consumes-trans}
-use Rattle.minisign_base.proofs.DeviceFacts.{AppendsFront-after}
+use Rattle.minisign_base.specs.SinkLaws.{AppendsFront-after}
 use Rattle.minisign.proofs.Beginnings.{consumed, on_err_of}
 use Rattle.minisign.proofs.Copies.{front_of_ahead, front_of_all, front_of_given, given_more, given_still, keeps_same}
 use Rattle.minisign.proofs.copying.copy_pieces.Goals as goal

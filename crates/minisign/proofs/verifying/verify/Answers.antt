@@ -1,6 +1,6 @@
 use Rattle.std.proofs.Common.{inl, inr, refl, ⊎_elim}
 use Rattle.minisign_base.specs.Passages.{rereader_passage, sink_passage}
-use Rattle.minisign_base.proofs.DeviceFacts.{AppendsFront-keeps}
+use Rattle.minisign_base.specs.SinkLaws.{AppendsFront-keeps}
 use Rattle.minisign.proofs.Beginnings.{on_err_of, passed_up}
 use Rattle.minisign.proofs.Copies.{front_of_all, keeps_same}
 use Rattle.minisign.proofs.Passes.{copying_fails, copying_succeeds, judged_signed, judging_fails}

@@ -4,7 +4,7 @@ use Rattle.std.proofs.lemmas.Result.{err_from_is_err_and}
 use Rattle.minisign_base.specs.Devices.{Rose}
 use Rattle.minisign_base.specs.Passages.{source_passage}
 use Rattle.minisign_base.specs.Prompts.{HasReadLine}
-use Rattle.minisign_base.proofs.DeviceFacts.{AppendsFront-after}
+use Rattle.minisign_base.specs.SinkLaws.{AppendsFront-after}
 use Rattle.minisign_base.proofs.helpers.get_password.Goals as goal
 
 pub returns-in_err-mark_empty-clause-refused : goal.returns-in_err-mark_empty-clause-refused

@@ -9,8 +9,8 @@ mix_parts-requires-clause-cost c =
     let small : p.n_log2 < 64 = n_log2_small p c.r-r.ensures.accepted in
     omega arith
 
-pub returns : goal.returns
-returns c =
+pub returns-clause-derived : goal.returns-clause-derived
+returns-clause-derived c =
     let p = c.args.params.now in
     scrypt_is c.args.password.now c.args.salt.now p.n_log2 p.r p.p _ _ _ _ _ c.pbkdf2_once.new.out c.mix_parts.new.parts c.pbkdf2_once-2.new.out
-    c.n_log2.ensures.number c.r-r.ensures.number c.p-p.ensures.number (c.requires.parts_len ∙ (λ t. 128 * sym c.r-r.ensures.number t * sym c.p-p.ensures.number t)) c.pbkdf2_once.ensures c.mix_parts.ensures c.pbkdf2_once-2.ensures
+    c.n_log2.ensures.number c.r-r.ensures.number c.p-p.ensures.number (c.requires.parts_len ∙ (λ t. 128 * sym c.r-r.ensures.number t * sym c.p-p.ensures.number t)) c.pbkdf2_once.ensures c.mix_parts.ensures.mixed c.pbkdf2_once-2.ensures

@@ -1,12 +1,13 @@
 use Rattle.std.proofs.Common.{◌≡◌, ℕ, ◌+◌, ◌-◌, ◌*◌, ◌/◌, ◌^◌, ◌≤◌, List, length, take, drop, ap, ◌∙◌, arith, length-drop}
 use Rattle.std.proofs.lemmas.List.{length-take-le}
+use Rattle.std.specs.Int.{div_ceil}
 use Rattle.minisign_kdf.specs.Scrypt.{rom_mix}
 use Rattle.minisign_kdf.proofs.Blocks.{row_before}
 use Rattle.minisign_kdf.proofs.Parts.{changed_all, changed_next, changed_none}
 use Rattle.minisign_kdf.proofs.key_derivation.mix_parts.Goals as goal
 
 pub parts-init : goal.parts-init
-parts-init c = (changed_none _ _ _, omega arith)
+parts-init c = (changed_none _ _ _, omega arith, λ some. absurd (omega arith))
 
 pub parts-preserved : goal.parts-preserved
 parts-preserved c =
@@ -20,12 +21,16 @@ parts-preserved c =
     let size : length this ≡ len =
     length-take-le (len * i + len - len * i) (drop (len * i) c.parts.parts) (omega (arith, length-drop (len * i) c.parts.parts)) ∙ width in
     let block_size : length this / 128 ≡ r = omega arith in
-    let (changed, kept) = c.parts.invariant in (
+    let (changed, _, _) = c.parts.invariant in (
       changed_next (rom_mix r n) len i (len * i + len - len * i) c.args.parts.now c.parts.parts c.rom_mix.new.part changed width (omega arith)
           (c.rom_mix.auto.part ∙ size)
           (c.rom_mix.ensures.mixed ∙ ap (λ (m : ℕ). rom_mix m n this) block_size),
       omega arith,
+      λ _. c.rom_mix.ensures.held ∙ ap (λ (m : ℕ). 32 * m * div_ceil n c.args.k) block_size,
     )
 
-pub returns : goal.returns
-returns c = changed_all (rom_mix c.args.r (2 ^ c.args.n_log2)) (128 * c.args.r) c.parts.i c.args.p c.args.parts.now c.parts.parts c.parts.invariant.0 (omega arith) (omega arith)
+pub returns-clause-held : goal.returns-clause-held
+returns-clause-held c = c.parts.invariant.2 (omega arith)
+
+pub returns-clause-mixed : goal.returns-clause-mixed
+returns-clause-mixed c = changed_all (rom_mix c.args.r (2 ^ c.args.n_log2)) (128 * c.args.r) c.parts.i c.args.p c.args.parts.now c.parts.parts c.parts.invariant.0 (omega arith) (omega arith)

@@ -7,9 +7,3 @@ room_for_rows-requires-clause-cost c =
     let p = c.args.params.now in
     let small : p.n_log2 < 64 = n_log2_small p c.r-r.ensures.accepted in
     omega arith
-
-pub kept_count-requires-clause-cost : goal.kept_count-requires-clause-cost
-kept_count-requires-clause-cost c =
-    let p = c.args.params.now in
-    let small : p.n_log2 < 64 = n_log2_small p c.r-r.ensures.accepted in
-    omega arith

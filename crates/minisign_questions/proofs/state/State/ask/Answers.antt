@@ -1,4 +1,4 @@
-use Rattle.std.proofs.Common.{◌≡◌, ◌⊎◌, ◌∙◌, inl, inr, ap, sym, subst, ℕ, List, Bool, Err, IfErr}
+use Rattle.std.proofs.Common.{rules, ◌≡◌, ◌⊎◌, ◌∙◌, inl, inr, ap, sym, subst, ℕ, List, Bool, Err, IfErr}
 use Rattle.std.specs.Str.{IsUtf8}
 use Rattle.std.proofs.lemmas.Result.{err_from_is_err_and}
 use Rattle.minisign_base.specs.Fault.{Fault}
@@ -28,3 +28,15 @@ returns-in_err-test-clause-refused c =
     let p = err_from_is_err_and c.from_residual-in_err-test.result c.from_residual-in_err-test.ensures.1 in
     subst (λ r. IfErr r (IsAskingRefusal c.args.self.now c.args.pk_text.now c.args.sig_text.now c.args.allow_legacy c.args.message.now)) (sym (p.1 ∙ ap (λ e. Err e) p.2))
     (inr (inr (c.in_err-test.ensures _ _ c.in_ok-texts.ensures.read)))
+
+pub returns-clause-asked : goal.returns-clause-asked
+returns-clause-asked c =
+    let (comments, left) = c.in_ok-test.ensures _ _ c.in_ok-texts.ensures.read in
+    let (questions, whole) = c.in_ok-whole.ensures.questions comments left.comments in
+    (_, _, comments, left, questions)
+
+pub returns-clause-asking : goal.returns-clause-asking
+returns-clause-asking c =
+    let (comments, left) = c.in_ok-test.ensures _ _ c.in_ok-texts.ensures.read in
+    let (questions, whole) = c.in_ok-whole.ensures.questions comments left.comments in
+    search (rules, left, whole)

@@ -1,5 +1,0 @@
-use Rattle.minisign.proofs.FirstLine.{lines_first}
-use Rattle.minisign_questions.proofs.secret_texts.next_line.Goals as goal
-
-pub returns-in-Some-clause-some : goal.returns-in-Some-clause-some
-returns-in-Some-clause-some c = lines_first _ _ _ c.in-Some.ensures.steps.0.0 c.in-Some.ensures.steps.0.2
