@@ -9,7 +9,5 @@ pub mod secret_texts;
 pub mod secrets;
 pub mod signed_texts;
 pub mod state;
-#[cfg(test)]
-mod tests;
 pub mod texts;
 pub mod verdict;

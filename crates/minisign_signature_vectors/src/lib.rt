@@ -1,5 +1,5 @@
 //! Signatures, run as tests: their texts, signing and verifying, over devices that fail and with
-//! memory refused.
+//! memory refused, and with a scheme that stands outside.
 //!
 //! Each expected value comes from outside: from a standard, from Python's hashlib, from the
 //! upstream tool, or worked out by hand from a definition. None is what a crate of this repository
@@ -9,6 +9,8 @@
 
 #[cfg(test)]
 mod devices;
+#[cfg(test)]
+mod questions;
 #[cfg(test)]
 mod signing;
 #[cfg(test)]

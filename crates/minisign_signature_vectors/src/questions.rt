@@ -4,9 +4,9 @@
 //! The expected bytes were read from the texts by Python's base64, and the digest is that of its
 //! hashlib.
 
-use crate::secrets::SigningQuestions;
-use crate::signed_texts::{signed_text, write_comment_message, write_signed_text};
-use crate::state::{Misuse, Questions, Refusal, State};
+use minisign_questions::secrets::SigningQuestions;
+use minisign_questions::signed_texts::{signed_text, write_comment_message, write_signed_text};
+use minisign_questions::state::{Misuse, Questions, Refusal, State};
 use std::alloc::Global;
 use std::test::Fail;
 
