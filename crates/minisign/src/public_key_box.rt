@@ -31,14 +31,15 @@ impl PublicKeyBox {
         ensures text { IfOk result (λ b. b ≡ text.now) }
         ensures refused { IfErr result (λ e. e ≡ out_of_memory) }
     {
-        Ok(PublicKeyBox(String::from_str(alloc, text)?))
+        Ok(PublicKeyBox::from(String::from_str(alloc, text)?))
     }
 
     /// The text. Takes no memory.
     pub fn into_string(self) -> String
         ensures { string_bytes result ≡ self }
     {
-        self.0
+        let PublicKeyBox(text) = self;
+        text
     }
 
     /// The bytes of the text. Only running out of memory is refused.
@@ -46,9 +47,7 @@ impl PublicKeyBox {
         ensures bytes { IfOk result (λ v. v.items ≡ self.now) }
         ensures refused { IfErr result (λ e. e ≡ out_of_memory) }
     {
-        let mut bytes = Vec::new(alloc);
-        bytes.extend_from_slice(self.0.as_bytes())?;
-        Ok(bytes)
+        Ok(Vec::from_slice(alloc, self.as_str().as_bytes())?)
     }
 
     /// A box with the same text. Only running out of memory is refused.

@@ -28,9 +28,7 @@ impl SecretKeyBox {
         ensures text { IfOk result (λ b. b ≡ s.now) }
         ensures refused { IfErr result (λ e. e ≡ out_of_memory) }
     {
-        Ok(SecretKeyBox {
-            text: String::from_str(alloc, s)?,
-        })
+        Ok(SecretKeyBox::from(String::from_str(alloc, s)?))
     }
 
     /// The text. Takes no memory.
@@ -46,7 +44,7 @@ impl SecretKeyBox {
         ensures bytes { IfOk result (λ v. v.items ≡ self.now) }
         ensures refused { IfErr result (λ e. e ≡ out_of_memory) }
     {
-        Ok(Vec::from_slice(alloc, self.text.as_bytes())?)
+        Ok(Vec::from_slice(alloc, self.as_str().as_bytes())?)
     }
 
     /// Another box of the same text. Only running out of memory is refused.
@@ -54,7 +52,7 @@ impl SecretKeyBox {
         ensures same { IfOk result (λ b. b ≡ self.now) }
         ensures refused { IfErr result (λ e. e ≡ out_of_memory) }
     {
-        SecretKeyBox::from_string(alloc, self.text.as_str())
+        SecretKeyBox::from_string(alloc, self.as_str())
     }
 
     // The text, lent.
@@ -86,6 +84,6 @@ impl fmt::Display for SecretKeyBox {
     ghost output = { λ b. Some b };
 
     fn fmt<W: fmt::Write>(&self, f: &mut fmt::Formatter<W>) -> fmt::Result {
-        f.write_str(self.text.as_str())
+        f.write_str(self.as_str())
     }
 }
