@@ -7,5 +7,6 @@ pub mod devices;
 pub mod keys;
 pub mod outcomes;
 pub mod plain;
+pub mod prompts;
 pub mod texts;
 pub mod two_signatures;

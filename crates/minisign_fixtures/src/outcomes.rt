@@ -17,6 +17,19 @@ pub fn outcome<T>(alloc: Global, answer: &Result<T>) -> String {
     }
 }
 
+/// Whether the outcome is shown so.
+pub fn comes_to<T>(alloc: Global, answer: &Result<T>, expected: &str) -> bool {
+    outcome(alloc, answer).as_str() == expected
+}
+
+/// Whether it was found out, and holds.
+pub fn holds(answer: &Result<bool>) -> bool {
+    match answer {
+        Ok(right) => *right,
+        Err(_) => false,
+    }
+}
+
 /// Whether these are the bytes of the record.
 pub fn is_record(bytes: &Result<Vec<u8>>, record: &[u8]) -> bool {
     match bytes {

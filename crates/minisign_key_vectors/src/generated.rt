@@ -1,5 +1,6 @@
 //! Pairs of keys that are made.
 
+pub mod calls;
 mod failing_devices;
-pub mod pairs;
+mod pairs;
 mod pairs_in_use;

@@ -18,22 +18,26 @@ use minisign::{
     SourceRandom, ToyScheme, Triple, VecSink, WriterSink, sign_texts, verify_texts,
 };
 use minisign_fixtures::keys::{DIGEST_OF_ABC, IDENTIFIER};
+use minisign_fixtures::outcomes::holds;
 use minisign_fixtures::texts::{KEY_TEXT, SAID, SECRET_TEXT, SIGNATURE_TEXT};
 use std::alloc::Global;
 use std::io::Cursor;
-use std::test::Fail;
 
 // The random bytes of the text.
 const ZEROS: [u8; 128] = [0; 128];
 
 #[test]
 fn the_names_of_files_and_of_a_folder(rt: HostRuntime) {
-    assert_eq!(rt; SIG_DEFAULT_CONFIG_DIR_ENV_VAR, "RSIGN_CONFIG_DIR");
-    assert_eq!(rt; SIG_DEFAULT_CONFIG_DIR, ".rsign");
-    assert_eq!(rt; SIG_DEFAULT_PKFILE, "rsign.pub");
-    assert_eq!(rt; SIG_DEFAULT_SKFILE, "rsign.key");
-    assert_eq!(rt; SIG_SUFFIX, ".minisig");
-    assert_eq!(rt; DEFAULT_COMMENT, "signature from rsign secret key");
+    for (name, expected) in [
+        (SIG_DEFAULT_CONFIG_DIR_ENV_VAR, "RSIGN_CONFIG_DIR"),
+        (SIG_DEFAULT_CONFIG_DIR, ".rsign"),
+        (SIG_DEFAULT_PKFILE, "rsign.pub"),
+        (SIG_DEFAULT_SKFILE, "rsign.key"),
+        (SIG_SUFFIX, ".minisig"),
+        (DEFAULT_COMMENT, "signature from rsign secret key"),
+    ] {
+        assert!(rt; name == expected, "at {expected}");
+    }
 }
 
 // Key A signs the data, with the comments `c` and `t`.
@@ -80,43 +84,42 @@ fn verified<S: Scheme, R: Rereader, W: Sink, O: Sink>(
     )
 }
 
-#[test]
-fn data_is_signed_over_each_source(rt: HostRuntime) -> std::result::Result<(), Fail> {
-    let alloc = rt.alloc();
-    let scheme = ToyScheme::new();
-    let read = signed(
-        alloc,
-        &scheme,
-        &mut ReaderSource::new(b"abc".as_slice()),
-        &mut FixedRandom::new(&ZEROS),
-    )?;
-    assert_eq!(rt; read.as_str(), SIGNATURE_TEXT);
-    let drawn = signed(
-        alloc,
-        &scheme,
-        &mut SliceSource::new(b"abc"),
-        &mut SourceRandom::new(SliceSource::new(&ZEROS)),
-    )?;
-    assert_eq!(rt; drawn.as_str(), SIGNATURE_TEXT);
-    Ok(())
+// Whether this is the text that was worked out.
+fn is_worked(answer: &Result<String>) -> bool {
+    match answer {
+        Ok(text) => text.as_str() == SIGNATURE_TEXT,
+        Err(_) => false,
+    }
 }
 
 #[test]
-fn data_is_verified_and_copied(rt: HostRuntime) -> std::result::Result<(), Fail> {
+fn data_is_signed_over_each_source(rt: HostRuntime) {
+    let alloc = rt.alloc();
+    let scheme = ToyScheme::new();
+    let mut read = ReaderSource::new(b"abc".as_slice());
+    let mut fixed = FixedRandom::new(&ZEROS);
+    assert!(rt; is_worked(&signed(alloc, &scheme, &mut read, &mut fixed)));
+    let mut slice = SliceSource::new(b"abc");
+    let mut drawn = SourceRandom::new(SliceSource::new(&ZEROS));
+    assert!(rt; is_worked(&signed(alloc, &scheme, &mut slice, &mut drawn)));
+}
+
+#[test]
+fn data_is_verified_and_copied(rt: HostRuntime) {
     let alloc = rt.alloc();
     let data: &[u8] = b"abc";
     let mut status = Vec::new(alloc);
     let mut out = VecSink::new(alloc);
-    verified(
+    let answer = verified(
         alloc,
         &ToyScheme::new(),
         &mut FileSource::new(Cursor::new(data)),
         &mut WriterSink::new(&mut status),
         &mut out,
-    )?;
-    assert_eq!(rt; status.as_slice(), SAID);
-    assert_eq!(rt; out.as_slice(), b"abc".as_slice());
-    Ok(())
+    );
+    assert!(rt; answer.is_ok());
+    assert!(rt; status.as_slice() == SAID);
+    assert!(rt; out.as_slice() == b"abc".as_slice());
 }
 
 #[test]
@@ -136,62 +139,96 @@ fn a_table_and_a_reader(rt: HostRuntime) {
 }
 
 #[test]
-fn the_hash_through_the_library(rt: HostRuntime) -> std::result::Result<(), Fail> {
-    let alloc = rt.alloc();
+fn the_hash_through_the_library(rt: HostRuntime) {
     let mut digest = [0u8; BLAKE2B_OUTBYTES];
     Blake2b::blake2b(&mut digest, b"abc");
-    assert_eq!(rt; digest, DIGEST_OF_ABC);
+    assert!(rt; digest == DIGEST_OF_ABC);
+    assert!(rt; digest_by_a_stored_state() == DIGEST_OF_ABC);
+    assert!(rt; BLAKE2B_BLOCKBYTES == 128 && BLAKE2B_KEYBYTES == 64);
+    assert!(rt; BLAKE2B_SALTBYTES == 16 && BLAKE2B_PERSONALBYTES == 16);
+}
+
+// The digest of `abc` by a state that is stored behind `ab`.
+fn digest_by_a_stored_state() -> [u8; 64] {
     let mut state = Blake2b::new(64);
     state.update(b"ab");
-    digest = [0; BLAKE2B_OUTBYTES];
+    let mut digest = [0; BLAKE2B_OUTBYTES];
     if let Some(mut again) = StoredBlake2b::store(&state).restore() {
         again.update(b"c");
         again.finalize(&mut digest);
     }
-    assert_eq!(rt; digest, DIGEST_OF_ABC);
-    assert_eq!(rt; BLAKE2B_BLOCKBYTES, 128);
-    assert_eq!(rt; BLAKE2B_KEYBYTES, 64);
-    assert_eq!(rt; (BLAKE2B_SALTBYTES, BLAKE2B_PERSONALBYTES), (16, 16));
+    digest
+}
+
+// Whether words of 64 bits are written and read.
+fn words_are_written() -> bool {
     let mut bytes = [0u8; 16];
     write_u64v_le(&mut bytes, &[1, 2]);
     let mut words = [0u64; 2];
     read_u64v_le(&mut words, &bytes);
-    assert_eq!(rt; words, [1, 2]);
-    write_u64_le(&mut bytes[..8], 3);
-    write_u32_le(&mut bytes[8..12], 4);
-    copy_memory(b"!", &mut bytes[12..]);
-    assert!(rt; fixed_time_eq(&bytes, b"\x03\0\0\0\0\0\0\0\x04\0\0\0!\0\0\0"));
-    let mut written: Vec<u8> = Vec::new(alloc);
-    written.write_u8(5)?;
-    assert_eq!(rt; written.as_slice(), [5].as_slice());
-    Ok(())
+    words == [1, 2]
+}
+
+// Whether numbers and bytes are written where they belong.
+fn numbers_are_written() -> bool {
+    let mut bytes = [0u8; 16];
+    let (eight, rest) = bytes.split_at_mut(8);
+    let (four, last) = rest.split_at_mut(4);
+    write_u64_le(eight, 3);
+    write_u32_le(four, 4);
+    copy_memory(b"!", last);
+    fixed_time_eq(&bytes, b"\x03\0\0\0\0\0\0\0\x04\0\0\0!\0\0\0")
 }
 
 #[test]
-fn the_helpers_through_the_library(rt: HostRuntime) -> std::result::Result<(), Fail> {
-    let alloc = rt.alloc();
-    let limits = raw_scrypt_params(33554432, 1048576, 20)?;
-    match Params::new(15, 8, 1) {
-        Ok(usual) => assert!(rt; limits == usual),
-        Err(_) => assert!(rt; false),
+fn words_through_the_library(rt: HostRuntime) {
+    assert!(rt; words_are_written());
+    assert!(rt; numbers_are_written());
+    let mut written: Vec<u8> = Vec::new(rt.alloc());
+    assert!(rt; written.write_u8(5).is_ok());
+    assert!(rt; written.as_slice() == [5].as_slice());
+}
+
+// Whether the usual limits give the usual parameters.
+fn limits_are_usual() -> bool {
+    match (
+        raw_scrypt_params(33554432, 1048576, 20),
+        Params::new(15, 8, 1),
+    ) {
+        (Ok(limits), Ok(usual)) => limits == usual,
+        _ => false,
     }
-    assert_eq!(rt; store_u64_le(255), [255, 0, 0, 0, 0, 0, 0, 0]);
-    assert_eq!(rt; load_u64_le(&store_u64_le(255)), 255);
-    assert!(rt; unix_timestamp(&rt)? > 1700000000);
+}
+
+// Whether an identifier is shown as the tools show it.
+fn is_identifier_shown(alloc: Global) -> Result<bool> {
     let shown = format!(in alloc; "{}", Identifier(IDENTIFIER))?;
-    assert_eq!(rt; shown.as_str(), "0807060504030201");
-    let mut prompt = Prompt::new(SliceSource::new(b"p\n"), VecSink::new(alloc));
-    assert_eq!(rt;
-        get_password(alloc, &mut prompt, "Password: ")?.as_str(),
-        "p"
-    );
-    let (_, mut asked) = prompt.into_parts();
-    assert!(rt; put_all(&mut asked, b"a").is_ok());
-    assert!(rt; put_and_flush(&mut asked, b"b").is_ok());
-    put_line(alloc, &mut asked, b"c", b"d")?;
-    assert_eq!(rt; asked.as_slice(), b"Password: abcd\n".as_slice());
+    Ok(shown.as_str() == "0807060504030201")
+}
+
+#[test]
+fn the_helpers_through_the_library(rt: HostRuntime) {
+    assert!(rt; limits_are_usual());
+    assert!(rt; store_u64_le(255) == [255, 0, 0, 0, 0, 0, 0, 0]);
+    assert!(rt; load_u64_le(&store_u64_le(255)) == 255);
+    assert!(rt; matches!(unix_timestamp(&rt), Ok(moment) if moment > 1700000000));
+    assert!(rt; holds(&is_identifier_shown(rt.alloc())));
     let mut front = [0u8; 2];
     assert!(rt; fill_from(&mut SliceSource::new(b"abc"), &mut front).is_ok());
-    assert_eq!(rt; front, *b"ab");
-    Ok(())
+    assert!(rt; front == *b"ab");
+}
+
+// Whether a password is asked for, and what is put behind the question.
+fn is_asked(alloc: Global) -> Result<bool> {
+    let mut prompt = Prompt::new(SliceSource::new(b"p\n"), VecSink::new(alloc));
+    let password = get_password(alloc, &mut prompt, "Password: ")?;
+    let (_, mut asked) = prompt.into_parts();
+    let put = put_all(&mut asked, b"a").is_ok() && put_and_flush(&mut asked, b"b").is_ok();
+    put_line(alloc, &mut asked, b"c", b"d")?;
+    Ok(put && password.as_str() == "p" && asked.as_slice() == b"Password: abcd\n".as_slice())
+}
+
+#[test]
+fn prompts_and_sinks_through_the_library(rt: HostRuntime) {
+    assert!(rt; holds(&is_asked(rt.alloc())));
 }

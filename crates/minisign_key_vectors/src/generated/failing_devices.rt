@@ -1,6 +1,7 @@
 //! Generation over devices that fail: at each byte, each read, each draw and each flush, one after
 //! the other.
 
+use crate::generated::calls::generate;
 use minisign::{KeyPair, Result};
 use minisign_base::devices::random_sources::SourceRandom;
 use minisign_base::devices::sinks::{Sink, VecSink};
@@ -9,7 +10,8 @@ use minisign_base::prompt::Prompt;
 use minisign_base::toy::ToyScheme;
 use minisign_fixtures::devices::sinks::LimitedSink;
 use minisign_fixtures::devices::sources::FailsAfter;
-use minisign_fixtures::outcomes::{counted, outcome};
+use minisign_fixtures::outcomes::{beginning, comes_to, counted};
+use minisign_fixtures::prompts::typed_at_once;
 use minisign_fixtures::texts::COUNTED_PUBLIC_TEXT;
 use std::alloc::Global;
 
@@ -30,23 +32,16 @@ const SHOWN: &str =
 
 // Makes a sealed pair over a source of random bytes that fails after so many reads of one byte
 // each.
-fn generate<R: Source, W: Sink, P: Sink, K: Sink>(
+fn made<R: Source, W: Sink, P: Sink, K: Sink>(
     alloc: Global,
     draws: u64,
     prompt: &mut Prompt<R, W>,
-    pk_sink: &mut P,
-    sk_sink: &mut K,
+    public: &mut P,
+    secret: &mut K,
 ) -> Result<KeyPair> {
-    KeyPair::generate_and_write_encrypted_keypair(
-        alloc,
-        &ToyScheme::new(),
-        &mut SourceRandom::new(FailsAfter::new(&counted(), draws)),
-        pk_sink,
-        sk_sink,
-        None,
-        None,
-        prompt,
-    )
+    let drawn = counted();
+    let mut random = SourceRandom::new(FailsAfter::new(&drawn, draws));
+    generate(alloc, &mut random, None, None, prompt, public, secret)
 }
 
 // Whether generation over these two sinks returns this, with so much of both texts taken and all
@@ -60,13 +55,11 @@ fn takes(
     sk_took: usize,
 ) -> bool {
     let (mut public, mut secret) = (public, secret);
-    let mut prompt = Prompt::new(SliceSource::new(b"p\np\n"), VecSink::new(alloc));
-    let answer = generate(alloc, 72, &mut prompt, &mut public, &mut secret);
-    let (pk_front, _) = COUNTED_PUBLIC_TEXT.as_bytes().split_at(pk_took.min(114));
-    let (sk_front, _) = SECRET_TEXT.as_bytes().split_at(sk_took.min(259));
-    outcome(alloc, &answer).as_str() == expected
-        && public.as_slice() == pk_front
-        && secret.as_slice() == sk_front
+    let mut prompt = typed_at_once(alloc, b"p\np\n");
+    let answer = made(alloc, 72, &mut prompt, &mut public, &mut secret);
+    comes_to(alloc, &answer, expected)
+        && public.as_slice() == beginning(COUNTED_PUBLIC_TEXT, pk_took).as_bytes()
+        && secret.as_slice() == beginning(SECRET_TEXT, sk_took).as_bytes()
         && prompt.writer.as_slice() == SHOWN.as_bytes()
 }
 
@@ -114,19 +107,31 @@ fn secret_sinks_that_fail(rt: HostRuntime) {
     }
 }
 
+// Whether generation with so many random bytes over this prompt is refused so, with so much shown
+// and no key written.
+fn is_refused<R: Source + Drop>(
+    alloc: Global,
+    draws: u64,
+    prompt: Prompt<R, LimitedSink>,
+    expected: &str,
+    length: usize,
+) -> bool {
+    let mut prompt = prompt;
+    let mut public = VecSink::new(alloc);
+    let mut secret = VecSink::new(alloc);
+    let answer = made(alloc, draws, &mut prompt, &mut public, &mut secret);
+    comes_to(alloc, &answer, expected)
+        && prompt.writer.as_slice() == beginning(SHOWN, length).as_bytes()
+        && public.as_slice().is_empty()
+        && secret.as_slice().is_empty()
+}
+
 // Whether a failed write is told where the prompt's writer has this room and is flushed so many
 // times, with so much shown and no key written.
 fn shows(alloc: Global, room: usize, flushes: usize, length: usize) -> bool {
     let writer = LimitedSink::new(alloc, room).by(9).flushed(flushes);
-    let mut prompt = Prompt::new(SliceSource::new(b"p\np\n"), writer);
-    let mut public = VecSink::new(alloc);
-    let mut secret = VecSink::new(alloc);
-    let answer = generate(alloc, 72, &mut prompt, &mut public, &mut secret);
-    let (front, _) = SHOWN.as_bytes().split_at(length.min(163));
-    outcome(alloc, &answer).as_str() == UNWRITTEN
-        && prompt.writer.as_slice() == front
-        && public.as_slice().is_empty()
-        && secret.as_slice().is_empty()
+    let prompt = Prompt::new(SliceSource::new(b"p\np\n"), writer);
+    is_refused(alloc, 72, prompt, UNWRITTEN, length)
 }
 
 // The prompt's writer fails at each byte before the derivation: it holds what comes before.
@@ -162,39 +167,52 @@ fn prompts_that_cannot_be_read(rt: HostRuntime) {
     let alloc = rt.alloc();
     for (reads, length) in [(0u64, 61usize), (1, 61), (2, 87), (3, 87)] {
         let reader = FailsAfter::new(b"p\np\n", reads);
-        let mut prompt = Prompt::new(reader, VecSink::new(alloc));
-        let mut public = VecSink::new(alloc);
-        let mut secret = VecSink::new(alloc);
-        let answer = generate(alloc, 72, &mut prompt, &mut public, &mut secret);
-        assert_eq!(rt; outcome(alloc, &answer).as_str(), UNREAD, "at {reads}");
-        let (front, _) = SHOWN.as_bytes().split_at(length.min(163));
-        assert_eq!(rt; prompt.writer.as_slice(), front, "at {reads}");
-        assert!(rt; public.as_slice().is_empty() && secret.as_slice().is_empty());
+        let prompt = Prompt::new(reader, LimitedSink::new(alloc, 300));
+        assert!(rt; is_refused(alloc, 72, prompt, UNREAD, length), "at {reads}");
     }
 }
 
-// The random source fails at each of its bytes: nothing is asked, and no key is written.
+// Whether no pair is made of so many random bytes: nothing is asked, and no key is written.
+fn is_not_drawn(alloc: Global, draws: u64) -> bool {
+    let reader = SliceSource::new(b"p\np\n");
+    let prompt = Prompt::new(reader, LimitedSink::new(alloc, 300));
+    is_refused(alloc, draws, prompt, UNDRAWN, 0)
+}
+
+// Whether making a pair that is not sealed of so many random bytes has this outcome, and whether
+// both keys are written.
+fn is_drawn_raw(alloc: Global, draws: u64, expected: &str, written: bool) -> bool {
+    let drawn = counted();
+    let mut public = VecSink::new(alloc);
+    let mut secret = VecSink::new(alloc);
+    let answer = KeyPair::generate_and_write_unencrypted_keypair(
+        alloc,
+        &ToyScheme::new(),
+        &mut SourceRandom::new(FailsAfter::new(&drawn, draws)),
+        &mut public,
+        &mut secret,
+    );
+    comes_to(alloc, &answer, expected)
+        && public.as_slice().is_empty() != written
+        && secret.as_slice().is_empty() != written
+}
+
+// The random source fails at each of its bytes.
 #[test]
 fn random_bytes_that_cannot_be_drawn(rt: HostRuntime) {
-    let alloc = rt.alloc();
     for draws in 0..72u64 {
-        let mut prompt = Prompt::new(SliceSource::new(b"p\np\n"), VecSink::new(alloc));
-        let mut public = VecSink::new(alloc);
-        let mut secret = VecSink::new(alloc);
-        let answer = generate(alloc, draws, &mut prompt, &mut public, &mut secret);
-        assert_eq!(rt; outcome(alloc, &answer).as_str(), UNDRAWN, "at {draws}");
-        assert!(rt; prompt.writer.as_slice().is_empty());
-        assert!(rt; public.as_slice().is_empty() && secret.as_slice().is_empty());
-        let answer = KeyPair::generate_and_write_unencrypted_keypair(
-            alloc,
-            &ToyScheme::new(),
-            &mut SourceRandom::new(FailsAfter::new(&counted(), draws)),
-            &mut public,
-            &mut secret,
+        assert!(rt; is_not_drawn(rt.alloc(), draws), "at {draws}");
+    }
+    for draws in 0..40u64 {
+        assert!(rt;
+            is_drawn_raw(rt.alloc(), draws, UNDRAWN, false),
+            "at {draws}"
         );
-        let expected = if draws < 40 { UNDRAWN } else { ACCEPTED };
-        assert_eq!(rt; outcome(alloc, &answer).as_str(), expected, "at {draws}");
-        assert_eq!(rt; public.as_slice().is_empty(), draws < 40, "at {draws}");
-        assert_eq!(rt; secret.as_slice().is_empty(), draws < 40, "at {draws}");
+    }
+    for draws in 40..72u64 {
+        assert!(rt;
+            is_drawn_raw(rt.alloc(), draws, ACCEPTED, true),
+            "at {draws}"
+        );
     }
 }

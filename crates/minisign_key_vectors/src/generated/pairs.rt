@@ -3,21 +3,19 @@
 //!
 //! The sealed records were made with Python's hashlib, of random bytes that count up from 0.
 
-use minisign::{
-    KeyPair, PublicKey, Result, SecretKey, SecretKeyBox, SignatureBones, SignatureBox, sign, verify,
+use crate::generated::calls::{
+    counted_pair, generate, is_judged, opened, sealed_pair, signed, signed_by_bytes, text_of,
 };
+use minisign::{KeyPair, PublicKey, Result, SecretKey, SecretKeyBox, SignatureBones, SignatureBox};
 use minisign_base::devices::random_sources::FixedRandom;
 use minisign_base::devices::sinks::VecSink;
-use minisign_base::devices::sources::SliceSource;
-use minisign_base::prompt::Prompt;
 use minisign_base::toy::ToyScheme;
 use minisign_fixtures::devices::sinks::LimitedSink;
-use minisign_fixtures::devices::sources::OneByOne;
 use minisign_fixtures::keys::{CHECKSUM, IDENTIFIER, PUBLIC_BYTES, public_record, secret_record};
-use minisign_fixtures::outcomes::{counted, front, is_record, outcome};
+use minisign_fixtures::outcomes::{comes_to, counted, front, holds, is_record};
+use minisign_fixtures::prompts::{typed, typed_at_once};
 use minisign_fixtures::texts::{COUNTED_PUBLIC_TEXT, COUNTED_SEALED_UNDER_NOTHING};
 use std::alloc::Global;
-use std::test::Fail;
 
 // Sealed under `password`.
 const SEALED_LINE: &str =
@@ -33,11 +31,25 @@ const UNDRAWN: &str = "RNG: random source failed";
 
 const UNWRITTEN: &str = "Io: writing failed";
 
-const PURPOSE: &str = "Please enter a password to protect the secret key.\n";
+const DIFFERENT: &str = "Generate: passwords don't match!";
 
-// What is written until two passwords were typed, of which none is empty, and what after them.
+const ENDED: &str = "Io: unexpected end of input";
+
+const NO_UTF8: &str = "Io: stream did not contain valid UTF-8";
+
+// What is written until two passwords were typed, of which none is empty, and what in all.
 const BOTH_ASKED: &str =
     "Please enter a password to protect the secret key.\nPassword: Password (one more time): ";
+
+const SHOWN: &str =
+    "Please enter a password to protect the secret key.\nPassword: Password (one more time): Deriving a key from the password in order to encrypt the secret key... done\n";
+
+// The same where both are empty.
+const MARKED: &str =
+    "Please enter a password to protect the secret key.\nPassword: <empty>\nPassword (one more time): <empty>\nDeriving a key from the password in order to encrypt the secret key... done\n";
+
+// What is written until the first password was typed.
+const ONCE_ASKED: &str = "Please enter a password to protect the secret key.\nPassword: ";
 
 // Whether the bytes are a line of comment, and then this line.
 fn is_text_of(bytes: &[u8], comment: &str, line: &str) -> bool {
@@ -59,324 +71,274 @@ fn is_text_of(bytes: &[u8], comment: &str, line: &str) -> bool {
     rest.is_empty()
 }
 
-fn handed(alloc: Global, password: &str) -> Result<Option<String>> {
-    Ok(Some(String::from_str(alloc, password)?))
+// Whether the pair is the one of these records, and is not sealed.
+fn is_pair(alloc: Global, pair: &KeyPair, public: &[u8], secret: &[u8]) -> bool {
+    is_record(&pair.pk.to_bytes(alloc), public)
+        && is_record(&pair.sk.to_bytes(alloc), secret)
+        && !pair.sk.is_encrypted()
 }
 
-// A prompt into which nothing is typed.
-fn silent(alloc: Global) -> Prompt<SliceSource<'static>, VecSink> {
-    Prompt::new(SliceSource::new(b""), VecSink::new(alloc))
-}
-
-/// The pair of random bytes that count up from 0, not sealed.
-pub fn counted_pair() -> Result<KeyPair> {
-    KeyPair::generate_unencrypted_keypair(&ToyScheme::new(), &mut FixedRandom::new(&counted()))
-}
-
-// The text of a secret key opened with a password that is passed in.
-fn opened(alloc: Global, text: &str, password: &str) -> Result<SecretKey> {
-    SecretKeyBox::from_string(alloc, text)?.into_secret_key(
-        alloc,
-        handed(alloc, password)?,
-        &mut silent(alloc),
-    )
-}
-
-fn text_of(alloc: Global, sk: &SecretKey) -> Result<String> {
-    Ok(sk.to_box(alloc, None)?.into_string())
-}
-
-// Signs `test` at the moment 0 with random bytes that count up from 0.
-fn signed(alloc: Global, sk: &SecretKey) -> Result<SignatureBox> {
-    sign(
+// Whether a pair that is not sealed is made so of this number of random bytes, over two sinks with
+// their room and flushes, and both took so many bytes of their records.
+fn is_written_raw(
+    alloc: Global,
+    random_bytes: usize,
+    public: LimitedSink,
+    secret: LimitedSink,
+    expected: &str,
+    took: (usize, usize),
+) -> bool {
+    let (mut public, mut secret) = (public, secret);
+    let mut drawn = [0u8; 40];
+    let (_, identifier) = drawn.split_at_mut(32);
+    identifier.copy_from_slice(&IDENTIFIER);
+    let answer = KeyPair::generate_and_write_unencrypted_keypair(
         alloc,
         &ToyScheme::new(),
-        None,
-        sk,
-        &mut SliceSource::new(b"test"),
-        None,
-        None,
-        &mut FixedRandom::new(&counted()),
-        0,
-    )
-}
-
-// The outcome of verifying the box over the data.
-fn verified(alloc: Global, pk: &PublicKey, signature_box: &SignatureBox, data: &[u8]) -> String {
-    let answer = verify(
-        alloc,
-        &ToyScheme::new(),
-        pk,
-        signature_box,
-        &mut SliceSource::new(data),
-        true,
-        false,
-        false,
-        &mut VecSink::new(alloc),
-        &mut VecSink::new(alloc),
+        &mut FixedRandom::new(front(&drawn, random_bytes)),
+        &mut public,
+        &mut secret,
     );
-    outcome(alloc, &answer)
+    let pk_record = public_record(&IDENTIFIER, &PUBLIC_BYTES);
+    let sk_record = secret_record(&[0, 0], &CHECKSUM);
+    let is_right = match &answer {
+        Ok(pair) => is_pair(alloc, pair, &pk_record, &sk_record),
+        Err(_) => true,
+    };
+    is_right
+        && comes_to(alloc, &answer, expected)
+        && public.as_slice() == front(&pk_record, took.0)
+        && secret.as_slice() == front(&sk_record, took.1)
 }
 
 // The public sink gets 42 bytes and the secret one 158, and too few random bytes leave both alone.
 // Each row: how many random bytes there are, the room and the flushes of both sinks, the answer,
 // and what both took.
 #[test]
-fn raw_pairs_are_written(rt: HostRuntime) -> std::result::Result<(), Fail> {
+fn raw_pairs_are_written(rt: HostRuntime) {
     let alloc = rt.alloc();
-    let scheme = ToyScheme::new();
-    let mut drawn = [0u8; 40];
-    drawn[32..].copy_from_slice(&IDENTIFIER);
-    let public = public_record(&IDENTIFIER, &PUBLIC_BYTES);
-    let secret = secret_record(&[0, 0], &CHECKSUM);
-    for (random_bytes, pk_limits, sk_limits, expected, took) in [
-        (
-            40usize,
-            (42usize, 1usize),
-            (158usize, 1usize),
-            ACCEPTED,
-            (42usize, 158usize),
-        ),
-        (39, (42, 1), (158, 1), UNDRAWN, (0, 0)),
-        (0, (42, 1), (158, 1), UNDRAWN, (0, 0)),
-        (40, (41, 1), (158, 1), UNWRITTEN, (41, 0)),
-        (40, (42, 0), (158, 1), UNWRITTEN, (42, 0)),
-        (40, (42, 1), (1, 1), UNWRITTEN, (42, 1)),
-        (40, (42, 1), (158, 0), UNWRITTEN, (42, 158)),
+    for (random_bytes, pk_room, pk_flushes, sk_room, sk_flushes, expected, took) in [
+        (40, 42, 1, 158, 1, ACCEPTED, (42, 158)),
+        (39, 42, 1, 158, 1, UNDRAWN, (0, 0)),
+        (0, 42, 1, 158, 1, UNDRAWN, (0, 0)),
+        (40, 41, 1, 158, 1, UNWRITTEN, (41, 0)),
+        (40, 42, 0, 158, 1, UNWRITTEN, (42, 0)),
+        (40, 42, 1, 1, 1, UNWRITTEN, (42, 1)),
+        (40, 42, 1, 158, 0, UNWRITTEN, (42, 158)),
     ] {
-        let row = (random_bytes, pk_limits, sk_limits);
-        let mut random = FixedRandom::new(front(&drawn, random_bytes));
-        let mut pk_sink = LimitedSink::new(alloc, pk_limits.0).flushed(pk_limits.1);
-        let mut sk_sink = LimitedSink::new(alloc, sk_limits.0).flushed(sk_limits.1);
-        let answer = KeyPair::generate_and_write_unencrypted_keypair(
-            alloc,
-            &scheme,
-            &mut random,
-            &mut pk_sink,
-            &mut sk_sink,
+        let public = LimitedSink::new(alloc, pk_room).flushed(pk_flushes);
+        let secret = LimitedSink::new(alloc, sk_room).flushed(sk_flushes);
+        assert!(rt;
+            is_written_raw(alloc, random_bytes, public, secret, expected, took),
+            "at {random_bytes} {pk_room} {pk_flushes} {sk_room} {sk_flushes}"
         );
-        assert_eq!(rt; outcome(alloc, &answer).as_str(), expected, "at {row:?}");
-        assert_eq!(rt; pk_sink.as_slice(), front(&public, took.0), "at {row:?}");
-        assert_eq!(rt; sk_sink.as_slice(), front(&secret, took.1), "at {row:?}");
-        if let Ok(pair) = &answer {
-            assert!(rt; is_record(&pair.pk.to_bytes(alloc), &public));
-            assert!(rt; is_record(&pair.sk.to_bytes(alloc), &secret));
-            assert!(rt; !pair.sk.is_encrypted());
-        }
     }
-    Ok(())
+}
+
+// Whether both sinks hold the texts of the pair, with the comment by default, or nothing where there
+// is no line.
+fn hold_texts(public: &[u8], secret: &[u8], line: &str) -> bool {
+    if line.is_empty() {
+        return public.is_empty() && secret.is_empty();
+    }
+    public == COUNTED_PUBLIC_TEXT.as_bytes()
+        && is_text_of(secret, "rsign encrypted secret key", line)
+}
+
+// Whether generation returns this where these passwords are typed, and what the prompt shows and
+// both sinks hold.
+fn is_made(
+    alloc: Global,
+    random_bytes: usize,
+    bytes: &[u8],
+    expected: &str,
+    shown: &str,
+    line: &str,
+) -> bool {
+    let drawn = counted();
+    let mut random = FixedRandom::new(front(&drawn, random_bytes));
+    let mut prompt = typed(alloc, bytes);
+    let mut public = VecSink::new(alloc);
+    let mut secret = VecSink::new(alloc);
+    let answer = generate(
+        alloc,
+        &mut random,
+        None,
+        None,
+        &mut prompt,
+        &mut public,
+        &mut secret,
+    );
+    comes_to(alloc, &answer, expected)
+        && prompt.writer.as_slice() == shown.as_bytes()
+        && hold_texts(public.as_slice(), secret.as_slice(), line)
 }
 
 // What generation returns where the password is typed, what the prompt shows, and the secret key's
 // line.
 #[test]
-fn sealed_pairs_are_made_of_typed_passwords(rt: HostRuntime) -> std::result::Result<(), Fail> {
-    let alloc = rt.alloc();
-    let drawn = counted();
-    let sealing = "Deriving a key from the password in order to encrypt the secret key... done\n";
-    for (row, random_bytes, typed, expected, shown, after, line) in [
+fn sealed_pairs_are_made_of_typed_passwords(rt: HostRuntime) {
+    let rows: [(usize, &[u8], &str, &str, &str); 6] = [
+        (72, b"p\np\n", ACCEPTED, SHOWN, SEALED_UNDER_P),
         (
-            "twice",
-            72usize,
-            b"p\np\n".as_slice(),
-            "accepted",
-            BOTH_ASKED,
-            sealing,
-            SEALED_UNDER_P,
-        ),
-        (
-            "empty twice",
             72,
             b"\r\n\nx",
-            "accepted",
-            "Please enter a password to protect the secret key.\nPassword: <empty>\nPassword (one more time): <empty>\n",
-            sealing,
+            ACCEPTED,
+            MARKED,
             COUNTED_SEALED_UNDER_NOTHING,
         ),
-        (
-            "two that differ",
-            72,
-            b"a\nb\n",
-            "Generate: passwords don't match!",
-            BOTH_ASKED,
-            "",
-            "",
-        ),
-        (
-            "one and the end",
-            72,
-            b"a\n",
-            "Io: unexpected end of input",
-            BOTH_ASKED,
-            "",
-            "",
-        ),
-        (
-            "no UTF-8",
-            72,
-            b"\xff\n",
-            "Io: stream did not contain valid UTF-8",
-            PURPOSE,
-            "Password: ",
-            "",
-        ),
-        (
-            "71 random bytes",
-            71,
-            b"p\np\n",
-            "RNG: random source failed",
-            "",
-            "",
-            "",
-        ),
-    ] {
-        let mut random = FixedRandom::new(&drawn[..random_bytes.min(72)]);
-        let mut prompt = Prompt::new(OneByOne::new(typed), VecSink::new(alloc));
-        let mut pk_sink = VecSink::new(alloc);
-        let mut sk_sink = VecSink::new(alloc);
-        let answer = KeyPair::generate_and_write_encrypted_keypair(
-            alloc,
-            &ToyScheme::new(),
-            &mut random,
-            &mut pk_sink,
-            &mut sk_sink,
-            None,
-            None,
-            &mut prompt,
+        (72, b"a\nb\n", DIFFERENT, BOTH_ASKED, ""),
+        (72, b"a\n", ENDED, BOTH_ASKED, ""),
+        (72, b"\xff\n", NO_UTF8, ONCE_ASKED, ""),
+        (71, b"p\np\n", UNDRAWN, "", ""),
+    ];
+    for (random_bytes, bytes, expected, shown, line) in rows {
+        assert!(rt;
+            is_made(rt.alloc(), random_bytes, bytes, expected, shown, line),
+            "at {random_bytes} {bytes:?}"
         );
-        assert_eq!(rt; outcome(alloc, &answer).as_str(), expected, "at {row}");
-        let written = prompt.writer.as_slice();
-        assert_eq!(rt;
-            written.strip_prefix(shown.as_bytes()),
-            Some(after.as_bytes()),
-            "at {row}"
-        );
-        if answer.is_ok() {
-            assert_eq!(rt;
-                pk_sink.as_slice(),
-                COUNTED_PUBLIC_TEXT.as_bytes(),
-                "at {row}"
-            );
-            assert!(rt;
-                is_text_of(sk_sink.as_slice(), "rsign encrypted secret key", line),
-                "at {row}"
-            );
-        } else {
-            assert!(rt;
-                pk_sink.as_slice().is_empty() && sk_sink.as_slice().is_empty(),
-                "at {row}"
-            );
-        }
     }
-    Ok(())
 }
 
-// What a whole and a failing public sink take of a sealed pair, whose password is passed in: the
-// prompt stays as it was.
-#[test]
-fn sealed_pairs_are_written(rt: HostRuntime) -> std::result::Result<(), Fail> {
-    let alloc = rt.alloc();
-    let scheme = ToyScheme::new();
+// What a sealed pair returns whose password is passed in, and what a public sink of this room and
+// the secret one take: the prompt stays as it was.
+fn is_written_sealed(
+    alloc: Global,
+    room: usize,
+    expected: &str,
+    public: &[u8],
+    line: Option<&str>,
+) -> bool {
+    let mut prompt = typed_at_once(alloc, b"");
+    let mut pk_sink = LimitedSink::new(alloc, room);
+    let mut sk_sink = LimitedSink::new(alloc, 300);
     let drawn = counted();
-    for (row, pk_room, expected) in [
-        ("all", 200usize, "accepted"),
-        ("public sink takes 9 bytes", 9, "Io: writing failed"),
-    ] {
-        let mut random = FixedRandom::new(&drawn);
-        let mut prompt = silent(alloc);
-        let mut pk_sink = LimitedSink::new(alloc, pk_room);
-        let mut sk_sink = LimitedSink::new(alloc, 300);
-        let answer = KeyPair::generate_and_write_encrypted_keypair(
-            alloc,
-            &scheme,
-            &mut random,
-            &mut pk_sink,
-            &mut sk_sink,
-            Some("c"),
-            handed(alloc, "password")?,
-            &mut prompt,
-        );
-        assert_eq!(rt; outcome(alloc, &answer).as_str(), expected, "at {row}");
-        assert!(rt; prompt.writer.as_slice().is_empty(), "at {row}");
-        let public = pk_sink.as_slice();
-        let secret = sk_sink.as_slice();
-        match &answer {
-            Ok(pair) => {
-                assert!(rt; pair.sk.is_encrypted());
-                let signature = signed(alloc, &pair.sk);
-                assert!(rt; signature.is_err());
-                assert_eq!(rt; public, COUNTED_PUBLIC_TEXT.as_bytes());
-                assert!(rt; is_text_of(secret, "c", SEALED_LINE));
-            }
-            Err(_) => {
-                assert_eq!(rt; public, b"untrusted".as_slice());
-                assert!(rt; secret.is_empty());
-            }
-        }
-    }
-    Ok(())
+    let mut random = FixedRandom::new(&drawn);
+    let password = Some("password");
+    let answer = generate(
+        alloc,
+        &mut random,
+        Some("c"),
+        password,
+        &mut prompt,
+        &mut pk_sink,
+        &mut sk_sink,
+    );
+    let secret = match line {
+        Some(line) => is_text_of(sk_sink.as_slice(), "c", line),
+        None => sk_sink.as_slice().is_empty(),
+    };
+    let sealed = match &answer {
+        Ok(pair) => pair.sk.is_encrypted() && signed(alloc, &pair.sk, b"test").is_err(),
+        Err(_) => true,
+    };
+    comes_to(alloc, &answer, expected)
+        && prompt.writer.as_slice().is_empty()
+        && pk_sink.as_slice() == public
+        && secret
+        && sealed
 }
 
-// The text of a sealed key opens under its password; the opened key signs, and written again it is
-// neither a sealed key nor one that was never sealed.
 #[test]
-fn sealed_keys_sign_once_they_are_opened(rt: HostRuntime) -> std::result::Result<(), Fail> {
+fn sealed_pairs_are_written(rt: HostRuntime) {
     let alloc = rt.alloc();
-    let text = format!(in alloc; "c\n{COUNTED_SEALED_UNDER_NOTHING}\n")?;
+    let whole = COUNTED_PUBLIC_TEXT.as_bytes();
+    assert!(rt; is_written_sealed(alloc, 200, ACCEPTED, whole, Some(SEALED_LINE)));
+    assert!(rt; is_written_sealed(alloc, 9, UNWRITTEN, b"untrusted", None));
+}
+
+// Whether the text is neither that of an unsealed key nor one that opens.
+fn is_no_key(alloc: Global, text: &str) -> Result<bool> {
+    let sk_box = SecretKeyBox::from_string(alloc, text)?;
+    let plain = sk_box.into_unencrypted_secret_key(alloc);
+    let sealed = opened(alloc, text, "");
+    let closed = comes_to(alloc, &sealed, "Verify: Wrong password for that key");
+    Ok(closed && comes_to(alloc, &plain, "Io: Key might be encrypted"))
+}
+
+// Whether the counted pair accepts what the key signs.
+fn signs_as_counted(alloc: Global, sk: &SecretKey) -> Result<bool> {
+    let pair = counted_pair()?;
+    let signature_box = signed_by_bytes(alloc, sk, b"test")?;
+    let judged = is_judged(alloc, &pair.pk, &signature_box, b"test", ACCEPTED);
+    Ok(judged && !sk.is_encrypted())
+}
+
+// Whether the text of a sealed key opens under its password; the opened key signs, and written again
+// it is neither a sealed key nor one that was never sealed.
+fn signs_once_it_is_opened(alloc: Global) -> Result<bool> {
+    let sealed = sealed_pair(alloc, "")?;
+    let text = text_of(alloc, &sealed.sk)?;
+    let bytes = text.as_str().as_bytes();
+    let written = is_text_of(
+        bytes,
+        "rsign encrypted secret key",
+        COUNTED_SEALED_UNDER_NOTHING,
+    );
     let sk = opened(alloc, text.as_str(), "")?;
-    assert!(rt; !sk.is_encrypted());
-    let signature_box = signed(alloc, &sk)?;
-    let pk = counted_pair()?.pk;
-    assert_eq!(rt;
-        verified(alloc, &pk, &signature_box, b"test").as_str(),
-        "accepted"
-    );
     let again = text_of(alloc, &sk)?;
-    let plain = SecretKeyBox::from_string(alloc, again.as_str())?.into_unencrypted_secret_key(
-        alloc,
-    );
-    assert_eq!(rt;
-        outcome(alloc, &plain).as_str(),
-        "Io: Key might be encrypted"
-    );
-    let sealed_again = opened(alloc, again.as_str(), "");
-    assert_eq!(rt;
-        outcome(alloc, &sealed_again).as_str(),
-        "Verify: Wrong password for that key"
-    );
-    Ok(())
+    let no_key = is_no_key(alloc, again.as_str())?;
+    let signs = signs_as_counted(alloc, &sk)?;
+    Ok(written && no_key && signs)
+}
+
+#[test]
+fn sealed_keys_sign_once_they_are_opened(rt: HostRuntime) {
+    assert!(rt; holds(&signs_once_it_is_opened(rt.alloc())));
+}
+
+// Whether both keys of a pair that is not sealed come back from their bytes, and as a copy.
+fn comes_back(alloc: Global, pair: &KeyPair) -> Result<bool> {
+    let copy = pair.clone()?;
+    let pk = PublicKey::from_bytes(&pair.pk.to_bytes(alloc)?)?;
+    let sk = SecretKey::from_bytes(&pair.sk.to_bytes(alloc)?)?;
+    Ok(
+        pk == pair.pk
+            && sk == pair.sk
+            && copy.pk == pair.pk
+            && copy.sk == pair.sk
+            && !pair.sk.is_encrypted(),
+    )
+}
+
+// Whether the box is accepted under the public key for the data alone.
+fn is_right(alloc: Global, pk: &PublicKey, signature_box: &SignatureBox) -> bool {
+    let refused = "Verify: Signature verification failed";
+    is_judged(alloc, pk, signature_box, b"test", ACCEPTED)
+        && is_judged(alloc, pk, signature_box, b"test2", refused)
+}
+
+// Whether what the key signs, with comments and without them, is accepted under the public key for
+// the data alone.
+fn signs(alloc: Global, key: &SecretKey, pk: &PublicKey) -> Result<bool> {
+    let signature_box = signed(alloc, key, b"test")?;
+    let whole = is_right(alloc, pk, &signature_box);
+    let bare = SignatureBox::from_bones(SignatureBones::from(signature_box));
+    Ok(whole && is_right(alloc, pk, &bare))
+}
+
+// Whether the key is read again from its text, which no password opens.
+fn is_read_again(alloc: Global, pair: &KeyPair) -> Result<bool> {
+    let text = text_of(alloc, &pair.sk)?;
+    let asked = opened(alloc, text.as_str(), "");
+    let sk = SecretKeyBox::from_string(alloc, text.as_str())?.into_unencrypted_secret_key(alloc)?;
+    let signs = signs(alloc, &sk, &pair.pk)?;
+    Ok(signs && comes_to(alloc, &asked, "Io: Key is not encrypted"))
 }
 
 // A pair that is not sealed: its bytes, its texts, and its signatures.
-#[test]
-fn unsealed_pairs_sign_and_are_read_again(rt: HostRuntime) -> std::result::Result<(), Fail> {
-    let alloc = rt.alloc();
+fn is_used_unsealed(alloc: Global) -> Result<bool> {
     let pair = counted_pair()?;
-    assert!(rt; PublicKey::from_bytes(&pair.pk.to_bytes(alloc)?)? == pair.pk);
-    assert!(rt; SecretKey::from_bytes(&pair.sk.to_bytes(alloc)?)? == pair.sk);
-    assert!(rt; !pair.sk.is_encrypted());
-    let copy = pair.clone()?;
-    assert!(rt; copy.pk == pair.pk && copy.sk == pair.sk);
     let made = PublicKey::from_secret_key(&pair.sk)?;
     let encoded = made.to_base64(alloc)?;
-    assert_eq!(rt; encoded.as_str(), pair.pk.to_base64(alloc)?.as_str());
-    let text = text_of(alloc, &pair.sk)?;
-    let asked = opened(alloc, text.as_str(), "");
-    assert_eq!(rt; outcome(alloc, &asked).as_str(), "Io: Key is not encrypted");
-    let sk = SecretKeyBox::from_string(alloc, text.as_str())?.into_unencrypted_secret_key(alloc)?;
-    for key in [&pair.sk, &sk] {
-        let signature_box = signed(alloc, key)?;
-        let bare = SignatureBox::from_bones(SignatureBones::from(signed(alloc, key)?));
-        for signature in [&signature_box, &bare] {
-            assert_eq!(rt;
-                verified(alloc, &made, signature, b"test").as_str(),
-                "accepted"
-            );
-            assert_eq!(rt;
-                verified(alloc, &pair.pk, signature, b"test2").as_str(),
-                "Verify: Signature verification failed"
-            );
-        }
-    }
-    Ok(())
+    let own = pair.pk.to_base64(alloc)?;
+    let back = comes_back(alloc, &pair)?;
+    let signs = signs(alloc, &pair.sk, &made)?;
+    let again = is_read_again(alloc, &pair)?;
+    Ok(encoded.as_str() == own.as_str() && back && signs && again)
+}
+
+#[test]
+fn unsealed_pairs_sign_and_are_read_again(rt: HostRuntime) {
+    assert!(rt; holds(&is_used_unsealed(rt.alloc())));
 }

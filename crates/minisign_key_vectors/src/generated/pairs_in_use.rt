@@ -1,179 +1,119 @@
 //! Pairs of keys as a caller uses them: made, written, read again, signing and verifying by texts.
 
-use minisign::{
-    ErrorKind, KeyPair, PublicKeyBox, Result, SecretKey, SecretKeyBox, SignatureBox, sign,
-    sign_texts, verify,
+use crate::generated::calls::{
+    is_judged, opened, sealed_pair, signed, signed_by_bytes, signed_text, text_of,
 };
+use minisign::{PublicKey, PublicKeyBox, Result, SecretKey, SignatureBox};
 use minisign_base::devices::random_sources::{FixedRandom, RandomSource};
-use minisign_base::devices::sinks::VecSink;
-use minisign_base::devices::sources::{SliceSource, Source};
-use minisign_base::prompt::Prompt;
-use minisign_base::toy::ToyScheme;
+use minisign_base::devices::sources::SliceSource;
 use minisign_fixtures::devices::sources::FailsAfter;
 use minisign_fixtures::keys::secret_record;
-use minisign_fixtures::outcomes::{counted, is_text, outcome};
+use minisign_fixtures::outcomes::{comes_to, counted, holds, is_text};
+use minisign_fixtures::prompts::{bytes_left, typed};
 use std::alloc::Global;
-use std::test::Fail;
 
-// A password that is passed in.
-fn handed(alloc: Global, password: &str) -> Result<Option<String>> {
-    Ok(Some(String::from_str(alloc, password)?))
+const SEALED: &str =
+    "EncryptedKey: Cannot sign with an encrypted secret key. The key must be decrypted first. Options include: SecretKeyBox::into_secret_key(password), SecretKey::from_box(box, password), SecretKey::from_file(path, password), or use KeyPair::generate_unencrypted_keypair() for passwordless keys.";
+
+const UNSUPPORTED: &str = "Io: Unsupported encryption algorithm";
+
+// Whether a sealed key does not sign.
+fn does_not_sign(alloc: Global, sk: &SecretKey) -> bool {
+    comes_to(alloc, &signed(alloc, sk, b"test"), SEALED) && sk.is_encrypted()
 }
 
-// A prompt into which nothing is typed.
-fn silent(alloc: Global) -> Prompt<SliceSource<'static>, VecSink> {
-    Prompt::new(SliceSource::new(b""), VecSink::new(alloc))
+// Whether a key that is sealed no more signs.
+fn signs(alloc: Global, sk: &SecretKey, pk: &PublicKey) -> Result<bool> {
+    let signature_box = signed_by_bytes(alloc, sk, b"test")?;
+    let judged = is_judged(alloc, pk, &signature_box, b"test", "accepted");
+    Ok(judged && !sk.is_encrypted())
 }
 
-// Signs the data at the moment 0 with the comments by default.
-fn signed(alloc: Global, sk: &SecretKey, data: &[u8]) -> Result<SignatureBox> {
-    sign(
-        alloc,
-        &ToyScheme::new(),
-        None,
-        sk,
-        &mut SliceSource::new(data),
-        None,
-        None,
-        &mut FixedRandom::new(&counted()),
-        0,
-    )
+// Whether a sealed key does not sign, and its text opens under its password to a key that signs.
+fn signs_once_it_is_opened(alloc: Global, password: &str) -> Result<bool> {
+    let pair = sealed_pair(alloc, password)?;
+    let text = text_of(alloc, &pair.sk)?;
+    let sk = opened(alloc, text.as_str(), password)?;
+    let signs = signs(alloc, &sk, &pair.pk)?;
+    Ok(signs && does_not_sign(alloc, &pair.sk))
 }
 
-// A sealed key does not sign; its text opens under its password, and the key is sealed no more.
 #[test]
-fn a_sealed_pair_signs_once_its_text_is_opened(rt: HostRuntime) -> std::result::Result<(), Fail> {
-    let alloc = rt.alloc();
+fn a_sealed_pair_signs_once_its_text_is_opened(rt: HostRuntime) {
     for password in ["password", ""] {
-        let pair = KeyPair::generate_encrypted_keypair(
-            alloc,
-            &ToyScheme::new(),
-            &mut FixedRandom::new(&counted()),
-            handed(alloc, password)?,
-            &mut silent(alloc),
-        )?;
-        assert!(rt; pair.sk.is_encrypted());
-        match signed(alloc, &pair.sk, b"test") {
-            Ok(_) => panic!(&rt; "a sealed key signed"),
-            Err(fault) => assert_eq!(rt; *fault.kind(), ErrorKind::EncryptedKey),
-        }
-        let text = pair.sk.to_box(alloc, None)?.into_string();
-        let sk = SecretKeyBox::from_string(alloc, text.as_str())?.into_secret_key(
-            alloc,
-            handed(alloc, password)?,
-            &mut silent(alloc),
-        )?;
-        assert!(rt; !sk.is_encrypted());
-        let signature_box = signed(alloc, &sk, b"test")?;
-        let answer = verify(
-            alloc,
-            &ToyScheme::new(),
-            &pair.pk,
-            &signature_box,
-            &mut SliceSource::new(b"test"),
-            true,
-            false,
-            false,
-            &mut VecSink::new(alloc),
-            &mut VecSink::new(alloc),
-        );
-        assert!(rt; answer.is_ok());
+        assert!(rt; holds(&signs_once_it_is_opened(rt.alloc(), password)));
     }
-    Ok(())
 }
 
-// All that goes from one party to another goes as a text: both keys, and the signature.
-#[test]
-fn all_goes_through_texts(rt: HostRuntime) -> std::result::Result<(), Fail> {
-    let alloc = rt.alloc();
-    let scheme = ToyScheme::new();
-    let pair = KeyPair::generate_encrypted_keypair(
-        alloc,
-        &scheme,
-        &mut FixedRandom::new(&counted()),
-        handed(alloc, "key password")?,
-        &mut silent(alloc),
-    )?;
+// Whether the box has the comments by default.
+fn has_default_comments(alloc: Global, signature_box: &SignatureBox) -> bool {
+    let untrusted = signature_box.untrusted_comment(alloc);
+    let trusted = signature_box.trusted_comment(alloc);
+    let said = is_text(&untrusted, "signature from rsign secret key");
+    is_text(&trusted, "timestamp:0") && said
+}
+
+// Whether the text of a signature has the comments by default, and vouches for the data under the
+// text of the public key.
+fn is_vouched_for(alloc: Global, public: &str, text: &str) -> Result<bool> {
+    let signature_box = SignatureBox::from_string(alloc, text)?;
+    let pk = PublicKeyBox::from_string(alloc, public)?.into_public_key(alloc)?;
+    let judged = is_judged(alloc, &pk, &signature_box, b"lorem ipsum", "accepted");
+    Ok(judged && has_default_comments(alloc, &signature_box))
+}
+
+// Whether all that goes from one party to another goes as a text: both keys, and the signature.
+fn goes_through_texts(alloc: Global) -> Result<bool> {
+    let pair = sealed_pair(alloc, "key password")?;
     let public = pair.pk.to_box(alloc)?.into_string();
-    let secret = pair.sk.to_box(alloc, None)?.into_string();
-    let sk = SecretKeyBox::from_string(alloc, secret.as_str())?.into_secret_key(
-        alloc,
-        handed(alloc, "key password")?,
-        &mut silent(alloc),
-    )?;
+    let secret = text_of(alloc, &pair.sk)?;
+    let sk = opened(alloc, secret.as_str(), "key password")?;
     let text = signed(alloc, &sk, b"lorem ipsum")?.into_string(alloc)?;
-    let signature_box = SignatureBox::from_string(alloc, text.as_str())?;
-    assert!(rt;
-        is_text(
-            &signature_box.untrusted_comment(alloc),
-            "signature from rsign secret key"
-        )
-    );
-    assert!(rt; is_text(&signature_box.trusted_comment(alloc), "timestamp:0"));
-    let pk = PublicKeyBox::from_string(alloc, public.as_str())?.into_public_key(alloc)?;
-    let answer = verify(
+    let again = signed_text(
         alloc,
-        &scheme,
-        &pk,
-        &signature_box,
-        &mut SliceSource::new(b"lorem ipsum"),
-        true,
-        false,
-        false,
-        &mut VecSink::new(alloc),
-        &mut VecSink::new(alloc),
-    );
-    assert!(rt; answer.is_ok());
-    let again = sign_texts(
-        alloc,
-        &scheme,
         secret.as_str(),
-        handed(alloc, "key password")?,
-        &mut silent(alloc),
+        Some("key password"),
+        &mut typed(alloc, b""),
         &mut SliceSource::new(b"lorem ipsum"),
-        None,
-        None,
         &mut FixedRandom::new(&counted()),
-        0,
     )?;
-    assert_eq!(rt; again.as_str(), text.as_str());
-    Ok(())
+    let vouched_for = is_vouched_for(alloc, public.as_str(), text.as_str())?;
+    Ok(vouched_for && again.as_str() == text.as_str())
 }
 
-// A text that no password opens, and one whose checksum is wrong, leave the prompt, the data and
-// the random bytes as they were.
 #[test]
-fn what_gives_no_key_is_refused_at_once(rt: HostRuntime) -> std::result::Result<(), Fail> {
-    let alloc = rt.alloc();
+fn all_goes_through_texts(rt: HostRuntime) {
+    assert!(rt; holds(&goes_through_texts(rt.alloc())));
+}
+
+// Whether the text is refused so, and leaves the prompt, the data and the random bytes as they were.
+fn is_refused_at_once(alloc: Global, text: &str, expected: &str) -> bool {
+    let mut prompt = typed(alloc, b"p\n");
+    let mut data = FailsAfter::new(b"abc", 1);
+    let drawn = counted();
+    let mut random = FixedRandom::new(&drawn);
+    let answer = signed_text(alloc, text, None, &mut prompt, &mut data, &mut random);
+    let refused = comes_to(alloc, &answer, expected);
+    let unread = (bytes_left(&mut prompt.reader), bytes_left(&mut data));
+    let undrawn = random.fill(&mut [0; 128]).is_ok();
+    refused && prompt.writer.as_slice().is_empty() && unread == (2, 1) && undrawn
+}
+
+// Whether the text of key A under this key derivation, with a checksum of zeros, is refused so.
+fn is_refused(alloc: Global, kdf: &[u8; 2], expected: &str) -> Result<bool> {
+    let key = SecretKey::from_bytes(&secret_record(kdf, &[0; 32]))?;
+    let text = text_of(alloc, &key)?;
+    Ok(is_refused_at_once(alloc, text.as_str(), expected))
+}
+
+#[test]
+fn what_gives_no_key_is_refused_at_once(rt: HostRuntime) {
     for (kdf, expected) in [
-        (b"Xx", "Io: Unsupported encryption algorithm"),
-        (b"SC", "Io: Unsupported encryption algorithm"),
+        (b"Xx", UNSUPPORTED),
+        (b"SC", UNSUPPORTED),
         (b"\0\0", "Verify: Corrupted key"),
     ] {
-        let text = SecretKey::from_bytes(&secret_record(kdf, &[0; 32]))?.to_box(alloc, None)?;
-        let mut prompt = Prompt::new(SliceSource::new(b"p\n"), VecSink::new(alloc));
-        let mut data = FailsAfter::new(b"abc", 1);
-        let drawn = counted();
-        let mut random = FixedRandom::new(&drawn);
-        let answer = sign_texts(
-            alloc,
-            &ToyScheme::new(),
-            text.into_string().as_str(),
-            None,
-            &mut prompt,
-            &mut data,
-            None,
-            None,
-            &mut random,
-            0,
-        );
-        assert_eq!(rt; outcome(alloc, &answer).as_str(), expected);
-        let (mut reader, writer) = prompt.into_parts();
-        let mut unread = [0u8; 3];
-        assert_eq!(rt; reader.read(&mut unread), Ok(2));
-        assert!(rt; writer.as_slice().is_empty());
-        assert_eq!(rt; data.read(&mut unread), Ok(1));
-        assert!(rt; random.fill(&mut [0; 128]).is_ok());
+        let refused = is_refused(rt.alloc(), kdf, expected);
+        assert!(rt; holds(&refused), "at {kdf:?}");
     }
-    Ok(())
 }

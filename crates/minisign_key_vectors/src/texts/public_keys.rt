@@ -2,18 +2,26 @@
 //!
 //! The texts hold the base64 of Python's base64 module, and what the upstream tool wrote.
 
+use crate::texts::joined;
 use minisign::{PublicKey, PublicKeyBox, Result, SecretKey};
 use minisign_fixtures::keys::{IDENTIFIER, PUBLIC_BYTES, public_record, secret_record};
-use minisign_fixtures::outcomes::{beginning, is_record, outcome};
+use minisign_fixtures::outcomes::{beginning, comes_to, holds, is_record};
 use minisign_fixtures::texts::KEY_TEXT;
 use std::alloc::Global;
-use std::test::Fail;
 
 // The second line of that text.
 const ENCODED: &str = "RWQBAgMEBQYHCFpaWlpaWlpaWlpaWlpaWlpaWlpaWlpaWlpaWlpaWlpa";
 
+// The first line of it, behind an empty one.
+const FED: &str = "\nuntrusted comment: minisign public key: 0807060504030201\n";
+
 // A key of the upstream tool.
 const UPSTREAM: &str = "RWQf6LRCGA9i53mlYecO4IzT51TGPpvWucNSCh1CBM0QTaLn73Y7GFO3";
+
+// Another key, and a line of 58 letters.
+const OTHER: &str = "RWRzq51bKcS8oJvZ4xEm+nRvGYPdsNRD3ciFPu1YJEL8Bl/3daWaj72r";
+
+const LONGER: &str = "RWQt7oYqpar/yePp+nonossdnononovlOSkkckMMfvHuGc+0+oShmJyN5Y";
 
 const NO_COMMENT: &str = "Io: Missing comment in public key";
 
@@ -35,58 +43,69 @@ fn read(alloc: Global, text: &str) -> Result<PublicKey> {
     PublicKeyBox::from_string(alloc, text)?.into_public_key(alloc)
 }
 
-#[test]
-fn a_public_key_is_written_and_read_back(rt: HostRuntime) -> std::result::Result<(), Fail> {
-    let alloc = rt.alloc();
+// Whether a public key is written as it was worked out, and read back.
+fn is_written_and_read_back(alloc: Global) -> Result<bool> {
     let record = public_record(&IDENTIFIER, &PUBLIC_BYTES);
     let key = PublicKey::from_bytes(&record)?;
-    assert_eq!(rt; key.to_base64(alloc)?.as_str(), ENCODED);
-    assert_eq!(rt; key.to_box(alloc)?.into_string().as_str(), KEY_TEXT);
-    assert!(rt; is_record(&read(alloc, KEY_TEXT)?.to_bytes(alloc), &record));
-    assert!(rt;
-        is_record(
-            &PublicKey::from_base64(alloc, ENCODED)?.to_bytes(alloc),
-            &record
-        )
-    );
+    let bare = PublicKey::from_base64(alloc, ENCODED)?;
+    let encoded = key.to_base64(alloc)?;
+    let text = key.to_box(alloc)?.into_string();
+    Ok(
+        encoded.as_str() == ENCODED
+            && text.as_str() == KEY_TEXT
+            && is_record(&read(alloc, KEY_TEXT)?.to_bytes(alloc), &record)
+            && is_record(&bare.to_bytes(alloc), &record),
+    )
+}
+
+// Whether the identifier of the upstream tool's key is shown as that tool shows it.
+fn shows_its_identifier(alloc: Global) -> Result<bool> {
     let upstream = PublicKey::from_base64(alloc, UPSTREAM)?.to_box(alloc)?;
-    assert_eq!(rt;
-        beginning(upstream.into_string().as_str(), 57),
-        "untrusted comment: minisign public key: E7620F1842B4E81F\n"
-    );
-    Ok(())
+    let first = "untrusted comment: minisign public key: E7620F1842B4E81F\n";
+    Ok(beginning(upstream.into_string().as_str(), 57) == first)
 }
 
 #[test]
-fn the_public_half_of_a_secret_key(rt: HostRuntime) -> std::result::Result<(), Fail> {
-    let alloc = rt.alloc();
+fn a_public_key_is_written_and_read_back(rt: HostRuntime) {
+    assert!(rt; holds(&is_written_and_read_back(rt.alloc())));
+    assert!(rt; holds(&shows_its_identifier(rt.alloc())));
+}
+
+// Whether this is the public half of key A's record under this key derivation.
+fn is_public_half(alloc: Global, kdf: &[u8; 2]) -> Result<bool> {
+    let secret = SecretKey::from_bytes(&secret_record(kdf, &[0; 32]))?;
+    let public = PublicKey::from_secret_key(&secret)?;
+    let record = public_record(&IDENTIFIER, &PUBLIC_BYTES);
+    Ok(is_record(&public.to_bytes(alloc), &record))
+}
+
+#[test]
+fn the_public_half_of_a_secret_key(rt: HostRuntime) {
     for kdf in [b"\0\0", b"Sc"] {
-        let secret = SecretKey::from_bytes(&secret_record(kdf, &[0; 32]))?;
-        let public = PublicKey::from_secret_key(&secret)?;
-        assert!(rt;
-            is_record(
-                &public.to_bytes(alloc),
-                &public_record(&IDENTIFIER, &PUBLIC_BYTES)
-            )
-        );
+        assert!(rt; holds(&is_public_half(rt.alloc(), kdf)));
     }
-    Ok(())
 }
 
-#[test]
-fn a_public_box_is_its_text(rt: HostRuntime) -> std::result::Result<(), Fail> {
-    let alloc = rt.alloc();
+// Whether a box is its text, whichever way it is asked.
+fn is_its_text(alloc: Global) -> Result<bool> {
     let pk_box = PublicKeyBox::from(String::from_str(alloc, KEY_TEXT)?);
-    assert!(rt; is_record(&pk_box.to_bytes(alloc), KEY_TEXT.as_bytes()));
-    assert_eq!(rt; format!(in alloc; "{pk_box}")?.as_str(), KEY_TEXT);
-    let other = pk_box.try_clone(alloc)?;
-    assert_eq!(rt; String::from(other).as_str(), KEY_TEXT);
-    assert_eq!(rt; pk_box.into_string().as_str(), KEY_TEXT);
-    Ok(())
+    let shown = format!(in alloc; "{pk_box}")?;
+    let other = String::from(pk_box.try_clone(alloc)?);
+    Ok(
+        is_record(&pk_box.to_bytes(alloc), KEY_TEXT.as_bytes())
+            && shown.as_str() == KEY_TEXT
+            && other.as_str() == KEY_TEXT
+            && pk_box.into_string().as_str() == KEY_TEXT,
+    )
 }
 
 #[test]
-fn beginnings_of_a_public_text(rt: HostRuntime) -> std::result::Result<(), Fail> {
+fn a_public_box_is_its_text(rt: HostRuntime) {
+    assert!(rt; holds(&is_its_text(rt.alloc())));
+}
+
+#[test]
+fn beginnings_of_a_public_text(rt: HostRuntime) {
     let alloc = rt.alloc();
     for len in 0..115 {
         let answer = read(alloc, beginning(KEY_TEXT, len));
@@ -96,105 +115,74 @@ fn beginnings_of_a_public_text(rt: HostRuntime) -> std::result::Result<(), Fail>
             58..=112 => LENGTH,
             _ => "accepted",
         };
-        assert_eq!(rt; outcome(alloc, &answer).as_str(), expected, "at {len}");
+        assert!(rt; comes_to(alloc, &answer, expected), "at {len}");
     }
-    Ok(())
+}
+
+// The outcome of reading so many letters of the encoded key, and what stands before and behind them.
+fn read_odd(alloc: Global, before: &str, letters: usize, behind: &str) -> Result<PublicKey> {
+    let text = joined(alloc, before, beginning(ENCODED, letters), behind)?;
+    read(alloc, text.as_str())
+}
+
+// Whether it is this one.
+fn is_read_odd(alloc: Global, before: &str, letters: usize, behind: &str, expected: &str) -> bool {
+    comes_to(alloc, &read_odd(alloc, before, letters, behind), expected)
+}
+
+// Each row: what stands before the encoded key, how many of its letters there are, and what stands
+// behind them.
+#[test]
+fn odd_public_texts(rt: HostRuntime) {
+    for (before, letters, behind, expected) in [
+        ("", 0usize, "", NO_COMMENT),
+        ("\n", 0, "", NO_KEY),
+        ("c", 0, "", NO_KEY),
+        ("c\r\n", 56, "\r\n", "accepted"),
+        ("\n", 56, "\nmore\nlines", "accepted"),
+        ("c\n", 56, "\r\r\n", LENGTH),
+        ("c\n", 56, "A\n", LENGTH),
+        ("c\n ", 56, "\n", LENGTH),
+        ("c\n", 55, "!\n", NOT_BASE64),
+        ("c\n ", 55, "\n", NOT_BASE64),
+        ("c\n ", 52, "   \n", TOO_SHORT),
+        ("c\n", 54, "o=\n", TOO_SHORT),
+        ("c\n", 55, "=\n", NOT_BASE64),
+        (FED, 56, "\n", NOT_BASE64),
+    ] {
+        assert!(rt;
+            is_read_odd(rt.alloc(), before, letters, behind, expected),
+            "at {before:?} {letters} {behind:?}"
+        );
+    }
+}
+
+// The outcome of reading a bare key of three parts.
+fn read_bare(alloc: Global, before: &str, encoded: &str, behind: &str) -> Result<PublicKey> {
+    let text = joined(alloc, before, encoded, behind)?;
+    PublicKey::from_base64(alloc, text.as_str())
+}
+
+// Whether it is this one.
+fn is_read_bare(alloc: Global, before: &str, encoded: &str, behind: &str, expected: &str) -> bool {
+    comes_to(alloc, &read_bare(alloc, before, encoded, behind), expected)
 }
 
 #[test]
-fn odd_public_texts(rt: HostRuntime) -> std::result::Result<(), Fail> {
-    let alloc = rt.alloc();
-    for (text, expected) in [
-        ("", NO_COMMENT),
-        ("\n", NO_KEY),
-        ("c", NO_KEY),
-        (
-            "c\r\nRWQBAgMEBQYHCFpaWlpaWlpaWlpaWlpaWlpaWlpaWlpaWlpaWlpaWlpa\r\n",
-            "accepted",
-        ),
-        (
-            "\nRWQBAgMEBQYHCFpaWlpaWlpaWlpaWlpaWlpaWlpaWlpaWlpaWlpaWlpa\nmore\nlines",
-            "accepted",
-        ),
-        (
-            "c\nRWQBAgMEBQYHCFpaWlpaWlpaWlpaWlpaWlpaWlpaWlpaWlpaWlpaWlpa\r\r\n",
-            LENGTH,
-        ),
-        (
-            "c\nRWQBAgMEBQYHCFpaWlpaWlpaWlpaWlpaWlpaWlpaWlpaWlpaWlpaWlpaA\n",
-            LENGTH,
-        ),
-        (
-            "c\n RWQBAgMEBQYHCFpaWlpaWlpaWlpaWlpaWlpaWlpaWlpaWlpaWlpaWlpa\n",
-            LENGTH,
-        ),
-        (
-            "c\nRWQBAgMEBQYHCFpaWlpaWlpaWlpaWlpaWlpaWlpaWlpaWlpaWlpaWlp!\n",
-            NOT_BASE64,
-        ),
-        (
-            "c\n RWQBAgMEBQYHCFpaWlpaWlpaWlpaWlpaWlpaWlpaWlpaWlpaWlpaWlp\n",
-            NOT_BASE64,
-        ),
-        (
-            "c\n RWQBAgMEBQYHCFpaWlpaWlpaWlpaWlpaWlpaWlpaWlpaWlpaWlpa   \n",
-            TOO_SHORT,
-        ),
-        (
-            "c\nRWQBAgMEBQYHCFpaWlpaWlpaWlpaWlpaWlpaWlpaWlpaWlpaWlpaWlo=\n",
-            TOO_SHORT,
-        ),
-        (
-            "c\nRWQBAgMEBQYHCFpaWlpaWlpaWlpaWlpaWlpaWlpaWlpaWlpaWlpaWlp=\n",
-            NOT_BASE64,
-        ),
-        (
-            "\nuntrusted comment: minisign public key: 0807060504030201\nRWQBAgMEBQYHCFpaWlpaWlpaWlpaWlpaWlpaWlpaWlpaWlpaWlpaWlpa\n",
-            NOT_BASE64,
-        ),
+fn bare_public_keys(rt: HostRuntime) {
+    for (before, encoded, behind, expected) in [
+        ("", OTHER, "", "accepted"),
+        (" ", OTHER, "", BARE_NOT_BASE64),
+        ("", OTHER, "\n", BARE_NOT_BASE64),
+        ("", LONGER, "", BARE_LENGTH),
+        ("", "", "", BARE_LENGTH),
+        ("", beginning(ENCODED, 54), "o=", TOO_SHORT),
+        ("", beginning(ENCODED, 55), "=", BARE_NOT_BASE64),
+        ("", beginning(ENCODED, 55), "!", BARE_NOT_BASE64),
     ] {
-        let answer = read(alloc, text);
-        assert_eq!(rt; outcome(alloc, &answer).as_str(), expected, "at {text:?}");
+        assert!(rt;
+            is_read_bare(rt.alloc(), before, encoded, behind, expected),
+            "at {before:?} {encoded} {behind:?}"
+        );
     }
-    Ok(())
-}
-
-#[test]
-fn bare_public_keys(rt: HostRuntime) -> std::result::Result<(), Fail> {
-    let alloc = rt.alloc();
-    for (text, expected) in [
-        (
-            "RWRzq51bKcS8oJvZ4xEm+nRvGYPdsNRD3ciFPu1YJEL8Bl/3daWaj72r",
-            "accepted",
-        ),
-        (
-            " RWRzq51bKcS8oJvZ4xEm+nRvGYPdsNRD3ciFPu1YJEL8Bl/3daWaj72r",
-            BARE_NOT_BASE64,
-        ),
-        (
-            "RWRzq51bKcS8oJvZ4xEm+nRvGYPdsNRD3ciFPu1YJEL8Bl/3daWaj72r\n",
-            BARE_NOT_BASE64,
-        ),
-        (
-            "RWQt7oYqpar/yePp+nonossdnononovlOSkkckMMfvHuGc+0+oShmJyN5Y",
-            BARE_LENGTH,
-        ),
-        ("", BARE_LENGTH),
-        (
-            "RWQBAgMEBQYHCFpaWlpaWlpaWlpaWlpaWlpaWlpaWlpaWlpaWlpaWlo=",
-            TOO_SHORT,
-        ),
-        (
-            "RWQBAgMEBQYHCFpaWlpaWlpaWlpaWlpaWlpaWlpaWlpaWlpaWlpaWlp=",
-            BARE_NOT_BASE64,
-        ),
-        (
-            "RWQBAgMEBQYHCFpaWlpaWlpaWlpaWlpaWlpaWlpaWlpaWlpaWlpaWlp!",
-            BARE_NOT_BASE64,
-        ),
-    ] {
-        let answer = PublicKey::from_base64(alloc, text);
-        assert_eq!(rt; outcome(alloc, &answer).as_str(), expected, "at {text:?}");
-    }
-    Ok(())
 }

@@ -1,8 +1,9 @@
 //! Devices that fail at one of their calls and go on after it: each call of the library with each
 //! of its devices failing at each of its calls in turn, until a run meets no fault.
 
+use crate::calls::{COPYING, Said, Sinks, Wanted, ample, key_a, signed_from, texts_come_out};
 use minisign::reading::read_to_end;
-use minisign::{SecretKey, SecretKeyBox, sign, sign_texts, verify_texts};
+use minisign::{Result, SecretKey, SecretKeyBox, sign_texts};
 use minisign_base::devices::random_sources::{FixedRandom, RandomSource};
 use minisign_base::devices::sinks::{Sink, VecSink};
 use minisign_base::devices::sources::{Rereader, SliceSource, Source};
@@ -11,13 +12,11 @@ use minisign_base::toy::ToyScheme;
 use minisign_fixtures::devices::random::FailingRandom;
 use minisign_fixtures::devices::sinks::LimitedSink;
 use minisign_fixtures::devices::sources::{Changes, FailingSource};
-use minisign_fixtures::keys::{CHECKSUM, secret_record};
-use minisign_fixtures::outcomes::{front, is_record, outcome};
+use minisign_fixtures::outcomes::{comes_to, front, holds, is_record};
 use minisign_fixtures::texts::{
     KEY_TEXT, LEGACY_TEXT, SAID, SEALED, SEALED_WITH_NOTHING, SIGNATURE_TEXT,
 };
 use std::alloc::Global;
-use std::test::Fail;
 
 const UNREAD: &str = "Io: reading failed";
 
@@ -40,28 +39,28 @@ const MARKED_AND_DONE: &[u8] =
 // The random bytes of the texts here.
 const ZEROS: [u8; 128] = [0; 128];
 
-// What verifying with the text returns under key A, not quiet, legacy signatures allowed.
-fn verified<R: Rereader, W: Sink, O: Sink>(
+// Whether verifying with the text under key A comes out so, with output where it is asked for and
+// legacy signatures allowed.
+fn comes_out<R: Rereader>(
     alloc: Global,
     sig_text: &str,
     data: &mut R,
     output: bool,
-    status: &mut W,
-    out: &mut O,
-) -> String {
-    let answer = verify_texts(
+    sinks: Sinks,
+    wanted: Wanted,
+) -> bool {
+    let mut options = COPYING;
+    options.output = output;
+    let toy = ToyScheme::new();
+    texts_come_out(
         alloc,
-        &ToyScheme::new(),
-        KEY_TEXT,
-        sig_text,
+        &toy,
+        (KEY_TEXT, sig_text),
         data,
-        false,
-        output,
-        true,
-        status,
-        out,
-    );
-    outcome(alloc, &answer)
+        options,
+        sinks,
+        wanted,
+    )
 }
 
 // What signing with a text and a typed password returns, with the comments `t` and `c`.
@@ -70,7 +69,7 @@ fn signed<P: Source, Q: Sink, R: Source, Z: RandomSource>(
     prompt: &mut Prompt<P, Q>,
     data: &mut R,
     random: &mut Z,
-) -> minisign::Result<String> {
+) -> Result<String> {
     sign_texts(
         alloc,
         &ToyScheme::new(),
@@ -89,57 +88,82 @@ fn signed<P: Source, Q: Sink, R: Source, Z: RandomSource>(
 #[test]
 fn the_data_of_a_copy_fails(rt: HostRuntime) {
     let alloc = rt.alloc();
-    for calls in 0..11usize {
-        let (expected, said, copied) = match calls {
-            0 => (NOT_BACK, 0usize, 0usize),
-            1..=4 => (UNREAD, 0, 0),
-            5 => (NOT_BACK, 60, 0),
-            6..=9 => (UNREAD, 60, calls.saturating_sub(6)),
-            _ => ("accepted", 60, 3),
-        };
+    for (calls, outcome, said, copied) in [
+        (0usize, NOT_BACK, 0usize, 0usize),
+        (1, UNREAD, 0, 0),
+        (2, UNREAD, 0, 0),
+        (3, UNREAD, 0, 0),
+        (4, UNREAD, 0, 0),
+        (5, NOT_BACK, 60, 0),
+        (6, UNREAD, 60, 0),
+        (7, UNREAD, 60, 1),
+        (8, UNREAD, 60, 2),
+        (9, UNREAD, 60, 3),
+        (10, "accepted", 60, 3),
+    ] {
         let mut data = FailingSource::new(b"abc", calls);
-        let mut status = VecSink::new(alloc);
-        let mut out = VecSink::new(alloc);
-        let answer = verified(
-            alloc,
-            SIGNATURE_TEXT,
-            &mut data,
-            true,
-            &mut status,
-            &mut out,
-        );
-        assert_eq!(rt; answer.as_str(), expected, "at {calls}");
-        assert_eq!(rt; status.as_slice(), front(SAID, said), "at {calls}");
-        assert_eq!(rt; out.as_slice(), front(b"abc", copied), "at {calls}");
-        if calls == 0 {
-            assert!(rt; is_record(&read_to_end(alloc, &mut data), b"abc"));
-        }
+        let wanted = Wanted {
+            outcome,
+            said: front(SAID, said),
+            copied: front(b"abc", copied),
+        };
+        let sinks = ample(alloc);
+        let came = comes_out(alloc, SIGNATURE_TEXT, &mut data, true, sinks, wanted);
+        assert!(rt; came, "at {calls}");
     }
+}
+
+// A mark that fails leaves all of the data.
+#[test]
+fn a_failing_mark_leaves_the_data(rt: HostRuntime) {
+    let alloc = rt.alloc();
+    let mut data = FailingSource::new(b"abc", 0);
+    let wanted = Wanted {
+        outcome: NOT_BACK,
+        said: b"",
+        copied: b"",
+    };
+    assert!(rt; comes_out(alloc, SIGNATURE_TEXT, &mut data, true, ample(alloc), wanted));
+    assert!(rt; is_record(&read_to_end(alloc, &mut data), b"abc"));
 }
 
 // Data that is read once: four reads, without a mark.
 #[test]
 fn data_that_is_read_once_fails(rt: HostRuntime) {
     let alloc = rt.alloc();
-    for (text, output, copied) in [
-        (SIGNATURE_TEXT, false, 0usize),
-        (LEGACY_TEXT, false, 0),
-        (LEGACY_TEXT, true, 3),
-    ] {
-        for calls in 0..5usize {
-            let (expected, said, copied) = match calls {
-                0..=3 => (UNREAD, 0usize, 0usize),
-                _ => ("accepted", 60, copied),
-            };
+    let rows: [(&str, bool, &[u8]); 3] = [
+        (SIGNATURE_TEXT, false, b""),
+        (LEGACY_TEXT, false, b""),
+        (LEGACY_TEXT, true, b"abc"),
+    ];
+    for (text, output, copied) in rows {
+        for calls in 0..4usize {
             let mut data = FailingSource::new(b"abc", calls);
-            let mut status = VecSink::new(alloc);
-            let mut out = VecSink::new(alloc);
-            let answer = verified(alloc, text, &mut data, output, &mut status, &mut out);
-            assert_eq!(rt; answer.as_str(), expected, "at {calls}");
-            assert_eq!(rt; status.as_slice(), front(SAID, said), "at {calls}");
-            assert_eq!(rt; out.as_slice(), front(b"abc", copied), "at {calls}");
+            let wanted = Wanted {
+                outcome: UNREAD,
+                said: b"",
+                copied: b"",
+            };
+            let came = comes_out(alloc, text, &mut data, output, ample(alloc), wanted);
+            assert!(rt; came, "at {calls}");
         }
+        let mut data = FailingSource::new(b"abc", 4);
+        let wanted = Wanted {
+            outcome: "accepted",
+            said: SAID,
+            copied,
+        };
+        assert!(rt; comes_out(alloc, text, &mut data, output, ample(alloc), wanted));
     }
+}
+
+// Whether verifying over a status that takes so many bytes a write, and fails behind so many calls,
+// comes out as wanted.
+fn is_told(alloc: Global, text: &str, most: usize, calls: usize, wanted: Wanted) -> bool {
+    let mut data = SliceSource::new(b"abc");
+    let mut sinks = ample(alloc);
+    sinks.status = sinks.status.by(most).failing_after(calls);
+    comes_out(alloc, text, &mut data, true, sinks, wanted)
 }
 
 // The status is written and never flushed: 60 bytes one by one, or all at once.
@@ -151,21 +175,42 @@ fn the_status_fails(rt: HostRuntime) {
         (SIGNATURE_TEXT, 100, 1),
         (LEGACY_TEXT, 1, 60),
     ] {
-        for calls in 0..61usize {
-            let passes = calls >= writes;
-            let expected = if passes { "accepted" } else { UNWRITTEN };
-            let (said, copied) = if passes { (60, 3usize) } else { (calls, 0) };
-            let mut data = SliceSource::new(b"abc");
-            let mut status = LimitedSink::new(alloc, usize::MAX)
-                .by(most)
-                .failing_after(calls);
-            let mut out = VecSink::new(alloc);
-            let answer = verified(alloc, text, &mut data, true, &mut status, &mut out);
-            assert_eq!(rt; answer.as_str(), expected, "at {calls}");
-            assert_eq!(rt; status.as_slice(), front(SAID, said), "at {calls}");
-            assert_eq!(rt; out.as_slice(), front(b"abc", copied), "at {calls}");
+        for calls in 0..writes {
+            let wanted = Wanted {
+                outcome: UNWRITTEN,
+                said: front(SAID, calls),
+                copied: b"",
+            };
+            assert!(rt; is_told(alloc, text, most, calls, wanted), "at {calls}");
         }
+        let wanted = Wanted {
+            outcome: "accepted",
+            said: SAID,
+            copied: b"abc",
+        };
+        assert!(rt; is_told(alloc, text, most, writes, wanted), "at {writes}");
     }
+}
+
+// Whether verifying over data of which a second reading gives this, and an output that takes one
+// byte a write and fails behind so many calls, comes out so.
+fn is_copied(
+    alloc: Global,
+    text: &str,
+    second: &[u8],
+    calls: usize,
+    outcome: &str,
+    copied: &[u8],
+) -> bool {
+    let mut data = Changes::new(b"abc", second);
+    let mut sinks = ample(alloc);
+    sinks.out = sinks.out.by(1).failing_after(calls);
+    let wanted = Wanted {
+        outcome,
+        said: SAID,
+        copied,
+    };
+    comes_out(alloc, text, &mut data, true, sinks, wanted)
 }
 
 // The output is written and then flushed, but for data that changed: the flush would be its fourth
@@ -179,145 +224,137 @@ fn the_output_fails(rt: HostRuntime) {
         (LEGACY_TEXT, b"abd", b"abc", 4, "accepted"),
         (SIGNATURE_TEXT, b"abd", b"abd", 3, CHANGED),
     ];
-    for (text, second, whole, wanted, answer) in rows {
-        for calls in 0..5usize {
-            let expected = if calls < wanted { UNWRITTEN } else { answer };
-            let mut data = Changes::new(b"abc", second);
-            let mut status = VecSink::new(alloc);
-            let mut out = LimitedSink::new(alloc, usize::MAX)
-                .by(1)
-                .failing_after(calls);
-            let answer = verified(alloc, text, &mut data, true, &mut status, &mut out);
-            assert_eq!(rt; answer.as_str(), expected, "at {calls}");
-            assert_eq!(rt; status.as_slice(), SAID, "at {calls}");
-            assert_eq!(rt; out.as_slice(), front(whole, calls), "at {calls}");
+    for (text, second, whole, calls, answer) in rows {
+        for calls in 0..calls {
+            let copied = front(whole, calls);
+            let came = is_copied(alloc, text, second, calls, UNWRITTEN, copied);
+            assert!(rt; came, "at {calls}");
         }
+        assert!(rt; is_copied(alloc, text, second, calls, answer, whole));
+        assert!(rt; is_copied(alloc, text, second, 4, answer, whole));
     }
 }
+
+// Whether signing over data that fails behind so many reads and random bytes that fail behind so
+// many draws has this outcome, and draws so.
+fn is_signed(alloc: Global, reads: usize, draws: usize, expected: &str) -> Result<bool> {
+    let secret = key_a()?;
+    let mut data = FailingSource::new(b"abc", reads);
+    let mut random = FailingRandom::new(&ZEROS, draws);
+    let said = Said {
+        trusted: None,
+        untrusted: None,
+        moment: 0,
+    };
+    let answer = signed_from(alloc, None, &secret, &mut data, said, &mut random);
+    let came = comes_to(alloc, &answer, expected);
+    let undrawn = random.random.fill(&mut [0; 128]).is_ok();
+    Ok(came && undrawn == (reads < 4 || draws == 0))
+}
+
+// How many reads of the data and draws of random bytes pass, and the outcome.
+const READS_AND_DRAWS: [(usize, usize, &str); 7] = [
+    (0, 0, UNREAD),
+    (1, 0, UNREAD),
+    (2, 0, UNREAD),
+    (3, 0, UNREAD),
+    (4, 0, UNDRAWN),
+    (4, 1, UNDRAWN),
+    (4, 2, "accepted"),
+];
 
 // Signing reads four times and draws twice; a key that is passed in is tested after that.
 #[test]
-fn the_devices_of_signing_fail(rt: HostRuntime) -> std::result::Result<(), Fail> {
-    let alloc = rt.alloc();
-    let secret = SecretKey::from_bytes(&secret_record(&[0, 0], &CHECKSUM))?;
-    for (reads, draws, expected) in [
-        (0usize, 0usize, UNREAD),
-        (1, 0, UNREAD),
-        (2, 0, UNREAD),
-        (3, 0, UNREAD),
-        (4, 0, UNDRAWN),
-        (4, 1, UNDRAWN),
-        (4, 2, "accepted"),
-    ] {
-        let mut data = FailingSource::new(b"abc", reads);
-        let mut random = FailingRandom::new(&ZEROS, draws);
-        let answer = sign(
-            alloc,
-            &ToyScheme::new(),
-            None,
-            &secret,
-            &mut data,
-            None,
-            None,
-            &mut random,
-            0,
-        );
-        assert_eq!(rt;
-            outcome(alloc, &answer).as_str(),
-            expected,
-            "at {reads} {draws}"
-        );
-        assert_eq!(rt;
-            random.random.fill(&mut [0; 128]).is_ok(),
-            reads < 4 || draws == 0
-        );
+fn the_devices_of_signing_fail(rt: HostRuntime) {
+    for (reads, draws, expected) in READS_AND_DRAWS {
+        let came = is_signed(rt.alloc(), reads, draws, expected);
+        assert!(rt; holds(&came), "at {reads} {draws}");
     }
-    Ok(())
 }
 
-// Until a sealed key is opened its prompt alone is used. The reader is read up to the line feed,
-// and the writer writes and flushes three texts.
+// Whether signing with this prompt has this outcome, tells so much, and leaves so much of the data
+// and of the random bytes.
+fn is_signed_with<P: Source + Drop>(
+    alloc: Global,
+    prompt: Prompt<P, LimitedSink>,
+    expected: &str,
+    told: usize,
+    is_untouched: bool,
+) -> bool {
+    let mut prompt = prompt;
+    let mut data = SliceSource::new(b"abc");
+    let mut random = FixedRandom::new(&ZEROS);
+    let answer = signed(alloc, &mut prompt, &mut data, &mut random);
+    let came = comes_to(alloc, &answer, expected);
+    let told = prompt.writer.as_slice() == front(ASKED_AND_DONE, told);
+    let left: &[u8] = if is_untouched { b"abc" } else { b"" };
+    let read = is_record(&read_to_end(alloc, &mut data), left);
+    let undrawn = random.fill(&mut [0; 128]).is_ok();
+    came && told && read && undrawn == is_untouched
+}
+
+// Until a sealed key is opened its prompt alone is used. The reader is read up to the line feed.
 #[test]
-fn the_prompt_of_signing_fails(rt: HostRuntime) {
+fn the_reader_of_signing_fails(rt: HostRuntime) {
     let alloc = rt.alloc();
-    for reads in 0..10usize {
-        let (expected, said, left) = match reads {
-            0..=8 => (UNREAD, 10usize, b"abc".as_slice()),
-            _ => ("accepted", 81, b"".as_slice()),
-        };
+    for reads in 0..9usize {
         let reader = FailingSource::new(b"password\n", reads);
-        let mut prompt = Prompt::new(reader, VecSink::new(alloc));
-        let mut data = SliceSource::new(b"abc");
-        let mut random = FixedRandom::new(&ZEROS);
-        let answer = signed(alloc, &mut prompt, &mut data, &mut random);
-        assert_eq!(rt; outcome(alloc, &answer).as_str(), expected, "at {reads}");
-        let (_, writer) = prompt.into_parts();
-        assert_eq!(rt;
-            writer.as_slice(),
-            front(ASKED_AND_DONE, said),
+        let prompt = Prompt::new(reader, LimitedSink::new(alloc, 100));
+        assert!(rt;
+            is_signed_with(alloc, prompt, UNREAD, 10, true),
             "at {reads}"
         );
-        assert!(rt; is_record(&read_to_end(alloc, &mut data), left));
-        assert_eq!(rt; random.fill(&mut [0; 128]).is_ok(), reads < 9);
     }
-    for calls in 0..7usize {
-        let (expected, said, left) = match calls {
-            0 => (UNWRITTEN, 0usize, b"abc".as_slice()),
-            1..=2 => (UNWRITTEN, 10, b"abc".as_slice()),
-            3..=4 => (UNWRITTEN, 76, b"abc".as_slice()),
-            5 => (UNWRITTEN, 81, b"abc".as_slice()),
-            _ => ("accepted", 81, b"".as_slice()),
-        };
-        let writer = LimitedSink::new(alloc, usize::MAX)
-            .by(100)
-            .failing_after(calls);
-        let mut prompt = Prompt::new(SliceSource::new(b"password\n"), writer);
-        let mut data = SliceSource::new(b"abc");
-        let mut random = FixedRandom::new(&ZEROS);
-        let answer = signed(alloc, &mut prompt, &mut data, &mut random);
-        assert_eq!(rt; outcome(alloc, &answer).as_str(), expected, "at {calls}");
-        let (_, writer) = prompt.into_parts();
-        assert_eq!(rt;
-            writer.as_slice(),
-            front(ASKED_AND_DONE, said),
+    let reader = FailingSource::new(b"password\n", 9);
+    let prompt = Prompt::new(reader, LimitedSink::new(alloc, 100));
+    assert!(rt; is_signed_with(alloc, prompt, "accepted", 81, false));
+}
+
+// The writer writes and flushes three texts.
+#[test]
+fn the_writer_of_signing_fails(rt: HostRuntime) {
+    let alloc = rt.alloc();
+    for (calls, expected, told) in [
+        (0usize, UNWRITTEN, 0usize),
+        (1, UNWRITTEN, 10),
+        (2, UNWRITTEN, 10),
+        (3, UNWRITTEN, 76),
+        (4, UNWRITTEN, 76),
+        (5, UNWRITTEN, 81),
+        (6, "accepted", 81),
+    ] {
+        let writer = LimitedSink::new(alloc, 100).failing_after(calls);
+        let prompt = Prompt::new(SliceSource::new(b"password\n"), writer);
+        assert!(rt;
+            is_signed_with(alloc, prompt, expected, told, calls < 6),
             "at {calls}"
         );
-        assert!(rt; is_record(&read_to_end(alloc, &mut data), left));
-        assert_eq!(rt; random.fill(&mut [0; 128]).is_ok(), calls < 6);
     }
+}
+
+// Whether signing with a text over such data and random bytes has this outcome, and draws so; the
+// prompt is told all.
+fn is_signed_by_text(alloc: Global, reads: usize, draws: usize, expected: &str) -> bool {
+    let mut prompt = Prompt::new(SliceSource::new(b"password\n"), VecSink::new(alloc));
+    let mut data = FailingSource::new(b"abc", reads);
+    let mut random = FailingRandom::new(&ZEROS, draws);
+    let answer = signed(alloc, &mut prompt, &mut data, &mut random);
+    let came = comes_to(alloc, &answer, expected);
+    let text = match &answer {
+        Ok(text) => text.as_str() == SIGNATURE_TEXT,
+        Err(_) => true,
+    };
+    let told = prompt.writer.as_slice() == ASKED_AND_DONE;
+    let undrawn = random.random.fill(&mut [0; 128]).is_ok();
+    came && text && told && undrawn == (reads < 4 || draws == 0)
 }
 
 // Once the key is opened, the data is read four times and random bytes are drawn twice.
 #[test]
 fn the_devices_of_signing_with_a_text_fail(rt: HostRuntime) {
-    let alloc = rt.alloc();
-    for (reads, draws, expected) in [
-        (0usize, 0usize, UNREAD),
-        (1, 0, UNREAD),
-        (2, 0, UNREAD),
-        (3, 0, UNREAD),
-        (4, 0, UNDRAWN),
-        (4, 1, UNDRAWN),
-        (4, 2, "accepted"),
-    ] {
-        let mut prompt = Prompt::new(SliceSource::new(b"password\n"), VecSink::new(alloc));
-        let mut data = FailingSource::new(b"abc", reads);
-        let mut random = FailingRandom::new(&ZEROS, draws);
-        let answer = signed(alloc, &mut prompt, &mut data, &mut random);
-        assert_eq!(rt;
-            outcome(alloc, &answer).as_str(),
-            expected,
-            "at {reads} {draws}"
-        );
-        if let Ok(text) = &answer {
-            assert_eq!(rt; text.as_str(), SIGNATURE_TEXT);
-        }
-        let (_, writer) = prompt.into_parts();
-        assert_eq!(rt; writer.as_slice(), ASKED_AND_DONE);
-        assert_eq!(rt;
-            random.random.fill(&mut [0; 128]).is_ok(),
-            reads < 4 || draws == 0
-        );
+    for (reads, draws, expected) in READS_AND_DRAWS {
+        let came = is_signed_by_text(rt.alloc(), reads, draws, expected);
+        assert!(rt; came, "at {reads} {draws}");
     }
 }
 
@@ -331,58 +368,91 @@ fn a_prompt_that_takes_four_bytes_leaves_the_data(rt: HostRuntime) {
     let mut data = SliceSource::new(b"abc");
     let mut random = FixedRandom::new(&ZEROS);
     let answer = signed(alloc, &mut prompt, &mut data, &mut random);
-    assert_eq!(rt; outcome(alloc, &answer).as_str(), UNWRITTEN);
+    assert!(rt; comes_to(alloc, &answer, UNWRITTEN));
     let (mut reader, writer) = prompt.into_parts();
-    assert_eq!(rt; writer.as_slice(), b"Pass".as_slice());
+    assert!(rt; writer.as_slice() == b"Pass".as_slice());
     assert!(rt; is_record(&read_to_end(alloc, &mut reader), b"password\n"));
     assert!(rt; is_record(&read_to_end(alloc, &mut data), b"abc"));
 }
 
-// The prompt of opening, where a password is typed and where an empty one is: it is told that it is
+// Whether opening the text with this prompt has this outcome, and tells this.
+fn opens<P: Source + Drop>(
+    alloc: Global,
+    text: &str,
+    prompt: Prompt<P, LimitedSink>,
+    expected: &str,
+    told: &[u8],
+) -> bool {
+    let mut prompt = prompt;
+    let Ok(sk_box) = SecretKeyBox::from_string(alloc, text) else {
+        return false;
+    };
+    let answer = SecretKey::from_box(alloc, sk_box, None, &mut prompt);
+    comes_to(alloc, &answer, expected) && prompt.writer.as_slice() == told
+}
+
+// The prompt's reader, where a password is typed and where an empty one is: it is told that it is
 // empty.
 #[test]
-fn the_prompt_of_opening_fails(rt: HostRuntime) -> std::result::Result<(), Fail> {
+fn the_reader_of_opening_fails(rt: HostRuntime) {
     let alloc = rt.alloc();
-    let rows: [(&str, &[u8], &[u8], [usize; 9]); 2] = [
-        (
-            SEALED,
-            b"password\n",
-            ASKED_AND_DONE,
-            [0, 10, 10, 76, 76, 81, 81, 81, 81],
-        ),
-        (
-            SEALED_WITH_NOTHING,
-            b"\n",
-            MARKED_AND_DONE,
-            [0, 10, 10, 18, 18, 84, 84, 89, 89],
-        ),
+    let rows: [(&str, &[u8], &[u8]); 2] = [
+        (SEALED, b"password\n", ASKED_AND_DONE),
+        (SEALED_WITH_NOTHING, b"\n", MARKED_AND_DONE),
     ];
-    for (text, typed, whole, lengths) in rows {
-        for reads in 0..10usize {
+    for (text, typed, whole) in rows {
+        for reads in 0..typed.len() {
             let reader = FailingSource::new(typed, reads);
-            let mut prompt = Prompt::new(reader, VecSink::new(alloc));
-            let sk_box = SecretKeyBox::from_string(alloc, text)?;
-            let answer = SecretKey::from_box(alloc, sk_box, None, &mut prompt);
-            let fails = reads < typed.len();
-            let expected = if fails { UNREAD } else { "accepted" };
-            assert_eq!(rt; outcome(alloc, &answer).as_str(), expected, "at {reads}");
-            let said = if fails { 10 } else { whole.len() };
-            let (_, writer) = prompt.into_parts();
-            assert_eq!(rt; writer.as_slice(), front(whole, said), "at {reads}");
+            let prompt = Prompt::new(reader, LimitedSink::new(alloc, 100));
+            assert!(rt;
+                opens(alloc, text, prompt, UNREAD, front(whole, 10)),
+                "at {reads}"
+            );
         }
-        for (calls, said) in lengths.into_iter().enumerate() {
-            let writer = LimitedSink::new(alloc, usize::MAX)
-                .by(100)
-                .failing_after(calls);
-            let mut prompt = Prompt::new(SliceSource::new(typed), writer);
-            let sk_box = SecretKeyBox::from_string(alloc, text)?;
-            let answer = SecretKey::from_box(alloc, sk_box, None, &mut prompt);
-            let (_, writer) = prompt.into_parts();
-            let fails = writer.has_failed();
-            let expected = if fails { UNWRITTEN } else { "accepted" };
-            assert_eq!(rt; outcome(alloc, &answer).as_str(), expected, "at {calls}");
-            assert_eq!(rt; writer.as_slice(), front(whole, said), "at {calls}");
-        }
+        let reader = FailingSource::new(typed, typed.len());
+        let prompt = Prompt::new(reader, LimitedSink::new(alloc, 100));
+        assert!(rt; opens(alloc, text, prompt, "accepted", whole));
     }
-    Ok(())
+}
+
+// The prompt's writer writes and flushes three texts where a password is typed, and four where an
+// empty one is.
+#[test]
+fn the_writer_of_opening_fails(rt: HostRuntime) {
+    let alloc = rt.alloc();
+    for (calls, told) in [0usize, 10, 10, 76, 76, 81].into_iter().enumerate() {
+        let writer = LimitedSink::new(alloc, 100).failing_after(calls);
+        let prompt = Prompt::new(SliceSource::new(b"password\n"), writer);
+        let told = front(ASKED_AND_DONE, told);
+        assert!(rt; opens(alloc, SEALED, prompt, UNWRITTEN, told), "at {calls}");
+    }
+    for (calls, told) in [0usize, 10, 10, 18, 18, 84, 84, 89].into_iter().enumerate() {
+        let writer = LimitedSink::new(alloc, 100).failing_after(calls);
+        let prompt = Prompt::new(SliceSource::new(b"\n"), writer);
+        let told = front(MARKED_AND_DONE, told);
+        assert!(rt;
+            opens(alloc, SEALED_WITH_NOTHING, prompt, UNWRITTEN, told),
+            "at {calls}"
+        );
+    }
+}
+
+// Behind its last call the key opens.
+#[test]
+fn the_writer_of_opening_is_called_so_often(rt: HostRuntime) {
+    let alloc = rt.alloc();
+    let writer = LimitedSink::new(alloc, 100).failing_after(6);
+    let prompt = Prompt::new(SliceSource::new(b"password\n"), writer);
+    assert!(rt; opens(alloc, SEALED, prompt, "accepted", ASKED_AND_DONE));
+    let writer = LimitedSink::new(alloc, 100).failing_after(8);
+    let prompt = Prompt::new(SliceSource::new(b"\n"), writer);
+    assert!(rt;
+        opens(
+            alloc,
+            SEALED_WITH_NOTHING,
+            prompt,
+            "accepted",
+            MARKED_AND_DONE
+        )
+    );
 }

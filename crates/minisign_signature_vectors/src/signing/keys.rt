@@ -1,11 +1,13 @@
 //! Signing with a raw secret key, and verifying what was signed, under the toy.
 
+use crate::calls::{
+    SAYING, Said, Sinks, Wanted, ample, box_comes_out, box_judges, key_a, public_a, signed,
+    signed_by_bytes, signed_from,
+};
 use minisign::reading::read_to_end;
-use minisign::{PublicKey, Result, SecretKey, SignatureBones, SignatureBox, sign, verify};
+use minisign::{PublicKey, Result, SecretKey, SignatureBones, SignatureBox, VerifyOptions};
 use minisign_base::devices::random_sources::{FixedRandom, RandomSource, SourceRandom};
-use minisign_base::devices::sinks::VecSink;
-use minisign_base::devices::sources::SliceSource;
-use minisign_base::scheme::Scheme;
+use minisign_base::devices::sources::{SliceSource, Source};
 use minisign_base::toy::ToyScheme;
 use minisign_examples::example::sign_and_verify;
 use minisign_fixtures::devices::sinks::LimitedSink;
@@ -15,10 +17,10 @@ use minisign_fixtures::keys::{
     TIED_TO_ABC, TIED_TO_COMMENT, TIED_TO_NO_COMMENT, TIED_TO_NOTHING, public_record,
     secret_record, signature_record,
 };
-use minisign_fixtures::outcomes::{is_record, is_text, outcome};
+use minisign_fixtures::outcomes::{comes_to, front, holds, is_record, is_text};
+use minisign_fixtures::texts::SAID;
 use minisign_fixtures::two_signatures::TwoSignatures;
 use std::alloc::Global;
-use std::test::Fail;
 
 const MOMENT: u64 = 1555779966;
 
@@ -30,457 +32,374 @@ fn with_zeros(tied: &[u8; 32]) -> [u8; 64] {
     bytes
 }
 
-fn key_a() -> std::result::Result<(SecretKey, PublicKey), Fail> {
-    Ok((
-        SecretKey::from_bytes(&secret_record(&[0, 0], &CHECKSUM))?,
-        PublicKey::from_bytes(&public_record(&IDENTIFIER, &PUBLIC_BYTES))?,
-    ))
-}
+// The random bytes of most signatures.
+const ZEROS: [u8; 128] = [0; 128];
 
-// The outcome of verifying the box over the data, or nothing where `status` holds anything but
-// `said` after a success, or anything at all after a refusal.
-fn told<S: Scheme>(
-    alloc: Global,
-    scheme: &S,
-    key: &PublicKey,
-    signature_box: &SignatureBox,
-    data: &[u8],
-    said: &[u8],
-) -> String {
-    let mut data = SliceSource::new(data);
-    let mut status = VecSink::new(alloc);
-    let mut out = VecSink::new(alloc);
-    let answer = verify(
-        alloc,
-        scheme,
-        key,
-        signature_box,
-        &mut data,
-        false,
-        false,
-        false,
-        &mut status,
-        &mut out,
-    );
-    let said = if answer.is_ok() { said } else { b"" };
-    if status.as_slice() == said {
-        outcome(alloc, &answer)
-    } else {
-        String::new(alloc)
+const REFUSED: &str = "Verify: Signature verification failed";
+
+const COMMENT_REFUSED: &str = "Verify: Comment signature verification failed";
+
+const OTHER_KEY: &str =
+    "Verify: Signature key id: 0807060504030201 is different from public key: E7620F1842B4E81F";
+
+const OTHER_GIVEN: &str =
+    "Verify: Could not verify signature with the provided public key ID: E7620F1842B4E81F";
+
+const SEALED: &str =
+    "EncryptedKey: Cannot sign with an encrypted secret key. The key must be decrypted first. Options include: SecretKeyBox::into_secret_key(password), SecretKey::from_box(box, password), SecretKey::from_file(path, password), or use KeyPair::generate_unencrypted_keypair() for passwordless keys.";
+
+const UNDRAWN: &str = "RNG: random source failed";
+
+const UNREAD: &str = "Io: reading failed";
+
+const UNWRITTEN: &str = "Io: writing failed";
+
+// What is said of a signature without a comment, and of one with an empty comment.
+const SAID_BARE: &[u8] = b"Signature and comment signature verified\n";
+
+const SAID_NOTHING: &[u8] = b"Signature and comment signature verified\nTrusted comment: \n";
+
+// Both comments by what they hold, at the moment of the tests.
+fn saying<'a>(trusted: Option<&'a str>, untrusted: Option<&'a str>) -> Said<'a> {
+    Said {
+        trusted,
+        untrusted,
+        moment: MOMENT,
     }
 }
 
-// Key A signs with random bytes that are zeros.
-fn signed(
-    alloc: Global,
-    data: &[u8],
-    trusted: Option<&str>,
-    untrusted: Option<&str>,
-) -> Result<SignatureBox> {
-    let secret = SecretKey::from_bytes(&secret_record(&[0, 0], &CHECKSUM))?;
-    let mut data = OneByOne::new(data);
-    let mut random = FixedRandom::new(&[0; 128]);
-    sign(
-        alloc,
-        &ToyScheme::new(),
-        None,
-        &secret,
-        &mut data,
-        trusted,
-        untrusted,
-        &mut random,
-        MOMENT,
-    )
+// What verifying is wanted to come to, where nothing is copied.
+fn wanted<'a>(outcome: &'a str, said: &'a [u8]) -> Wanted<'a> {
+    Wanted {
+        outcome,
+        said,
+        copied: b"",
+    }
+}
+
+// What a signature was worked out to be: its data and both comments, what is said, the digest, and
+// what is tied to the zeros of both signatures.
+#[derive(Clone, Copy)]
+struct Worked {
+    data: &'static [u8],
+    comment: &'static str,
+    said: &'static [u8],
+    digest: [u8; 64],
+    tied: [u8; 32],
+    comment_tied: [u8; 32],
+}
+
+const OF_ABC: Worked = Worked {
+    data: b"abc",
+    comment: "t",
+    said: SAID,
+    digest: DIGEST_OF_ABC,
+    tied: TIED_TO_ABC,
+    comment_tied: TIED_TO_COMMENT,
+};
+
+const OF_NOTHING: Worked = Worked {
+    data: b"",
+    comment: "",
+    said: SAID_NOTHING,
+    digest: DIGEST_OF_NOTHING,
+    tied: TIED_TO_NOTHING,
+    comment_tied: TIED_TO_NO_COMMENT,
+};
+
+// Whether the box holds exactly both signatures, by a scheme that accepts no others.
+fn is_exact(alloc: Global, worked: Worked, parts: (&PublicKey, &SignatureBox)) -> bool {
+    let signature = with_zeros(&worked.tied);
+    let mut comment_signature = with_zeros(&worked.comment_tied);
+    let exact = TwoSignatures::new(worked.digest, signature, comment_signature);
+    let accepted = wanted("accepted", worked.said);
+    let is_accepted = box_judges(alloc, &exact, parts, worked.data, accepted);
+    comment_signature[63] ^= 1;
+    let changed = TwoSignatures::new(worked.digest, signature, comment_signature);
+    let refused = wanted(COMMENT_REFUSED, b"");
+    is_accepted && box_judges(alloc, &changed, parts, worked.data, refused)
+}
+
+// Whether the box is accepted under the toy for its data alone.
+fn is_accepted(alloc: Global, worked: Worked, parts: (&PublicKey, &SignatureBox)) -> bool {
+    let toy = ToyScheme::new();
+    let accepted = wanted("accepted", worked.said);
+    let refused = wanted(REFUSED, b"");
+    box_judges(alloc, &toy, parts, worked.data, accepted)
+        && box_judges(alloc, &toy, parts, b"x", refused)
+}
+
+// Whether its bones have the record that was worked out, and are accepted without comments.
+fn has_bones(alloc: Global, worked: Worked, pk: &PublicKey, signature_box: SignatureBox) -> bool {
+    let bones = SignatureBones::from(signature_box);
+    let record = signature_record(b"ED", &IDENTIFIER, &worked.tied);
+    let recorded = is_record(&bones.to_bytes(alloc), &record);
+    let bare = SignatureBox::from_bones(bones);
+    let toy = ToyScheme::new();
+    let accepted = wanted("accepted", SAID_BARE);
+    recorded && box_judges(alloc, &toy, (pk, &bare), worked.data, accepted)
+}
+
+// Whether the boxes that key A signs with random bytes that are zeros, of data that is read at once
+// and one byte a read, are as they were worked out.
+fn is_worked_out(alloc: Global, worked: Worked) -> Result<bool> {
+    let pk = public_a()?;
+    let said = saying(Some(worked.comment), Some(worked.comment));
+    let at_once = signed(alloc, worked.data, said, &ZEROS)?;
+    let by_bytes = signed_by_bytes(alloc, worked.data, said, &ZEROS)?;
+    let once = is_exact(alloc, worked, (&pk, &at_once));
+    let bytes = is_exact(alloc, worked, (&pk, &by_bytes));
+    let accepted = is_accepted(alloc, worked, (&pk, &by_bytes));
+    Ok(once && bytes && accepted && has_bones(alloc, worked, &pk, at_once))
 }
 
 // Each box has its comments, both signatures byte by byte, and is accepted for its data alone.
 #[test]
-fn signatures_are_as_worked_out(rt: HostRuntime) -> std::result::Result<(), Fail> {
-    let alloc = rt.alloc();
-    let public = PublicKey::from_bytes(&public_record(&IDENTIFIER, &PUBLIC_BYTES))?;
-    let toy = ToyScheme::new();
-    for (data, comment, said, digest, tied, comment_tied) in [
-        (
-            b"abc".as_slice(),
-            "t",
-            b"Signature and comment signature verified\nTrusted comment: t\n".as_slice(),
-            DIGEST_OF_ABC,
-            TIED_TO_ABC,
-            TIED_TO_COMMENT,
-        ),
-        (
-            b"",
-            "",
-            b"Signature and comment signature verified\nTrusted comment: \n",
-            DIGEST_OF_NOTHING,
-            TIED_TO_NOTHING,
-            TIED_TO_NO_COMMENT,
-        ),
-    ] {
-        let signature_box = signed(alloc, data, Some(comment), Some(comment))?;
-        assert_eq!(rt;
-            told(alloc, &toy, &public, &signature_box, data, said).as_str(),
-            "accepted",
-            "at {comment}"
-        );
-        assert_eq!(rt;
-            told(alloc, &toy, &public, &signature_box, b"x", said).as_str(),
-            "Verify: Signature verification failed"
-        );
-        let signature = with_zeros(&tied);
-        let mut comment_signature = with_zeros(&comment_tied);
-        let exact = TwoSignatures::new(digest, signature, comment_signature);
-        assert_eq!(rt;
-            told(alloc, &exact, &public, &signature_box, data, said).as_str(),
-            "accepted",
-            "exactly at {comment}"
-        );
-        comment_signature[63] ^= 1;
-        let changed = TwoSignatures::new(digest, signature, comment_signature);
-        assert_eq!(rt;
-            told(alloc, &changed, &public, &signature_box, data, said).as_str(),
-            "Verify: Comment signature verification failed"
-        );
-        let bones = SignatureBones::from(signature_box);
-        assert!(rt;
-            is_record(
-                &bones.to_bytes(alloc),
-                &signature_record(b"ED", &IDENTIFIER, &tied)
-            ),
-            "at {comment}"
-        );
-        let bare = SignatureBox::from_bones(bones);
-        assert_eq!(rt;
-            told(
-                alloc,
-                &toy,
-                &public,
-                &bare,
-                data,
-                b"Signature and comment signature verified\n"
-            )
-            .as_str(),
-            "accepted",
-            "bare at {comment}"
-        );
-    }
-    Ok(())
+fn signatures_are_as_worked_out(rt: HostRuntime) {
+    assert!(rt; holds(&is_worked_out(rt.alloc(), OF_ABC)));
+    assert!(rt; holds(&is_worked_out(rt.alloc(), OF_NOTHING)));
+}
+
+// Whether the box that is signed with these comments shows those.
+fn shows(alloc: Global, said: Said, trusted: &str, untrusted: &str) -> Result<bool> {
+    let signature_box = signed(alloc, b"abc", said, &ZEROS)?;
+    let named = signature_box.is_prehashed() && signature_box.keynum() == IDENTIFIER.as_slice();
+    let shown = signature_box.trusted_comment(alloc)?;
+    let below = signature_box.untrusted_comment(alloc)?;
+    Ok(named && shown.as_str() == trusted && below.as_str() == untrusted)
 }
 
 #[test]
-fn comments_are_kept_or_made(rt: HostRuntime) -> std::result::Result<(), Fail> {
+fn comments_are_kept_or_made(rt: HostRuntime) {
+    let (timestamp, untrusted) = ("timestamp:1555779966", "signature from rsign secret key");
     let alloc = rt.alloc();
-    for (trusted, untrusted, shown_trusted, shown_untrusted) in [
-        (Some("t"), Some("c"), "t", "c"),
-        (Some(""), Some(""), "", ""),
-        (
-            None,
-            None,
-            "timestamp:1555779966",
-            "signature from rsign secret key",
-        ),
-    ] {
-        let signature_box = signed(alloc, b"abc", trusted, untrusted)?;
-        assert!(rt; signature_box.is_prehashed());
-        assert_eq!(rt; signature_box.keynum(), IDENTIFIER.as_slice());
-        assert!(rt;
-            is_text(&signature_box.trusted_comment(alloc), shown_trusted),
-            "at {shown_trusted}"
-        );
-        assert!(rt;
-            is_text(&signature_box.untrusted_comment(alloc), shown_untrusted),
-            "at {shown_untrusted}"
-        );
-    }
-    Ok(())
+    assert!(rt; holds(&shows(alloc, saying(Some("t"), Some("c")), "t", "c")));
+    assert!(rt; holds(&shows(alloc, saying(Some(""), Some("")), "", "")));
+    assert!(rt; holds(&shows(alloc, saying(None, None), timestamp, untrusted)));
 }
 
-// The second 64 random bytes are those of the comment signature: number 95 is its byte 31.
-#[test]
-fn random_bytes_go_where_they_belong(rt: HostRuntime) -> std::result::Result<(), Fail> {
-    let alloc = rt.alloc();
-    let (secret, public) = key_a()?;
-    let mut drawn = [0u8; 128];
-    drawn[95] = 0xf2;
-    let mut random = SourceRandom::new(SliceSource::new(&drawn));
-    let mut source = SliceSource::new(b"abc");
-    let signature_box = sign(
-        alloc,
-        &ToyScheme::new(),
-        None,
-        &secret,
-        &mut source,
-        Some("t"),
-        Some("c"),
-        &mut random,
-        0,
-    )?;
+// Whether random byte number 95 is byte 31 of the comment signature of the box.
+fn has_byte_95(alloc: Global, signature_box: &SignatureBox) -> Result<bool> {
+    let pk = public_a()?;
     let mut comment_signature = with_zeros(&TIED_TO_COMMENT);
     comment_signature[31] = 0xf2;
     comment_signature[63] = 0;
     let exact = TwoSignatures::new(DIGEST_OF_ABC, with_zeros(&TIED_TO_ABC), comment_signature);
-    let said = b"Signature and comment signature verified\nTrusted comment: t\n";
-    assert_eq!(rt;
-        told(alloc, &exact, &public, &signature_box, b"abc", said).as_str(),
-        "accepted"
-    );
-    assert_eq!(rt;
-        told(
-            alloc,
-            &ToyScheme::new(),
-            &public,
-            &signature_box,
-            b"abc",
-            said
-        )
-        .as_str(),
-        "accepted"
-    );
-    Ok(())
+    let toy = ToyScheme::new();
+    let accepted = wanted("accepted", SAID);
+    let parts = (&pk, signature_box);
+    let tied = box_judges(alloc, &exact, parts, b"abc", accepted);
+    Ok(tied && box_judges(alloc, &toy, parts, b"abc", accepted))
+}
+
+// Whether it is so where the data and the random bytes come from these sources.
+fn is_drawn<R: Source, Z: RandomSource>(
+    alloc: Global,
+    data: &mut R,
+    random: &mut Z,
+) -> Result<bool> {
+    let sk = key_a()?;
+    let said = saying(Some("t"), Some("c"));
+    let made = signed_from(alloc, None, &sk, data, said, random)?;
+    has_byte_95(alloc, &made)
+}
+
+// The second 64 random bytes are those of the comment signature: number 95 is its byte 31.
+#[test]
+fn random_bytes_go_where_they_belong(rt: HostRuntime) {
+    let alloc = rt.alloc();
+    let mut drawn = [0u8; 128];
+    drawn[95] = 0xf2;
+    let mut whole = SourceRandom::new(SliceSource::new(&drawn));
+    assert!(rt; holds(&is_drawn(alloc, &mut SliceSource::new(b"abc"), &mut whole)));
+    let mut bytes = SourceRandom::new(OneByOne::new(&drawn));
+    assert!(rt; holds(&is_drawn(alloc, &mut OneByOne::new(b"abc"), &mut bytes)));
+}
+
+// Whether signing with key A's record under this key derivation and checksum, over data that fails
+// behind so many reads and so many random bytes, has this outcome, and leaves so many of them.
+fn leaves(
+    alloc: Global,
+    record: &[u8; 158],
+    reads: u64,
+    random_bytes: usize,
+    expected: &str,
+    left: usize,
+) -> Result<bool> {
+    let secret = SecretKey::from_bytes(record)?;
+    let drawn = [7u8; 128];
+    let mut random = FixedRandom::new(front(&drawn, random_bytes));
+    let mut source = FailsAfter::new(b"abc", reads);
+    let said = saying(None, None);
+    let answer = signed_from(alloc, None, &secret, &mut source, said, &mut random);
+    let came = comes_to(alloc, &answer, expected);
+    let mut rest = [0u8; 128];
+    let filled = random.fill(&mut rest[..left.min(128)]).is_ok();
+    let ended = random.fill(&mut [0]).is_err();
+    Ok(came && filled && ended)
 }
 
 // What a refused or a good run leaves in the random source. Each row: the key derivation and the
 // checksum of key A, how many reads pass, how many random bytes there are, the answer, and how many
 // of them are left.
 #[test]
-fn signing_is_refused_in_its_order(rt: HostRuntime) -> std::result::Result<(), Fail> {
-    let alloc = rt.alloc();
-    let sealed =
-        "EncryptedKey: Cannot sign with an encrypted secret key. The key must be decrypted first. Options include: SecretKeyBox::into_secret_key(password), SecretKey::from_box(box, password), SecretKey::from_file(path, password), or use KeyPair::generate_unencrypted_keypair() for passwordless keys.";
-    let drawn = [7u8; 128];
-    let undrawn = "RNG: random source failed";
-    let unread = "Io: reading failed";
+fn signing_is_refused_in_its_order(rt: HostRuntime) {
     for (kdf, checksum, reads, random_bytes, expected, left) in [
-        ([0u8, 0], [0u8; 32], 4u64, 128usize, "accepted", 0usize),
-        (*b"Sc", CHECKSUM, 4, 128, "accepted", 0),
-        (*b"Sc", [0; 32], 4, 128, sealed, 128),
-        (*b"Sc", [0; 32], 0, 0, sealed, 0),
-        ([0, 0], CHECKSUM, 4, 127, undrawn, 63),
-        ([0, 0], CHECKSUM, 4, 64, undrawn, 0),
-        ([0, 0], CHECKSUM, 4, 63, undrawn, 63),
-        ([0, 0], CHECKSUM, 1, 128, unread, 128),
-        ([0, 0], CHECKSUM, 3, 0, unread, 0),
+        (b"\0\0", [0u8; 32], 4u64, 128usize, "accepted", 0usize),
+        (b"Sc", CHECKSUM, 4, 128, "accepted", 0),
+        (b"Sc", [0; 32], 4, 128, SEALED, 128),
+        (b"Sc", [0; 32], 0, 0, SEALED, 0),
+        (b"\0\0", CHECKSUM, 4, 127, UNDRAWN, 63),
+        (b"\0\0", CHECKSUM, 4, 64, UNDRAWN, 0),
+        (b"\0\0", CHECKSUM, 4, 63, UNDRAWN, 63),
+        (b"\0\0", CHECKSUM, 1, 128, UNREAD, 128),
+        (b"\0\0", CHECKSUM, 3, 0, UNREAD, 0),
     ] {
-        let row = (kdf, reads, random_bytes);
-        let secret = SecretKey::from_bytes(&secret_record(&kdf, &checksum))?;
-        let mut random = FixedRandom::new(&drawn[..random_bytes.min(128)]);
-        let mut source = FailsAfter::new(b"abc", reads);
-        let answer = sign(
-            alloc,
-            &ToyScheme::new(),
-            None,
-            &secret,
-            &mut source,
-            None,
-            None,
-            &mut random,
-            0,
-        );
-        assert_eq!(rt; outcome(alloc, &answer).as_str(), expected, "at {row:?}");
-        let mut rest = [0u8; 128];
-        assert!(rt;
-            random.fill(&mut rest[..left.min(128)]).is_ok(),
-            "at {row:?}"
-        );
-        assert!(rt; random.fill(&mut [0]).is_err(), "at {row:?}");
+        let record = secret_record(kdf, &checksum);
+        let left = leaves(rt.alloc(), &record, reads, random_bytes, expected, left);
+        assert!(rt; holds(&left), "at {kdf:?} {reads} {random_bytes}");
     }
+}
 
-    Ok(())
+// Whether signing under this key derivation with no random bytes is refused, and leaves so much of
+// the source.
+fn leaves_ahead<R: Source>(
+    alloc: Global,
+    kdf: &[u8; 2],
+    data: &mut R,
+    ahead: &[u8],
+) -> Result<bool> {
+    let secret = SecretKey::from_bytes(&secret_record(kdf, &[0; 32]))?;
+    let mut random = FixedRandom::new(&[]);
+    let answer = signed_from(alloc, None, &secret, data, saying(None, None), &mut random);
+    let refused = answer.is_err();
+    Ok(refused && is_record(&read_to_end(alloc, data), ahead))
 }
 
 // A sealed key leaves all of the source, and too few random bytes leave none.
 #[test]
-fn sources_are_read_to_their_end_or_not_at_all(rt: HostRuntime) -> std::result::Result<(), Fail> {
+fn sources_are_read_to_their_end_or_not_at_all(rt: HostRuntime) {
     let alloc = rt.alloc();
-    for (row, kdf, ahead) in [
-        ("sealed", *b"Sc", b"abc".as_slice()),
-        ("no random bytes", [0, 0], b""),
-    ] {
-        let secret = SecretKey::from_bytes(&secret_record(&kdf, &[0; 32]))?;
-        let mut source = SliceSource::new(b"abc");
-        let mut random = FixedRandom::new(&[]);
-        assert!(rt;
-            sign(
-                alloc,
-                &ToyScheme::new(),
-                None,
-                &secret,
-                &mut source,
-                None,
-                None,
-                &mut random,
-                0
-            )
-            .is_err()
-        );
-        assert!(rt;
-            is_record(&read_to_end(alloc, &mut source), ahead),
-            "at {row}"
-        );
+    let rows: [(&[u8; 2], &[u8]); 2] = [(b"Sc", b"abc"), (b"\0\0", b"")];
+    for (kdf, ahead) in rows {
+        let whole = leaves_ahead(alloc, kdf, &mut SliceSource::new(b"abc"), ahead);
+        assert!(rt; holds(&whole), "at {kdf:?}");
+        let bytes = leaves_ahead(alloc, kdf, &mut OneByOne::new(b"abc"), ahead);
+        assert!(rt; holds(&bytes), "at {kdf:?}");
     }
-    Ok(())
 }
 
-// The 32 bytes of a public key that is passed in are tested, and never its identifier.
-#[test]
-fn a_given_public_key_is_tested_by_its_bytes(rt: HostRuntime) -> std::result::Result<(), Fail> {
-    let alloc = rt.alloc();
-    let (secret, _) = key_a()?;
-    let refused =
-        "Verify: Could not verify signature with the provided public key ID: E7620F1842B4E81F";
-    for (row, identifier, bytes, expected) in [
-        ("own key", IDENTIFIER, PUBLIC_BYTES, "accepted"),
-        (
-            "own bytes, other identifier",
-            OTHER_IDENTIFIER,
-            PUBLIC_BYTES,
-            "accepted",
-        ),
-        (
-            "the key of a seed of 32 times 01",
-            OTHER_IDENTIFIER,
-            [0x5b; 32],
-            refused,
-        ),
-    ] {
-        let public = PublicKey::from_bytes(&public_record(&identifier, &bytes))?;
-        let mut source = SliceSource::new(b"abc");
-        let mut random = FixedRandom::new(&[0; 128]);
-        let answer = sign(
-            alloc,
-            &ToyScheme::new(),
-            Some(&public),
-            &secret,
-            &mut source,
-            Some("t"),
-            Some("c"),
-            &mut random,
-            0,
-        );
-        assert_eq!(rt; outcome(alloc, &answer).as_str(), expected, "at {row}");
-    }
-    Ok(())
+// Whether signing with this public key to test has this outcome.
+fn is_tested<R: Source>(
+    alloc: Global,
+    record: &[u8; 42],
+    data: &mut R,
+    expected: &str,
+) -> Result<bool> {
+    let sk = key_a()?;
+    let pk = PublicKey::from_bytes(record)?;
+    let mut random = FixedRandom::new(&ZEROS);
+    let said = saying(Some("t"), Some("c"));
+    let answer = signed_from(alloc, Some(&pk), &sk, data, said, &mut random);
+    Ok(comes_to(alloc, &answer, expected))
 }
 
+// The 32 bytes of a public key that is passed in are tested, and never its identifier: its own one,
+// another one, and that of the key of a seed of 32 times 01.
 #[test]
-fn signed_boxes_are_judged(rt: HostRuntime) -> std::result::Result<(), Fail> {
+fn a_given_public_key_is_tested_by_its_bytes(rt: HostRuntime) {
     let alloc = rt.alloc();
-    let toy = ToyScheme::new();
-    let signature_box = signed(alloc, b"abc", Some("t"), Some("c"))?;
+    for (identifier, bytes, expected) in [
+        (IDENTIFIER, PUBLIC_BYTES, "accepted"),
+        (OTHER_IDENTIFIER, PUBLIC_BYTES, "accepted"),
+        (OTHER_IDENTIFIER, [0x5b; 32], OTHER_GIVEN),
+    ] {
+        let record = public_record(&identifier, &bytes);
+        let whole = is_tested(alloc, &record, &mut SliceSource::new(b"abc"), expected);
+        assert!(rt; holds(&whole), "at {expected}");
+        let bytes = is_tested(alloc, &record, &mut OneByOne::new(b"abc"), expected);
+        assert!(rt; holds(&bytes), "at {expected}");
+    }
+}
+
+// Whether the box of `abc` is refused under another identifier, over the data and over a source
+// whose second read fails.
+fn is_of_another_key(alloc: Global) -> Result<bool> {
+    let made = signed(alloc, b"abc", saying(Some("t"), Some("c")), &ZEROS)?;
     let renamed = PublicKey::from_bytes(&public_record(&OTHER_IDENTIFIER, &PUBLIC_BYTES))?;
-    let other_key =
-        "Verify: Signature key id: 0807060504030201 is different from public key: E7620F1842B4E81F";
-    assert_eq!(rt;
-        told(alloc, &toy, &renamed, &signature_box, b"abc", b"").as_str(),
-        other_key
-    );
+    let parts = (&renamed, &made);
+    let toy = ToyScheme::new();
+    let other = box_judges(alloc, &toy, parts, b"abc", wanted(OTHER_KEY, b""));
     let mut failing = FailsAfter::new(b"abc", 1);
-    let mut status = VecSink::new(alloc);
-    let mut out = VecSink::new(alloc);
-    let answer = verify(
-        alloc,
-        &toy,
-        &renamed,
-        &signature_box,
-        &mut failing,
-        false,
-        false,
-        false,
-        &mut status,
-        &mut out,
-    );
-    assert_eq!(rt; outcome(alloc, &answer).as_str(), "Io: reading failed");
-    assert_eq!(rt; status.as_slice(), b"".as_slice());
-    assert_eq!(rt; out.as_slice(), b"".as_slice());
-    Ok(())
+    let unread = wanted(UNREAD, b"");
+    let sinks = ample(alloc);
+    Ok(other && box_comes_out(alloc, &toy, parts, &mut failing, SAYING, sinks, unread))
 }
 
 #[test]
-fn failing_status_of_signed_boxes_is_told(rt: HostRuntime) -> std::result::Result<(), Fail> {
-    let alloc = rt.alloc();
-    let public = PublicKey::from_bytes(&public_record(&IDENTIFIER, &PUBLIC_BYTES))?;
-    let signature_box = signed(alloc, b"abc", Some("t"), Some("c"))?;
+fn signed_boxes_are_judged(rt: HostRuntime) {
+    assert!(rt; holds(&is_of_another_key(rt.alloc())));
+}
+
+// Whether verifying the box of `abc` over a status with this room, that can't be flushed, has this
+// outcome, and says so much.
+fn is_told(alloc: Global, quiet: bool, room: usize, outcome: &str, said: usize) -> Result<bool> {
+    let made = signed(alloc, b"abc", saying(Some("t"), Some("c")), &ZEROS)?;
+    let pk = public_a()?;
+    let sinks = Sinks {
+        status: LimitedSink::new(alloc, room).flushed(0),
+        out: LimitedSink::new(alloc, 0),
+    };
+    let options = VerifyOptions {
+        quiet,
+        output: false,
+        allow_legacy: false,
+    };
+    let toy = ToyScheme::new();
+    let mut data = SliceSource::new(b"abc");
+    let wanted = wanted(outcome, front(SAID, said));
+    Ok(box_comes_out(alloc, &toy, (&pk, &made), &mut data, options, sinks, wanted))
+}
+
+#[test]
+fn failing_status_of_signed_boxes_is_told(rt: HostRuntime) {
     for (quiet, room, expected, said) in [
-        (
-            false,
-            50usize,
-            "Io: writing failed",
-            b"Signature and comment signature verified\nTrusted c".as_slice(),
-        ),
-        (
-            false,
-            59,
-            "Io: writing failed",
-            b"Signature and comment signature verified\nTrusted comment: t",
-        ),
-        (
-            false,
-            60,
-            "accepted",
-            b"Signature and comment signature verified\nTrusted comment: t\n",
-        ),
-        (true, 0, "accepted", b""),
+        (false, 50usize, UNWRITTEN, 50usize),
+        (false, 59, UNWRITTEN, 59),
+        (false, 60, "accepted", 60),
+        (true, 0, "accepted", 0),
     ] {
-        let mut status = LimitedSink::new(alloc, room).flushed(0);
-        let mut out = VecSink::new(alloc);
-        let mut data = SliceSource::new(b"abc");
-        let answer = verify(
-            alloc,
-            &ToyScheme::new(),
-            &public,
-            &signature_box,
-            &mut data,
-            quiet,
-            false,
-            false,
-            &mut status,
-            &mut out,
-        );
-        assert_eq!(rt;
-            outcome(alloc, &answer).as_str(),
-            expected,
-            "room for {room}"
-        );
-        assert_eq!(rt; status.as_slice(), said, "room for {room}");
+        let told = is_told(rt.alloc(), quiet, room, expected, said);
+        assert!(rt; holds(&told), "room for {room}");
     }
-    Ok(())
+}
+
+// The text of the example of a caller, with this public key.
+fn example(alloc: Global, pk: &PublicKey) -> Result<String> {
+    let sk = key_a()?;
+    let mut random = FixedRandom::new(&ZEROS);
+    sign_and_verify(
+        alloc,
+        &ToyScheme::new(),
+        &sk,
+        pk,
+        b"abc",
+        &mut random,
+        MOMENT,
+    )
+}
+
+// Whether the example gives a text with its moment, and refuses another public key.
+fn is_exemplary(alloc: Global) -> Result<bool> {
+    let other = PublicKey::from_bytes(&public_record(&IDENTIFIER, &[0x5b; 32]))?;
+    let refused = comes_to(alloc, &example(alloc, &other), REFUSED);
+    let text = example(alloc, &public_a()?)?;
+    let made = SignatureBox::from_string(alloc, text.as_str())?;
+    Ok(refused && is_text(&made.trusted_comment(alloc), "timestamp:1555779966"))
 }
 
 // The example of a caller, with its own public key and with another one.
 #[test]
-fn the_example_signs_and_verifies(rt: HostRuntime) -> std::result::Result<(), Fail> {
-    let alloc = rt.alloc();
-    let (secret, public) = key_a()?;
-    let other = PublicKey::from_bytes(&public_record(&IDENTIFIER, &[0x5b; 32]))?;
-    let toy = ToyScheme::new();
-    let sig_text = sign_and_verify(
-        alloc,
-        &toy,
-        &secret,
-        &public,
-        b"abc",
-        &mut FixedRandom::new(&[0; 128]),
-        MOMENT,
-    )?;
-    let signature_box = SignatureBox::from_string(alloc, sig_text.as_str())?;
-    assert!(rt;
-        is_text(
-            &signature_box.trusted_comment(alloc),
-            "timestamp:1555779966"
-        )
-    );
-    let answer = sign_and_verify(
-        alloc,
-        &toy,
-        &secret,
-        &other,
-        b"abc",
-        &mut FixedRandom::new(&[0; 128]),
-        MOMENT,
-    );
-    assert_eq!(rt;
-        outcome(alloc, &answer).as_str(),
-        "Verify: Signature verification failed"
-    );
-    Ok(())
+fn the_example_signs_and_verifies(rt: HostRuntime) {
+    assert!(rt; holds(&is_exemplary(rt.alloc())));
 }

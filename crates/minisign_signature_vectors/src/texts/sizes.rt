@@ -1,127 +1,183 @@
 //! Comments and data of many sizes, with ample memory, and moments that need more than 32 bits.
 
-use minisign::{PublicKey, Result, SecretKey, SignatureBox, sign, verify_texts};
+use crate::calls::{
+    COPYING, Said, Wanted, ample, key_a, public_a, signed, signed_from, texts_come_out,
+};
+use minisign::{Result, SignatureBox};
 use minisign_base::devices::random_sources::FixedRandom;
-use minisign_base::devices::sinks::VecSink;
 use minisign_base::devices::sources::SliceSource;
 use minisign_base::toy::ToyScheme;
-use minisign_fixtures::keys::{CHECKSUM, secret_record};
-use minisign_fixtures::outcomes::{front, is_text, outcome};
-use minisign_fixtures::texts::KEY_TEXT;
+use minisign_fixtures::outcomes::{front, holds, is_text};
+use minisign_fixtures::texts::{KEY_TEXT, SAID};
 use std::alloc::Global;
-use std::test::Fail;
 
-// The box over the data that key A signs with the comments, or with those by default.
-fn signed(
-    alloc: Global,
-    data: &[u8],
-    trusted: Option<&str>,
-    untrusted: Option<&str>,
-    moment: u64,
-) -> Result<SignatureBox> {
-    let secret = SecretKey::from_bytes(&secret_record(&[0, 0], &CHECKSUM))?;
-    let public = PublicKey::from_secret_key(&secret)?;
-    sign(
+const REFUSED: &str = "Verify: Signature verification failed";
+
+const ZEROS: [u8; 128] = [0; 128];
+
+// The box over the data that key A signs with these comments, its public key tested.
+fn tested(alloc: Global, data: &[u8], said: Said) -> Result<SignatureBox> {
+    let sk = key_a()?;
+    let pk = public_a()?;
+    let mut random = FixedRandom::new(&ZEROS);
+    signed_from(
         alloc,
-        &ToyScheme::new(),
-        Some(&public),
-        &secret,
+        Some(&pk),
+        &sk,
         &mut SliceSource::new(data),
-        trusted,
-        untrusted,
-        &mut FixedRandom::new(&[0; 128]),
-        moment,
+        said,
+        &mut random,
     )
 }
 
-// Verifies the data with key A's text, and copies it.
-fn copied(alloc: Global, sig_text: &str, data: &[u8], out: &mut VecSink) -> String {
-    let answer = verify_texts(
+// Whether verifying the data with key A's text comes out so, with output.
+fn comes_out(alloc: Global, sig_text: &str, data: &[u8], wanted: Wanted) -> bool {
+    let mut data = SliceSource::new(data);
+    let toy = ToyScheme::new();
+    texts_come_out(
         alloc,
-        &ToyScheme::new(),
-        KEY_TEXT,
-        sig_text,
-        &mut SliceSource::new(data),
-        false,
-        true,
-        false,
-        &mut VecSink::new(alloc),
-        out,
-    );
-    outcome(alloc, &answer)
+        &toy,
+        (KEY_TEXT, sig_text),
+        &mut data,
+        COPYING,
+        ample(alloc),
+        wanted,
+    )
+}
+
+// Whether the text over the data is accepted, with the trusted comment `t`, and its data copied.
+fn is_accepted(alloc: Global, sig_text: &str, data: &[u8]) -> bool {
+    let wanted = Wanted {
+        outcome: "accepted",
+        said: SAID,
+        copied: data,
+    };
+    comes_out(alloc, sig_text, data, wanted)
+}
+
+// Whether it is refused over other data.
+fn is_refused(alloc: Global, sig_text: &str, data: &[u8]) -> bool {
+    let wanted = Wanted {
+        outcome: REFUSED,
+        said: b"",
+        copied: b"",
+    };
+    comes_out(alloc, sig_text, data, wanted)
+}
+
+// Whether the text over `abc` is accepted, and this trusted comment is said.
+fn is_said(alloc: Global, sig_text: &str, comment: &str) -> Result<bool> {
+    let told = format!(in alloc;
+        "Signature and comment signature verified\nTrusted comment: {comment}\n"
+    )?;
+    let wanted = Wanted {
+        outcome: "accepted",
+        said: told.as_str().as_bytes(),
+        copied: b"abc",
+    };
+    Ok(comes_out(alloc, sig_text, b"abc", wanted))
+}
+
+// Whether both comments of this many letters come back, and the box is accepted.
+fn come_back(alloc: Global, size: usize) -> Result<bool> {
+    let comment = String::from_utf8(vec![in alloc; b'x'; size]?)?;
+    let comment = comment.as_str();
+    let said = Said {
+        trusted: Some(comment),
+        untrusted: Some(comment),
+        moment: 0,
+    };
+    let made = tested(alloc, b"abc", said)?;
+    let text = made.into_string(alloc)?;
+    let read = SignatureBox::from_string(alloc, text.as_str())?;
+    let trusted = is_text(&read.trusted_comment(alloc), comment);
+    let untrusted = is_text(&read.untrusted_comment(alloc), comment);
+    let accepted = is_said(alloc, text.as_str(), comment)?;
+    Ok(accepted && trusted && untrusted)
 }
 
 // Around each power of two up to 2^17: both comments come back, and the box is accepted.
 #[test]
-fn comments_of_many_sizes(rt: HostRuntime) -> std::result::Result<(), Fail> {
-    let alloc = rt.alloc();
+fn comments_of_many_sizes(rt: HostRuntime) {
     for exponent in 0..18u32 {
         let power = 1usize << exponent;
         for size in [power.saturating_sub(1), power, power.saturating_add(1)] {
-            let comment = String::from_utf8(vec![in alloc; b'x'; size]?)?;
-            let comment = comment.as_str();
-            let made = signed(alloc, b"abc", Some(comment), Some(comment), 0)?;
-            let text = made.to_string(alloc)?;
-            let read = SignatureBox::from_string(alloc, text.as_str())?;
-            assert!(rt; is_text(&read.trusted_comment(alloc), comment), "at {size}");
-            assert!(rt;
-                is_text(&read.untrusted_comment(alloc), comment),
-                "at {size}"
-            );
-            let mut out = VecSink::new(alloc);
-            let answer = copied(alloc, text.as_str(), b"abc", &mut out);
-            assert_eq!(rt; answer.as_str(), "accepted", "at {size}");
+            assert!(rt; holds(&come_back(rt.alloc(), size)), "at {size}");
         }
     }
-    Ok(())
+}
+
+// The text over the data, with the trusted comment `t`.
+fn text_over(alloc: Global, data: &[u8]) -> Result<String> {
+    let said = Said {
+        trusted: Some("t"),
+        untrusted: None,
+        moment: 0,
+    };
+    signed(alloc, data, said, &ZEROS)?.into_string(alloc)
+}
+
+// Bytes that count up, modulo 251.
+fn bytes(alloc: Global, size: usize) -> Result<Vec<u8>> {
+    let mut bytes = vec![in alloc; 0u8; size]?;
+    for (i, byte) in bytes.iter_mut().enumerate() {
+        *byte = (i % 251) as u8;
+    }
+    Ok(bytes)
+}
+
+// Whether data of this size is accepted and copied, and refused without its last byte.
+fn is_judged(alloc: Global, size: usize) -> Result<bool> {
+    let data = bytes(alloc, size)?;
+    let text = text_over(alloc, &data)?;
+    let cut = front(&data, size.saturating_sub(1));
+    let refused = size == 0 || is_refused(alloc, text.as_str(), cut);
+    Ok(refused && is_accepted(alloc, text.as_str(), &data))
 }
 
 // The data of each such size is accepted and copied, and without its last byte refused.
 #[test]
-fn data_of_many_sizes(rt: HostRuntime) -> std::result::Result<(), Fail> {
-    let alloc = rt.alloc();
+fn data_of_many_sizes(rt: HostRuntime) {
     for exponent in 0..18u32 {
         let power = 1usize << exponent;
         for size in [power.saturating_sub(1), power, power.saturating_add(1)] {
-            let mut data = vec![in alloc; 0u8; size]?;
-            for (i, byte) in data.iter_mut().enumerate() {
-                *byte = (i % 251) as u8;
-            }
-            let text = signed(alloc, &data, Some("t"), None, 0)?.into_string(alloc)?;
-            let mut out = VecSink::new(alloc);
-            let answer = copied(alloc, text.as_str(), &data, &mut out);
-            assert_eq!(rt; answer.as_str(), "accepted", "at {size}");
-            assert!(rt; out.as_slice() == data.as_slice(), "at {size}");
-            if size > 0 {
-                let cut = front(&data, size - 1);
-                let answer = copied(alloc, text.as_str(), cut, &mut VecSink::new(alloc));
-                assert!(rt; answer.as_str() != "accepted", "at {size}");
-            }
+            assert!(rt; holds(&is_judged(rt.alloc(), size)), "at {size}");
         }
     }
-    Ok(())
+}
+
+// Whether data with this byte at its beginning and at its end is accepted.
+fn is_taken(alloc: Global, byte: u8) -> Result<bool> {
+    let data = [byte, b'a', byte];
+    let text = text_over(alloc, &data)?;
+    Ok(is_accepted(alloc, text.as_str(), &data))
 }
 
 // Every byte is data like any other, at the beginning and at the end.
 #[test]
-fn data_of_every_byte(rt: HostRuntime) -> std::result::Result<(), Fail> {
-    let alloc = rt.alloc();
+fn data_of_every_byte(rt: HostRuntime) {
     for byte in 0..=255u8 {
-        let data = [byte, b'a', byte];
-        let text = signed(alloc, &data, Some("t"), None, 0)?.into_string(alloc)?;
-        let mut out = VecSink::new(alloc);
-        let answer = copied(alloc, text.as_str(), &data, &mut out);
-        assert_eq!(rt; answer.as_str(), "accepted", "at {byte}");
-        assert!(rt; out.as_slice() == data.as_slice(), "at {byte}");
+        assert!(rt; holds(&is_taken(rt.alloc(), byte)), "at {byte}");
     }
-    Ok(())
+}
+
+// Whether a box of this moment has this comment, and is accepted.
+fn is_dated(alloc: Global, moment: u64, expected: &str) -> Result<bool> {
+    let said = Said {
+        trusted: None,
+        untrusted: None,
+        moment,
+    };
+    let text = tested(alloc, b"abc", said)?.into_string(alloc)?;
+    let read = SignatureBox::from_string(alloc, text.as_str())?;
+    let dated = is_text(&read.trusted_comment(alloc), expected);
+    Ok(dated && is_said(alloc, text.as_str(), expected)?)
 }
 
 // The last second of 32 bits with a sign and the one behind it, the same without a sign, and the
 // last of all.
 #[test]
-fn moments_after_2038_and_2106(rt: HostRuntime) -> std::result::Result<(), Fail> {
-    let alloc = rt.alloc();
+fn moments_after_2038_and_2106(rt: HostRuntime) {
     for (moment, expected) in [
         (2147483647u64, "timestamp:2147483647"),
         (2147483648, "timestamp:2147483648"),
@@ -129,14 +185,9 @@ fn moments_after_2038_and_2106(rt: HostRuntime) -> std::result::Result<(), Fail>
         (4294967296, "timestamp:4294967296"),
         (18446744073709551615, "timestamp:18446744073709551615"),
     ] {
-        let made = signed(alloc, b"abc", None, None, moment)?;
         assert!(rt;
-            is_text(&made.trusted_comment(alloc), expected),
+            holds(&is_dated(rt.alloc(), moment, expected)),
             "at {moment}"
         );
-        let text = made.into_string(alloc)?;
-        let answer = copied(alloc, text.as_str(), b"abc", &mut VecSink::new(alloc));
-        assert_eq!(rt; answer.as_str(), "accepted", "at {moment}");
     }
-    Ok(())
 }

@@ -1,12 +1,11 @@
 //! Texts that the upstream tool wrote, under a table of what its scheme accepts, and the letters of
 //! base64.
 
-use minisign::{PublicKey, Signature, SignatureBox, verify_texts};
-use minisign_base::devices::sinks::VecSink;
+use crate::calls::{Wanted, texts_judge};
+use minisign::{PublicKey, Result, Signature, SignatureBox, VerifyOptions};
 use minisign_base::toy::{ToyScheme, Triple};
-use minisign_fixtures::devices::sources::OneByOne;
-use minisign_fixtures::outcomes::{is_text, outcome};
-use std::test::Fail;
+use minisign_fixtures::outcomes::{holds, is_text};
+use std::alloc::Global;
 
 // The key of both signatures.
 pub const KEY: &str = "RWQf6LRCGA9i53mlYecO4IzT51TGPpvWucNSCh1CBM0QTaLn73Y7GFO3";
@@ -87,99 +86,109 @@ const LETTERS: [u8; 48] = [
     0xab, 0xb2, 0xdb, 0xaf, 0xc3, 0x1c, 0xb3, 0xd3, 0x5d, 0xb7, 0xe3, 0x9e, 0xbb, 0xf3, 0xdf, 0xbf,
 ];
 
-#[test]
-fn texts_of_the_upstream_tool(rt: HostRuntime) -> std::result::Result<(), Fail> {
-    let alloc = rt.alloc();
-    let table = [
-        Triple {
-            message: b"test",
-            public_key: KEY_BYTES,
-            signature: LEGACY_SIGNATURE,
-        },
-        Triple {
-            message: &LEGACY_SIGNED_COMMENT,
-            public_key: KEY_BYTES,
-            signature: LEGACY_COMMENT_SIGNATURE,
-        },
-        Triple {
-            message: &DIGEST_OF_TEST,
-            public_key: KEY_BYTES,
-            signature: PREHASHED_SIGNATURE,
-        },
-        Triple {
-            message: &PREHASHED_SIGNED_COMMENT,
-            public_key: KEY_BYTES,
-            signature: PREHASHED_COMMENT_SIGNATURE,
-        },
-    ];
-    let scheme = ToyScheme::with_table(&table);
+// What the scheme of the upstream tool accepts.
+const TABLE: [Triple<'static>; 4] = [
+    Triple {
+        message: b"test",
+        public_key: KEY_BYTES,
+        signature: LEGACY_SIGNATURE,
+    },
+    Triple {
+        message: &LEGACY_SIGNED_COMMENT,
+        public_key: KEY_BYTES,
+        signature: LEGACY_COMMENT_SIGNATURE,
+    },
+    Triple {
+        message: &DIGEST_OF_TEST,
+        public_key: KEY_BYTES,
+        signature: PREHASHED_SIGNATURE,
+    },
+    Triple {
+        message: &PREHASHED_SIGNED_COMMENT,
+        public_key: KEY_BYTES,
+        signature: PREHASHED_COMMENT_SIGNATURE,
+    },
+];
+
+// Whether the text has this outcome over the data, at once and one byte a read, in a quiet run.
+fn is_judged(
+    alloc: Global,
+    text: &str,
+    data: &[u8],
+    allow_legacy: bool,
+    outcome: &str,
+) -> Result<bool> {
     let pk_text = PublicKey::from_base64(alloc, KEY)?
         .to_box(alloc)?
         .into_string();
+    let scheme = ToyScheme::with_table(&TABLE);
+    let mut options = VerifyOptions::SILENT;
+    options.allow_legacy = allow_legacy;
+    let wanted = Wanted {
+        outcome,
+        said: b"",
+        copied: b"",
+    };
+    Ok(texts_judge(
+        alloc,
+        &scheme,
+        (pk_text.as_str(), text),
+        data,
+        options,
+        wanted,
+    ))
+}
+
+#[test]
+fn texts_of_the_upstream_tool(rt: HostRuntime) {
     let legacy = "Verify: Legacy signatures are not accepted";
     let refused = "Verify: Signature verification failed";
-    for (text, data, allow_legacy, expected) in [
-        (LEGACY_TEXT, b"test".as_slice(), true, "accepted"),
-        (LEGACY_TEXT, b"test".as_slice(), false, legacy),
-        (LEGACY_TEXT, b"test2".as_slice(), true, refused),
-        (PREHASHED_TEXT, b"test".as_slice(), false, "accepted"),
-        (PREHASHED_TEXT, b"test".as_slice(), true, "accepted"),
-        (PREHASHED_TEXT, b"test2".as_slice(), false, refused),
-    ] {
-        let mut source = OneByOne::new(data);
-        let mut status = VecSink::new(alloc);
-        let mut out = VecSink::new(alloc);
-        let answer = verify_texts(
-            alloc,
-            &scheme,
-            pk_text.as_str(),
-            text,
-            &mut source,
-            true,
-            false,
-            allow_legacy,
-            &mut status,
-            &mut out,
-        );
-        assert_eq!(rt; outcome(alloc, &answer).as_str(), expected);
+    let rows: [(&str, &[u8], bool, &str); 6] = [
+        (LEGACY_TEXT, b"test", true, "accepted"),
+        (LEGACY_TEXT, b"test", false, legacy),
+        (LEGACY_TEXT, b"test2", true, refused),
+        (PREHASHED_TEXT, b"test", false, "accepted"),
+        (PREHASHED_TEXT, b"test", true, "accepted"),
+        (PREHASHED_TEXT, b"test2", false, refused),
+    ];
+    for (text, data, allow_legacy, expected) in rows {
+        let judged = is_judged(rt.alloc(), text, data, allow_legacy, expected);
+        assert!(rt; holds(&judged), "at {expected} {allow_legacy}");
     }
-    Ok(())
+}
+
+// Whether the text holds the untrusted comment by default and this trusted one.
+fn has_comments(alloc: Global, text: &str, prehashed: bool, trusted: &str) -> Result<bool> {
+    let made = SignatureBox::from_string(alloc, text)?;
+    let untrusted = "signature from minisign secret key";
+    let below = is_text(&made.untrusted_comment(alloc), untrusted);
+    let shown = is_text(&made.trusted_comment(alloc), trusted);
+    Ok(below && shown && made.is_prehashed() == prehashed)
 }
 
 #[test]
-fn what_the_upstream_texts_hold(rt: HostRuntime) -> std::result::Result<(), Fail> {
-    let alloc = rt.alloc();
-    for (text, prehashed, trusted) in [
-        (LEGACY_TEXT, false, "timestamp:1555779966\tfile:test"),
-        (PREHASHED_TEXT, true, "timestamp:1556193335\tfile:test"),
-    ] {
-        let signature_box = SignatureBox::from_string(alloc, text)?;
-        assert_eq!(rt; signature_box.is_prehashed(), prehashed);
-        assert!(rt;
-            is_text(
-                &signature_box.untrusted_comment(alloc),
-                "signature from minisign secret key"
-            )
-        );
-        assert!(rt; is_text(&signature_box.trusted_comment(alloc), trusted));
-    }
-    Ok(())
+fn what_the_upstream_texts_hold(rt: HostRuntime) {
+    let (old, new) = (
+        "timestamp:1555779966\tfile:test",
+        "timestamp:1556193335\tfile:test",
+    );
+    assert!(rt; holds(&has_comments(rt.alloc(), LEGACY_TEXT, false, old)));
+    assert!(rt; holds(&has_comments(rt.alloc(), PREHASHED_TEXT, true, new)));
 }
 
-#[test]
-fn the_letters_of_base64(rt: HostRuntime) -> std::result::Result<(), Fail> {
-    let alloc = rt.alloc();
+// Whether a signature of the letters is shown by them, and by no blank.
+fn shows_its_letters(alloc: Global) -> Result<bool> {
     let mut record = [0u8; 74];
     let (front, _) = record.split_at_mut(48);
     front.copy_from_slice(&LETTERS);
     let shown = Signature::from_bytes(&record)?;
     let text = format!(in alloc; "{shown}")?;
-    assert_eq!(rt;
-        text.as_str(),
-        "ABCDEFGHIJKLMNOPQRSTUVWXYZabcdefghijklmnopqrstuvwxyz0123456789+/AAAAAAAAAAAAAAAAAAAAAAAAAAAAAAAAAAA="
-    );
-    for letter in text.as_str().chars() {
-        assert!(rt; !letter.is_whitespace());
-    }
-    Ok(())
+    let letters =
+        "ABCDEFGHIJKLMNOPQRSTUVWXYZabcdefghijklmnopqrstuvwxyz0123456789+/AAAAAAAAAAAAAAAAAAAAAAAAAAAAAAAAAAA=";
+    Ok(text.as_str() == letters)
+}
+
+#[test]
+fn the_letters_of_base64(rt: HostRuntime) {
+    assert!(rt; holds(&shows_its_letters(rt.alloc())));
 }

@@ -1,16 +1,15 @@
 //! Verifying bare signatures, under the toy.
 
-use minisign::{PublicKey, Result, SignatureBones, SignatureBox, verify};
-use minisign_base::devices::sinks::{Sink, VecSink};
+use crate::calls::{SAYING, Sinks, Wanted, ample, records_come_out};
+use minisign::{Result, VerifyOptions};
 use minisign_base::devices::sources::{ReaderSource, Rereader, SliceSource};
-use minisign_base::toy::ToyScheme;
 use minisign_fixtures::devices::sinks::LimitedSink;
 use minisign_fixtures::devices::sources::{FailsAfter, OneByOne};
 use minisign_fixtures::keys::{
     IDENTIFIER, OTHER_IDENTIFIER, PUBLIC_BYTES, TIED_TO_ABC, TIED_TO_LEGACY_ABC, TIED_TO_NOTHING,
     public_record, signature_record,
 };
-use minisign_fixtures::outcomes::outcome;
+use minisign_fixtures::outcomes::front;
 use std::alloc::Global;
 use std::io;
 use std::io::Read;
@@ -23,6 +22,8 @@ const REFUSED: &str = "Verify: Signature verification failed";
 const LEGACY: &str = "Verify: Legacy signatures are not accepted";
 
 const UNSUPPORTED: &str = "Verify: Unsupported signature algorithm";
+
+const TOO_SHORT: &str = "Io: failed to fill whole buffer";
 
 const UNREAD: &str = "Io: reading failed";
 
@@ -54,150 +55,121 @@ impl Read for BreaksOff {
     }
 }
 
-// Reads both records, and verifies all that the source gives, with one line said.
-fn judged<R: Rereader, W: Sink>(
-    alloc: Global,
-    public_key: &[u8],
-    signature: &[u8],
-    data: &mut R,
-    allow_legacy: bool,
-    status: &mut W,
-) -> Result<()> {
-    let public_key = PublicKey::from_bytes(public_key)?;
-    let signature_box = SignatureBox::from_bones(SignatureBones::from_bytes(signature)?);
-    let mut out = VecSink::new(alloc);
-    verify(
-        alloc,
-        &ToyScheme::new(),
-        &public_key,
-        &signature_box,
-        data,
-        false,
-        false,
-        allow_legacy,
-        status,
-        &mut out,
-    )
+// How bare signatures are verified: with one line said, and legacy ones accepted or not.
+fn options(allow_legacy: bool) -> VerifyOptions {
+    let mut options = SAYING;
+    options.allow_legacy = allow_legacy;
+    options
 }
 
-// The outcome, or nothing where `status` holds anything but what belongs to it.
-fn told<R: Rereader>(
+// Whether the two records have this outcome over the data, with one line said of what is accepted.
+fn comes_to<R: Rereader>(
     alloc: Global,
-    public_key: &[u8],
-    signature: &[u8],
+    records: (&[u8], &[u8]),
     data: &mut R,
     allow_legacy: bool,
-) -> String {
-    let mut status = VecSink::new(alloc);
-    let answer = judged(
-        alloc,
-        public_key,
-        signature,
-        data,
-        allow_legacy,
-        &mut status,
-    );
-    let said = if answer.is_ok() { VERIFIED } else { b"" };
-    if status.as_slice() == said {
-        outcome(alloc, &answer)
-    } else {
-        String::new(alloc)
-    }
+    outcome: &str,
+) -> bool {
+    let said = if outcome == "accepted" { VERIFIED } else { b"" };
+    let wanted = Wanted {
+        outcome,
+        said,
+        copied: b"",
+    };
+    let sinks = ample(alloc);
+    records_come_out(alloc, records, data, options(allow_legacy), sinks, wanted)
+}
+
+// The same at once and one byte a read.
+fn is_judged(
+    alloc: Global,
+    records: (&[u8], &[u8]),
+    data: &[u8],
+    allow_legacy: bool,
+    outcome: &str,
+) -> bool {
+    let mut whole = SliceSource::new(data);
+    let mut bytes = OneByOne::new(data);
+    comes_to(alloc, records, &mut whole, allow_legacy, outcome)
+        && comes_to(alloc, records, &mut bytes, allow_legacy, outcome)
+}
+
+// The record of a signature under key A's identifier.
+fn signature(algorithm: &[u8; 2], tied: &[u8; 32]) -> [u8; 74] {
+    signature_record(algorithm, &IDENTIFIER, tied)
 }
 
 #[test]
 fn bare_signatures_are_judged(rt: HostRuntime) {
-    let alloc = rt.alloc();
     let key = public_record(&IDENTIFIER, &PUBLIC_BYTES);
     let other_key = public_record(&OTHER_IDENTIFIER, &PUBLIC_BYTES);
-    let good = signature_record(b"ED", &IDENTIFIER, &TIED_TO_ABC);
+    let good = signature(b"ED", &TIED_TO_ABC);
     let mut changed = good;
     changed[73] = 0xa9;
-    let prehashed_as_legacy = signature_record(b"Ed", &IDENTIFIER, &TIED_TO_ABC);
-    let legacy = signature_record(b"Ed", &IDENTIFIER, &TIED_TO_LEGACY_ABC);
-    let unknown = signature_record(b"Ex", &IDENTIFIER, &TIED_TO_ABC);
-    let of_nothing = signature_record(b"ED", &IDENTIFIER, &TIED_TO_NOTHING);
-    let (short_key, _) = key.split_at(41);
-    let (short, _) = good.split_at(73);
-    let (short_and_unknown, _) = unknown.split_at(73);
-    let mut longer = [b'!'; 75];
-    longer[..74].copy_from_slice(&good);
-    let mut longer_key = [b'!'; 43];
-    longer_key[..42].copy_from_slice(&key);
-    let abc = b"abc".as_slice();
-    let too_short = "Io: failed to fill whole buffer";
-    let (named, abd) = (&prehashed_as_legacy, b"abd".as_slice());
-    let (no, yes, none) = (false, true, b"".as_slice());
-    let other = other_key.as_slice();
-    let long_key = longer_key.as_slice();
-    let key = key.as_slice();
-    for (key, signature, data, allow_legacy, expected) in [
-        (key, good.as_slice(), abc, no, "accepted"),
-        (key, &good, abc, yes, "accepted"),
-        (key, &good, none, no, REFUSED),
-        (key, &good, abd, no, REFUSED),
-        (key, &changed, abc, no, REFUSED),
-        (key, named, abc, no, LEGACY),
-        (key, named, abc, yes, REFUSED),
-        (key, &legacy, abc, no, LEGACY),
-        (key, &legacy, abc, yes, "accepted"),
-        (key, &legacy, abd, yes, REFUSED),
-        (key, short, abc, no, too_short),
-        (short_key, &good, abc, no, too_short),
-        (key, &unknown, abc, no, UNSUPPORTED),
-        (key, short_and_unknown, abc, no, too_short),
-        (key, &longer, abc, no, "accepted"),
-        (long_key, &good, abc, no, "accepted"),
-        (key, &of_nothing, none, no, "accepted"),
-        (other, &good, abc, no, OTHER_KEY),
-        (other, &legacy, abd, no, OTHER_KEY),
-    ] {
-        // Whatever the source gives a read.
-        let told_at_once = told(
-            alloc,
-            key,
-            signature,
-            &mut SliceSource::new(data),
-            allow_legacy,
-        );
-        assert_eq!(rt;
-            told_at_once.as_str(),
-            expected,
+    let named = signature(b"Ed", &TIED_TO_ABC);
+    let legacy = signature(b"Ed", &TIED_TO_LEGACY_ABC);
+    let unknown = signature(b"Ex", &TIED_TO_ABC);
+    let of_nothing = signature(b"ED", &TIED_TO_NOTHING);
+    let rows: [(&[u8], &[u8], &[u8], bool, &str); 17] = [
+        (&key, &good, b"abc", false, "accepted"),
+        (&key, &good, b"abc", true, "accepted"),
+        (&key, &good, b"", false, REFUSED),
+        (&key, &good, b"abd", false, REFUSED),
+        (&key, &changed, b"abc", false, REFUSED),
+        (&key, &named, b"abc", false, LEGACY),
+        (&key, &named, b"abc", true, REFUSED),
+        (&key, &legacy, b"abc", false, LEGACY),
+        (&key, &legacy, b"abc", true, "accepted"),
+        (&key, &legacy, b"abd", true, REFUSED),
+        (&key, front(&good, 73), b"abc", false, TOO_SHORT),
+        (front(&key, 41), &good, b"abc", false, TOO_SHORT),
+        (&key, &unknown, b"abc", false, UNSUPPORTED),
+        (&key, front(&unknown, 73), b"abc", false, TOO_SHORT),
+        (&key, &of_nothing, b"", false, "accepted"),
+        (&other_key, &good, b"abc", false, OTHER_KEY),
+        (&other_key, &legacy, b"abd", false, OTHER_KEY),
+    ];
+    for (key, signature, data, allow_legacy, expected) in rows {
+        assert!(rt;
+            is_judged(rt.alloc(), (key, signature), data, allow_legacy, expected),
             "at {signature:?}, {data:?}"
-        );
-        let told_by_bytes = told(
-            alloc,
-            key,
-            signature,
-            &mut OneByOne::new(data),
-            allow_legacy,
-        );
-        assert_eq!(rt;
-            told_by_bytes.as_str(),
-            expected,
-            "byte by byte at {signature:?}, {data:?}"
         );
     }
 }
 
-// A message of more than one piece: byte number i is 7 i + i / 256 modulo 256.
+// What stands behind a record is not read.
 #[test]
-fn a_long_message_is_judged(rt: HostRuntime) -> std::result::Result<(), Fail> {
-    let alloc = rt.alloc();
+fn longer_records_are_judged(rt: HostRuntime) {
     let key = public_record(&IDENTIFIER, &PUBLIC_BYTES);
-    let signature = signature_record(b"ED", &IDENTIFIER, &TIED_TO_LONG);
+    let good = signature(b"ED", &TIED_TO_ABC);
+    let mut longer = [b'!'; 75];
+    longer[..74].copy_from_slice(&good);
+    let mut longer_key = [b'!'; 43];
+    longer_key[..42].copy_from_slice(&key);
+    assert!(rt; is_judged(rt.alloc(), (&key, &longer), b"abc", false, "accepted"));
+    assert!(rt; is_judged(rt.alloc(), (&longer_key, &good), b"abc", false, "accepted"));
+}
+
+// The long message: byte number i is 7 i + i / 256 modulo 256.
+fn long_message(alloc: Global) -> Result<Vec<u8>> {
     let mut message = vec![in alloc; 0u8; LONG]?;
     for (i, byte) in message.iter_mut().enumerate() {
         *byte = (i.wrapping_mul(7).wrapping_add(i / 256) % 256) as u8;
     }
+    Ok(message)
+}
+
+// A message of more than one piece.
+#[test]
+fn a_long_message_is_judged(rt: HostRuntime) -> std::result::Result<(), Fail> {
+    let alloc = rt.alloc();
+    let key = public_record(&IDENTIFIER, &PUBLIC_BYTES);
+    let signature = signature(b"ED", &TIED_TO_LONG);
+    let message = long_message(alloc)?;
     let data = message.as_slice();
-    let answer = told(alloc, &key, &signature, &mut SliceSource::new(data), false);
-    assert_eq!(rt; answer.as_str(), "accepted");
-    let answer = told(alloc, &key, &signature, &mut OneByOne::new(data), false);
-    assert_eq!(rt; answer.as_str(), "accepted", "byte by byte");
-    let (cut, _) = data.split_at(data.len().min(LONG - 1));
-    let answer = told(alloc, &key, &signature, &mut SliceSource::new(cut), false);
-    assert_eq!(rt; answer.as_str(), REFUSED, "without the last byte");
+    let cut = front(data, LONG - 1);
+    assert!(rt; is_judged(alloc, (&key, &signature), data, false, "accepted"));
+    assert!(rt; is_judged(alloc, (&key, &signature), cut, false, REFUSED));
     Ok(())
 }
 
@@ -205,11 +177,10 @@ fn a_long_message_is_judged(rt: HostRuntime) -> std::result::Result<(), Fail> {
 // end.
 #[test]
 fn failing_sources_are_told_from_verdicts(rt: HostRuntime) {
-    let alloc = rt.alloc();
     let key = public_record(&IDENTIFIER, &PUBLIC_BYTES);
     let other_key = public_record(&OTHER_IDENTIFIER, &PUBLIC_BYTES);
-    let prehashed = signature_record(b"ED", &IDENTIFIER, &TIED_TO_ABC);
-    let legacy = signature_record(b"Ed", &IDENTIFIER, &TIED_TO_LEGACY_ABC);
+    let prehashed = signature(b"ED", &TIED_TO_ABC);
+    let legacy = signature(b"Ed", &TIED_TO_LEGACY_ABC);
     for (key, signature, reads, expected) in [
         (&key, &prehashed, 0u64, UNREAD),
         (&key, &prehashed, 1, UNREAD),
@@ -221,78 +192,62 @@ fn failing_sources_are_told_from_verdicts(rt: HostRuntime) {
         (&key, &legacy, 1, UNREAD),
         (&key, &legacy, 4, "accepted"),
     ] {
-        let answer = told(
-            alloc,
-            key,
-            signature,
-            &mut FailsAfter::new(b"abc", reads),
-            true,
-        );
-        assert_eq!(rt; answer.as_str(), expected, "at {reads}");
+        let mut data = FailsAfter::new(b"abc", reads);
+        let came = comes_to(rt.alloc(), (key, signature), &mut data, true, expected);
+        assert!(rt; came, "at {reads}");
     }
+}
 
-    // A reader of std, which can't be marked, and one that breaks off.
+// A reader of std, which can't be marked, and one that breaks off.
+#[test]
+fn readers_of_std_are_judged(rt: HostRuntime) {
+    let alloc = rt.alloc();
+    let key = public_record(&IDENTIFIER, &PUBLIC_BYTES);
+    let good = signature(b"ED", &TIED_TO_ABC);
     let mut whole = ReaderSource::new(b"abc".as_slice());
-    assert_eq!(rt;
-        told(alloc, &key, &prehashed, &mut whole, false).as_str(),
-        "accepted"
-    );
+    assert!(rt; comes_to(alloc, (&key, &good), &mut whole, false, "accepted"));
     let mut broken = ReaderSource::new(BreaksOff { reads: 0 });
-    assert_eq!(rt;
-        told(alloc, &key, &prehashed, &mut broken, false).as_str(),
-        UNREAD
-    );
+    assert!(rt; comes_to(alloc, (&key, &good), &mut broken, false, UNREAD));
+}
+
+// Whether verifying over a status with this room, that can't be flushed, comes out so.
+fn is_told(alloc: Global, room: usize, outcome: &str, said: &[u8]) -> bool {
+    let key = public_record(&IDENTIFIER, &PUBLIC_BYTES);
+    let good = signature(b"ED", &TIED_TO_ABC);
+    let mut data = SliceSource::new(b"abc");
+    let sinks = Sinks {
+        status: LimitedSink::new(alloc, room).flushed(0),
+        out: LimitedSink::new(alloc, 0),
+    };
+    let wanted = Wanted {
+        outcome,
+        said,
+        copied: b"",
+    };
+    records_come_out(alloc, (&key, &good), &mut data, SAYING, sinks, wanted)
 }
 
 // A failing status is told last, and is not flushed.
 #[test]
 fn failing_status_is_told(rt: HostRuntime) {
     let alloc = rt.alloc();
-    let key = public_record(&IDENTIFIER, &PUBLIC_BYTES);
-    let good = signature_record(b"ED", &IDENTIFIER, &TIED_TO_ABC);
-    for (room, expected, said) in [
-        (5usize, "Io: writing failed", b"Signa".as_slice()),
-        (
-            40,
-            "Io: writing failed",
-            b"Signature and comment signature verified",
-        ),
-        (41, "accepted", VERIFIED),
-    ] {
-        let mut status = LimitedSink::new(alloc, room).flushed(0);
-        let mut data = SliceSource::new(b"abc");
-        let answer = judged(alloc, &key, &good, &mut data, false, &mut status);
-        assert_eq!(rt;
-            outcome(alloc, &answer).as_str(),
-            expected,
-            "room for {room}"
-        );
-        assert_eq!(rt; status.as_slice(), said, "room for {room}");
-    }
+    let failed = "Io: writing failed";
+    assert!(rt; is_told(alloc, 5, failed, b"Signa"));
+    assert!(rt; is_told(alloc, 40, failed, front(VERIFIED, 40)));
+    assert!(rt; is_told(alloc, 41, "accepted", VERIFIED));
 }
 
 #[test]
-fn a_quiet_run_says_nothing(rt: HostRuntime) -> std::result::Result<(), Fail> {
-    let alloc = rt.alloc();
-    let key = PublicKey::from_bytes(&public_record(&IDENTIFIER, &PUBLIC_BYTES))?;
-    let record = signature_record(b"ED", &IDENTIFIER, &TIED_TO_ABC);
-    let signature_box = SignatureBox::from_bones(SignatureBones::from_bytes(&record)?);
-    let mut status = VecSink::new(alloc);
-    let mut out = VecSink::new(alloc);
-    let toy = ToyScheme::new();
-    verify(
-        alloc,
-        &toy,
-        &key,
-        &signature_box,
-        &mut SliceSource::new(b"abc"),
-        true,
-        false,
-        false,
-        &mut status,
-        &mut out,
-    )?;
-    assert_eq!(rt; status.as_slice(), b"".as_slice());
-    assert_eq!(rt; out.as_slice(), b"".as_slice());
-    Ok(())
+fn a_quiet_run_says_nothing(rt: HostRuntime) {
+    let key = public_record(&IDENTIFIER, &PUBLIC_BYTES);
+    let good = signature(b"ED", &TIED_TO_ABC);
+    let mut data = SliceSource::new(b"abc");
+    let wanted = Wanted {
+        outcome: "accepted",
+        said: b"",
+        copied: b"",
+    };
+    let sinks = ample(rt.alloc());
+    let options = VerifyOptions::SILENT;
+    assert!(rt; records_come_out(rt.alloc(), (&key, &good), &mut data, options, sinks, wanted));
 }

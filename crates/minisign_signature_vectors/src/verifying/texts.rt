@@ -3,6 +3,7 @@
 //!
 //! The texts hold the base64 of Python's base64 module.
 
+use crate::calls::{COPYING, SAYING, Sinks, Wanted, ample, texts_come_out};
 use crate::texts::upstream;
 use crate::texts::upstream::{
     DIGEST_OF_TEST, KEY, KEY_BYTES, LEGACY_COMMENT_SIGNATURE, LEGACY_SIGNATURE,
@@ -10,13 +11,12 @@ use crate::texts::upstream::{
     PREHASHED_SIGNED_COMMENT,
 };
 use minisign::reading::read_to_end;
-use minisign::{PublicKey, verify_texts};
-use minisign_base::devices::sinks::{Sink, VecSink};
+use minisign::{PublicKey, Result, VerifyOptions};
 use minisign_base::devices::sources::{ReaderSource, Rereader, SliceSource, Source};
 use minisign_base::toy::{ToyScheme, Triple};
 use minisign_fixtures::devices::sinks::LimitedSink;
 use minisign_fixtures::devices::sources::{Changes, FailsAfter, OneByOne};
-use minisign_fixtures::outcomes::{is_record, outcome};
+use minisign_fixtures::outcomes::is_record;
 use minisign_fixtures::texts::{KEY_TEXT, LEGACY_TEXT, SAID, SIGNATURE_TEXT};
 use std::alloc::Global;
 use std::test::Fail;
@@ -49,83 +49,65 @@ const NOT_BACK: &str = "Io: going back failed";
 
 const CHANGED: &str = "Verify: Data changed between verification and output";
 
-// What verifying with two texts returns under the toy.
-fn verified<R: Rereader, W: Sink, O: Sink>(
-    alloc: Global,
-    texts: (&str, &str),
-    data: &mut R,
-    quiet: bool,
-    output: bool,
-    allow_legacy: bool,
-    status: &mut W,
-    out: &mut O,
-) -> String {
-    let (pk_text, sig_text) = texts;
-    let answer = verify_texts(
-        alloc,
-        &ToyScheme::new(),
-        pk_text,
-        sig_text,
-        data,
-        quiet,
-        output,
-        allow_legacy,
-        status,
-        out,
-    );
-    outcome(alloc, &answer)
-}
-
-// Verifies and says whether all came out so: the answer, the status, the output, and what the
-// source still has ahead. A text that is refused leaves all of the data.
+// Whether all comes out so under the toy: the answer, the status, the output, and what the source
+// still has ahead. A text that is refused leaves all of the data.
 fn comes_out<R: Rereader>(
     alloc: Global,
     texts: (&str, &str),
     data: &mut R,
     whole: &[u8],
-    quiet: bool,
-    output: bool,
-    allow_legacy: bool,
-    expected: &str,
+    options: VerifyOptions,
+    outcome: &str,
 ) -> bool {
-    let mut status = VecSink::new(alloc);
-    let mut out = VecSink::new(alloc);
-    let answer = verified(
-        alloc,
-        texts,
-        data,
-        quiet,
-        output,
-        allow_legacy,
-        &mut status,
-        &mut out,
-    );
-    let accepted = expected == "accepted";
-    let said = if accepted && !quiet { SAID } else { b"" };
-    let copied = if accepted && output { whole } else { b"" };
-    let unread = expected == NO_KEY || expected == NO_SIGNATURE;
-    let left = if unread { whole } else { b"" };
-    answer.as_str() == expected
-        && status.as_slice() == said
-        && out.as_slice() == copied
-        && is_record(&read_to_end(alloc, data), left)
+    let accepted = outcome == "accepted";
+    let unread = outcome == NO_KEY || outcome == NO_SIGNATURE;
+    let wanted = Wanted {
+        outcome,
+        said: if accepted && !options.quiet {
+            SAID
+        } else {
+            b""
+        },
+        copied: if accepted && options.output {
+            whole
+        } else {
+            b""
+        },
+    };
+    let left: &[u8] = if unread { whole } else { b"" };
+    let toy = ToyScheme::new();
+    let came = texts_come_out(alloc, &toy, texts, data, options, ample(alloc), wanted);
+    came && is_record(&read_to_end(alloc, data), left)
 }
 
-// What verifying with key A's text and the prehashed one returns, with output.
-fn copied_from<R: Rereader, O: Sink>(
+// The same whatever the source gives a read, and whether the run is quiet and copies or not.
+fn is_judged(
     alloc: Global,
-    data: &mut R,
-    status: &mut VecSink,
-    out: &mut O,
-) -> String {
-    let texts = (KEY_TEXT, SIGNATURE_TEXT);
-    verified(alloc, texts, data, false, true, false, status, out)
+    texts: (&str, &str),
+    whole: &[u8],
+    allow_legacy: bool,
+    outcome: &str,
+) -> bool {
+    for (quiet, output) in [(false, false), (false, true), (true, false), (true, true)] {
+        let options = VerifyOptions {
+            quiet,
+            output,
+            allow_legacy,
+        };
+        let mut slice = SliceSource::new(whole);
+        let mut bytes = OneByOne::new(whole);
+        if !comes_out(alloc, texts, &mut slice, whole, options, outcome)
+            || !comes_out(alloc, texts, &mut bytes, whole, options, outcome)
+        {
+            return false;
+        }
+    }
+    true
 }
 
 // Where several conditions fail, the first is named.
 #[test]
 fn texts_are_judged_in_their_order(rt: HostRuntime) {
-    let alloc = rt.alloc();
     let rows: [(&str, &str, &[u8], bool, &str); 19] = [
         (KEY_TEXT, SIGNATURE_TEXT, b"abc", false, "accepted"),
         (KEY_TEXT, SIGNATURE_TEXT, b"abc", true, "accepted"),
@@ -155,36 +137,10 @@ fn texts_are_judged_in_their_order(rt: HostRuntime) {
     ];
     for (pk_text, sig_text, whole, allow_legacy, expected) in rows {
         let texts = (pk_text, sig_text);
-        for (quiet, output) in [(false, false), (false, true), (true, false), (true, true)] {
-            let mut data = SliceSource::new(whole);
-            assert!(rt;
-                comes_out(
-                    alloc,
-                    texts,
-                    &mut data,
-                    whole,
-                    quiet,
-                    output,
-                    allow_legacy,
-                    expected
-                ),
-                "at {texts:?} {quiet} {output}"
-            );
-            let mut data = OneByOne::new(whole);
-            assert!(rt;
-                comes_out(
-                    alloc,
-                    texts,
-                    &mut data,
-                    whole,
-                    quiet,
-                    output,
-                    allow_legacy,
-                    expected
-                ),
-                "byte by byte at {texts:?} {quiet} {output}"
-            );
-        }
+        assert!(rt;
+            is_judged(rt.alloc(), texts, whole, allow_legacy, expected),
+            "at {pk_text:?} {sig_text:?} {expected}"
+        );
     }
 }
 
@@ -193,7 +149,7 @@ fn texts_are_judged_in_their_order(rt: HostRuntime) {
 fn failing_data_comes_between_texts_and_verdicts(rt: HostRuntime) {
     let alloc = rt.alloc();
     let unread = "Io: reading failed";
-    for (pk_text, sig_text, reads, expected) in [
+    for (pk_text, sig_text, reads, outcome) in [
         (KEY_TEXT, SIGNATURE_TEXT, 1u64, unread),
         (RENAMED_KEY_TEXT, SIGNATURE_TEXT, 1, unread),
         (KEY_TEXT, LEGACY_TEXT, 1, unread),
@@ -204,53 +160,54 @@ fn failing_data_comes_between_texts_and_verdicts(rt: HostRuntime) {
         (KEY_TEXT, "", 0, NO_SIGNATURE),
     ] {
         let mut data = FailsAfter::new(b"abc", reads);
-        let mut status = VecSink::new(alloc);
-        let mut out = VecSink::new(alloc);
+        let wanted = Wanted {
+            outcome,
+            said: b"",
+            copied: b"",
+        };
+        let toy = ToyScheme::new();
         let texts = (pk_text, sig_text);
-        let answer = verified(
-            alloc,
-            texts,
-            &mut data,
-            false,
-            false,
-            false,
-            &mut status,
-            &mut out,
-        );
-        assert_eq!(rt; answer.as_str(), expected, "at {texts:?} {reads}");
-        assert!(rt; status.as_slice().is_empty() && out.as_slice().is_empty());
+        let came = texts_come_out(alloc, &toy, texts, &mut data, SAYING, ample(alloc), wanted);
+        assert!(rt; came, "at {outcome} {reads}");
     }
+}
+
+// Whether `abc` is copied of a source that was marked and of which two bytes were read.
+fn copies_the_rest<R: Rereader>(alloc: Global, text: &str, data: &mut R) -> bool {
+    let mut byte = [0u8; 1];
+    let read = data.mark().is_ok() && data.read(&mut byte).is_ok() && data.read(&mut byte).is_ok();
+    read && comes_out(alloc, (KEY_TEXT, text), data, b"abc", COPYING, "accepted")
 }
 
 // The copy begins where the source stood, whatever was read of it before.
 #[test]
 fn data_is_copied_from_the_place_that_was_reached(rt: HostRuntime) {
-    let alloc = rt.alloc();
     for text in [SIGNATURE_TEXT, LEGACY_TEXT] {
-        let mut data = SliceSource::new(b"xxabc");
-        let mut before = [0u8; 2];
-        assert!(rt; data.mark().is_ok());
-        assert!(rt; data.read(&mut before).is_ok());
-        assert!(rt;
-            comes_out(
-                alloc,
-                (KEY_TEXT, text),
-                &mut data,
-                b"abc",
-                false,
-                true,
-                true,
-                "accepted"
-            )
-        );
+        assert!(rt; copies_the_rest(rt.alloc(), text, &mut SliceSource::new(b"xxabc")));
+        assert!(rt; copies_the_rest(rt.alloc(), text, &mut OneByOne::new(b"xxabc")));
     }
+}
+
+// Whether verifying data of which a second reading gives this comes out as wanted, over sinks that
+// take all and over an output that cannot be flushed.
+fn is_told(alloc: Global, first: &[u8], second: &[u8], wanted: Wanted) -> bool {
+    let toy = ToyScheme::new();
+    let texts = (KEY_TEXT, SIGNATURE_TEXT);
+    let mut data = Changes::new(first, second);
+    let whole = texts_come_out(alloc, &toy, texts, &mut data, COPYING, ample(alloc), wanted);
+    let mut data = Changes::new(first, second);
+    let sinks = Sinks {
+        status: LimitedSink::new(alloc, 60),
+        out: LimitedSink::new(alloc, 10).flushed(0),
+    };
+    let unflushed = texts_come_out(alloc, &toy, texts, &mut data, COPYING, sinks, wanted);
+    whole && unflushed
 }
 
 // What a second reading gives is copied as it comes, and told from the first once it is whole; an
 // output that cannot be flushed makes no other fault of it.
 #[test]
 fn data_that_changes_is_told(rt: HostRuntime) {
-    let alloc = rt.alloc();
     let rows: [(&[u8], &[u8], &str, &[u8], &[u8]); 6] = [
         (b"abc", b"abd", CHANGED, SAID, b"abd"),
         (b"abc", b"xyz", CHANGED, SAID, b"xyz"),
@@ -259,21 +216,13 @@ fn data_that_changes_is_told(rt: HostRuntime) {
         (b"abc", b"", CHANGED, SAID, b""),
         (b"abd", b"abc", REFUSED, b"", b""),
     ];
-    for (first, second, expected, said, copied) in rows {
-        let mut data = Changes::new(first, second);
-        let mut status = VecSink::new(alloc);
-        let mut out = VecSink::new(alloc);
-        let answer = copied_from(alloc, &mut data, &mut status, &mut out);
-        assert_eq!(rt; answer.as_str(), expected, "at {second:?}");
-        assert_eq!(rt; status.as_slice(), said, "at {second:?}");
-        assert_eq!(rt; out.as_slice(), copied, "at {second:?}");
-        let mut data = Changes::new(first, second);
-        let mut status = VecSink::new(alloc);
-        let mut out = LimitedSink::new(alloc, 10).flushed(0);
-        let answer = copied_from(alloc, &mut data, &mut status, &mut out);
-        assert_eq!(rt; answer.as_str(), expected, "not flushed at {second:?}");
-        assert_eq!(rt; status.as_slice(), said, "not flushed at {second:?}");
-        assert_eq!(rt; out.as_slice(), copied, "not flushed at {second:?}");
+    for (first, second, outcome, said, copied) in rows {
+        let wanted = Wanted {
+            outcome,
+            said,
+            copied,
+        };
+        assert!(rt; is_told(rt.alloc(), first, second, wanted), "at {second:?}");
     }
 }
 
@@ -288,103 +237,112 @@ fn data_that_cannot_be_read_again(rt: HostRuntime) {
         (LEGACY_TEXT, true, "accepted", SAID, b"abc", b""),
         (LEGACY_TEXT, false, "accepted", SAID, b"", b""),
     ];
-    for (text, output, expected, said, copied, left) in rows {
+    for (text, output, outcome, said, copied, left) in rows {
         let mut data = ReaderSource::new(b"abc".as_slice());
-        let mut status = VecSink::new(alloc);
-        let mut out = VecSink::new(alloc);
-        let answer = verified(
-            alloc,
-            (KEY_TEXT, text),
-            &mut data,
-            false,
-            output,
-            true,
-            &mut status,
-            &mut out,
-        );
-        assert_eq!(rt; answer.as_str(), expected);
-        assert_eq!(rt; status.as_slice(), said);
-        assert_eq!(rt; out.as_slice(), copied);
-        assert!(rt; is_record(&read_to_end(alloc, &mut data), left));
+        let wanted = Wanted {
+            outcome,
+            said,
+            copied,
+        };
+        let mut options = COPYING;
+        options.output = output;
+        let toy = ToyScheme::new();
+        let texts = (KEY_TEXT, text);
+        let came = texts_come_out(alloc, &toy, texts, &mut data, options, ample(alloc), wanted);
+        assert!(rt; came && is_record(&read_to_end(alloc, &mut data), left));
     }
 }
 
+// The table of the legacy text's two signatures.
+const LEGACY_TABLE: [Triple<'static>; 2] = [
+    Triple {
+        message: b"test",
+        public_key: KEY_BYTES,
+        signature: LEGACY_SIGNATURE,
+    },
+    Triple {
+        message: &LEGACY_SIGNED_COMMENT,
+        public_key: KEY_BYTES,
+        signature: LEGACY_COMMENT_SIGNATURE,
+    },
+];
+
+// The table of the prehashed text's two signatures.
+const PREHASHED_TABLE: [Triple<'static>; 2] = [
+    Triple {
+        message: &DIGEST_OF_TEST,
+        public_key: KEY_BYTES,
+        signature: PREHASHED_SIGNATURE,
+    },
+    Triple {
+        message: &PREHASHED_SIGNED_COMMENT,
+        public_key: KEY_BYTES,
+        signature: PREHASHED_COMMENT_SIGNATURE,
+    },
+];
+
+const LEGACY_SAID: &[u8] =
+    b"Signature and comment signature verified\nTrusted comment: timestamp:1555779966\tfile:test\n";
+
+const PREHASHED_SAID: &[u8] =
+    b"Signature and comment signature verified\nTrusted comment: timestamp:1556193335\tfile:test\n";
+
+// The text of the upstream tool's key.
+fn upstream_key_text(alloc: Global) -> Result<String> {
+    Ok(
+        PublicKey::from_base64(alloc, KEY)?
+            .to_box(alloc)?
+            .into_string(),
+    )
+}
+
 // The texts of the upstream tool, each under a table of its own two signatures, and what is said of
-// them.
+// them, over a reader of std.
 #[test]
 fn texts_of_the_upstream_tool_are_told(rt: HostRuntime) -> std::result::Result<(), Fail> {
     let alloc = rt.alloc();
-    let legacy_table = [
-        Triple {
-            message: b"test",
-            public_key: KEY_BYTES,
-            signature: LEGACY_SIGNATURE,
-        },
-        Triple {
-            message: &LEGACY_SIGNED_COMMENT,
-            public_key: KEY_BYTES,
-            signature: LEGACY_COMMENT_SIGNATURE,
-        },
-    ];
-    let prehashed_table = [
-        Triple {
-            message: &DIGEST_OF_TEST,
-            public_key: KEY_BYTES,
-            signature: PREHASHED_SIGNATURE,
-        },
-        Triple {
-            message: &PREHASHED_SIGNED_COMMENT,
-            public_key: KEY_BYTES,
-            signature: PREHASHED_COMMENT_SIGNATURE,
-        },
-    ];
-    let pk_text = PublicKey::from_base64(alloc, KEY)?
-        .to_box(alloc)?
-        .into_string();
-    let legacy_said =
-        b"Signature and comment signature verified\nTrusted comment: timestamp:1555779966\tfile:test\n";
-    let prehashed_said =
-        b"Signature and comment signature verified\nTrusted comment: timestamp:1556193335\tfile:test\n";
-    for (prehashed, allow_legacy, output, expected, said) in [
-        (false, true, true, "accepted", legacy_said),
-        (false, false, false, LEGACY, legacy_said),
-        (true, false, false, "accepted", prehashed_said),
-        (true, false, true, NOT_BACK, prehashed_said),
-    ] {
-        let scheme = if prehashed {
-            ToyScheme::with_table(&prehashed_table)
-        } else {
-            ToyScheme::with_table(&legacy_table)
-        };
-        let sig_text = if prehashed {
-            upstream::PREHASHED_TEXT
-        } else {
-            upstream::LEGACY_TEXT
-        };
-        let mut data = ReaderSource::new(b"test".as_slice());
-        let mut status = VecSink::new(alloc);
-        let mut out = VecSink::new(alloc);
-        let answer = verify_texts(
-            alloc,
-            &scheme,
-            pk_text.as_str(),
-            sig_text,
-            &mut data,
+    let legacy = ToyScheme::with_table(&LEGACY_TABLE);
+    let prehashed = ToyScheme::with_table(&PREHASHED_TABLE);
+    let pk_text = upstream_key_text(alloc)?;
+    let pk_text = pk_text.as_str();
+    let (old, new) = (upstream::LEGACY_TEXT, upstream::PREHASHED_TEXT);
+    let rows: [(&ToyScheme, &str, bool, bool, &str, &[u8], &[u8]); 4] = [
+        (&legacy, old, true, true, "accepted", LEGACY_SAID, b"test"),
+        (&legacy, old, false, false, LEGACY, b"", b""),
+        (
+            &prehashed,
+            new,
             false,
+            false,
+            "accepted",
+            PREHASHED_SAID,
+            b"",
+        ),
+        (&prehashed, new, false, true, NOT_BACK, b"", b""),
+    ];
+    for (scheme, sig_text, allow_legacy, output, outcome, said, copied) in rows {
+        let mut data = ReaderSource::new(b"test".as_slice());
+        let wanted = Wanted {
+            outcome,
+            said,
+            copied,
+        };
+        let options = VerifyOptions {
+            quiet: false,
             output,
             allow_legacy,
-            &mut status,
-            &mut out,
-        );
-        assert_eq!(rt; outcome(alloc, &answer).as_str(), expected);
-        let said = if answer.is_ok() { said.as_slice() } else { b"" };
-        let copied = if answer.is_ok() && output {
-            b"test".as_slice()
-        } else {
-            b""
         };
-        assert_eq!(rt; status.as_slice(), said);
-        assert_eq!(rt; out.as_slice(), copied);
+        let texts = (pk_text, sig_text);
+        let came = texts_come_out(
+            alloc,
+            scheme,
+            texts,
+            &mut data,
+            options,
+            ample(alloc),
+            wanted,
+        );
+        assert!(rt; came, "at {outcome} {output}");
     }
     Ok(())
 }

@@ -1,0 +1,38 @@
+//! Prompts over slices and buffers, and passwords that are passed in.
+
+use crate::devices::sources::OneByOne;
+use minisign_base::devices::sinks::VecSink;
+use minisign_base::devices::sources::{SliceSource, Source};
+use minisign_base::errors::Result;
+use minisign_base::prompt::Prompt;
+use std::alloc::Global;
+
+/// A prompt into which these bytes are typed, one byte a read.
+pub fn typed<'a>(alloc: Global, bytes: &'a [u8]) -> Prompt<OneByOne<'a>, VecSink> {
+    Prompt::new(OneByOne::new(bytes), VecSink::new(alloc))
+}
+
+/// A prompt into which these bytes are typed at once.
+pub fn typed_at_once<'a>(alloc: Global, bytes: &'a [u8]) -> Prompt<SliceSource<'a>, VecSink> {
+    Prompt::new(SliceSource::new(bytes), VecSink::new(alloc))
+}
+
+/// The password that is passed in, if there is one.
+pub fn handed(alloc: Global, password: Option<&str>) -> Result<Option<String>> {
+    match password {
+        Some(password) => Ok(Some(String::from_str(alloc, password)?)),
+        None => Ok(None),
+    }
+}
+
+/// How many bytes a source still gives, ten at most.
+pub fn bytes_left<R: Source>(source: &mut R) -> usize {
+    let mut count = 0usize;
+    for _ in 0..10 {
+        match source.read(&mut [0u8; 1]) {
+            Ok(n) => count = count.saturating_add(n),
+            Err(_) => return count,
+        }
+    }
+    count
+}

@@ -1,0 +1,122 @@
+//! Opening sealed keys, called here for all tests: what is returned, and what becomes of the prompt.
+
+use minisign::{Result, SecretKey, SecretKeyBox};
+use minisign_base::devices::sinks::{Sink, VecSink};
+use minisign_base::devices::sources::Source;
+use minisign_base::prompt::Prompt;
+use minisign_fixtures::outcomes::{comes_to, is_record};
+use minisign_fixtures::prompts::{bytes_left, handed, typed};
+use std::alloc::Global;
+
+/// How a box is opened: in any number of parts, in so many at most, or with every so many-th row
+/// kept.
+#[derive(Clone, Copy)]
+pub enum Way {
+    AnyParts,
+    Within(u32),
+    Keeping(u64),
+}
+
+/// What opening returned, what the prompt was told, and how many typed bytes are left, ten at most.
+#[derive(Drop)]
+pub struct Opening {
+    pub answer: Result<SecretKey>,
+    pub told: VecSink,
+    pub unread: usize,
+}
+
+/// What is wanted of an opening: the outcome, what the prompt is told, and how many of the typed
+/// bytes are left.
+#[derive(Clone, Copy)]
+pub struct Wanted<'a> {
+    pub outcome: &'a str,
+    pub told: &'a str,
+    pub unread: usize,
+}
+
+/// Opens the box, with the password where one is passed in, over these typed bytes.
+pub fn open(
+    alloc: Global,
+    sk_box: SecretKeyBox,
+    password: Option<&str>,
+    bytes: &[u8],
+    way: Way,
+) -> Opening {
+    let mut prompt = typed(alloc, bytes);
+    let answer = opened(alloc, sk_box, password, &mut prompt, way);
+    let (mut reader, told) = prompt.into_parts();
+    Opening {
+        answer,
+        told,
+        unread: bytes_left(&mut reader),
+    }
+}
+
+/// The key of the box that is opened with this prompt.
+pub fn opened<R: Source, W: Sink>(
+    alloc: Global,
+    sk_box: SecretKeyBox,
+    password: Option<&str>,
+    prompt: &mut Prompt<R, W>,
+    way: Way,
+) -> Result<SecretKey> {
+    let password = handed(alloc, password)?;
+    match way {
+        Way::AnyParts => SecretKey::from_box(alloc, sk_box, password, prompt),
+        Way::Within(max_p) => SecretKey::from_box_within(alloc, sk_box, password, prompt, max_p),
+        Way::Keeping(k) => SecretKey::from_box_keeping(alloc, sk_box, password, prompt, k.max(1)),
+    }
+}
+
+/// Whether opening comes out as wanted.
+pub fn comes_out(
+    alloc: Global,
+    sk_box: Result<SecretKeyBox>,
+    password: Option<&str>,
+    bytes: &[u8],
+    way: Way,
+    wanted: Wanted,
+) -> bool {
+    let Ok(sk_box) = sk_box else {
+        return false;
+    };
+    let opening = open(alloc, sk_box, password, bytes, way);
+    comes_to(alloc, &opening.answer, wanted.outcome)
+        && opening.told.as_slice() == wanted.told.as_bytes()
+        && opening.unread == wanted.unread
+}
+
+/// Whether opening with a password that is passed in has this outcome, and leaves the prompt alone.
+pub fn has_outcome(
+    alloc: Global,
+    sk_box: Result<SecretKeyBox>,
+    password: &str,
+    way: Way,
+    outcome: &str,
+) -> bool {
+    let wanted = Wanted {
+        outcome,
+        told: "",
+        unread: 6,
+    };
+    comes_out(alloc, sk_box, Some(password), b"typed\n", way, wanted)
+}
+
+/// Whether opening gives the key of this record, which is sealed no more. The password is passed in,
+/// or typed where none is.
+pub fn gives(
+    alloc: Global,
+    sk_box: Result<SecretKeyBox>,
+    password: Option<&str>,
+    bytes: &[u8],
+    way: Way,
+    record: &[u8],
+) -> bool {
+    let Ok(sk_box) = sk_box else {
+        return false;
+    };
+    match &open(alloc, sk_box, password, bytes, way).answer {
+        Ok(key) => !key.is_encrypted() && is_record(&key.to_bytes(alloc), record),
+        Err(_) => false,
+    }
+}
