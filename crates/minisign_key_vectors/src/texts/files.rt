@@ -24,6 +24,9 @@ const SECRET_NOT_BASE64: &str = "Encoding: invalid base64";
 
 const UNTRUSTED: &str = "Verify: Untrusted comment must start with: untrusted comment: ";
 
+// A comment of as many letters as an encoded public key has, behind a line feed.
+const FED: &str = "\nuntrusted comment: minisign public key: 0807060504030201\n";
+
 const NOT_UTF8: &str = "Io: stream did not contain valid UTF-8";
 
 const OPENING: &str =
@@ -307,7 +310,7 @@ fn is_read_whole(
     let line = joined(rt.alloc(), "untrusted comment: ", comment.as_str(), "\n")?;
     let short = is_read_behind(rt, folder, kind, "untrusted comment: c\n", letter, refused)?;
     let long = is_read_behind(rt, folder, kind, line.as_str(), letter, refused)?;
-    let behind = stands(rt, folder, kind, "\nuntrusted comment: c\n", "", fed)?;
+    let behind = stands(rt, folder, kind, FED, "", fed)?;
     Ok(short && long && behind)
 }
 
