@@ -3,12 +3,13 @@
 use crate::calls::{
     COPYING, Said, Wanted, ample, key_a, public_a, signed, signed_from, texts_come_out,
 };
-use minisign::{Result, SignatureBox};
+use minisign::{Result, SignatureBox, sign_texts};
 use minisign_base::devices::random_sources::FixedRandom;
 use minisign_base::devices::sources::SliceSource;
 use minisign_base::toy::ToyScheme;
 use minisign_fixtures::outcomes::{front, holds, is_text};
-use minisign_fixtures::texts::{KEY_TEXT, SAID};
+use minisign_fixtures::prompts::typed_at_once;
+use minisign_fixtures::texts::{KEY_TEXT, SAID, SECRET_TEXT};
 use std::alloc::Global;
 
 const REFUSED: &str = "Verify: Signature verification failed";
@@ -30,19 +31,12 @@ fn tested(alloc: Global, data: &[u8], said: Said) -> Result<SignatureBox> {
     )
 }
 
-// Whether verifying the data with key A's text comes out so, with output.
-fn comes_out(alloc: Global, sig_text: &str, data: &[u8], wanted: Wanted) -> bool {
+// Whether verifying the data with two texts comes out so, with output.
+fn comes_out(alloc: Global, texts: (&str, &str), data: &[u8], wanted: Wanted) -> bool {
     let mut data = SliceSource::new(data);
     let toy = ToyScheme::new();
-    texts_come_out(
-        alloc,
-        &toy,
-        (KEY_TEXT, sig_text),
-        &mut data,
-        COPYING,
-        ample(alloc),
-        wanted,
-    )
+    let sinks = ample(alloc);
+    texts_come_out(alloc, &toy, texts, &mut data, COPYING, sinks, wanted)
 }
 
 // Whether the text over the data is accepted, with the trusted comment `t`, and its data copied.
@@ -52,7 +46,7 @@ fn is_accepted(alloc: Global, sig_text: &str, data: &[u8]) -> bool {
         said: SAID,
         copied: data,
     };
-    comes_out(alloc, sig_text, data, wanted)
+    comes_out(alloc, (KEY_TEXT, sig_text), data, wanted)
 }
 
 // Whether it is refused over other data.
@@ -62,11 +56,11 @@ fn is_refused(alloc: Global, sig_text: &str, data: &[u8]) -> bool {
         said: b"",
         copied: b"",
     };
-    comes_out(alloc, sig_text, data, wanted)
+    comes_out(alloc, (KEY_TEXT, sig_text), data, wanted)
 }
 
-// Whether the text over `abc` is accepted, and this trusted comment is said.
-fn is_said(alloc: Global, sig_text: &str, comment: &str) -> Result<bool> {
+// Whether two texts are accepted over `abc`, and this trusted comment is said.
+fn is_said(alloc: Global, texts: (&str, &str), comment: &str) -> Result<bool> {
     let told = format!(in alloc;
         "Signature and comment signature verified\nTrusted comment: {comment}\n"
     )?;
@@ -75,7 +69,7 @@ fn is_said(alloc: Global, sig_text: &str, comment: &str) -> Result<bool> {
         said: told.as_str().as_bytes(),
         copied: b"abc",
     };
-    Ok(comes_out(alloc, sig_text, b"abc", wanted))
+    Ok(comes_out(alloc, texts, b"abc", wanted))
 }
 
 // Whether both comments of this many letters come back, and the box is accepted.
@@ -92,7 +86,7 @@ fn come_back(alloc: Global, size: usize) -> Result<bool> {
     let read = SignatureBox::from_string(alloc, text.as_str())?;
     let trusted = is_text(&read.trusted_comment(alloc), comment);
     let untrusted = is_text(&read.untrusted_comment(alloc), comment);
-    let accepted = is_said(alloc, text.as_str(), comment)?;
+    let accepted = is_said(alloc, (KEY_TEXT, text.as_str()), comment)?;
     Ok(accepted && trusted && untrusted)
 }
 
@@ -103,6 +97,55 @@ fn comments_of_many_sizes(rt: HostRuntime) {
         let power = 1usize << exponent;
         for size in [power.saturating_sub(1), power, power.saturating_add(1)] {
             assert!(rt; holds(&come_back(rt.alloc(), size)), "at {size}");
+        }
+    }
+}
+
+// The text with these letters behind the label of its first line.
+fn with_comment(alloc: Global, text: &str, comment: &str) -> Result<String> {
+    let rest = match text.split_once('\n') {
+        Some((_, rest)) => rest,
+        None => "",
+    };
+    let text = format!(in alloc; "untrusted comment: {comment}\n{rest}")?;
+    Ok(text)
+}
+
+// The text over `abc` that the text of a secret key signs, with this as both comments.
+fn signed_by_text(alloc: Global, sk_text: &str, comment: &str) -> Result<String> {
+    let mut random = FixedRandom::new(&ZEROS);
+    sign_texts(
+        alloc,
+        &ToyScheme::new(),
+        sk_text,
+        None,
+        &mut typed_at_once(alloc, b""),
+        &mut SliceSource::new(b"abc"),
+        Some(comment),
+        Some(comment),
+        &mut random,
+        0,
+    )
+}
+
+// Whether texts of both keys with a comment of this many letters sign and verify, with that comment
+// beside the data.
+fn are_used(alloc: Global, size: usize) -> Result<bool> {
+    let comment = String::from_utf8(vec![in alloc; b'x'; size]?)?;
+    let comment = comment.as_str();
+    let sk_text = with_comment(alloc, SECRET_TEXT, comment)?;
+    let pk_text = with_comment(alloc, KEY_TEXT, comment)?;
+    let text = signed_by_text(alloc, sk_text.as_str(), comment)?;
+    is_said(alloc, (pk_text.as_str(), text.as_str()), comment)
+}
+
+// Around each power of two up to 2^17: texts of keys with such a comment sign and verify.
+#[test]
+fn texts_of_many_sizes_sign_and_verify(rt: HostRuntime) {
+    for exponent in 0..18u32 {
+        let power = 1usize << exponent;
+        for size in [power.saturating_sub(1), power, power.saturating_add(1)] {
+            assert!(rt; holds(&are_used(rt.alloc(), size)), "at {size}");
         }
     }
 }
@@ -171,7 +214,7 @@ fn is_dated(alloc: Global, moment: u64, expected: &str) -> Result<bool> {
     let text = tested(alloc, b"abc", said)?.into_string(alloc)?;
     let read = SignatureBox::from_string(alloc, text.as_str())?;
     let dated = is_text(&read.trusted_comment(alloc), expected);
-    Ok(dated && is_said(alloc, text.as_str(), expected)?)
+    Ok(dated && is_said(alloc, (KEY_TEXT, text.as_str()), expected)?)
 }
 
 // The last second of 32 bits with a sign and the one behind it, the same without a sign, and the

@@ -6,7 +6,9 @@ use minisign_base::helpers::get_password;
 use minisign_base::prompt::Prompt;
 use minisign_fixtures::devices::sinks::LimitedSink;
 use minisign_fixtures::devices::sources::{FailsAfter, OneByOne};
-use minisign_fixtures::outcomes::outcome;
+use minisign_fixtures::outcomes::{comes_to, outcome};
+use minisign_fixtures::prompts::bytes_left;
+use std::alloc::{AllocError, Global};
 use std::io;
 use std::io::Write;
 use std::test::Fail;
@@ -37,6 +39,41 @@ impl Write for Screen {
     }
 }
 
+// Whether asking for a password comes to this, with a password of so many bytes where it is
+// accepted, and leaves so many bytes unread.
+fn comes_so<R: Source + Drop>(
+    alloc: Global,
+    reader: R,
+    expected: &str,
+    count: usize,
+    unread: usize,
+) -> bool {
+    let mut prompt = Prompt::new(reader, VecSink::new(alloc));
+    let answer = get_password(alloc, &mut prompt, "Password: ");
+    let right = match &answer {
+        Ok(password) => password.len() == count,
+        Err(_) => true,
+    };
+    let told = comes_to(alloc, &answer, expected);
+    let (mut reader, writer) = prompt.into_parts();
+    right
+        && told
+        && writer.as_slice() == b"Password: ".as_slice()
+        && bytes_left(&mut reader) == unread
+}
+
+// The letter so many times, and then the tail.
+fn line(
+    alloc: Global,
+    letter: u8,
+    count: usize,
+    tail: &str,
+) -> std::result::Result<Vec<u8>, AllocError> {
+    let mut bytes = vec![in alloc; letter; count]?;
+    bytes.extend_from_slice(tail.as_bytes())?;
+    Ok(bytes)
+}
+
 #[test]
 fn long_lines_are_cut_and_refused(rt: HostRuntime) -> Result<(), Fail> {
     for (count, letter, tail, expected, unread) in [
@@ -55,22 +92,14 @@ fn long_lines_are_cut_and_refused(rt: HostRuntime) -> Result<(), Fail> {
         (0, b'a', "", ENDED, 0),
         (8, b'p', "\nmore", "accepted", 4),
     ] {
-        let mut bytes = vec![in rt.alloc(); letter; count]?;
-        bytes.extend_from_slice(tail.as_bytes())?;
-        let mut prompt = Prompt::new(SliceSource::new(&bytes), VecSink::new(rt.alloc()));
-        let answer = get_password(rt.alloc(), &mut prompt, "Password: ");
-        assert_eq!(rt;
-            outcome(rt.alloc(), &answer).as_str(),
-            expected,
+        let bytes = line(rt.alloc(), letter, count, tail)?;
+        let at_once = SliceSource::new(&bytes);
+        let by_bytes = OneByOne::new(&bytes);
+        assert!(rt;
+            comes_so(rt.alloc(), at_once, expected, count, unread)
+                && comes_so(rt.alloc(), by_bytes, expected, count, unread),
             "at {count} of {letter} and {tail:?}"
         );
-        if let Ok(password) = &answer {
-            assert_eq!(rt; password.len(), count);
-        }
-        let (mut reader, writer) = prompt.into_parts();
-        assert_eq!(rt; writer.as_slice(), b"Password: ".as_slice());
-        let mut rest = [0u8; 8];
-        assert_eq!(rt; reader.read(&mut rest), Ok(unread));
     }
     Ok(())
 }
