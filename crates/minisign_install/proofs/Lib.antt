@@ -1,0 +1,4 @@
+mod Judged
+mod Moments
+mod Pieces
+mod Works

@@ -1,0 +1,18 @@
+-- What pieces make together.
+use Rattle.std.proofs.Common.{◌≡◌, ◌+◌, ◌≤◌, ◌-◌, ℕ, List, [], ◌++◌, length, take, drop, ap, sym, ◌∙◌, arith, append_assoc, length-drop, take-append-drop}
+use Rattle.std.proofs.lemmas.List.{drop-drop}
+
+-- what grew twice
+pub grown_twice : (old mid new x y : List ℕ) → mid ≡ old ++ x → new ≡ mid ++ y → new ≡ old ++ (x ++ y)
+grown_twice old mid new x y a b = b ∙ ap (λ l. l ++ y) a ∙ append_assoc old x y
+
+-- what is left begins with what is read next
+pub read_next : (at n end : ℕ) (xs front : List ℕ) → end ≡ at + n → front ≡ take n (drop at xs) → drop at xs ≡ front ++ drop end xs
+read_next at n end xs front is same =
+    sym (take-append-drop n (drop at xs)) ∙ ap (λ l. l ++ drop n (drop at xs)) (sym same) ∙ ap (λ l. front ++ l) (drop-drop n at xs) ∙ ap (λ k. front ++ drop k xs) (sym is)
+
+pub left_less : (at n end : ℕ) (xs : List ℕ) → end ≡ at + n → n ≤ length (drop at xs) → length (drop end xs) + n ≡ length (drop at xs)
+left_less at n end xs is within = omega (arith, is, within, length-drop at xs, length-drop end xs)
+
+pub nothing_left : (at n end : ℕ) (xs : List ℕ) → end ≡ at + n → n ≡ 0 → drop at xs ≡ [] → drop end xs ≡ []
+nothing_left at n end xs is none empty = ap (λ k. drop k xs) (omega (arith, is, none)) ∙ empty
