@@ -1,7 +1,7 @@
 -- What one call brings to the lasting names.
-use Rattle.std.proofs.Common.{◌≡◌, ◌≢◌, ◌⊎◌, inl, inr, ⊎_elim, ℕ, List, Option, Some, None, true, ap, sym, subst, ◌∙◌, refl}
-use Rattle.minisign_install.specs.Folders.{Clears, IsApart, IsStill, KeepsNames, MayFind, MayLead, Moment, OthersLeave, Perhaps, Removes, Renames, Run, Step, TouchesOnly}
-use Rattle.minisign_install.specs.Runs.{Brings, HasStage}
+use Rattle.std.proofs.Common.{◌≡◌, ◌≢◌, ◌⊎◌, inl, inr, ⊎_elim, ℕ, List, Option, Some, true, ap, sym, subst, ◌∙◌, refl}
+use Rattle.minisign_install.specs.Folders.{IsApart, KeepsNames, MayFind, MayLead, Moment, Renames, Step, TouchesOnly}
+use Rattle.minisign_install.specs.Runs.{Brings}
 use Rattle.minisign_install.specs.declared.folders.Name.{Name}
 use Rattle.minisign_install.specs.declared.folders.Name.TheVariants.{Place, Record}
 
@@ -44,13 +44,13 @@ module _ (P : Name → List ℕ → Type 0) where
         holds = λ kept. found.holds (ap (λ d. d found.file) keeps.on_disk ∙ kept) ∙ ap (λ h. h found.file) keeps.holds;
       })
 
-place_or_record : (n to : Name) → (n ≡ to) ⊎ (n ≢ to)
+pub place_or_record : (n to : Name) → (n ≡ to) ⊎ (n ≢ to)
 place_or_record Place Place = inl refl
 place_or_record Place Record = inr (λ e. cc)
 place_or_record Record Place = inr (λ e. cc)
 place_or_record Record Record = inl refl
 
-some_inj : (f g : ℕ) → (o : Option ℕ) → o ≡ Some f → o ≡ Some g → f ≡ g
+pub some_inj : (f g : ℕ) → (o : Option ℕ) → o ≡ Some f → o ≡ Some g → f ≡ g
 some_inj f g o a b = cc
 
 module _ (P : Name → List ℕ → Type 0) where

@@ -1,10 +1,12 @@
 -- Calls one after another.
-use Rattle.std.proofs.Common.{◌≡◌, ◌≢◌, ◌⊎◌, inl, inr, ⊎_elim, ℕ, List, [], ◌∷◌, ◌++◌, Option, Some, None, true, ap, sym, subst, ◌∙◌, refl, append_assoc, All}
+use Rattle.std.proofs.Common.{◌≡◌, ◌≢◌, ◌⊎◌, inl, inr, ⊎_elim, ℕ, List, [], ◌∷◌, ◌++◌, Some, None, true, ap, sym, subst, ◌∙◌, refl, append_assoc, MatchResult}
 use Rattle.std.proofs.lemmas.List.Elements.{All-cons, All-nil, All-append}
-use Rattle.minisign_install.specs.Folders.{Appends, Clears, HasStepped, IsApart, IsStill, KeepsNames, KeepsOwn, MayFind, MayLead, Moment, OthersLeave, Perhaps, Removes, Renames, Run, Spoils, Step, TouchesOnly}
-use Rattle.minisign_install.specs.Runs.{Brings, BringsNothing, BringsOnly, HasStage, IsKept, KeepsStages, WorksOn}
+use Rattle.std.specs.declared.result.Result.{Result}
+use Rattle.std.specs.declared.result.Result.TheVariants.{Ok, Err}
+use Rattle.minisign_install.specs.Folders.{Appends, Creates, HasCreated, HasRemoved, HasStepped, HasTried, IsApart, IsStill, KeepsNames, KeepsOwn, Moment, OthersLeave, Perhaps, Removes, Renames, Run, Settles, SettlesNames, Spoils, Stands}
+use Rattle.minisign_install.specs.Runs.{Brings, BringsNothing, BringsOnly, Goes, GoesBeside, HasStage, IsKept, IsOnly, KeepsOthers, KeepsStages, WorksOn}
 use Rattle.minisign_install.specs.declared.folders.Name.{Name}
-use Rattle.minisign_install.proofs.Moments.{lead_back, leaving, resting, step, touching}
+use Rattle.minisign_install.proofs.Moments.{lead_back, leaving, place_or_record, renaming, resting, settling_names, some_inj, step, touching}
 
 module _ (P : Name → List ℕ → Type 0) where
   pub brings_none : (r : Run) → BringsOnly P r r
@@ -118,3 +120,198 @@ appending name file bytes old new stage s own = (
   spoiling name file old new stage (record { before = s.before; others = s.others; this = s.this.spoils; noted = s.noted }) own,
   s.this.grown ∙ ap (λ h. h ++ bytes) (s.others.holds name file stage.owned stage.leads),
 )
+
+-- what the file holds comes to the disk
+pub settling : (name : List ℕ) (file : ℕ) (old new : Run) → HasStage old name file → HasStepped old new (Settles file) → KeepsOwn old new
+    → WorksOn name file old new × (new.now.holds file ≡ old.now.holds file) × (new.now.on_disk file ≡ true)
+settling name file old new stage s own = (
+  spoiling name file old new stage (record { before = s.before; others = s.others; this = s.this.spoils; noted = s.noted }) own,
+  s.this.same ∙ s.others.holds name file stage.owned stage.leads,
+  s.this.on_disk,
+)
+
+pub kept_from : (old new : Run) (m : Moment) (s : List ℕ) (f : ℕ) → Before old m s f → new.owns s ≡ true → new.now.stages s ≡ m.stages s → IsApart new.now f
+    → new.now.holds f ≡ m.holds f → new.now.on_disk f ≡ m.on_disk f → IsKept old new s f
+kept_from old new m s f at owned stages apart holds on_disk = record {
+  stage = record { owned = owned; leads = stages ∙ at.leads; apart = apart };
+  holds = holds ∙ at.holds;
+  on_disk = on_disk ∙ at.on_disk;
+}
+
+-- == A stage is made ==
+
+pub created_stage : (name : List ℕ) (g : ℕ) (old new : Run) → HasCreated name g old new → HasStage new name g
+created_stage name g old new c = record {
+  owned = c.own.more;
+  leads = c.stepped.this.made;
+  apart = λ n lead. c.stepped.this.apart n (lead_back c.stepped.before new.now n g c.stepped.this.only.leads c.stepped.this.only.left lead);
+}
+
+pub created_brings : (name : List ℕ) (g : ℕ) (old new : Run) → HasCreated name g old new → BringsNothing old new
+created_brings name g old new c =
+    brings_more (λ _ _. ⊥) old old new (Creates name g) (brings_none (λ _ _. ⊥) old) c.stepped (touching (λ _ _. ⊥) g c.stepped.before new.now c.stepped.this.only c.stepped.this.apart)
+
+-- the others stay, and are others
+pub created_keeps : (name : List ℕ) (g : ℕ) (old new : Run) → HasCreated name g old new → (s : List ℕ) (f : ℕ) → HasStage old s f → (s ≢ name) × (f ≢ g) × IsKept old new s f
+created_keeps name g old new c s f held =
+    let m = c.stepped.before in
+    let this = c.stepped.this in
+    let at = before_call old m s f c.stepped.others held in
+    let none_some : None ≡ Some f → ⊥ = λ e. cc in
+    let name_differs : s ≢ name = λ e. none_some (sym this.free ∙ ap (λ x. m.stages x) (sym e) ∙ at.leads) in
+    let file_differs : f ≢ g = λ e. this.fresh s (at.leads ∙ ap (λ x. Some x) e) in (
+      name_differs,
+      file_differs,
+      kept_from old new m s f at (c.own.others s name_differs ∙ held.owned) (this.others s name_differs)
+          (λ n lead. at.apart n (lead_back m new.now n f this.only.leads this.only.left lead)) (this.only.holds f file_differs) (this.only.on_disk f file_differs),
+    )
+
+-- == A stage gets a lasting name ==
+
+renamed_apart : (name : List ℕ) (to : Name) (g f : ℕ) (m m' : Moment) → Renames name to m m' → m.stages name ≡ Some g → f ≢ g → IsApart m f → IsApart m' f
+renamed_apart name to g f m m' done leads differs apart n lead =
+    ⊎_elim
+    (λ same. ⊎_elim
+    (λ e. differs (some_inj f g (m'.leads to) (subst (λ x. m'.leads x ≡ Some f) same e) (done.leads ∙ leads)))
+    (λ e. apart to (done.left f (subst (λ x. m'.left x f ≡ true) same e)))
+    lead)
+    (λ other. apart n (⊎_elim (λ e. inl (sym (done.other_leads n other) ∙ e)) (λ e. inr (sym (done.other_left n other f) ∙ e)) lead))
+    (place_or_record n to)
+
+module _ (name : List ℕ) (to : Name) (g : ℕ) (old new : Run) (stage : HasStage old name g) where
+  pub renamed_keeps : (s : HasStepped old new (Renames name to)) → ((t : List ℕ) → t ≢ name → new.owns t ≡ old.owns t) → KeepsOthers name g old new
+  renamed_keeps s owns t f held name_differs file_differs =
+      let m = s.before in
+      let mine = before_call old m name g s.others stage in
+      let at = before_call old m t f s.others held in
+      kept_from old new m t f at (owns t name_differs ∙ held.owned) (s.this.stages t name_differs)
+      (renamed_apart name to g f m new.now s.this mine.leads file_differs at.apart) (ap (λ h. h f) s.this.holds) (ap (λ d. d f) s.this.on_disk)
+
+  pub renamed_brings : old.now.on_disk g ≡ true → (s : HasStepped old new (Renames name to)) → BringsOnly (IsOnly to (old.now.holds g)) old new
+  renamed_brings on_disk s =
+      let P = IsOnly to (old.now.holds g) in
+      let mine = before_call old s.before name g s.others stage in
+      brings_more P old old new (Renames name to) (brings_none P old) s
+      (renaming P name to g s.before new.now s.this mine.leads (mine.on_disk ∙ on_disk) (refl, mine.holds))
+
+  pub renamed_stands : old.now.on_disk g ≡ true → (s : HasStepped old new (Renames name to)) → Stands new.now to (old.now.holds g)
+  renamed_stands on_disk s =
+      let mine = before_call old s.before name g s.others stage in
+      record {
+        file = g;
+        leads = s.this.leads ∙ mine.leads;
+        holds = ap (λ h. h g) s.this.holds ∙ mine.holds;
+        on_disk = ap (λ d. d g) s.this.on_disk ∙ mine.on_disk ∙ on_disk;
+      }
+
+-- == The names come to the disk, or a name is removed ==
+
+pub names_keep : (old new : Run) → HasStepped old new KeepsNames → KeepsOwn old new → KeepsStages old new
+names_keep old new s own t f held =
+    let m = s.before in
+    let at = before_call old m t f s.others held in
+    kept_from old new m t f at (ap (λ o. o t) own.owns ∙ held.owned) (ap (λ o. o t) s.this.stages)
+    (λ n lead. at.apart n (⊎_elim (λ e. inl (sym (ap (λ l. l n) s.this.leads) ∙ e)) (λ e. s.this.left n f e) lead))
+    (ap (λ h. h f) s.this.holds) (ap (λ d. d f) s.this.on_disk)
+
+pub names_bring : (P : Name → List ℕ → Type 0) (old new : Run) → HasStepped old new KeepsNames → BringsOnly P old new
+names_bring P old new s = brings_more P old old new KeepsNames (brings_none P old) s (settling_names P s.before new.now s.this)
+
+pub names_settled : (old new : Run) → HasStepped old new SettlesNames → HasStepped old new KeepsNames
+names_settled old new s = record { before = s.before; others = s.others; this = s.this.same; noted = s.noted }
+
+pub removed_keeps : (name : List ℕ) (old new : Run) → HasStepped old new (Removes name) → ((t : List ℕ) → t ≢ name → new.owns t ≡ old.owns t) → (s : List ℕ) (f : ℕ) → HasStage old s f → s ≢ name → IsKept old new s f
+removed_keeps name old new s owns t f held differs =
+    let m = s.before in
+    let at = before_call old m t f s.others held in
+    kept_from old new m t f at (owns t differs ∙ held.owned) (s.this.stages t differs)
+    (λ n lead. at.apart n (lead_back m new.now n f s.this.leads s.this.left lead)) (ap (λ h. h f) s.this.holds) (ap (λ d. d f) s.this.on_disk)
+
+pub removed_brings : (P : Name → List ℕ → Type 0) (name : List ℕ) (old new : Run) → HasStepped old new (Removes name) → BringsOnly P old new
+removed_brings P name old new s =
+    brings_more P old old new (Removes name) (brings_none P old) s (leaving P s.before new.now s.this.leads s.this.left s.this.holds s.this.on_disk)
+
+-- a call that was perhaps made
+pub perhaps : (call : Moment → Moment → Type 0) (old new : Run) → HasStepped old new (Perhaps call) → HasStepped old new IsStill ⊎ HasStepped old new call
+perhaps call old new s =
+    ⊎_elim (λ still. inl (record { before = s.before; others = s.others; this = still; noted = s.noted })) (λ done. inr (record { before = s.before; others = s.others; this = done; noted = s.noted })) s.this
+
+-- == Calls on one stage, and its name at last ==
+
+pub goes_trans : (P : Name → List ℕ → Type 0) (name : List ℕ) (g : ℕ) (old mid new : Run) → Goes P name g old mid → Goes P name g mid new → Goes P name g old new
+goes_trans P name g old mid new a b = record {
+  brings = brings_trans P old mid new a.brings b.brings;
+  others = λ s f held name_differs file_differs.
+      let first = a.others s f held name_differs file_differs in
+      kept_trans old mid new s f first (b.others s f first.stage name_differs file_differs);
+}
+
+pub works_goes : (P : Name → List ℕ → Type 0) (name : List ℕ) (g : ℕ) (old new : Run) → WorksOn name g old new → Goes P name g old new
+works_goes P name g old new works = record {
+  brings = brings_nothing P old new works.brings;
+  others = λ s f held name_differs file_differs. works.kept s f held file_differs;
+}
+
+pub names_go : (P : Name → List ℕ → Type 0) (name : List ℕ) (g : ℕ) (old new : Run) → HasStepped old new KeepsNames → KeepsOwn old new → Goes P name g old new
+names_go P name g old new s own = record {
+  brings = names_bring P old new s;
+  others = λ t f held name_differs file_differs. names_keep old new s own t f held;
+}
+
+pub still_goes : (P : Name → List ℕ → Type 0) (name : List ℕ) (g : ℕ) (old new : Run) → HasStepped old new IsStill → KeepsOwn old new → Goes P name g old new
+still_goes P name g old new s own = record {
+  brings = brings_nothing P old new (resting_brings old new s);
+  others = λ t f held name_differs file_differs. resting_keeps old new s own t f held;
+}
+
+pub renamed_goes : (name : List ℕ) (to : Name) (g : ℕ) (old new : Run) → HasStage old name g → old.now.on_disk g ≡ true → HasStepped old new (Renames name to)
+    → ((t : List ℕ) → t ≢ name → new.owns t ≡ old.owns t) → Goes (IsOnly to (old.now.holds g)) name g old new
+renamed_goes name to g old new stage on_disk s owns = record {
+  brings = renamed_brings name to g old new stage on_disk s;
+  others = renamed_keeps name to g old new stage s owns;
+}
+
+pub perhaps_renamed_goes : (name : List ℕ) (to : Name) (g : ℕ) (old new : Run) → HasStage old name g → old.now.on_disk g ≡ true → HasStepped old new (Perhaps (Renames name to)) → KeepsOwn old new
+    → Goes (IsOnly to (old.now.holds g)) name g old new
+perhaps_renamed_goes name to g old new stage on_disk s own =
+    ⊎_elim (λ still. still_goes (IsOnly to (old.now.holds g)) name g old new still own)
+    (λ done. renamed_goes name to g old new stage on_disk done (λ t differs. ap (λ o. o t) own.owns)) (perhaps (Renames name to) old new s)
+
+pub removed_goes : (P : Name → List ℕ → Type 0) (name : List ℕ) (g : ℕ) (old new : Run) → HasStepped old new (Removes name) → ((t : List ℕ) → t ≢ name → new.owns t ≡ old.owns t) → Goes P name g old new
+removed_goes P name g old new s owns = record {
+  brings = removed_brings P name old new s;
+  others = λ t f held name_differs file_differs. removed_keeps name old new s owns t f held name_differs;
+}
+
+-- whether the removal came through or not
+pub perhaps_removed_goes : (P : Name → List ℕ → Type 0) (name : List ℕ) (g : ℕ) (old new : Run) {A E : Type 0} (r : Result A E)
+    → MatchResult r (λ _. HasRemoved name old new) (λ _. HasStepped old new (Perhaps (Removes name)) × KeepsOwn old new) → Goes P name g old new
+perhaps_removed_goes P name g old new (Ok a) done = removed_goes P name g old new done.stepped done.own.others
+perhaps_removed_goes P name g old new (Err e) done =
+    ⊎_elim (λ still. still_goes P name g old new still done.1)
+    (λ removed. removed_goes P name g old new removed (λ t differs. ap (λ o. o t) done.1.owns)) (perhaps (Removes name) old new done.0)
+
+-- a stage is made, worked on and published: the stages from before are still there
+pub created_goes : (P : Name → List ℕ → Type 0) (name : List ℕ) (g : ℕ) (old mid new : Run) → HasCreated name g old mid → Goes P name g mid new → GoesBeside P old new
+created_goes P name g old mid new made goes = record {
+  brings = brings_trans P old mid new (brings_nothing P old mid (created_brings name g old mid made)) goes.brings;
+  kept = λ s f held.
+      let (name_differs, file_differs, first) = created_keeps name g old mid made s f held in
+      kept_trans old mid new s f first (goes.others s f first.stage name_differs file_differs);
+}
+
+pub goes_none : (P : Name → List ℕ → Type 0) (r : Run) → GoesBeside P r r
+goes_none P r = record { brings = brings_none P r; kept = λ s f held. record { stage = held; holds = refl; on_disk = refl } }
+
+pub goes_still : (P : Name → List ℕ → Type 0) (old new : Run) → HasStepped old new IsStill → KeepsOwn old new → GoesBeside P old new
+goes_still P old new s own = record { brings = brings_nothing P old new (resting_brings old new s); kept = resting_keeps old new s own }
+
+
+pub names_kept : (old new : Run) {A E : Type 0} (r : Result A E) → MatchResult r (λ _. HasStepped old new SettlesNames) (λ _. HasStepped old new KeepsNames) → HasStepped old new KeepsNames
+names_kept old new (Ok a) done = names_settled old new done
+names_kept old new (Err e) done = done
+
+-- a stage was brought to the disk, or that failed
+pub settle_works : (name : List ℕ) (file : ℕ) (old new : Run) → HasStage old name file → {A E : Type 0} (r : Result A E) → HasTried (Settles file) (Spoils file) old new r → WorksOn name file old new
+settle_works name file old new stage (Ok a) done = (settling name file old new stage done.0 done.1).0
+settle_works name file old new stage (Err e) done = spoiling name file old new stage done.0 done.1

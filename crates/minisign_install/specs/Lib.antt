@@ -1,3 +1,4 @@
+pub mod Faults
 pub mod Folders
 pub mod Names
 pub mod Runs

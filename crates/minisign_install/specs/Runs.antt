@@ -1,6 +1,6 @@
 -- What several calls of a run do together.
-use Rattle.std.specs.Prelude.{◌≡◌, ◌≢◌, ◌⊎◌, ℕ, true, List, ◌++◌, All, Some}
-use Rattle.minisign_install.specs.Folders.{IsApart, KeepsOwn, MayFind, Moment, Run, Step}
+use Rattle.std.specs.Prelude.{◌≡◌, ◌≢◌, ◌⊎◌, ℕ, true, List, ◌∷◌, ◌++◌, All, Some}
+use Rattle.minisign_install.specs.Folders.{IsApart, KeepsOwn, MayFind, Run, SettlesNames, Stands, Step}
 use Rattle.minisign_install.specs.declared.folders.Name.{Name}
 
 -- the name of a stage is the run's own and leads to this file, and neither lasting name does or may after a crash
@@ -40,3 +40,35 @@ pub record WorksOn (name : List ℕ) (file : ℕ) (old new : Run) : Type 0 where
   pub stage : HasStage new name file
   pub kept : (s : List ℕ) (f : ℕ) → HasStage old s f → f ≢ file → IsKept old new s f
   pub own : KeepsOwn old new
+
+-- every stage but this one is still there
+abbrev pub KeepsOthers : List ℕ → ℕ → Run → Run → Type 0
+KeepsOthers name file old new = (s : List ℕ) (f : ℕ) → HasStage old s f → s ≢ name → f ≢ file → IsKept old new s f
+
+-- Only what is as P says was brought to a lasting name, and every stage but this one is still there.
+pub record Goes (P : Name → List ℕ → Type 0) (name : List ℕ) (file : ℕ) (old new : Run) : Type 0 where
+  pub brings : BringsOnly P old new
+  pub others : KeepsOthers name file old new
+
+-- Only what is as P says was brought to a lasting name, and every stage is still there.
+pub record GoesBeside (P : Name → List ℕ → Type 0) (old new : Run) : Type 0 where
+  pub brings : BringsOnly P old new
+  pub kept : KeepsStages old new
+
+-- no name became the run's own, and the lock is as it was
+pub record OwnsNoMore (old new : Run) : Type 0 where
+  pub owns : (s : List ℕ) → new.owns s ≡ true → old.owns s ≡ true
+  pub locked : new.locked ≡ old.locked
+
+-- only these bytes, at only this lasting name
+abbrev pub IsOnly : Name → List ℕ → Name → List ℕ → Type 0
+IsOnly to bytes n found = (n ≡ to) × (found ≡ bytes)
+
+-- With the last but one call the name led to a file of these bytes, on the disk, and with the last one the names came
+-- to the disk too: unless others change it, the name leads there from then on, through any crash.
+pub record IsPublished (to : Name) (bytes : List ℕ) (old : List Step) (new : List Step) : Type 0 where
+  pub renamed : Step
+  pub settled : Step
+  pub calls : new ≡ settled ∷ renamed ∷ old
+  pub stands : Stands renamed.after to bytes
+  pub lasts : SettlesNames settled.before settled.after

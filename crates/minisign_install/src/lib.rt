@@ -2,8 +2,11 @@
 
 #![tactic(auto)]
 
+pub mod faults;
 pub mod folders;
 mod judging;
+mod publishing;
+mod recording;
 pub mod stage_names;
 mod stage_reader;
 mod staging;

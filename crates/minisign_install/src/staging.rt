@@ -86,3 +86,18 @@ pub(crate) fn write_all<F: Folder>(
     }
     Ok(())
 }
+
+// Gives the stage the rights of what stands at the place, and brings to the disk what it holds.
+pub(crate) fn settle_stage<F: Folder>(
+    folder: &mut F,
+    handle: &F::Handle,
+) -> std::result::Result<(), DeviceFault>
+    ensures works { (name : List ℕ) → HasStage (F.run folder.old) name (F.Handle.file handle.now)
+        → WorksOn name (F.Handle.file handle.now) (F.run folder.old) (F.run folder.new) }
+    ensures settled { OnOk result ((name : List ℕ) → HasStage (F.run folder.old) name (F.Handle.file handle.now)
+        → ((F.run folder.new).now.holds (F.Handle.file handle.now) ≡ (F.run folder.old).now.holds (F.Handle.file handle.now))
+        × ((F.run folder.new).now.on_disk (F.Handle.file handle.now) ≡ true)) }
+{
+    folder.take_rights(handle)?;
+    folder.settle(handle)
+}
