@@ -1,3 +1,6 @@
+mod Fields
+mod Found
+mod Installs
 mod Judged
 mod Moments
 mod Pieces

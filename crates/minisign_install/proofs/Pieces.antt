@@ -1,5 +1,5 @@
 -- What pieces make together.
-use Rattle.std.proofs.Common.{◌≡◌, ◌+◌, ◌≤◌, ◌-◌, ℕ, List, [], ◌++◌, length, take, drop, ap, sym, ◌∙◌, arith, append_assoc, length-drop, take-append-drop}
+use Rattle.std.proofs.Common.{◌≡◌, ◌+◌, ◌≤◌, ℕ, List, [], ◌++◌, length, take, drop, ap, sym, ◌∙◌, arith, append_assoc, length-drop, take-append-drop}
 use Rattle.std.proofs.lemmas.List.{drop-drop}
 
 -- what grew twice

@@ -3,7 +3,7 @@ use Rattle.std.proofs.Common.{◌≡◌, ◌≢◌, ◌⊎◌, inl, inr, ⊎_eli
 use Rattle.std.proofs.lemmas.List.Elements.{All-cons, All-nil, All-append}
 use Rattle.std.specs.declared.result.Result.{Result}
 use Rattle.std.specs.declared.result.Result.TheVariants.{Ok, Err}
-use Rattle.minisign_install.specs.Folders.{Appends, Creates, HasCreated, HasRemoved, HasStepped, HasTried, IsApart, IsStill, KeepsNames, KeepsOwn, Moment, OthersLeave, Perhaps, Removes, Renames, Run, Settles, SettlesNames, Spoils, Stands}
+use Rattle.minisign_install.specs.Folders.{Appends, Clears, Creates, HasCreated, HasRemoved, HasStepped, HasTried, IsApart, IsStill, KeepsNames, KeepsOwn, Moment, OthersLeave, Perhaps, Removes, Renames, Run, Settles, SettlesNames, Spoils, Stands}
 use Rattle.minisign_install.specs.Runs.{Brings, BringsNothing, BringsOnly, Goes, GoesBeside, HasStage, IsKept, IsOnly, KeepsOthers, KeepsStages, WorksOn}
 use Rattle.minisign_install.specs.declared.folders.Name.{Name}
 use Rattle.minisign_install.proofs.Moments.{lead_back, leaving, place_or_record, renaming, resting, settling_names, some_inj, step, touching}
@@ -315,3 +315,17 @@ names_kept old new (Err e) done = done
 pub settle_works : (name : List ℕ) (file : ℕ) (old new : Run) → HasStage old name file → {A E : Type 0} (r : Result A E) → HasTried (Settles file) (Spoils file) old new r → WorksOn name file old new
 settle_works name file old new stage (Ok a) done = (settling name file old new stage done.0 done.1).0
 settle_works name file old new stage (Err e) done = spoiling name file old new stage done.0 done.1
+
+pub brings_weaken : (P Q : Name → List ℕ → Type 0) (old new : Run) → ((n : Name) (b : List ℕ) → P n b → Q n b) → BringsOnly P old new → BringsOnly Q old new
+brings_weaken P Q old new more b = record {
+  since = b.since;
+  noted = b.noted;
+  each = λ k d l n bytes found. ⊎_elim inl (λ p. inr (more n bytes p)) (b.each k d l n bytes found);
+}
+
+-- leftovers were removed, or some were
+pub clearing : (old new : Run) {A E : Type 0} (r : Result A E) → HasTried Clears Clears old new r → BringsNothing old new × (new.locked ≡ old.locked)
+clearing old new (Ok a) done =
+    (brings_more (λ _ _. ⊥) old old new Clears (brings_none (λ _ _. ⊥) old) done.0 (leaving (λ _ _. ⊥) done.0.before new.now done.0.this.leads done.0.this.left done.0.this.holds done.0.this.on_disk), done.1.locked)
+clearing old new (Err e) done =
+    (brings_more (λ _ _. ⊥) old old new Clears (brings_none (λ _ _. ⊥) old) done.0 (leaving (λ _ _. ⊥) done.0.before new.now done.0.this.leads done.0.this.left done.0.this.holds done.0.this.on_disk), done.1.locked)

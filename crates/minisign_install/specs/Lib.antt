@@ -1,4 +1,6 @@
+pub mod Comments
 pub mod Faults
 pub mod Folders
+pub mod Installing
 pub mod Names
 pub mod Runs

@@ -1,11 +1,16 @@
 //! The number of the newest update is kept beside the place.
 
-ghost use Rattle.std.specs.Prelude.{◌≡◌, ◌++◌, ℕ, List, true, [], OnOk};
+ghost use Rattle.std.specs.Prelude.{◌≡◌, ◌++◌, ℕ, List, true, [], Option, Some, None, ◌⊎◌, IfOk, OnOk, MatchOption};
 ghost use Rattle.std.specs.Fmt.{decimal};
-ghost use Rattle.minisign_install.specs.Folders.{Step};
+ghost use Rattle.std.specs.Str.{IsUtf8};
+ghost use Rattle.minisign_install.specs.Folders.{HasStepped, IsStill, KeepsOwn, Reads, Step};
+ghost use Rattle.minisign_install.specs.Comments.{IsNumberText};
+ghost use Rattle.minisign_install.specs.Installing.{IsKeptNumber};
 ghost use Rattle.minisign_install.specs.Names.{drawn_bytes};
 ghost use Rattle.minisign_install.specs.Runs.{Goes, GoesBeside, HasStage, IsOnly, IsPublished, WorksOn};
 
+use crate::comments::number_of;
+use crate::faults;
 use crate::folders::{Folder, Handle, Name};
 use crate::publishing::publish;
 use crate::stage_names::StageName;
@@ -13,8 +18,52 @@ use crate::staging::write_all;
 use minisign::Result;
 use minisign_base::devices::DeviceFault;
 use minisign_base::devices::random_sources::RandomSource;
-use minisign_base::faults::{random_source_failed, writing_failed};
+use minisign_base::faults::{random_source_failed, reading_failed, writing_failed};
 use std::alloc::Global;
+
+// The number that the record holds. Where it holds none and this is the first installation, that is
+// 0.
+pub(crate) fn kept_number<F: Folder>(alloc: Global, folder: &mut F, is_first: bool) -> Result<u64>
+    ensures read { IfOk result (λ kept. (found : Option (List ℕ)) × HasStepped (F.run folder.old) (F.run folder.new) (Reads Name.Record found) × IsKeptNumber is_first found kept) }
+    ensures still { HasStepped (F.run folder.old) (F.run folder.new) IsStill × KeepsOwn (F.run folder.old) (F.run folder.new) }
+{
+    match folder.read_record(alloc) {
+        Ok(Some(bytes)) => number_in(bytes.as_slice(), is_first),
+        Ok(None) => number_without_record(is_first),
+        Err(_) => Err(reading_failed()),
+    }
+}
+
+// The number that these bytes write.
+fn number_in(bytes: &[u8], is_first: bool) -> Result<u64>
+    ensures { IfOk result (IsKeptNumber is_first (Some bytes.now)) }
+{
+    match parsed(bytes) {
+        Some(number) => Ok(number),
+        None if is_first => Ok(0),
+        None => Err(faults::damaged_record()),
+    }
+}
+
+fn number_without_record(is_first: bool) -> Result<u64>
+    ensures { IfOk result (IsKeptNumber is_first None) }
+{
+    if is_first {
+        Ok(0)
+    } else {
+        Err(faults::no_record())
+    }
+}
+
+// The number that these bytes write, where they do.
+fn parsed(bytes: &[u8]) -> Option<u64>
+    ensures { MatchOption result (¬ (IsUtf8 bytes.now) ⊎ ((n : ℕ) → ¬ (IsNumberText bytes.now n))) (IsNumberText bytes.now) }
+{
+    match str::from_utf8(bytes) {
+        Ok(text) => number_of(text),
+        Err(_) => None,
+    }
+}
 
 // Keeps the number in the record, on the disk. Other stages stay.
 pub(crate) fn keep_number<F: Folder, Z: RandomSource>(

@@ -1,4 +1,4 @@
-use Rattle.std.proofs.Common.{◌≡◌, List, ℕ, [], ap, sym, subst, ◌∙◌, ◌++◌}
+use Rattle.std.proofs.Common.{◌≡◌, ap, subst, ◌∙◌, ◌++◌}
 use Rattle.minisign_install.specs.Names.{drawn_bytes}
 use Rattle.minisign_install.specs.Runs.{Goes, IsOnly}
 use Rattle.minisign_install.specs.declared.folders.Name.TheVariants.{Record}

@@ -1,5 +1,4 @@
-use Rattle.minisign_install.proofs.Works.{resting_keeps, resting_works, settle_works, settling, works_trans}
-use Rattle.std.proofs.Common.{◌∙◌}
+use Rattle.minisign_install.proofs.Works.{resting_works, settle_works, works_trans}
 use Rattle.minisign_install.proofs.staging.settle_stage.Goals as goal
 
 pub returns-in_err-take_rights-clause-works : goal.returns-in_err-take_rights-clause-works

@@ -1,0 +1,212 @@
+//! An update is staged, judged as it was staged, and put in its place in one step.
+
+ghost use Rattle.std.specs.Prelude.{◌≡◌, ℕ, List, true, false, string_bytes, IfOk, OnOk};
+ghost use Rattle.minisign.specs.Calls.{TextsVouchWith};
+ghost use Rattle.minisign_install.specs.Installing.{InstallsOnlyUpdates, IsBrought, IsInstalled, terms_of};
+ghost use Rattle.minisign_install.specs.Names.{drawn_bytes};
+ghost use Rattle.minisign_install.specs.Runs.{BringsOnly, HasStage, WorksOn};
+
+use crate::comments::check_comment;
+use crate::faults;
+use crate::folders::{Folder, Handle, Name};
+use crate::judging::judge;
+use crate::publishing::{Unpublished, publish};
+use crate::recording::{keep_number, kept_number};
+use crate::stage_names::StageName;
+use crate::stage_reader::StageReader;
+use crate::staging::{fill, settle_stage};
+use crate::wanted::Wanted;
+use minisign::{PError, Result};
+use minisign_base::devices::random_sources::RandomSource;
+use minisign_base::devices::sources::Source;
+use minisign_base::faults::{random_source_failed, reading_failed, writing_failed};
+use minisign_base::scheme::Scheme;
+use std::alloc::Global;
+
+// Copies the data ahead into the stage, verifies what the stage holds then, and brings it to the
+// disk. Returns the comment that was signed with it.
+fn stage_update<S: Scheme, R: Source, F: Folder>(
+    alloc: Global,
+    scheme: &S,
+    wanted: Wanted<'_>,
+    update: &mut R,
+    folder: &mut F,
+    handle: &F::Handle,
+) -> Result<String>
+    ensures works { (name : List ℕ) → HasStage (F.run folder.old) name (F.Handle.file handle.now)
+        → WorksOn name (F.Handle.file handle.now) (F.run folder.old) (F.run folder.new) }
+    ensures staged { IfOk result (λ t. (name : List ℕ) → HasStage (F.run folder.old) name (F.Handle.file handle.now)
+        → ((F.run folder.new).now.on_disk (F.Handle.file handle.now) ≡ true)
+        × TextsVouchWith (S.accepts scheme.now) wanted.entry.pk_text.now wanted.entry.sig_text.now ((F.run folder.new).now.holds (F.Handle.file handle.now)) false (string_bytes t)) }
+{
+    fill(alloc, folder, handle, update)?;
+    let comment = judge_stage(alloc, scheme, wanted, folder, handle)?;
+    match settle_stage(folder, handle) {
+        Ok(()) => Ok(comment),
+        Err(_) => Err(writing_failed()),
+    }
+}
+
+// Verifies what the stage holds.
+fn judge_stage<S: Scheme, F: Folder>(
+    alloc: Global,
+    scheme: &S,
+    wanted: Wanted<'_>,
+    folder: &F,
+    handle: &F::Handle,
+) -> Result<String>
+    ensures { IfOk result (λ t. TextsVouchWith (S.accepts scheme.now) wanted.entry.pk_text.now wanted.entry.sig_text.now
+        ((F.run folder.now).now.holds (F.Handle.file handle.now)) false (string_bytes t)) }
+{
+    judge(
+        alloc,
+        scheme,
+        wanted.pk_text,
+        wanted.sig_text,
+        &mut StageReader::new(folder, handle),
+    )
+}
+
+// Stages the update, keeps its number, and gives it the place's name, in this order.
+fn place_update<S: Scheme, Z: RandomSource, R: Source, F: Folder>(
+    alloc: Global,
+    scheme: &S,
+    random: &mut Z,
+    wanted: Wanted<'_>,
+    kept: u64,
+    update: &mut R,
+    folder: &mut F,
+    name: &StageName,
+    handle: &F::Handle,
+) -> Result<()>
+    requires locked { (F.run folder.old).locked ≡ true }
+    requires stage { HasStage (F.run folder.old) (drawn_bytes name.now) (F.Handle.file handle.now) }
+    ensures brings { BringsOnly (IsBrought (S.accepts scheme.now) (terms_of wanted.entry) kept) (F.run folder.old) (F.run folder.new) }
+    ensures installed { OnOk result (IsInstalled (S.accepts scheme.now) (terms_of wanted.entry) kept (F.run folder.new).steps) }
+{
+    let comment = stage_update(alloc, scheme, wanted, update, folder, handle)?;
+    let number = check_comment(&comment, wanted.file, wanted.numbering, kept)?;
+    keep_number(alloc, random, folder, number)?;
+    match publish(folder, name, Name::Place) {
+        Ok(()) => Ok(()),
+        Err(what) => Err(fault_of(what)),
+    }
+}
+
+// The fault of an update that was not published.
+fn fault_of(what: Unpublished) -> PError {
+    match what {
+        Unpublished::Unnamed => writing_failed(),
+        Unpublished::Unsettled => faults::folder_not_on_disk(),
+    }
+}
+
+// Installs the update by way of this stage, or removes the stage.
+fn install_staged<S: Scheme, Z: RandomSource, R: Source, F: Folder>(
+    alloc: Global,
+    scheme: &S,
+    random: &mut Z,
+    wanted: Wanted<'_>,
+    kept: u64,
+    update: &mut R,
+    folder: &mut F,
+    name: &StageName,
+    handle: &F::Handle,
+) -> Result<()>
+    requires locked { (F.run folder.old).locked ≡ true }
+    requires stage { HasStage (F.run folder.old) (drawn_bytes name.now) (F.Handle.file handle.now) }
+    ensures brings { BringsOnly (IsBrought (S.accepts scheme.now) (terms_of wanted.entry) kept) (F.run folder.old) (F.run folder.new) }
+    ensures installed { OnOk result (IsInstalled (S.accepts scheme.now) (terms_of wanted.entry) kept (F.run folder.new).steps) }
+{
+    match place_update(
+        alloc,
+        scheme,
+        random,
+        wanted,
+        kept,
+        update,
+        folder,
+        name,
+        handle,
+    ) {
+        Ok(()) => Ok(()),
+        Err(fault) => {
+            let _removed = folder.remove(name);
+            Err(fault)
+        }
+    }
+}
+
+// Installs the update where the lock is held and the kept number is known.
+fn install_newer<S: Scheme, Z: RandomSource, R: Source, F: Folder>(
+    alloc: Global,
+    scheme: &S,
+    random: &mut Z,
+    wanted: Wanted<'_>,
+    kept: u64,
+    update: &mut R,
+    folder: &mut F,
+) -> Result<()>
+    requires { (F.run folder.old).locked ≡ true }
+    ensures brings { BringsOnly (IsBrought (S.accepts scheme.now) (terms_of wanted.entry) kept) (F.run folder.old) (F.run folder.new) }
+    ensures installed { OnOk result (IsInstalled (S.accepts scheme.now) (terms_of wanted.entry) kept (F.run folder.new).steps) }
+{
+    let Ok(name) = StageName::draw(random) else {
+        return Err(random_source_failed());
+    };
+    match folder.create(&name) {
+        Ok(handle) => install_staged(
+            alloc,
+            scheme,
+            random,
+            wanted,
+            kept,
+            update,
+            folder,
+            &name,
+            &handle,
+        ),
+        Err(_) => Err(writing_failed()),
+    }
+}
+
+// Installs the update where the lock is held.
+fn install_alone<S: Scheme, Z: RandomSource, R: Source, F: Folder>(
+    alloc: Global,
+    scheme: &S,
+    random: &mut Z,
+    wanted: Wanted<'_>,
+    is_first: bool,
+    update: &mut R,
+    folder: &mut F,
+) -> Result<()>
+    requires { (F.run folder.old).locked ≡ true }
+    ensures headline { InstallsOnlyUpdates (S.accepts scheme.now) (terms_of wanted.entry) is_first (F.run folder.old) (F.run folder.new) }
+    ensures installed { OnOk result ((kept : ℕ) × IsInstalled (S.accepts scheme.now) (terms_of wanted.entry) kept (F.run folder.new).steps) }
+{
+    let Ok(()) = folder.clear() else {
+        return Err(writing_failed());
+    };
+    let kept = kept_number(alloc, folder, is_first)?;
+    install_newer(alloc, scheme, random, wanted, kept, update, folder)
+}
+
+/// Installs an update.
+pub fn install_update<S: Scheme, Z: RandomSource, R: Source, F: Folder>(
+    alloc: Global,
+    scheme: &S,
+    random: &mut Z,
+    wanted: Wanted<'_>,
+    is_first: bool,
+    update: &mut R,
+    folder: &mut F,
+) -> Result<()>
+    ensures headline { InstallsOnlyUpdates (S.accepts scheme.now) (terms_of wanted.entry) is_first (F.run folder.old) (F.run folder.new) }
+    ensures installed { OnOk result ((kept : ℕ) × IsInstalled (S.accepts scheme.now) (terms_of wanted.entry) kept (F.run folder.new).steps) }
+{
+    match folder.lock() {
+        Ok(true) => install_alone(alloc, scheme, random, wanted, is_first, update, folder),
+        Ok(false) => Err(faults::place_in_use()),
+        Err(_) => Err(reading_failed()),
+    }
+}
