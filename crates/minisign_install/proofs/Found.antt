@@ -1,5 +1,7 @@
 -- What the record was found to hold.
-use Rattle.std.proofs.Common.{◌≡◌, ℕ, Bool, List, Option, Some, IfOk, subst}
+use Rattle.std.proofs.Common.{◌≡◌, ℕ, Bool, List, Option, Some, true, IfOk, subst, false, None, sym, if◌then◌else◌}
+use Rattle.std.proofs.lemmas.Bool.{true≢false}
+use Rattle.minisign.specs.Reading.{IsAhead}
 use Rattle.std.specs.declared.result.Result.{Result}
 use Rattle.std.specs.declared.result.Result.TheVariants.{Ok, Err}
 use Rattle.minisign_base.specs.Fault.{Fault}
@@ -7,7 +9,14 @@ use Rattle.minisign_install.specs.Folders.{HasStepped, Reads, Run}
 use Rattle.minisign_install.specs.Installing.{IsKeptNumber}
 use Rattle.minisign_install.specs.declared.folders.Name.TheVariants.{Record}
 
-pub number_found : (first : Bool) (held bytes : List ℕ) (old new : Run) (r : Result ℕ Fault) → bytes ≡ held → HasStepped old new (Reads Record (Some held)) → IfOk r (IsKeptNumber first (Some bytes))
-    → IfOk r (λ kept. (found : Option (List ℕ)) × HasStepped old new (Reads Record found) × IsKeptNumber first found kept)
-number_found first held bytes old new (Ok n) same s number = (Some held, s, subst (λ b. IsKeptNumber first (Some b) n) same number)
+pub number_found : (first : Bool) (held bytes : List ℕ) (old new : Run) (r : Result ℕ Fault) → bytes ≡ held → (old.told ≡ true → HasStepped old new (Reads Record (Some held))) → IfOk r (IsKeptNumber first (Some bytes))
+    → IfOk r (λ kept. old.told ≡ true → ((found : Option (List ℕ)) × HasStepped old new (Reads Record found) × IsKeptNumber first found kept))
+number_found first held bytes old new (Ok n) same s number = λ told. (Some held, s told, subst (λ b. IsKeptNumber first (Some b) n) same number)
 number_found first held bytes old new (Err e) same s number = tt
+
+-- what is ahead of a stage that is told was judged
+pub judged_told : {T : Type 0} (told : Bool) (xs : List ℕ) (ahead : Option (List ℕ)) (V : List ℕ → T → Type 0) (r : Result T Fault) → ahead ≡ (if told then Some xs else None)
+    → IfOk r (λ t. (message : List ℕ) × IsAhead ahead message × V message t) → IfOk r (λ t. told ≡ true → V xs t)
+judged_told true xs ahead V (Ok t) is (message, given, v) = λ told. subst (λ m. V m t) (sym (subst (λ a. IsAhead a message) is given)) v
+judged_told false xs ahead V (Ok t) is judged = λ told. absurd (true≢false (sym told))
+judged_told told xs ahead V (Err e) is judged = tt

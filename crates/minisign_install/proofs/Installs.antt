@@ -1,6 +1,8 @@
 -- What the parts of an installation bring together.
-use Rattle.std.proofs.Common.{◌≡◌, ◌≤◌, inl, inr, ℕ, Bool, false, List, ◌∷◌, ◌++◌, Option, ap, sym, subst, ◌∙◌, append_assoc}
+use Rattle.std.proofs.Common.{◌≡◌, ◌≤◌, inl, inr, ℕ, Bool, false, List, ◌∷◌, ◌++◌, Option, ap, sym, subst, ◌∙◌, append_assoc, OnOk, true}
 use Rattle.std.specs.Fmt.{decimal}
+use Rattle.std.specs.declared.result.Result.{Result}
+use Rattle.std.specs.declared.result.Result.TheVariants.{Ok, Err}
 use Rattle.minisign.specs.Acceptance.{Verifier}
 use Rattle.minisign.specs.Calls.{TextsVouchWith}
 use Rattle.minisign_install.specs.Comments.{Says}
@@ -106,3 +108,16 @@ is_update accepts terms kept bytes comment text n vouched same says newer = reco
   says = says;
   newer = newer;
 }
+
+-- what was installed once the record was read, and once the lock was held
+pub installed_after : (accepts : Verifier) (terms : Terms) (kept : ℕ) (old cleared read : Run) (steps : List Step) {A E : Type 0} (r : Result A E) → (old.told ≡ true → BringsNothing old cleared) → (cleared.told ≡ true → BringsNothing cleared read)
+    → OnOk r (read.told ≡ true → IsInstalled accepts terms kept steps) → OnOk r (old.told ≡ true → ((k : ℕ) × IsInstalled accepts terms k steps))
+installed_after accepts terms kept old cleared read steps (Ok a) clear still is = λ told.
+    let cleared_told = (clear told).told ∙ told in
+    (kept, is ((still cleared_told).told ∙ cleared_told))
+installed_after accepts terms kept old cleared read steps (Err e) clear still is = tt
+
+pub installed_locked : (accepts : Verifier) (terms : Terms) (old locked : Run) (steps : List Step) {A E : Type 0} (r : Result A E) → (old.told ≡ true → BringsNothing old locked)
+    → OnOk r (locked.told ≡ true → ((k : ℕ) × IsInstalled accepts terms k steps)) → OnOk r (old.told ≡ true → ((k : ℕ) × IsInstalled accepts terms k steps))
+installed_locked accepts terms old locked steps (Ok a) lock is = λ told. is ((lock told).told ∙ told)
+installed_locked accepts terms old locked steps (Err e) lock is = tt

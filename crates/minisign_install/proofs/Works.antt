@@ -1,22 +1,24 @@
 -- Calls one after another.
-use Rattle.std.proofs.Common.{◌≡◌, ◌≢◌, ◌⊎◌, inl, inr, ⊎_elim, ℕ, List, [], ◌∷◌, ◌++◌, Some, None, true, ap, sym, subst, ◌∙◌, refl, append_assoc, MatchResult}
+use Rattle.std.proofs.Common.{◌≡◌, ◌≢◌, ◌⊎◌, inl, inr, ⊎_elim, ℕ, List, [], ◌∷◌, ◌++◌, Some, None, true, ap, sym, subst, ◌∙◌, refl, append_assoc, MatchResult, OnOk}
 use Rattle.std.proofs.lemmas.List.Elements.{All-cons, All-nil, All-append}
 use Rattle.std.specs.declared.result.Result.{Result}
 use Rattle.std.specs.declared.result.Result.TheVariants.{Ok, Err}
-use Rattle.minisign_install.specs.Folders.{Appends, Clears, Creates, HasCreated, HasRemoved, HasStepped, HasTried, IsApart, IsStill, KeepsNames, KeepsOwn, Moment, OthersLeave, Perhaps, Removes, Renames, Run, Settles, SettlesNames, Spoils, Stands}
-use Rattle.minisign_install.specs.Runs.{Brings, BringsNothing, BringsOnly, Goes, GoesBeside, HasStage, IsKept, IsOnly, KeepsOthers, KeepsStages, WorksOn}
+use Rattle.minisign_install.specs.Folders.{Appends, Clears, Creates, HasCreated, HasRemoved, HasStepped, HasTried, IsApart, IsStill, KeepsNames, KeepsOwn, Moment, OthersLeave, Perhaps, Removes, Renames, Run, Settles, SettlesNames, Spoils, Stands, Step}
+use Rattle.minisign_install.specs.Runs.{Brings, BringsNothing, BringsOnly, Goes, GoesBeside, HasStage, IsKept, IsOnly, KeepsOthers, KeepsStages, WorksOn, IsPublished}
 use Rattle.minisign_install.specs.declared.folders.Name.{Name}
+use Rattle.minisign_install.specs.declared.folders.Name.TheVariants.{Record}
 use Rattle.minisign_install.proofs.Moments.{lead_back, leaving, place_or_record, renaming, resting, settling_names, some_inj, step, touching}
 
 module _ (P : Name → List ℕ → Type 0) where
   pub brings_none : (r : Run) → BringsOnly P r r
-  brings_none r = record { since = []; noted = refl; each = All-nil (Brings P) }
+  brings_none r = record { since = []; noted = refl; each = All-nil (Brings P); told = refl }
 
   pub brings_more : (old mid new : Run) (call : Moment → Moment → Type 0) → BringsOnly P old mid → (s : HasStepped mid new call) → Brings P (step s.before new.now) → BringsOnly P old new
   brings_more old mid new call so_far s this = record {
     since = step s.before new.now ∷ so_far.since;
     noted = s.noted ∙ ap (λ l. step s.before new.now ∷ l) so_far.noted;
     each = All-cons (Brings P) (step s.before new.now) so_far.since this so_far.each;
+    told = s.told ∙ so_far.told;
   }
 
   pub brings_trans : (old mid new : Run) → BringsOnly P old mid → BringsOnly P mid new → BringsOnly P old new
@@ -24,6 +26,7 @@ module _ (P : Name → List ℕ → Type 0) where
     since = b.since ++ a.since;
     noted = b.noted ∙ ap (λ l. b.since ++ l) a.noted ∙ sym (append_assoc b.since a.since old.steps);
     each = All-append (Brings P) b.since a.since b.each a.each;
+    told = b.told ∙ a.told;
   }
 
   pub brings_nothing : (old new : Run) → BringsNothing old new → BringsOnly P old new
@@ -31,6 +34,7 @@ module _ (P : Name → List ℕ → Type 0) where
     since = none.since;
     noted = none.noted;
     each = λ k d l n bytes found. ⊎_elim inl (λ no. absurd no) (none.each k d l n bytes found);
+    told = none.told;
   }
 
 -- what a stage is at the moment just before a call
@@ -53,11 +57,11 @@ works_none name file r stage = record {
   brings = brings_none (λ _ _. ⊥) r;
   stage = stage;
   kept = λ s f held other. record { stage = held; holds = refl; on_disk = refl };
-  own = record { owns = refl; locked = refl };
+  own = record { owns = refl };
 }
 
 pub own_trans : (old mid new : Run) → KeepsOwn old mid → KeepsOwn mid new → KeepsOwn old new
-own_trans old mid new a b = record { owns = b.owns ∙ a.owns; locked = b.locked ∙ a.locked }
+own_trans old mid new a b = record { owns = b.owns ∙ a.owns }
 
 pub kept_trans : (old mid new : Run) (s : List ℕ) (f : ℕ) → IsKept old mid s f → IsKept mid new s f → IsKept old new s f
 kept_trans old mid new s f a b = record { stage = b.stage; holds = b.holds ∙ a.holds; on_disk = b.on_disk ∙ a.on_disk }
@@ -75,6 +79,7 @@ spoiling name file old new stage s own =
     let m = s.before in
     let at : (t : List ℕ) (f : ℕ) → HasStage old t f → Before old m t f = λ t f. before_call old m t f s.others in
     let after : (t : List ℕ) (f : ℕ) → HasStage old t f → HasStage new t f = λ t f held. record {
+      told = s.told ∙ held.told;
       owned = ap (λ o. o t) own.owns ∙ held.owned;
       leads = ap (λ o. o t) s.this.stages ∙ (at t f held).leads;
       apart = λ n lead. (at t f held).apart n (lead_back m new.now n f s.this.only.leads s.this.only.left lead);
@@ -94,6 +99,7 @@ pub resting_keeps : (old new : Run) → HasStepped old new IsStill → KeepsOwn 
 resting_keeps old new s own t f held =
     let at = before_call old s.before t f s.others held in record {
       stage = record {
+        told = s.told ∙ held.told;
         owned = ap (λ o. o t) own.owns ∙ held.owned;
         leads = ap (λ m. m.stages t) s.this ∙ at.leads;
         apart = subst (λ m. IsApart m f) (sym s.this) at.apart;
@@ -117,7 +123,7 @@ resting_works name file old new stage s own = record {
 pub appending : (name : List ℕ) (file : ℕ) (bytes : List ℕ) (old new : Run) → HasStage old name file → HasStepped old new (Appends file bytes) → KeepsOwn old new
     → WorksOn name file old new × (new.now.holds file ≡ old.now.holds file ++ bytes)
 appending name file bytes old new stage s own = (
-  spoiling name file old new stage (record { before = s.before; others = s.others; this = s.this.spoils; noted = s.noted }) own,
+  spoiling name file old new stage (record { before = s.before; others = s.others; this = s.this.spoils; noted = s.noted; told = s.told }) own,
   s.this.grown ∙ ap (λ h. h ++ bytes) (s.others.holds name file stage.owned stage.leads),
 )
 
@@ -125,23 +131,24 @@ appending name file bytes old new stage s own = (
 pub settling : (name : List ℕ) (file : ℕ) (old new : Run) → HasStage old name file → HasStepped old new (Settles file) → KeepsOwn old new
     → WorksOn name file old new × (new.now.holds file ≡ old.now.holds file) × (new.now.on_disk file ≡ true)
 settling name file old new stage s own = (
-  spoiling name file old new stage (record { before = s.before; others = s.others; this = s.this.spoils; noted = s.noted }) own,
+  spoiling name file old new stage (record { before = s.before; others = s.others; this = s.this.spoils; noted = s.noted; told = s.told }) own,
   s.this.same ∙ s.others.holds name file stage.owned stage.leads,
   s.this.on_disk,
 )
 
-pub kept_from : (old new : Run) (m : Moment) (s : List ℕ) (f : ℕ) → Before old m s f → new.owns s ≡ true → new.now.stages s ≡ m.stages s → IsApart new.now f
+pub kept_from : (old new : Run) (m : Moment) (s : List ℕ) (f : ℕ) → Before old m s f → new.told ≡ true → new.owns s ≡ true → new.now.stages s ≡ m.stages s → IsApart new.now f
     → new.now.holds f ≡ m.holds f → new.now.on_disk f ≡ m.on_disk f → IsKept old new s f
-kept_from old new m s f at owned stages apart holds on_disk = record {
-  stage = record { owned = owned; leads = stages ∙ at.leads; apart = apart };
+kept_from old new m s f at told owned stages apart holds on_disk = record {
+  stage = record { told = told; owned = owned; leads = stages ∙ at.leads; apart = apart };
   holds = holds ∙ at.holds;
   on_disk = on_disk ∙ at.on_disk;
 }
 
 -- == A stage is made ==
 
-pub created_stage : (name : List ℕ) (g : ℕ) (old new : Run) → HasCreated name g old new → HasStage new name g
-created_stage name g old new c = record {
+pub created_stage : (name : List ℕ) (g : ℕ) (old new : Run) → old.told ≡ true → HasCreated name g old new → HasStage new name g
+created_stage name g old new told c = record {
+  told = c.stepped.told ∙ told;
   owned = c.own.more;
   leads = c.stepped.this.made;
   apart = λ n lead. c.stepped.this.apart n (lead_back c.stepped.before new.now n g c.stepped.this.only.leads c.stepped.this.only.left lead);
@@ -162,7 +169,7 @@ created_keeps name g old new c s f held =
     let file_differs : f ≢ g = λ e. this.fresh s (at.leads ∙ ap (λ x. Some x) e) in (
       name_differs,
       file_differs,
-      kept_from old new m s f at (c.own.others s name_differs ∙ held.owned) (this.others s name_differs)
+      kept_from old new m s f at (c.stepped.told ∙ held.told) (c.own.others s name_differs ∙ held.owned) (this.others s name_differs)
           (λ n lead. at.apart n (lead_back m new.now n f this.only.leads this.only.left lead)) (this.only.holds f file_differs) (this.only.on_disk f file_differs),
     )
 
@@ -184,7 +191,7 @@ module _ (name : List ℕ) (to : Name) (g : ℕ) (old new : Run) (stage : HasSta
       let m = s.before in
       let mine = before_call old m name g s.others stage in
       let at = before_call old m t f s.others held in
-      kept_from old new m t f at (owns t name_differs ∙ held.owned) (s.this.stages t name_differs)
+      kept_from old new m t f at (s.told ∙ held.told) (owns t name_differs ∙ held.owned) (s.this.stages t name_differs)
       (renamed_apart name to g f m new.now s.this mine.leads file_differs at.apart) (ap (λ h. h f) s.this.holds) (ap (λ d. d f) s.this.on_disk)
 
   pub renamed_brings : old.now.on_disk g ≡ true → (s : HasStepped old new (Renames name to)) → BringsOnly (IsOnly to (old.now.holds g)) old new
@@ -210,7 +217,7 @@ pub names_keep : (old new : Run) → HasStepped old new KeepsNames → KeepsOwn 
 names_keep old new s own t f held =
     let m = s.before in
     let at = before_call old m t f s.others held in
-    kept_from old new m t f at (ap (λ o. o t) own.owns ∙ held.owned) (ap (λ o. o t) s.this.stages)
+    kept_from old new m t f at (s.told ∙ held.told) (ap (λ o. o t) own.owns ∙ held.owned) (ap (λ o. o t) s.this.stages)
     (λ n lead. at.apart n (⊎_elim (λ e. inl (sym (ap (λ l. l n) s.this.leads) ∙ e)) (λ e. s.this.left n f e) lead))
     (ap (λ h. h f) s.this.holds) (ap (λ d. d f) s.this.on_disk)
 
@@ -218,13 +225,13 @@ pub names_bring : (P : Name → List ℕ → Type 0) (old new : Run) → HasStep
 names_bring P old new s = brings_more P old old new KeepsNames (brings_none P old) s (settling_names P s.before new.now s.this)
 
 pub names_settled : (old new : Run) → HasStepped old new SettlesNames → HasStepped old new KeepsNames
-names_settled old new s = record { before = s.before; others = s.others; this = s.this.same; noted = s.noted }
+names_settled old new s = record { before = s.before; others = s.others; this = s.this.same; noted = s.noted; told = s.told }
 
 pub removed_keeps : (name : List ℕ) (old new : Run) → HasStepped old new (Removes name) → ((t : List ℕ) → t ≢ name → new.owns t ≡ old.owns t) → (s : List ℕ) (f : ℕ) → HasStage old s f → s ≢ name → IsKept old new s f
 removed_keeps name old new s owns t f held differs =
     let m = s.before in
     let at = before_call old m t f s.others held in
-    kept_from old new m t f at (owns t differs ∙ held.owned) (s.this.stages t differs)
+    kept_from old new m t f at (s.told ∙ held.told) (owns t differs ∙ held.owned) (s.this.stages t differs)
     (λ n lead. at.apart n (lead_back m new.now n f s.this.leads s.this.left lead)) (ap (λ h. h f) s.this.holds) (ap (λ d. d f) s.this.on_disk)
 
 pub removed_brings : (P : Name → List ℕ → Type 0) (name : List ℕ) (old new : Run) → HasStepped old new (Removes name) → BringsOnly P old new
@@ -234,7 +241,7 @@ removed_brings P name old new s =
 -- a call that was perhaps made
 pub perhaps : (call : Moment → Moment → Type 0) (old new : Run) → HasStepped old new (Perhaps call) → HasStepped old new IsStill ⊎ HasStepped old new call
 perhaps call old new s =
-    ⊎_elim (λ still. inl (record { before = s.before; others = s.others; this = still; noted = s.noted })) (λ done. inr (record { before = s.before; others = s.others; this = done; noted = s.noted })) s.this
+    ⊎_elim (λ still. inl (record { before = s.before; others = s.others; this = still; noted = s.noted; told = s.told })) (λ done. inr (record { before = s.before; others = s.others; this = done; noted = s.noted; told = s.told })) s.this
 
 -- == Calls on one stage, and its name at last ==
 
@@ -321,11 +328,43 @@ brings_weaken P Q old new more b = record {
   since = b.since;
   noted = b.noted;
   each = λ k d l n bytes found. ⊎_elim inl (λ p. inr (more n bytes p)) (b.each k d l n bytes found);
+  told = b.told;
 }
 
 -- leftovers were removed, or some were
-pub clearing : (old new : Run) {A E : Type 0} (r : Result A E) → HasTried Clears Clears old new r → BringsNothing old new × (new.locked ≡ old.locked)
+pub clearing : (old new : Run) {A E : Type 0} (r : Result A E) → HasTried Clears Clears old new r → BringsNothing old new
 clearing old new (Ok a) done =
-    (brings_more (λ _ _. ⊥) old old new Clears (brings_none (λ _ _. ⊥) old) done.0 (leaving (λ _ _. ⊥) done.0.before new.now done.0.this.leads done.0.this.left done.0.this.holds done.0.this.on_disk), done.1.locked)
+    brings_more (λ _ _. ⊥) old old new Clears (brings_none (λ _ _. ⊥) old) done.0 (leaving (λ _ _. ⊥) done.0.before new.now done.0.this.leads done.0.this.left done.0.this.holds done.0.this.on_disk)
 clearing old new (Err e) done =
-    (brings_more (λ _ _. ⊥) old old new Clears (brings_none (λ _ _. ⊥) old) done.0 (leaving (λ _ _. ⊥) done.0.before new.now done.0.this.leads done.0.this.left done.0.this.holds done.0.this.on_disk), done.1.locked)
+    brings_more (λ _ _. ⊥) old old new Clears (brings_none (λ _ _. ⊥) old) done.0 (leaving (λ _ _. ⊥) done.0.before new.now done.0.this.leads done.0.this.left done.0.this.holds done.0.this.on_disk)
+
+-- the lock was asked for
+pub locking : (old new : Run) {A E : Type 0} (r : Result A E) → HasTried IsStill IsStill old new r → BringsNothing old new
+locking old new (Ok a) done = resting_brings old new done.0
+locking old new (Err e) done = resting_brings old new done.0
+
+-- a stage was named, and the names brought to the disk
+pub published : (name : List ℕ) (to : Name) (old mid new : Run) {A E : Type 0} (r : Result A E) → (old.told ≡ true → HasStepped old mid (Renames name to))
+    → (mid.told ≡ true → MatchResult r (λ _. HasStepped mid new SettlesNames) (λ _. HasStepped mid new KeepsNames))
+    → OnOk r ((g : ℕ) → HasStage old name g → old.now.on_disk g ≡ true → IsPublished to (old.now.holds g) old.steps new.steps)
+published name to old mid new (Ok a) rename settle = λ g stage on_disk.
+    let first = rename stage.told in
+    let last = settle (first.told ∙ stage.told) in
+    record {
+      renamed = step first.before mid.now;
+      settled = step last.before new.now;
+      calls = last.noted ∙ ap (λ l. step last.before new.now ∷ l) first.noted;
+      stands = renamed_stands name to g old mid stage on_disk first;
+      lasts = last.this;
+    }
+published name to old mid new (Err e) rename settle = tt
+
+pub recorded_bytes : (name : List ℕ) (file : ℕ) (bytes : List ℕ) (old mid : Run) (steps : List Step) {A E : Type 0} (r : Result A E) → (old.told ≡ true → HasCreated name file old mid)
+    → OnOk r (HasStage mid name file → mid.now.holds file ≡ [] → ((earlier : List Step) × IsPublished Record bytes earlier steps))
+    → OnOk r (old.told ≡ true → ((earlier : List Step) × IsPublished Record bytes earlier steps))
+recorded_bytes name file bytes old mid steps (Ok a) made recorded = λ told. recorded (created_stage name file old mid told (made told)) (made told).stepped.this.empty
+recorded_bytes name file bytes old mid steps (Err e) made recorded = tt
+
+pub installed_so : (name : List ℕ) (file : ℕ) (old mid : Run) (I : Type 0) {A E : Type 0} (r : Result A E) → (old.told ≡ true → HasCreated name file old mid) → OnOk r (HasStage mid name file → I) → OnOk r (old.told ≡ true → I)
+installed_so name file old mid I (Ok a) made so = λ told. so (created_stage name file old mid told (made told))
+installed_so name file old mid I (Err e) made so = tt

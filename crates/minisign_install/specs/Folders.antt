@@ -23,12 +23,16 @@ pub record Step : Type 0 where
   pub after : Moment
 
 -- a run so far: the moment after its last call, all its calls, the newest first, the stages' names that are its
--- own, and whether it holds the lock
+-- own, and whether its folder tells all this: of one that does not, nothing is said
 pub record Run : Type 0 where
+  pub told : Bool
   pub now : Moment
   pub steps : List Step
   pub owns : List ℕ → Bool
-  pub locked : Bool
+
+-- where the folder tells what it holds
+abbrev pub Told : Run → Type 0 → Type 0
+Told r fact = r.told ≡ true → fact
 
 -- == What may be found ==
 
@@ -154,23 +158,21 @@ pub record HasStepped (old new : Run) (call : Moment → Moment → Type 0) : Ty
   pub others : OthersLeave old.owns old.now before
   pub this : call before new.now
   pub noted : new.steps ≡ (record { before = before; after = new.now }) ∷ old.steps
+  pub told : new.told ≡ old.told
 
 -- what is the run's own stays
 pub record KeepsOwn (old new : Run) : Type 0 where
   pub owns : new.owns ≡ old.owns
-  pub locked : new.locked ≡ old.locked
 
 -- one more name is the run's own
 pub record OwnsMore (name : List ℕ) (old new : Run) : Type 0 where
   pub more : new.owns name ≡ true
   pub others : (s : List ℕ) → s ≢ name → new.owns s ≡ old.owns s
-  pub locked : new.locked ≡ old.locked
 
 -- the name is the run's own no longer
 pub record OwnsLess (name : List ℕ) (old new : Run) : Type 0 where
   pub less : new.owns name ≡ false
   pub others : (s : List ℕ) → s ≢ name → new.owns s ≡ old.owns s
-  pub locked : new.locked ≡ old.locked
 
 -- the call did this, or failed and perhaps did it; nothing became or ceased to be the run's own
 abbrev pub HasTried : {A E : Type 0} → (Moment → Moment → Type 0) → (Moment → Moment → Type 0) → Run → Run → Result A E → Type 0
@@ -191,16 +193,8 @@ pub record HasRemoved (name : List ℕ) (old new : Run) : Type 0 where
   pub stepped : HasStepped old new (Removes name)
   pub own : OwnsLess name old new
 
--- nothing changed, and the lock is held now, or another holds it
-pub record HasAskedForLock {E : Type 0} (old new : Run) (answer : Result Bool E) : Type 0 where
-  pub stepped : HasStepped old new IsStill
-  pub owns : new.owns ≡ old.owns
-  pub locked : IfOk answer (λ got. got ≡ true → new.locked ≡ true)
-  pub kept : OnErr answer (new.locked ≡ old.locked)
-
 -- these are the bytes of a file from an offset on, at least one where there are any and there is room
 pub record HasReadAt {E : Type 0} (held : List ℕ) (at : ℕ) (buffer : List ℕ) (answer : Result ℕ E) : Type 0 where
-  pub bound : IfOk answer (λ n. n ≤ length buffer)
   pub within : IfOk answer (λ n. n ≤ length (drop at held))
   pub bytes : IfOk answer (λ n. take n buffer ≡ take n (drop at held))
   pub end : IfOk answer (λ n. n ≡ 0 → 0 < length buffer → drop at held ≡ [])

@@ -5,6 +5,7 @@ use Rattle.minisign_install.specs.declared.folders.Name.{Name}
 
 -- the name of a stage is the run's own and leads to this file, and neither lasting name does or may after a crash
 pub record HasStage (r : Run) (name : List ℕ) (file : ℕ) : Type 0 where
+  pub told : r.told ≡ true
   pub owned : r.owns name ≡ true
   pub leads : r.now.stages name ≡ Some file
   pub apart : IsApart r.now file
@@ -19,6 +20,7 @@ pub record BringsOnly (P : Name → List ℕ → Type 0) (old new : Run) : Type 
   pub since : List Step
   pub noted : new.steps ≡ since ++ old.steps
   pub each : All (Brings P) since
+  pub told : new.told ≡ old.told
 
 -- nothing is brought
 abbrev pub BringsNothing : Run → Run → Type 0
@@ -54,11 +56,6 @@ pub record Goes (P : Name → List ℕ → Type 0) (name : List ℕ) (file : ℕ
 pub record GoesBeside (P : Name → List ℕ → Type 0) (old new : Run) : Type 0 where
   pub brings : BringsOnly P old new
   pub kept : KeepsStages old new
-
--- no name became the run's own, and the lock is as it was
-pub record OwnsNoMore (old new : Run) : Type 0 where
-  pub owns : (s : List ℕ) → new.owns s ≡ true → old.owns s ≡ true
-  pub locked : new.locked ≡ old.locked
 
 -- only these bytes, at only this lasting name
 abbrev pub IsOnly : Name → List ℕ → Name → List ℕ → Type 0

@@ -2,13 +2,14 @@
 
 ghost use Rattle.std.specs.Prelude.{◌≡◌, ℕ, List, true, false, string_bytes, IfOk, OnOk};
 ghost use Rattle.minisign.specs.Calls.{TextsVouchWith};
+ghost use Rattle.minisign_install.specs.Folders.{Told};
 ghost use Rattle.minisign_install.specs.Installing.{InstallsOnlyUpdates, IsBrought, IsInstalled, terms_of};
 ghost use Rattle.minisign_install.specs.Names.{drawn_bytes};
 ghost use Rattle.minisign_install.specs.Runs.{BringsOnly, HasStage, WorksOn};
 
 use crate::comments::check_comment;
 use crate::faults;
-use crate::folders::{Folder, Handle, Name};
+use crate::folders::{Folder, Handle, Lock, Name};
 use crate::judging::judge;
 use crate::publishing::{Unpublished, publish};
 use crate::recording::{keep_number, kept_number};
@@ -48,15 +49,15 @@ fn stage_update<S: Scheme, R: Source, F: Folder>(
 }
 
 // Verifies what the stage holds.
-fn judge_stage<S: Scheme, F: Folder>(
+fn judge_stage<'a, S: Scheme, F: Folder>(
     alloc: Global,
     scheme: &S,
     wanted: Wanted<'_>,
-    folder: &F,
-    handle: &F::Handle,
+    folder: &'a F,
+    handle: &'a F::Handle,
 ) -> Result<String>
-    ensures { IfOk result (λ t. TextsVouchWith (S.accepts scheme.now) wanted.entry.pk_text.now wanted.entry.sig_text.now
-        ((F.run folder.now).now.holds (F.Handle.file handle.now)) false (string_bytes t)) }
+    ensures { IfOk result (λ t. Told (F.run folder.now) (TextsVouchWith (S.accepts scheme.now) wanted.entry.pk_text.now wanted.entry.sig_text.now
+        ((F.run folder.now).now.holds (F.Handle.file handle.now)) false (string_bytes t))) }
 {
     judge(
         alloc,
@@ -76,17 +77,18 @@ fn place_update<S: Scheme, Z: RandomSource, R: Source, F: Folder>(
     kept: u64,
     update: &mut R,
     folder: &mut F,
+    lock: &Lock,
     name: &StageName,
     handle: &F::Handle,
 ) -> Result<()>
-    requires locked { (F.run folder.old).locked ≡ true }
-    requires stage { HasStage (F.run folder.old) (drawn_bytes name.now) (F.Handle.file handle.now) }
-    ensures brings { BringsOnly (IsBrought (S.accepts scheme.now) (terms_of wanted.entry) kept) (F.run folder.old) (F.run folder.new) }
-    ensures installed { OnOk result (IsInstalled (S.accepts scheme.now) (terms_of wanted.entry) kept (F.run folder.new).steps) }
+    ensures brings { HasStage (F.run folder.old) (drawn_bytes name.now) (F.Handle.file handle.now)
+        → BringsOnly (IsBrought (S.accepts scheme.now) (terms_of wanted.entry) kept) (F.run folder.old) (F.run folder.new) }
+    ensures installed { OnOk result (HasStage (F.run folder.old) (drawn_bytes name.now) (F.Handle.file handle.now)
+        → IsInstalled (S.accepts scheme.now) (terms_of wanted.entry) kept (F.run folder.new).steps) }
 {
     let comment = stage_update(alloc, scheme, wanted, update, folder, handle)?;
     let number = check_comment(&comment, wanted.file, wanted.numbering, kept)?;
-    keep_number(alloc, random, folder, number)?;
+    keep_number(alloc, random, folder, lock, number)?;
     match publish(folder, name, Name::Place) {
         Ok(()) => Ok(()),
         Err(what) => Err(fault_of(what)),
@@ -110,13 +112,14 @@ fn install_staged<S: Scheme, Z: RandomSource, R: Source, F: Folder>(
     kept: u64,
     update: &mut R,
     folder: &mut F,
+    lock: &Lock,
     name: &StageName,
     handle: &F::Handle,
 ) -> Result<()>
-    requires locked { (F.run folder.old).locked ≡ true }
-    requires stage { HasStage (F.run folder.old) (drawn_bytes name.now) (F.Handle.file handle.now) }
-    ensures brings { BringsOnly (IsBrought (S.accepts scheme.now) (terms_of wanted.entry) kept) (F.run folder.old) (F.run folder.new) }
-    ensures installed { OnOk result (IsInstalled (S.accepts scheme.now) (terms_of wanted.entry) kept (F.run folder.new).steps) }
+    ensures brings { HasStage (F.run folder.old) (drawn_bytes name.now) (F.Handle.file handle.now)
+        → BringsOnly (IsBrought (S.accepts scheme.now) (terms_of wanted.entry) kept) (F.run folder.old) (F.run folder.new) }
+    ensures installed { OnOk result (HasStage (F.run folder.old) (drawn_bytes name.now) (F.Handle.file handle.now)
+        → IsInstalled (S.accepts scheme.now) (terms_of wanted.entry) kept (F.run folder.new).steps) }
 {
     match place_update(
         alloc,
@@ -126,6 +129,7 @@ fn install_staged<S: Scheme, Z: RandomSource, R: Source, F: Folder>(
         kept,
         update,
         folder,
+        lock,
         name,
         handle,
     ) {
@@ -146,15 +150,15 @@ fn install_newer<S: Scheme, Z: RandomSource, R: Source, F: Folder>(
     kept: u64,
     update: &mut R,
     folder: &mut F,
+    lock: &Lock,
 ) -> Result<()>
-    requires { (F.run folder.old).locked ≡ true }
-    ensures brings { BringsOnly (IsBrought (S.accepts scheme.now) (terms_of wanted.entry) kept) (F.run folder.old) (F.run folder.new) }
-    ensures installed { OnOk result (IsInstalled (S.accepts scheme.now) (terms_of wanted.entry) kept (F.run folder.new).steps) }
+    ensures brings { Told (F.run folder.old) (BringsOnly (IsBrought (S.accepts scheme.now) (terms_of wanted.entry) kept) (F.run folder.old) (F.run folder.new)) }
+    ensures installed { OnOk result (Told (F.run folder.old) (IsInstalled (S.accepts scheme.now) (terms_of wanted.entry) kept (F.run folder.new).steps)) }
 {
     let Ok(name) = StageName::draw(random) else {
         return Err(random_source_failed());
     };
-    match folder.create(&name) {
+    match folder.create(lock, &name) {
         Ok(handle) => install_staged(
             alloc,
             scheme,
@@ -163,6 +167,7 @@ fn install_newer<S: Scheme, Z: RandomSource, R: Source, F: Folder>(
             kept,
             update,
             folder,
+            lock,
             &name,
             &handle,
         ),
@@ -179,16 +184,16 @@ fn install_alone<S: Scheme, Z: RandomSource, R: Source, F: Folder>(
     is_first: bool,
     update: &mut R,
     folder: &mut F,
+    lock: &Lock,
 ) -> Result<()>
-    requires { (F.run folder.old).locked ≡ true }
-    ensures headline { InstallsOnlyUpdates (S.accepts scheme.now) (terms_of wanted.entry) is_first (F.run folder.old) (F.run folder.new) }
-    ensures installed { OnOk result ((kept : ℕ) × IsInstalled (S.accepts scheme.now) (terms_of wanted.entry) kept (F.run folder.new).steps) }
+    ensures headline { Told (F.run folder.old) (InstallsOnlyUpdates (S.accepts scheme.now) (terms_of wanted.entry) is_first (F.run folder.old) (F.run folder.new)) }
+    ensures installed { OnOk result (Told (F.run folder.old) ((kept : ℕ) × IsInstalled (S.accepts scheme.now) (terms_of wanted.entry) kept (F.run folder.new).steps)) }
 {
-    let Ok(()) = folder.clear() else {
+    let Ok(()) = folder.clear(lock) else {
         return Err(writing_failed());
     };
     let kept = kept_number(alloc, folder, is_first)?;
-    install_newer(alloc, scheme, random, wanted, kept, update, folder)
+    install_newer(alloc, scheme, random, wanted, kept, update, folder, lock)
 }
 
 /// Installs an update.
@@ -201,12 +206,21 @@ pub fn install_update<S: Scheme, Z: RandomSource, R: Source, F: Folder>(
     update: &mut R,
     folder: &mut F,
 ) -> Result<()>
-    ensures headline { InstallsOnlyUpdates (S.accepts scheme.now) (terms_of wanted.entry) is_first (F.run folder.old) (F.run folder.new) }
-    ensures installed { OnOk result ((kept : ℕ) × IsInstalled (S.accepts scheme.now) (terms_of wanted.entry) kept (F.run folder.new).steps) }
+    ensures headline { Told (F.run folder.old) (InstallsOnlyUpdates (S.accepts scheme.now) (terms_of wanted.entry) is_first (F.run folder.old) (F.run folder.new)) }
+    ensures installed { OnOk result (Told (F.run folder.old) ((kept : ℕ) × IsInstalled (S.accepts scheme.now) (terms_of wanted.entry) kept (F.run folder.new).steps)) }
 {
     match folder.lock() {
-        Ok(true) => install_alone(alloc, scheme, random, wanted, is_first, update, folder),
-        Ok(false) => Err(faults::place_in_use()),
+        Ok(Some(lock)) => install_alone(
+            alloc,
+            scheme,
+            random,
+            wanted,
+            is_first,
+            update,
+            folder,
+            &lock,
+        ),
+        Ok(None) => Err(faults::place_in_use()),
         Err(_) => Err(reading_failed()),
     }
 }

@@ -15,7 +15,7 @@ mod staging;
 pub mod wanted;
 
 pub use comments::Numbering;
-pub use folders::{Folder, Handle, Name};
+pub use folders::{Folder, Handle, Lock, Name};
 pub use installing::install_update;
 pub use stage_names::StageName;
 pub use wanted::Wanted;

@@ -1,9 +1,9 @@
 //! A stage gets a lasting name, in one step.
 
 ghost use Rattle.std.specs.Prelude.{◌≡◌, ℕ, true, MatchResult, OnOk};
-ghost use Rattle.minisign_install.specs.Folders.{HasStepped, KeepsNames, KeepsOwn, SettlesNames};
+ghost use Rattle.minisign_install.specs.Folders.{HasStepped, KeepsNames, KeepsOwn, SettlesNames, Told};
 ghost use Rattle.minisign_install.specs.Names.{drawn_bytes};
-ghost use Rattle.minisign_install.specs.Runs.{Goes, HasStage, IsOnly, IsPublished, OwnsNoMore};
+ghost use Rattle.minisign_install.specs.Runs.{Goes, HasStage, IsOnly, IsPublished};
 
 use crate::folders::{Folder, Name};
 use crate::stage_names::StageName;
@@ -27,7 +27,6 @@ pub(crate) fn publish<F: Folder>(
         → Goes (IsOnly to ((F.run folder.old).now.holds g)) (drawn_bytes name.now) g (F.run folder.old) (F.run folder.new) }
     ensures published { OnOk result ((g : ℕ) → HasStage (F.run folder.old) (drawn_bytes name.now) g → (F.run folder.old).now.on_disk g ≡ true
         → IsPublished to ((F.run folder.old).now.holds g) (F.run folder.old).steps (F.run folder.new).steps) }
-    ensures own { OwnsNoMore (F.run folder.old) (F.run folder.new) }
 {
     match folder.rename(name, to) {
         Ok(()) => settle(folder),
@@ -37,9 +36,9 @@ pub(crate) fn publish<F: Folder>(
 
 // Brings the names to the disk.
 fn settle<F: Folder>(folder: &mut F) -> Result<(), Unpublished>
-    ensures settled { MatchResult result
-        (λ _. HasStepped (F.run folder.old) (F.run folder.new) SettlesNames) (λ _. HasStepped (F.run folder.old) (F.run folder.new) KeepsNames) }
-    ensures own { KeepsOwn (F.run folder.old) (F.run folder.new) }
+    ensures settled { Told (F.run folder.old) (MatchResult result
+        (λ _. HasStepped (F.run folder.old) (F.run folder.new) SettlesNames) (λ _. HasStepped (F.run folder.old) (F.run folder.new) KeepsNames)) }
+    ensures own { Told (F.run folder.old) (KeepsOwn (F.run folder.old) (F.run folder.new)) }
 {
     match folder.settle_names() {
         Ok(()) => Ok(()),

@@ -3,7 +3,7 @@
 ghost use Rattle.std.specs.Prelude.{◌≡◌, ◌++◌, ℕ, List, true, [], Option, Some, None, ◌⊎◌, IfOk, OnOk, MatchOption};
 ghost use Rattle.std.specs.Fmt.{decimal};
 ghost use Rattle.std.specs.Str.{IsUtf8};
-ghost use Rattle.minisign_install.specs.Folders.{HasStepped, IsStill, KeepsOwn, Reads, Step};
+ghost use Rattle.minisign_install.specs.Folders.{HasStepped, IsStill, KeepsOwn, Reads, Step, Told};
 ghost use Rattle.minisign_install.specs.Comments.{IsNumberText};
 ghost use Rattle.minisign_install.specs.Installing.{IsKeptNumber};
 ghost use Rattle.minisign_install.specs.Names.{drawn_bytes};
@@ -11,7 +11,7 @@ ghost use Rattle.minisign_install.specs.Runs.{Goes, GoesBeside, HasStage, IsOnly
 
 use crate::comments::number_of;
 use crate::faults;
-use crate::folders::{Folder, Handle, Name};
+use crate::folders::{Folder, Handle, Lock, Name};
 use crate::publishing::publish;
 use crate::stage_names::StageName;
 use crate::staging::write_all;
@@ -24,8 +24,8 @@ use std::alloc::Global;
 // The number that the record holds. Where it holds none and this is the first installation, that is
 // 0.
 pub(crate) fn kept_number<F: Folder>(alloc: Global, folder: &mut F, is_first: bool) -> Result<u64>
-    ensures read { IfOk result (λ kept. (found : Option (List ℕ)) × HasStepped (F.run folder.old) (F.run folder.new) (Reads Name.Record found) × IsKeptNumber is_first found kept) }
-    ensures still { HasStepped (F.run folder.old) (F.run folder.new) IsStill × KeepsOwn (F.run folder.old) (F.run folder.new) }
+    ensures read { IfOk result (λ kept. Told (F.run folder.old) ((found : Option (List ℕ)) × HasStepped (F.run folder.old) (F.run folder.new) (Reads Name.Record found) × IsKeptNumber is_first found kept)) }
+    ensures still { Told (F.run folder.old) (HasStepped (F.run folder.old) (F.run folder.new) IsStill × KeepsOwn (F.run folder.old) (F.run folder.new)) }
 {
     match folder.read_record(alloc) {
         Ok(Some(bytes)) => number_in(bytes.as_slice(), is_first),
@@ -70,30 +70,30 @@ pub(crate) fn keep_number<F: Folder, Z: RandomSource>(
     alloc: Global,
     random: &mut Z,
     folder: &mut F,
+    lock: &Lock,
     number: u64,
 ) -> Result<()>
-    requires { (F.run folder.old).locked ≡ true }
-    ensures goes { GoesBeside (IsOnly Name.Record (decimal number)) (F.run folder.old) (F.run folder.new) }
-    ensures recorded { OnOk result ((earlier : List Step) × IsPublished Name.Record (decimal number) earlier (F.run folder.new).steps) }
+    ensures goes { Told (F.run folder.old) (GoesBeside (IsOnly Name.Record (decimal number)) (F.run folder.old) (F.run folder.new)) }
+    ensures recorded { OnOk result (Told (F.run folder.old) ((earlier : List Step) × IsPublished Name.Record (decimal number) earlier (F.run folder.new).steps)) }
 {
     let text = format!(in alloc; "{number}")?;
-    keep_bytes(random, folder, text.as_bytes())
+    keep_bytes(random, folder, lock, text.as_bytes())
 }
 
 // Puts a record of these bytes in the place of the one that is there.
 fn keep_bytes<F: Folder, Z: RandomSource>(
     random: &mut Z,
     folder: &mut F,
+    lock: &Lock,
     bytes: &[u8],
 ) -> Result<()>
-    requires { (F.run folder.old).locked ≡ true }
-    ensures goes { GoesBeside (IsOnly Name.Record bytes.now) (F.run folder.old) (F.run folder.new) }
-    ensures recorded { OnOk result ((earlier : List Step) × IsPublished Name.Record bytes.now earlier (F.run folder.new).steps) }
+    ensures goes { Told (F.run folder.old) (GoesBeside (IsOnly Name.Record bytes.now) (F.run folder.old) (F.run folder.new)) }
+    ensures recorded { OnOk result (Told (F.run folder.old) ((earlier : List Step) × IsPublished Name.Record bytes.now earlier (F.run folder.new).steps)) }
 {
     let Ok(name) = StageName::draw(random) else {
         return Err(random_source_failed());
     };
-    match folder.create(&name) {
+    match folder.create(lock, &name) {
         Ok(handle) => write_record(folder, &name, &handle, bytes),
         Err(_) => Err(writing_failed()),
     }

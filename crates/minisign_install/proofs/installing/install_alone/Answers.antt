@@ -1,18 +1,26 @@
-use Rattle.std.proofs.Common.{inl}
+use Rattle.std.proofs.Common.{inl, ◌∙◌}
 use Rattle.minisign_install.specs.Installing.{terms_of}
-use Rattle.minisign_install.proofs.Installs.{installs}
+use Rattle.minisign_install.proofs.Installs.{installed_after, installs}
 use Rattle.minisign_install.proofs.Works.{brings_trans, clearing, resting_brings}
 use Rattle.minisign_install.proofs.installing.install_alone.Goals as goal
 
 pub returns-in_default-clause-headline : goal.returns-in_default-clause-headline
-returns-in_default-clause-headline g c = inl (clearing _ _ c.clear.result c.clear.ensures).0
+returns-in_default-clause-headline g c = λ told. inl (clearing _ _ c.clear.result (c.clear.ensures told))
 
 pub returns-in_err-kept-clause-headline : goal.returns-in_err-kept-clause-headline
-returns-in_err-kept-clause-headline g c =
-    inl (brings_trans (λ _ _. ⊥) _ _ _ (clearing _ _ c.clear.result c.clear.ensures).0 (resting_brings _ _ c.in_err-kept.ensures.still.0))
+returns-in_err-kept-clause-headline g c = λ told.
+    let cleared = clearing _ _ c.clear.result (c.clear.ensures told) in
+    inl (brings_trans (λ _ _. ⊥) _ _ _ cleared (resting_brings _ _ (c.in_err-kept.ensures.still (cleared.told ∙ told)).0))
 
 pub returns-clause-headline : goal.returns-clause-headline
-returns-clause-headline g c =
-    let (found, read, number) = c.in_ok-kept.ensures.read in
-    installs (g.S.Scheme.accepts c.args.scheme.now) (terms_of c.args.wanted) c.args.is_first found c.in_ok-kept.kept _ _ _ _ (clearing _ _ c.clear.result c.clear.ensures).0
-    read number (resting_brings _ _ c.in_ok-kept.ensures.still.0) c.install_newer.ensures.brings
+returns-clause-headline g c = λ told.
+    let cleared = clearing _ _ c.clear.result (c.clear.ensures told) in
+    let still = resting_brings _ _ (c.in_ok-kept.ensures.still (cleared.told ∙ told)).0 in
+    let (found, read, number) = c.in_ok-kept.ensures.read (cleared.told ∙ told) in
+    installs (g.S.Scheme.accepts c.args.scheme.now) (terms_of c.args.wanted) c.args.is_first found c.in_ok-kept.kept _ _ _ _ cleared
+    read number still (c.install_newer.ensures.brings (still.told ∙ cleared.told ∙ told))
+
+pub returns-clause-installed : goal.returns-clause-installed
+returns-clause-installed g c =
+    installed_after (g.S.Scheme.accepts c.args.scheme.now) (terms_of c.args.wanted) c.in_ok-kept.kept _ _ _ _ c.install_newer.result
+    (λ told. clearing _ _ c.clear.result (c.clear.ensures told)) (λ told. resting_brings _ _ (c.in_ok-kept.ensures.still told).0) c.install_newer.ensures.installed

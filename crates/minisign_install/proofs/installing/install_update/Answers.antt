@@ -1,15 +1,20 @@
-use Rattle.std.proofs.Common.{inl}
+use Rattle.std.proofs.Common.{inl, ◌∙◌}
 use Rattle.minisign_install.specs.Installing.{terms_of}
-use Rattle.minisign_install.proofs.Installs.{after_lock}
+use Rattle.minisign_install.proofs.Installs.{after_lock, installed_locked}
 use Rattle.minisign_install.proofs.Works.{resting_brings}
 use Rattle.minisign_install.proofs.installing.install_update.Goals as goal
 
-pub returns-in-Ok-true-clause-headline : goal.returns-in-Ok-true-clause-headline
-returns-in-Ok-true-clause-headline g c =
-    after_lock (g.S.Scheme.accepts c.args.scheme.now) (terms_of c.args.wanted) c.args.is_first _ _ _ (resting_brings _ _ c.lock.ensures.stepped) c.install_alone.ensures.headline
+pub returns-in-Ok-Some-clause-headline : goal.returns-in-Ok-Some-clause-headline
+returns-in-Ok-Some-clause-headline g c = λ told.
+    let lock = resting_brings _ _ (c.in-Ok-Some.ensures told).0 in
+    after_lock (g.S.Scheme.accepts c.args.scheme.now) (terms_of c.args.wanted) c.args.is_first _ _ _ lock (c.install_alone.ensures.headline (lock.told ∙ told))
 
-pub returns-in-Ok-false-clause-headline : goal.returns-in-Ok-false-clause-headline
-returns-in-Ok-false-clause-headline g c = inl (resting_brings _ _ c.lock.ensures.stepped)
+pub returns-in-Ok-Some-clause-installed : goal.returns-in-Ok-Some-clause-installed
+returns-in-Ok-Some-clause-installed g c =
+    installed_locked (g.S.Scheme.accepts c.args.scheme.now) (terms_of c.args.wanted) _ _ _ c.install_alone.result (λ told. resting_brings _ _ (c.in-Ok-Some.ensures told).0) c.install_alone.ensures.installed
+
+pub returns-in-Ok-None-clause-headline : goal.returns-in-Ok-None-clause-headline
+returns-in-Ok-None-clause-headline g c = λ told. inl (resting_brings _ _ (c.in-Ok-None.ensures told).0)
 
 pub returns-in-Err-clause-headline : goal.returns-in-Err-clause-headline
-returns-in-Err-clause-headline g c = inl (resting_brings _ _ c.lock.ensures.stepped)
+returns-in-Err-clause-headline g c = λ told. inl (resting_brings _ _ (c.in-Err.ensures told).0)

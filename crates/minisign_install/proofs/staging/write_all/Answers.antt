@@ -15,10 +15,11 @@ rest-preserved g c =
     let file = g.F.Handle.Handle.file c.args.handle.now in
     let (within, so_far) = c.rest.invariant in
     let bound = rw take_rest at c.in_ok-at.ensures.bound in
-    let written = rw take_rest at c.in_ok-at.ensures.written in (
+    (
       omega (arith, bound, length-drop at xs),
       λ name stage.
           let (works, held) = so_far name stage in
+          let written = rw take_rest at (c.in_ok-at.ensures.written works.stage.told) in
           let (more, grown) = appending name file (take n (drop at xs)) _ _ works.stage written.0 written.1 in (
             works_trans name file _ _ _ works more,
             rw (take-add at n xs) (grown_twice _ _ _ _ _ held grown),
@@ -29,4 +30,4 @@ pub returns-in_err-at-clause-works : goal.returns-in_err-at-clause-works
 returns-in_err-at-clause-works g c = λ name stage.
     let works = (c.rest.invariant.1 name stage).0 in
     works_trans name (g.F.Handle.Handle.file c.args.handle.now) _ _ _ works
-    (spoiling name (g.F.Handle.Handle.file c.args.handle.now) _ _ works.stage c.in_err-at.ensures.written.0 c.in_err-at.ensures.written.1)
+    (spoiling name (g.F.Handle.Handle.file c.args.handle.now) _ _ works.stage (c.in_err-at.ensures.written works.stage.told).0 (c.in_err-at.ensures.written works.stage.told).1)
