@@ -313,7 +313,6 @@ goes_none P r = record { brings = brings_none P r; kept = λ s f held. record { 
 pub goes_still : (P : Name → List ℕ → Type 0) (old new : Run) → HasStepped old new IsStill → KeepsOwn old new → GoesBeside P old new
 goes_still P old new s own = record { brings = brings_nothing P old new (resting_brings old new s); kept = resting_keeps old new s own }
 
-
 pub names_kept : (old new : Run) {A E : Type 0} (r : Result A E) → MatchResult r (λ _. HasStepped old new SettlesNames) (λ _. HasStepped old new KeepsNames) → HasStepped old new KeepsNames
 names_kept old new (Ok a) done = names_settled old new done
 names_kept old new (Err e) done = done

@@ -208,3 +208,12 @@ IsFound m name (Some bytes) = (f : ℕ) × (m.leads name ≡ Some f) × (m.holds
 pub record Reads (name : Name) (found : Option (List ℕ)) (old new : Moment) : Type 0 where
   pub still : new ≡ old
   pub found_there : IsFound old name found
+
+-- the run of a folder that tells nothing
+abbrev pub untold : Run
+untold = record {
+  told = false;
+  now = record { leads = λ _. None; stages = λ _. None; holds = λ _. []; on_disk = λ _. false; left = λ _ _. false };
+  steps = [];
+  owns = λ _. false;
+}

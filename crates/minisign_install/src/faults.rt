@@ -10,7 +10,10 @@ use minisign_base::{ErrorKind, PError};
 pub fn place_in_use() -> PError
     ensures { result ≡ named.place_in_use }
 {
-    PError::fixed(ErrorKind::Io, "another installation is at work at this place")
+    PError::fixed(
+        ErrorKind::Io,
+        "another installation is at work at this place",
+    )
 }
 
 /// No number is kept beside the place, and this was not said to be the first installation.
@@ -35,7 +38,10 @@ pub fn damaged_record() -> PError
 pub fn other_file() -> PError
     ensures { result ≡ named.other_file }
 {
-    PError::fixed(ErrorKind::Verify, "the signed comment does not name this file")
+    PError::fixed(
+        ErrorKind::Verify,
+        "the signed comment does not name this file",
+    )
 }
 
 /// The trusted comment has no number under the label that the caller chose, or none below 2^64.
@@ -51,7 +57,10 @@ pub fn no_number() -> PError
 pub fn older_update() -> PError
     ensures { result ≡ named.older_update }
 {
-    PError::fixed(ErrorKind::Verify, "the update is older than what was installed")
+    PError::fixed(
+        ErrorKind::Verify,
+        "the update is older than what was installed",
+    )
 }
 
 /// The update stands at the place, but a crash may still bring back what stood there before.
@@ -59,5 +68,8 @@ pub fn older_update() -> PError
 pub fn folder_not_on_disk() -> PError
     ensures { result ≡ named.folder_not_on_disk }
 {
-    PError::fixed(ErrorKind::Io, "installed, but the folder could not be brought to the disk")
+    PError::fixed(
+        ErrorKind::Io,
+        "installed, but the folder could not be brought to the disk",
+    )
 }

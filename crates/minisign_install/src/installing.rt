@@ -122,16 +122,7 @@ fn install_staged<S: Scheme, Z: RandomSource, R: Source, F: Folder>(
         → IsInstalled (S.accepts scheme.now) (terms_of wanted.entry) kept (F.run folder.new).steps) }
 {
     match place_update(
-        alloc,
-        scheme,
-        random,
-        wanted,
-        kept,
-        update,
-        folder,
-        lock,
-        name,
-        handle,
+        alloc, scheme, random, wanted, kept, update, folder, lock, name, handle,
     ) {
         Ok(()) => Ok(()),
         Err(fault) => {
@@ -160,16 +151,7 @@ fn install_newer<S: Scheme, Z: RandomSource, R: Source, F: Folder>(
     };
     match folder.create(lock, &name) {
         Ok(handle) => install_staged(
-            alloc,
-            scheme,
-            random,
-            wanted,
-            kept,
-            update,
-            folder,
-            lock,
-            &name,
-            &handle,
+            alloc, scheme, random, wanted, kept, update, folder, lock, &name, &handle,
         ),
         Err(_) => Err(writing_failed()),
     }
@@ -211,14 +193,7 @@ pub fn install_update<S: Scheme, Z: RandomSource, R: Source, F: Folder>(
 {
     match folder.lock() {
         Ok(Some(lock)) => install_alone(
-            alloc,
-            scheme,
-            random,
-            wanted,
-            is_first,
-            update,
-            folder,
-            &lock,
+            alloc, scheme, random, wanted, is_first, update, folder, &lock,
         ),
         Ok(None) => Err(faults::place_in_use()),
         Err(_) => Err(reading_failed()),

@@ -14,8 +14,7 @@ rest-preserved g c =
     let xs = c.args.bytes.now in
     let file = g.F.Handle.Handle.file c.args.handle.now in
     let (within, so_far) = c.rest.invariant in
-    let bound = rw take_rest at c.in_ok-at.ensures.bound in
-    (
+    let bound = rw take_rest at c.in_ok-at.ensures.bound in (
       omega (arith, bound, length-drop at xs),
       λ name stage.
           let (works, held) = so_far name stage in
