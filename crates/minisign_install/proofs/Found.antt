@@ -1,10 +1,12 @@
 -- What the record was found to hold.
-use Rattle.std.proofs.Common.{◌≡◌, ℕ, Bool, List, Option, Some, true, IfOk, subst, false, None, sym, if◌then◌else◌}
+use Rattle.std.proofs.Common.{◌≡◌, ℕ, Bool, List, Option, Some, true, IfOk, IfErr, ◌⊎◌, inl, inr, subst, false, None, sym, if◌then◌else◌}
 use Rattle.std.proofs.lemmas.Bool.{true≢false}
 use Rattle.minisign.specs.Reading.{IsAhead}
 use Rattle.std.specs.declared.result.Result.{Result}
 use Rattle.std.specs.declared.result.Result.TheVariants.{Ok, Err}
 use Rattle.minisign_base.specs.Fault.{Fault}
+use Rattle.minisign_base.specs.Faults.{out_of_memory, reading_failed}
+use Rattle.minisign_install.specs.Refusals.{IsDeviceFault}
 use Rattle.minisign_install.specs.Folders.{HasStepped, Reads, Run}
 use Rattle.minisign_install.specs.Installing.{IsKeptNumber}
 use Rattle.minisign_install.specs.declared.folders.Name.TheVariants.{Record}
@@ -20,3 +22,11 @@ pub judged_told : {T : Type 0} (told : Bool) (xs : List ℕ) (ahead : Option (Li
 judged_told true xs ahead V (Ok t) is (message, given, v) = λ told. subst (λ m. V m t) (sym (subst (λ a. IsAhead a message) is given)) v
 judged_told false xs ahead V (Ok t) is judged = λ told. absurd (true≢false (sym told))
 judged_told told xs ahead V (Err e) is judged = tt
+
+pub refused_told : {T : Type 0} (told : Bool) (xs : List ℕ) (ahead : Option (List ℕ)) (W : List ℕ → Fault → Type 0) (r : Result T Fault) → ahead ≡ (if told then Some xs else None)
+    → IfErr r (λ e. (e ≡ out_of_memory) ⊎ (e ≡ reading_failed) ⊎ ((message : List ℕ) × IsAhead ahead message × W message e)) → IfErr r (λ e. told ≡ true → IsDeviceFault e ⊎ W xs e)
+refused_told told xs ahead W (Ok t) is why = tt
+refused_told told xs ahead W (Err e) is (inl memory) = λ yes. inl (inl memory)
+refused_told told xs ahead W (Err e) is (inr (inl reading)) = λ yes. inl (inr (inl reading))
+refused_told true xs ahead W (Err e) is (inr (inr (message, given, w))) = λ yes. inr (subst (λ m. W m e) (sym (subst (λ a. IsAhead a message) is given)) w)
+refused_told false xs ahead W (Err e) is (inr (inr (message, given, w))) = λ yes. absurd (true≢false (sym yes))

@@ -4,4 +4,5 @@ mod Installs
 mod Judged
 mod Moments
 mod Pieces
+mod Refused
 mod Works

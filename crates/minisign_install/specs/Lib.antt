@@ -3,4 +3,5 @@ pub mod Faults
 pub mod Folders
 pub mod Installing
 pub mod Names
+pub mod Refusals
 pub mod Runs

@@ -1,10 +1,15 @@
 //! An update is staged, judged as it was staged, and put in its place in one step.
 
-ghost use Rattle.std.specs.Prelude.{◌≡◌, ℕ, List, true, false, string_bytes, IfOk, OnOk};
+ghost use Rattle.std.specs.Prelude.{◌≡◌, ◌⊎◌, ℕ, List, [], true, false, string_bytes, IfOk, IfErr, OnOk};
+ghost use Rattle.minisign_base.specs.Faults.{writing_failed};
 ghost use Rattle.minisign.specs.Calls.{TextsVouchWith};
+ghost use Rattle.minisign.specs.Headline.{TextsRefuse};
+ghost use Rattle.minisign.specs.Reading.{IsAhead};
+ghost use Rattle.minisign_install.specs.Faults.{folder_not_on_disk};
 ghost use Rattle.minisign_install.specs.Folders.{Told};
 ghost use Rattle.minisign_install.specs.Installing.{InstallsOnlyUpdates, IsBrought, IsInstalled, terms_of};
 ghost use Rattle.minisign_install.specs.Names.{drawn_bytes};
+ghost use Rattle.minisign_install.specs.Refusals.{IsDataRefusal, IsDeviceFault, IsLockedRefusal, IsRefusal};
 ghost use Rattle.minisign_install.specs.Runs.{BringsOnly, HasStage, WorksOn};
 
 use crate::comments::check_comment;
@@ -39,6 +44,10 @@ fn stage_update<S: Scheme, R: Source, F: Folder>(
     ensures staged { IfOk result (λ t. (name : List ℕ) → HasStage (F.run folder.old) name (F.Handle.file handle.now)
         → ((F.run folder.new).now.on_disk (F.Handle.file handle.now) ≡ true)
         × TextsVouchWith (S.accepts scheme.now) wanted.entry.pk_text.now wanted.entry.sig_text.now ((F.run folder.new).now.holds (F.Handle.file handle.now)) false (string_bytes t)) }
+    ensures copied { OnOk result ((name : List ℕ) → HasStage (F.run folder.old) name (F.Handle.file handle.now) → (F.run folder.old).now.holds (F.Handle.file handle.now) ≡ []
+        → IsAhead (R.ahead update.old) ((F.run folder.new).now.holds (F.Handle.file handle.now))) }
+    ensures refused { IfErr result (λ e. (name : List ℕ) → HasStage (F.run folder.old) name (F.Handle.file handle.now) → (F.run folder.old).now.holds (F.Handle.file handle.now) ≡ []
+        → IsDeviceFault e ⊎ ((message : List ℕ) × IsAhead (R.ahead update.old) message × TextsRefuse (S.accepts scheme.now) wanted.entry.pk_text.now wanted.entry.sig_text.now message false e)) }
 {
     fill(alloc, folder, handle, update)?;
     let comment = judge_stage(alloc, scheme, wanted, folder, handle)?;
@@ -56,8 +65,10 @@ fn judge_stage<'a, S: Scheme, F: Folder>(
     folder: &'a F,
     handle: &'a F::Handle,
 ) -> Result<String>
-    ensures { IfOk result (λ t. Told (F.run folder.now) (TextsVouchWith (S.accepts scheme.now) wanted.entry.pk_text.now wanted.entry.sig_text.now
+    ensures vouched { IfOk result (λ t. Told (F.run folder.now) (TextsVouchWith (S.accepts scheme.now) wanted.entry.pk_text.now wanted.entry.sig_text.now
         ((F.run folder.now).now.holds (F.Handle.file handle.now)) false (string_bytes t))) }
+    ensures refused { IfErr result (λ e. Told (F.run folder.now) (IsDeviceFault e ⊎ TextsRefuse (S.accepts scheme.now) wanted.entry.pk_text.now wanted.entry.sig_text.now
+        ((F.run folder.now).now.holds (F.Handle.file handle.now)) false e)) }
 {
     judge(
         alloc,
@@ -85,6 +96,8 @@ fn place_update<S: Scheme, Z: RandomSource, R: Source, F: Folder>(
         → BringsOnly (IsBrought (S.accepts scheme.now) (terms_of wanted.entry) kept) (F.run folder.old) (F.run folder.new) }
     ensures installed { OnOk result (HasStage (F.run folder.old) (drawn_bytes name.now) (F.Handle.file handle.now)
         → IsInstalled (S.accepts scheme.now) (terms_of wanted.entry) kept (F.run folder.new).steps) }
+    ensures refused { IfErr result (λ e. HasStage (F.run folder.old) (drawn_bytes name.now) (F.Handle.file handle.now) → (F.run folder.old).now.holds (F.Handle.file handle.now) ≡ []
+        → IsDataRefusal (S.accepts scheme.now) (terms_of wanted.entry) kept (R.ahead update.old) (F.run folder.old) (F.run folder.new) e) }
 {
     let comment = stage_update(alloc, scheme, wanted, update, folder, handle)?;
     let number = check_comment(&comment, wanted.file, wanted.numbering, kept)?;
@@ -96,7 +109,9 @@ fn place_update<S: Scheme, Z: RandomSource, R: Source, F: Folder>(
 }
 
 // The fault of an update that was not published.
-fn fault_of(what: Unpublished) -> PError {
+fn fault_of(what: Unpublished) -> PError
+    ensures { ((what ≡ Unpublished.Unnamed) × (result ≡ writing_failed)) ⊎ ((what ≡ Unpublished.Unsettled) × (result ≡ folder_not_on_disk)) }
+{
     match what {
         Unpublished::Unnamed => writing_failed(),
         Unpublished::Unsettled => faults::folder_not_on_disk(),
@@ -120,6 +135,8 @@ fn install_staged<S: Scheme, Z: RandomSource, R: Source, F: Folder>(
         → BringsOnly (IsBrought (S.accepts scheme.now) (terms_of wanted.entry) kept) (F.run folder.old) (F.run folder.new) }
     ensures installed { OnOk result (HasStage (F.run folder.old) (drawn_bytes name.now) (F.Handle.file handle.now)
         → IsInstalled (S.accepts scheme.now) (terms_of wanted.entry) kept (F.run folder.new).steps) }
+    ensures refused { IfErr result (λ e. HasStage (F.run folder.old) (drawn_bytes name.now) (F.Handle.file handle.now) → (F.run folder.old).now.holds (F.Handle.file handle.now) ≡ []
+        → IsDataRefusal (S.accepts scheme.now) (terms_of wanted.entry) kept (R.ahead update.old) (F.run folder.old) (F.run folder.new) e) }
 {
     match place_update(
         alloc, scheme, random, wanted, kept, update, folder, lock, name, handle,
@@ -145,6 +162,7 @@ fn install_newer<S: Scheme, Z: RandomSource, R: Source, F: Folder>(
 ) -> Result<()>
     ensures brings { Told (F.run folder.old) (BringsOnly (IsBrought (S.accepts scheme.now) (terms_of wanted.entry) kept) (F.run folder.old) (F.run folder.new)) }
     ensures installed { OnOk result (Told (F.run folder.old) (IsInstalled (S.accepts scheme.now) (terms_of wanted.entry) kept (F.run folder.new).steps)) }
+    ensures refused { IfErr result (λ e. Told (F.run folder.old) (IsDataRefusal (S.accepts scheme.now) (terms_of wanted.entry) kept (R.ahead update.old) (F.run folder.old) (F.run folder.new) e)) }
 {
     let Ok(name) = StageName::draw(random) else {
         return Err(random_source_failed());
@@ -170,6 +188,7 @@ fn install_alone<S: Scheme, Z: RandomSource, R: Source, F: Folder>(
 ) -> Result<()>
     ensures headline { Told (F.run folder.old) (InstallsOnlyUpdates (S.accepts scheme.now) (terms_of wanted.entry) is_first (F.run folder.old) (F.run folder.new)) }
     ensures installed { OnOk result (Told (F.run folder.old) ((kept : ℕ) × IsInstalled (S.accepts scheme.now) (terms_of wanted.entry) kept (F.run folder.new).steps)) }
+    ensures refused { IfErr result (λ e. Told (F.run folder.old) (IsLockedRefusal (S.accepts scheme.now) (terms_of wanted.entry) is_first (R.ahead update.old) (F.run folder.old) (F.run folder.new) e)) }
 {
     let Ok(()) = folder.clear(lock) else {
         return Err(writing_failed());
@@ -190,6 +209,7 @@ pub fn install_update<S: Scheme, Z: RandomSource, R: Source, F: Folder>(
 ) -> Result<()>
     ensures headline { Told (F.run folder.old) (InstallsOnlyUpdates (S.accepts scheme.now) (terms_of wanted.entry) is_first (F.run folder.old) (F.run folder.new)) }
     ensures installed { OnOk result (Told (F.run folder.old) ((kept : ℕ) × IsInstalled (S.accepts scheme.now) (terms_of wanted.entry) kept (F.run folder.new).steps)) }
+    ensures refused { IfErr result (λ e. Told (F.run folder.old) (IsRefusal (S.accepts scheme.now) (terms_of wanted.entry) is_first (R.ahead update.old) (F.run folder.old) (F.run folder.new) e)) }
 {
     match folder.lock() {
         Ok(Some(lock)) => install_alone(

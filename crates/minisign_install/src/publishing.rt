@@ -1,8 +1,9 @@
 //! A stage gets a lasting name, in one step.
 
-ghost use Rattle.std.specs.Prelude.{◌≡◌, ℕ, true, MatchResult, OnOk};
+ghost use Rattle.std.specs.Prelude.{◌≡◌, ℕ, true, MatchResult, IfErr, OnOk};
 ghost use Rattle.minisign_install.specs.Folders.{HasStepped, KeepsNames, KeepsOwn, SettlesNames, Told};
 ghost use Rattle.minisign_install.specs.Names.{drawn_bytes};
+ghost use Rattle.minisign_install.specs.Refusals.{HasNamed};
 ghost use Rattle.minisign_install.specs.Runs.{Goes, HasStage, IsOnly, IsPublished};
 
 use crate::folders::{Folder, Name};
@@ -27,6 +28,8 @@ pub(crate) fn publish<F: Folder>(
         → Goes (IsOnly to ((F.run folder.old).now.holds g)) (drawn_bytes name.now) g (F.run folder.old) (F.run folder.new) }
     ensures published { OnOk result ((g : ℕ) → HasStage (F.run folder.old) (drawn_bytes name.now) g → (F.run folder.old).now.on_disk g ≡ true
         → IsPublished to ((F.run folder.old).now.holds g) (F.run folder.old).steps (F.run folder.new).steps) }
+    ensures unsettled { IfErr result (λ what. what ≡ Unpublished.Unsettled → (g : ℕ) → HasStage (F.run folder.old) (drawn_bytes name.now) g → (F.run folder.old).now.on_disk g ≡ true
+        → HasNamed to ((F.run folder.old).now.holds g) (F.run folder.old) (F.run folder.new)) }
 {
     match folder.rename(name, to) {
         Ok(()) => settle(folder),

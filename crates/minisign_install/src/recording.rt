@@ -1,12 +1,14 @@
 //! The number of the newest update is kept beside the place.
 
-ghost use Rattle.std.specs.Prelude.{◌≡◌, ◌++◌, ℕ, List, true, [], Option, Some, None, ◌⊎◌, IfOk, OnOk, MatchOption};
+ghost use Rattle.std.specs.Prelude.{◌≡◌, ◌++◌, ℕ, List, true, [], Option, Some, None, ◌⊎◌, IfOk, IfErr, OnOk, MatchOption};
 ghost use Rattle.std.specs.Fmt.{decimal};
 ghost use Rattle.std.specs.Str.{IsUtf8};
+ghost use Rattle.minisign_base.specs.Faults.{out_of_memory, random_source_failed, reading_failed, writing_failed};
 ghost use Rattle.minisign_install.specs.Folders.{HasStepped, IsStill, KeepsOwn, Reads, Step, Told};
 ghost use Rattle.minisign_install.specs.Comments.{IsNumberText};
 ghost use Rattle.minisign_install.specs.Installing.{IsKeptNumber};
 ghost use Rattle.minisign_install.specs.Names.{drawn_bytes};
+ghost use Rattle.minisign_install.specs.Refusals.{IsRecordRefused};
 ghost use Rattle.minisign_install.specs.Runs.{Goes, GoesBeside, HasStage, IsOnly, IsPublished, WorksOn};
 
 use crate::comments::number_of;
@@ -26,6 +28,8 @@ use std::alloc::Global;
 pub(crate) fn kept_number<F: Folder>(alloc: Global, folder: &mut F, is_first: bool) -> Result<u64>
     ensures read { IfOk result (λ kept. Told (F.run folder.old) ((found : Option (List ℕ)) × HasStepped (F.run folder.old) (F.run folder.new) (Reads Name.Record found) × IsKeptNumber is_first found kept)) }
     ensures still { Told (F.run folder.old) (HasStepped (F.run folder.old) (F.run folder.new) IsStill × KeepsOwn (F.run folder.old) (F.run folder.new)) }
+    ensures refused { IfErr result (λ e. Told (F.run folder.old) ((e ≡ reading_failed)
+        ⊎ ((found : Option (List ℕ)) × HasStepped (F.run folder.old) (F.run folder.new) (Reads Name.Record found) × IsRecordRefused is_first found e))) }
 {
     match folder.read_record(alloc) {
         Ok(Some(bytes)) => number_in(bytes.as_slice(), is_first),
@@ -36,7 +40,8 @@ pub(crate) fn kept_number<F: Folder>(alloc: Global, folder: &mut F, is_first: bo
 
 // The number that these bytes write.
 fn number_in(bytes: &[u8], is_first: bool) -> Result<u64>
-    ensures { IfOk result (IsKeptNumber is_first (Some bytes.now)) }
+    ensures number { IfOk result (IsKeptNumber is_first (Some bytes.now)) }
+    ensures refused { IfErr result (IsRecordRefused is_first (Some bytes.now)) }
 {
     match parsed(bytes) {
         Some(number) => Ok(number),
@@ -46,7 +51,8 @@ fn number_in(bytes: &[u8], is_first: bool) -> Result<u64>
 }
 
 fn number_without_record(is_first: bool) -> Result<u64>
-    ensures { IfOk result (IsKeptNumber is_first None) }
+    ensures number { IfOk result (IsKeptNumber is_first None) }
+    ensures refused { IfErr result (IsRecordRefused is_first None) }
 {
     if is_first {
         Ok(0)
@@ -75,6 +81,7 @@ pub(crate) fn keep_number<F: Folder, Z: RandomSource>(
 ) -> Result<()>
     ensures goes { Told (F.run folder.old) (GoesBeside (IsOnly Name.Record (decimal number)) (F.run folder.old) (F.run folder.new)) }
     ensures recorded { OnOk result (Told (F.run folder.old) ((earlier : List Step) × IsPublished Name.Record (decimal number) earlier (F.run folder.new).steps)) }
+    ensures refused { IfErr result (λ e. (e ≡ out_of_memory) ⊎ (e ≡ writing_failed) ⊎ (e ≡ random_source_failed)) }
 {
     let text = format!(in alloc; "{number}")?;
     keep_bytes(random, folder, lock, text.as_bytes())
@@ -89,6 +96,7 @@ fn keep_bytes<F: Folder, Z: RandomSource>(
 ) -> Result<()>
     ensures goes { Told (F.run folder.old) (GoesBeside (IsOnly Name.Record bytes.now) (F.run folder.old) (F.run folder.new)) }
     ensures recorded { OnOk result (Told (F.run folder.old) ((earlier : List Step) × IsPublished Name.Record bytes.now earlier (F.run folder.new).steps)) }
+    ensures refused { IfErr result (λ e. (e ≡ writing_failed) ⊎ (e ≡ random_source_failed)) }
 {
     let Ok(name) = StageName::draw(random) else {
         return Err(random_source_failed());
@@ -110,6 +118,7 @@ fn write_record<F: Folder>(
         → Goes (IsOnly Name.Record bytes.now) (drawn_bytes name.now) (F.Handle.file handle.now) (F.run folder.old) (F.run folder.new) }
     ensures recorded { OnOk result (HasStage (F.run folder.old) (drawn_bytes name.now) (F.Handle.file handle.now) → (F.run folder.old).now.holds (F.Handle.file handle.now) ≡ []
         → ((earlier : List Step) × IsPublished Name.Record bytes.now earlier (F.run folder.new).steps)) }
+    ensures refused { IfErr result (λ e. e ≡ writing_failed) }
 {
     match publish_record(folder, name, handle, bytes) {
         Ok(()) => Ok(()),
