@@ -327,7 +327,7 @@ def cases(it):
     yield "a legacy signature", it.refuses_legacy
     yield "leftovers", it.removes_leftovers
     yield "killed at each call", it.killed
-    for call in ("open", "write", "fsync", "rename", "read", "fchmod", "statx", "close"):
+    for call in ("open", "openat", "write", "fsync", "rename", "read", "pread", "flock", "getdents64", "fchmod", "statx", "close"):
         yield f"{call} fails", lambda call=call: it.failing(call)
     yield "write fails for want of room", lambda: it.failing("write", errno.ENOSPC)
     yield "a full disk", it.on_full_disk
