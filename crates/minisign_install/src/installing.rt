@@ -197,7 +197,28 @@ fn install_alone<S: Scheme, Z: RandomSource, R: Source, F: Folder>(
     install_newer(alloc, scheme, random, wanted, kept, update, folder, lock)
 }
 
-/// Installs an update.
+/// Installs the data ahead of `update` at the folder's place, if the texts of `wanted` vouch for it
+/// as the update that is wanted: `install_update(alloc, &scheme, &mut random, wanted, false, &mut
+/// ReaderSource::new(file), &mut folder)?`.
+///
+/// In this order it locks the place (`place_in_use`: it does not wait for another run), removes
+/// what killed runs left there, and reads the number that is kept beside the place (`no_record`,
+/// `damaged_record`; with `is_first` 0 counts where no number is kept, and a number that is kept
+/// counts all the same). It copies the data into a new file, verifies what that file holds (the
+/// first failing case of `verify_texts`; legacy signatures are never taken) and brings it to the
+/// disk. It tests the signed comment: `other_file`; `no_number`, below 2^64; `older_update`, where
+/// the number is below the kept one. The same number may be installed again. Then it keeps the
+/// number, on the disk, and last gives the file the place's name and brings the folder to the disk.
+///
+/// A device that fails is `reading_failed`, `writing_failed` or `random_source_failed`, and memory
+/// may run out at any time. After a refusal this run has brought nothing to the place, unless the
+/// renaming failed (`writing_failed`), which may have been done, or bringing it to the disk
+/// (`folder_not_on_disk`): then the update stands there. The record has changed only if keeping
+/// the number failed or a later step did. The new file is removed if it can be, or by the next run.
+///
+/// The data is copied, and read back, in pieces of at most 64 KiB, of which one is held at a time;
+/// so the memory that is taken does not depend on its size, which may be up to 2^63 - 1 bytes. The
+/// texts and the comment are held whole.
 pub fn install_update<S: Scheme, Z: RandomSource, R: Source, F: Folder>(
     alloc: Global,
     scheme: &S,
