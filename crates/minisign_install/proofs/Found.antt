@@ -30,3 +30,16 @@ refused_told told xs ahead W (Err e) is (inl memory) = λ yes. inl (inl memory)
 refused_told told xs ahead W (Err e) is (inr (inl reading)) = λ yes. inl (inr (inl reading))
 refused_told true xs ahead W (Err e) is (inr (inr (message, given, w))) = λ yes. inr (subst (λ m. W m e) (sym (subst (λ a. IsAhead a message) is given)) w)
 refused_told false xs ahead W (Err e) is (inr (inr (message, given, w))) = λ yes. absurd (true≢false (sym yes))
+
+-- what was judged was some data, whether the stage is told or not
+pub some_vouched : {T : Type 0} (ahead : Option (List ℕ)) (V : List ℕ → T → Type 0) (r : Result T Fault) → IfOk r (λ t. (message : List ℕ) × IsAhead ahead message × V message t)
+    → IfOk r (λ t. (message : List ℕ) × V message t)
+some_vouched ahead V (Ok t) (message, given, v) = (message, v)
+some_vouched ahead V (Err e) judged = tt
+
+pub some_refused : {T : Type 0} (ahead : Option (List ℕ)) (W : List ℕ → Fault → Type 0) (r : Result T Fault)
+    → IfErr r (λ e. (e ≡ out_of_memory) ⊎ (e ≡ reading_failed) ⊎ ((message : List ℕ) × IsAhead ahead message × W message e)) → IfErr r (λ e. IsDeviceFault e ⊎ ((message : List ℕ) × W message e))
+some_refused ahead W (Ok t) why = tt
+some_refused ahead W (Err e) (inl memory) = inl (inl memory)
+some_refused ahead W (Err e) (inr (inl reading)) = inl (inr (inl reading))
+some_refused ahead W (Err e) (inr (inr (message, given, w))) = inr (message, w)

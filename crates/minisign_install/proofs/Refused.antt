@@ -8,10 +8,10 @@ use Rattle.minisign_base.specs.Faults.{out_of_memory, random_source_failed, read
 use Rattle.minisign.specs.Acceptance.{Verifier}
 use Rattle.minisign.specs.Headline.{TextsRefuse}
 use Rattle.minisign.specs.Reading.{IsAhead}
-use Rattle.minisign_install.specs.Faults.{folder_not_on_disk}
+use Rattle.minisign_install.specs.Faults.{damaged_record, folder_not_on_disk, no_record}
 use Rattle.minisign_install.specs.Folders.{HasCreated, HasStepped, KeepsNames, Reads, Renames, Run, SettlesNames}
 use Rattle.minisign_install.specs.Installing.{HasFound, IsBrought, IsKeptNumber, IsUpdate, Terms}
-use Rattle.minisign_install.specs.Refusals.{IsDeviceFault, HasNamed, IsDataRefusal, IsLockedRefusal, IsRecordBrought, IsRecordRefused, IsRefusal}
+use Rattle.minisign_install.specs.Refusals.{IsCause, IsDataCause, IsDeviceFault, HasNamed, IsDataRefusal, IsLockedRefusal, IsRecordBrought, IsRecordRefused, IsRefusal}
 use Rattle.minisign_install.specs.Runs.{BringsNothing, BringsOnly, HasStage, IsOnly}
 use Rattle.minisign_install.specs.declared.folders.Name.{Name}
 use Rattle.minisign_install.specs.declared.folders.Name.TheVariants.{Place, Record}
@@ -218,3 +218,27 @@ pub update_refused : (accepts : Verifier) (terms : Terms) (first : Bool) (ahead 
     → IfErr r (λ e. locked.told ≡ true → IsLockedRefusal accepts terms first ahead locked new e) → IfErr r (λ e. old.told ≡ true → IsRefusal accepts terms first ahead old new e)
 update_refused accepts terms first ahead old locked new (Ok a) lock refused = tt
 update_refused accepts terms first ahead old locked new (Err e) lock refused = λ told. inr (locked_after accepts terms first ahead old locked new e (lock told) (refused ((lock told).told ∙ told)))
+
+-- == The causes alone ==
+
+module _ (accepts : Verifier) (terms : Terms) where
+  pub staging_cause : (e : Fault) → IsDeviceFault e ⊎ ((message : List ℕ) × TextsRefuse accepts terms.pk_text terms.sig_text message false e) → IsDataCause accepts terms e
+  staging_cause e (inl device) = inl device
+  staging_cause e (inr (message, refused)) = inr (inl (message, 0, inl refused))
+
+  pub keeping_cause : (e : Fault) → (e ≡ out_of_memory) ⊎ (e ≡ writing_failed) ⊎ (e ≡ random_source_failed) → IsDataCause accepts terms e
+  keeping_cause e (inl memory) = inl (inl memory)
+  keeping_cause e (inr (inl writing)) = inl (inr (inr (inl writing)))
+  keeping_cause e (inr (inr random)) = inl (inr (inr (inr random)))
+
+  pub publishing_cause : (e : Fault) (U V : Type 0) → (U × (e ≡ writing_failed)) ⊎ (V × (e ≡ folder_not_on_disk)) → IsDataCause accepts terms e
+  publishing_cause e U V (inl (u, writing)) = inl (inr (inr (inl writing)))
+  publishing_cause e U V (inr (v, folder)) = inr (inr folder)
+
+  pub record_cause : (first : Bool) (e : Fault) → (e ≡ reading_failed) ⊎ ((first ≡ false) × ((e ≡ no_record) ⊎ (e ≡ damaged_record))) → IsCause accepts terms first e
+  record_cause first e (inl reading) = inr (inr (inl (inr (inl reading))))
+  record_cause first e (inr refused) = inr (inl refused)
+
+  pub data_cause : (first : Bool) {A : Type 0} (r : Result A Fault) → IfErr r (IsDataCause accepts terms) → IfErr r (IsCause accepts terms first)
+  data_cause first (Ok a) why = tt
+  data_cause first (Err e) why = inr (inr why)

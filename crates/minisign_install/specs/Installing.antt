@@ -73,3 +73,9 @@ pub record IsInstalled (accepts : Verifier) (terms : Terms) (kept : ℕ) (steps 
   pub recorded : List Step
   pub number_first : IsPublished Record (decimal n) earlier recorded
   pub published : IsPublished Place bytes recorded steps
+
+-- the texts vouch for some data, and the comment that was signed with it names the file and has a number
+abbrev pub IsVouched : Verifier → Terms → Type 0
+IsVouched accepts terms =
+    (message : List ℕ) × (comment : List ℕ) × (n : ℕ)
+    × TextsVouchWith accepts terms.pk_text terms.sig_text message false comment × Says comment terms.file terms.numbering n

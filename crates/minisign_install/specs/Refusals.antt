@@ -81,3 +81,16 @@ IsLockedRefusal accepts terms first ahead old new e =
 -- only call.
 abbrev pub IsRefusal : Verifier → Terms → Bool → Option (List ℕ) → Run → Run → Fault → Type 0
 IsRefusal accepts terms first ahead old new e = (HasStepped old new IsStill × (e ≡ place_in_use)) ⊎ IsLockedRefusal accepts terms first ahead old new e
+
+-- == The causes alone, whether the folder tells what it holds or not ==
+
+-- why some data is not installed
+abbrev pub IsDataCause : Verifier → Terms → Fault → Type 0
+IsDataCause accepts terms e =
+    IsDeviceFault e ⊎ ((message : List ℕ) × (kept : ℕ) × IsDataRefused accepts terms kept message e) ⊎ (e ≡ folder_not_on_disk)
+
+-- why an installation is refused: the lock is held by another, or the record refused, which it never is at the first
+-- installation, or some data is not installed
+abbrev pub IsCause : Verifier → Terms → Bool → Fault → Type 0
+IsCause accepts terms first e =
+    (e ≡ place_in_use) ⊎ ((first ≡ false) × ((e ≡ no_record) ⊎ (e ≡ damaged_record))) ⊎ IsDataCause accepts terms e

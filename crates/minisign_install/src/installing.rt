@@ -7,9 +7,9 @@ ghost use Rattle.minisign.specs.Headline.{TextsRefuse};
 ghost use Rattle.minisign.specs.Reading.{IsAhead};
 ghost use Rattle.minisign_install.specs.Faults.{folder_not_on_disk};
 ghost use Rattle.minisign_install.specs.Folders.{Told};
-ghost use Rattle.minisign_install.specs.Installing.{InstallsOnlyUpdates, IsBrought, IsInstalled, terms_of};
+ghost use Rattle.minisign_install.specs.Installing.{InstallsOnlyUpdates, IsBrought, IsInstalled, IsVouched, terms_of};
 ghost use Rattle.minisign_install.specs.Names.{drawn_bytes};
-ghost use Rattle.minisign_install.specs.Refusals.{IsDataRefusal, IsDeviceFault, IsLockedRefusal, IsRefusal};
+ghost use Rattle.minisign_install.specs.Refusals.{IsCause, IsDataCause, IsDataRefusal, IsDeviceFault, IsLockedRefusal, IsRefusal};
 ghost use Rattle.minisign_install.specs.Runs.{BringsOnly, HasStage, WorksOn};
 
 use crate::comments::check_comment;
@@ -48,6 +48,8 @@ fn stage_update<S: Scheme, R: Source, F: Folder>(
         → IsAhead (R.ahead update.old) ((F.run folder.new).now.holds (F.Handle.file handle.now))) }
     ensures refused { IfErr result (λ e. (name : List ℕ) → HasStage (F.run folder.old) name (F.Handle.file handle.now) → (F.run folder.old).now.holds (F.Handle.file handle.now) ≡ []
         → IsDeviceFault e ⊎ ((message : List ℕ) × IsAhead (R.ahead update.old) message × TextsRefuse (S.accepts scheme.now) wanted.entry.pk_text.now wanted.entry.sig_text.now message false e)) }
+    ensures vouched { IfOk result (λ t. (message : List ℕ) × TextsVouchWith (S.accepts scheme.now) wanted.entry.pk_text.now wanted.entry.sig_text.now message false (string_bytes t)) }
+    ensures causes { IfErr result (λ e. IsDeviceFault e ⊎ ((message : List ℕ) × TextsRefuse (S.accepts scheme.now) wanted.entry.pk_text.now wanted.entry.sig_text.now message false e)) }
 {
     fill(alloc, folder, handle, update)?;
     let comment = judge_stage(alloc, scheme, wanted, folder, handle)?;
@@ -69,6 +71,8 @@ fn judge_stage<'a, S: Scheme, F: Folder>(
         ((F.run folder.now).now.holds (F.Handle.file handle.now)) false (string_bytes t))) }
     ensures refused { IfErr result (λ e. Told (F.run folder.now) (IsDeviceFault e ⊎ TextsRefuse (S.accepts scheme.now) wanted.entry.pk_text.now wanted.entry.sig_text.now
         ((F.run folder.now).now.holds (F.Handle.file handle.now)) false e)) }
+    ensures some { IfOk result (λ t. (message : List ℕ) × TextsVouchWith (S.accepts scheme.now) wanted.entry.pk_text.now wanted.entry.sig_text.now message false (string_bytes t)) }
+    ensures causes { IfErr result (λ e. IsDeviceFault e ⊎ ((message : List ℕ) × TextsRefuse (S.accepts scheme.now) wanted.entry.pk_text.now wanted.entry.sig_text.now message false e)) }
 {
     judge(
         alloc,
@@ -98,6 +102,8 @@ fn place_update<S: Scheme, Z: RandomSource, R: Source, F: Folder>(
         → IsInstalled (S.accepts scheme.now) (terms_of wanted.entry) kept (F.run folder.new).steps) }
     ensures refused { IfErr result (λ e. HasStage (F.run folder.old) (drawn_bytes name.now) (F.Handle.file handle.now) → (F.run folder.old).now.holds (F.Handle.file handle.now) ≡ []
         → IsDataRefusal (S.accepts scheme.now) (terms_of wanted.entry) kept (R.ahead update.old) (F.run folder.old) (F.run folder.new) e) }
+    ensures vouched { OnOk result (IsVouched (S.accepts scheme.now) (terms_of wanted.entry)) }
+    ensures causes { IfErr result (IsDataCause (S.accepts scheme.now) (terms_of wanted.entry)) }
 {
     let comment = stage_update(alloc, scheme, wanted, update, folder, handle)?;
     let number = check_comment(&comment, wanted.file, wanted.numbering, kept)?;
@@ -137,6 +143,8 @@ fn install_staged<S: Scheme, Z: RandomSource, R: Source, F: Folder>(
         → IsInstalled (S.accepts scheme.now) (terms_of wanted.entry) kept (F.run folder.new).steps) }
     ensures refused { IfErr result (λ e. HasStage (F.run folder.old) (drawn_bytes name.now) (F.Handle.file handle.now) → (F.run folder.old).now.holds (F.Handle.file handle.now) ≡ []
         → IsDataRefusal (S.accepts scheme.now) (terms_of wanted.entry) kept (R.ahead update.old) (F.run folder.old) (F.run folder.new) e) }
+    ensures vouched { OnOk result (IsVouched (S.accepts scheme.now) (terms_of wanted.entry)) }
+    ensures causes { IfErr result (IsDataCause (S.accepts scheme.now) (terms_of wanted.entry)) }
 {
     match place_update(
         alloc, scheme, random, wanted, kept, update, folder, lock, name, handle,
@@ -163,6 +171,8 @@ fn install_newer<S: Scheme, Z: RandomSource, R: Source, F: Folder>(
     ensures brings { Told (F.run folder.old) (BringsOnly (IsBrought (S.accepts scheme.now) (terms_of wanted.entry) kept) (F.run folder.old) (F.run folder.new)) }
     ensures installed { OnOk result (Told (F.run folder.old) (IsInstalled (S.accepts scheme.now) (terms_of wanted.entry) kept (F.run folder.new).steps)) }
     ensures refused { IfErr result (λ e. Told (F.run folder.old) (IsDataRefusal (S.accepts scheme.now) (terms_of wanted.entry) kept (R.ahead update.old) (F.run folder.old) (F.run folder.new) e)) }
+    ensures vouched { OnOk result (IsVouched (S.accepts scheme.now) (terms_of wanted.entry)) }
+    ensures causes { IfErr result (IsDataCause (S.accepts scheme.now) (terms_of wanted.entry)) }
 {
     let Ok(name) = StageName::draw(random) else {
         return Err(random_source_failed());
@@ -189,6 +199,8 @@ fn install_alone<S: Scheme, Z: RandomSource, R: Source, F: Folder>(
     ensures headline { Told (F.run folder.old) (InstallsOnlyUpdates (S.accepts scheme.now) (terms_of wanted.entry) is_first (F.run folder.old) (F.run folder.new)) }
     ensures installed { OnOk result (Told (F.run folder.old) ((kept : ℕ) × IsInstalled (S.accepts scheme.now) (terms_of wanted.entry) kept (F.run folder.new).steps)) }
     ensures refused { IfErr result (λ e. Told (F.run folder.old) (IsLockedRefusal (S.accepts scheme.now) (terms_of wanted.entry) is_first (R.ahead update.old) (F.run folder.old) (F.run folder.new) e)) }
+    ensures vouched { OnOk result (IsVouched (S.accepts scheme.now) (terms_of wanted.entry)) }
+    ensures causes { IfErr result (IsCause (S.accepts scheme.now) (terms_of wanted.entry) is_first) }
 {
     let Ok(()) = folder.clear(lock) else {
         return Err(writing_failed());
@@ -231,6 +243,8 @@ pub fn install_update<S: Scheme, Z: RandomSource, R: Source, F: Folder>(
     ensures headline { Told (F.run folder.old) (InstallsOnlyUpdates (S.accepts scheme.now) (terms_of wanted.entry) is_first (F.run folder.old) (F.run folder.new)) }
     ensures installed { OnOk result (Told (F.run folder.old) ((kept : ℕ) × IsInstalled (S.accepts scheme.now) (terms_of wanted.entry) kept (F.run folder.new).steps)) }
     ensures refused { IfErr result (λ e. Told (F.run folder.old) (IsRefusal (S.accepts scheme.now) (terms_of wanted.entry) is_first (R.ahead update.old) (F.run folder.old) (F.run folder.new) e)) }
+    ensures vouched { OnOk result (IsVouched (S.accepts scheme.now) (terms_of wanted.entry)) }
+    ensures causes { IfErr result (IsCause (S.accepts scheme.now) (terms_of wanted.entry) is_first) }
 {
     match folder.lock() {
         Ok(Some(lock)) => install_alone(

@@ -1,9 +1,10 @@
 //! The number of the newest update is kept beside the place.
 
-ghost use Rattle.std.specs.Prelude.{◌≡◌, ◌++◌, ℕ, List, true, [], Option, Some, None, ◌⊎◌, IfOk, IfErr, OnOk, MatchOption};
+ghost use Rattle.std.specs.Prelude.{◌≡◌, ◌++◌, ℕ, List, true, false, [], Option, Some, None, ◌⊎◌, IfOk, IfErr, OnOk, MatchOption};
 ghost use Rattle.std.specs.Fmt.{decimal};
 ghost use Rattle.std.specs.Str.{IsUtf8};
 ghost use Rattle.minisign_base.specs.Faults.{out_of_memory, random_source_failed, reading_failed, writing_failed};
+ghost use Rattle.minisign_install.specs.Faults.{damaged_record, no_record};
 ghost use Rattle.minisign_install.specs.Folders.{HasStepped, IsStill, KeepsOwn, Reads, Step, Told};
 ghost use Rattle.minisign_install.specs.Comments.{IsNumberText};
 ghost use Rattle.minisign_install.specs.Installing.{IsKeptNumber};
@@ -30,6 +31,7 @@ pub(crate) fn kept_number<F: Folder>(alloc: Global, folder: &mut F, is_first: bo
     ensures still { Told (F.run folder.old) (HasStepped (F.run folder.old) (F.run folder.new) IsStill × KeepsOwn (F.run folder.old) (F.run folder.new)) }
     ensures refused { IfErr result (λ e. Told (F.run folder.old) ((e ≡ reading_failed)
         ⊎ ((found : Option (List ℕ)) × HasStepped (F.run folder.old) (F.run folder.new) (Reads Name.Record found) × IsRecordRefused is_first found e))) }
+    ensures causes { IfErr result (λ e. (e ≡ reading_failed) ⊎ ((is_first ≡ false) × ((e ≡ no_record) ⊎ (e ≡ damaged_record)))) }
 {
     match folder.read_record(alloc) {
         Ok(Some(bytes)) => number_in(bytes.as_slice(), is_first),

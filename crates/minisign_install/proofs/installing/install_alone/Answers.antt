@@ -1,7 +1,7 @@
 use Rattle.std.proofs.Common.{inl, inr, ◌∙◌}
 use Rattle.minisign_install.specs.Installing.{terms_of}
 use Rattle.minisign_install.proofs.Installs.{installed_after, installs}
-use Rattle.minisign_install.proofs.Refused.{alone_refused, passed_up, record_refused}
+use Rattle.minisign_install.proofs.Refused.{data_cause, record_cause, alone_refused, passed_up, record_refused}
 use Rattle.minisign_install.proofs.Works.{brings_trans, clearing, resting_brings}
 use Rattle.minisign_install.proofs.installing.install_alone.Goals as goal
 
@@ -42,3 +42,13 @@ returns-clause-refused g c =
     alone_refused (g.S.Scheme.accepts c.args.scheme.now) (terms_of c.args.wanted) c.in_ok-kept.kept (g.R.Source.ahead c.args.update.now) c.args.is_first _ _ _ _ c.install_newer.result
     (λ told. clearing _ _ c.clear.result (c.clear.ensures told)) c.in_ok-kept.ensures.read (λ told. resting_brings _ _ (c.in_ok-kept.ensures.still told).0)
     c.install_newer.ensures.brings c.install_newer.ensures.refused
+
+pub returns-in_default-clause-causes : goal.returns-in_default-clause-causes
+returns-in_default-clause-causes g c = inr (inr (inl (inr (inr (inl c.writing_failed.ensures)))))
+
+pub returns-in_err-kept-clause-causes : goal.returns-in_err-kept-clause-causes
+returns-in_err-kept-clause-causes g c =
+    passed_up _ _ _ c.from_residual.ensures.1 (record_cause (g.S.Scheme.accepts c.args.scheme.now) (terms_of c.args.wanted) c.args.is_first _ c.in_err-kept.ensures.causes)
+
+pub returns-clause-causes : goal.returns-clause-causes
+returns-clause-causes g c = data_cause (g.S.Scheme.accepts c.args.scheme.now) (terms_of c.args.wanted) c.args.is_first c.install_newer.result c.install_newer.ensures.causes

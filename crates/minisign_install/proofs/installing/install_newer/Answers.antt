@@ -32,3 +32,9 @@ returns-in-Ok-create-clause-refused g c =
 
 pub returns-in-Err-clause-refused : goal.returns-in-Err-clause-refused
 returns-in-Err-clause-refused g c = λ told. inl (resting_brings _ _ (c.in-Err.ensures told).0, inr (inr (inl c.writing_failed.ensures)))
+
+pub returns-in_default-clause-causes : goal.returns-in_default-clause-causes
+returns-in_default-clause-causes g c = inl (inr (inr (inr c.random_source_failed.ensures)))
+
+pub returns-in-Err-clause-causes : goal.returns-in-Err-clause-causes
+returns-in-Err-clause-causes g c = inl (inr (inr (inl c.writing_failed.ensures)))

@@ -30,3 +30,9 @@ returns-in-Ok-None-clause-refused g c = λ told. inl ((c.in-Ok-None.ensures told
 
 pub returns-in-Err-clause-refused : goal.returns-in-Err-clause-refused
 returns-in-Err-clause-refused g c = λ told. inr (inl (resting_brings _ _ (c.in-Err.ensures told).0, inr (inl c.reading_failed.ensures)))
+
+pub returns-in-Ok-None-clause-causes : goal.returns-in-Ok-None-clause-causes
+returns-in-Ok-None-clause-causes g c = inl c.place_in_use.ensures
+
+pub returns-in-Err-clause-causes : goal.returns-in-Err-clause-causes
+returns-in-Err-clause-causes g c = inr (inr (inl (inr (inl c.reading_failed.ensures))))

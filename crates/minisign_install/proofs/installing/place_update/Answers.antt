@@ -1,10 +1,11 @@
-use Rattle.std.proofs.Common.{◌∙◌, inl, inr, subst, sym}
+use Rattle.std.proofs.Common.{◌∙◌, false, inl, inr, subst, sym}
+use Rattle.minisign.specs.Calls.{TextsVouchWith}
 use Rattle.minisign_install.specs.Installing.{IsBrought, IsUpdate, terms_of}
 use Rattle.minisign_install.specs.Refusals.{IsCommentRefused, IsRecordBrought}
 use Rattle.minisign_install.specs.Names.{drawn_bytes}
 use Rattle.minisign_install.proofs.Installs.{installed, is_update, placed, staged_and_kept}
 use Rattle.minisign_install.proofs.Works.{brings_nothing, brings_trans}
-use Rattle.minisign_install.proofs.Refused.{keeping_failed, passed_up, publishing_failed, record_brought, staging_failed}
+use Rattle.minisign_install.proofs.Refused.{keeping_failed, passed_up, publishing_failed, record_brought, staging_failed, staging_cause, keeping_cause, publishing_cause}
 use Rattle.minisign_install.proofs.installing.place_update.Goals as goal
 
 pub returns-in_err-comment-clause-brings : goal.returns-in_err-comment-clause-brings
@@ -120,3 +121,25 @@ returns-clause-refused g c = λ stage empty.
     (subst (λ u. IsUpdate accepts terms c.args.kept u c.in_ok-number.number) (sym same.holds) is)
     (λ what. c.in-Err.ensures.unsettled what file same.stage (same.on_disk ∙ on_disk))
     c.fault_of.ensures
+
+pub returns-in-Ok-clause-vouched : goal.returns-in-Ok-clause-vouched
+returns-in-Ok-clause-vouched g c =
+    let (message, vouched) = c.in_ok-comment.ensures.vouched in
+    (message, c.deref.result.now, c.in_ok-number.number, subst (λ t. TextsVouchWith (g.S.Scheme.accepts c.args.scheme.now) c.args.wanted.pk_text.now c.args.wanted.sig_text.now message false t) (sym c.deref.ensures) vouched, c.in_ok-number.ensures.says)
+
+pub returns-in_err-comment-clause-causes : goal.returns-in_err-comment-clause-causes
+returns-in_err-comment-clause-causes g c =
+    passed_up _ _ _ c.from_residual.ensures.1 (staging_cause (g.S.Scheme.accepts c.args.scheme.now) (terms_of c.args.wanted) _ c.in_err-comment.ensures.causes)
+
+pub returns-in_err-number-clause-causes : goal.returns-in_err-number-clause-causes
+returns-in_err-number-clause-causes g c =
+    passed_up _ _ _ c.from_residual-in_err-number.ensures.1 (
+    let (message, vouched) = c.in_ok-comment.ensures.vouched in
+    inr (inl (message, c.args.kept, inr (_, vouched, subst (λ t. IsCommentRefused (terms_of c.args.wanted) c.args.kept t c.in_err-number.field-0.0) c.deref.ensures c.in_err-number.ensures.refused))))
+
+pub returns-in_err-keep_number-clause-causes : goal.returns-in_err-keep_number-clause-causes
+returns-in_err-keep_number-clause-causes g c =
+    passed_up _ _ _ c.from_residual-in_err-keep_number.ensures.1 (keeping_cause (g.S.Scheme.accepts c.args.scheme.now) (terms_of c.args.wanted) _ c.in_err-keep_number.ensures.refused)
+
+pub returns-clause-causes : goal.returns-clause-causes
+returns-clause-causes g c = publishing_cause (g.S.Scheme.accepts c.args.scheme.now) (terms_of c.args.wanted) _ _ _ c.fault_of.ensures

@@ -43,3 +43,14 @@ returns-in_err-comment-clause-refused g c =
 
 pub returns-in-Err-clause-refused : goal.returns-in-Err-clause-refused
 returns-in-Err-clause-refused g c = λ name stage empty. inl (inr (inr (inl c.writing_failed.ensures)))
+
+pub returns-in_err-fill-clause-causes : goal.returns-in_err-fill-clause-causes
+returns-in_err-fill-clause-causes g c =
+    passed_up _ _ _ c.from_residual.ensures.1 (fill_failed _ _ _ c.in_err-fill.ensures.refused)
+
+pub returns-in_err-comment-clause-causes : goal.returns-in_err-comment-clause-causes
+returns-in_err-comment-clause-causes g c =
+    passed_up _ _ _ c.from_residual-in_err-comment.ensures.1 c.in_err-comment.ensures.causes
+
+pub returns-in-Err-clause-causes : goal.returns-in-Err-clause-causes
+returns-in-Err-clause-causes g c = inl (inr (inr (inl c.writing_failed.ensures)))
