@@ -2,6 +2,9 @@
 //! scheme that is insecure, and says so.
 #![tactic(auto)]
 
+ghost use Rattle.std.specs.Prelude.{ℕ, List, OnOk};
+ghost use Rattle.minisign_install.specs.Installing.{IsVouched};
+
 mod arguments;
 mod files;
 
@@ -12,6 +15,7 @@ use minisign::base::devices::random_sources::SourceRandom;
 use minisign::base::devices::sinks::{WriterSink, put_all};
 use minisign::base::devices::sources::ReaderSource;
 use minisign::base::faults;
+use minisign::base::scheme::Scheme;
 use minisign::base::toy::ToyScheme;
 use minisign::reading::read_text;
 use minisign_install::{Numbering, Wanted, install_update};
@@ -38,7 +42,7 @@ fn main(rt: HostRuntime) -> ExitCode {
     let _ = put_all(&mut errors, WARNING);
     let answer = match read_arguments(&rt) {
         Ok(Some(words)) => match read_words(words.as_slice()) {
-            Some(asked) => install(&rt, &asked),
+            Some(asked) => install_files(&rt, &ToyScheme::new(), asked),
             None => {
                 let _ = put_all(&mut errors, USAGE);
                 return ExitCode::from(2);
@@ -108,7 +112,10 @@ fn files_of<'a>(
 }
 
 // Reads both texts, opens the data and the device of random bytes, and installs.
-fn install(rt: &HostRuntime, asked: &Asked<'_>) -> Result<()> {
+fn install_files<S: Scheme>(rt: &HostRuntime, scheme: &S, asked: Asked<'_>) -> Result<()>
+    ensures { OnOk result ((pk_text : List ℕ) × (sig_text : List ℕ) × (file : List ℕ)
+        × IsVouched (S.accepts scheme.now) (record { pk_text = pk_text; sig_text = sig_text; file = file; numbering = asked.entry.numbering })) }
+{
     let pk_text = read_file(rt, asked.pk)?;
     let sig_text = read_file(rt, asked.sig)?;
     let Ok(update) = fs::open(rt, asked.data) else {
@@ -126,7 +133,7 @@ fn install(rt: &HostRuntime, asked: &Asked<'_>) -> Result<()> {
     };
     install_update(
         rt.alloc(),
-        &ToyScheme::new(),
+        scheme,
         &mut SourceRandom::new(ReaderSource::new(random)),
         wanted,
         asked.is_first,
