@@ -3,6 +3,7 @@
    so. With BREAK_SHORT a write takes half of its bytes first. Calls of `write` count where they go to a regular
    file that the program has opened itself. Says so by one byte on the descriptor BREAK_SAYS. */
 #define _GNU_SOURCE
+#include <dirent.h>
 #include <dlfcn.h>
 #include <errno.h>
 #include <fcntl.h>
@@ -10,6 +11,7 @@
 #include <stdarg.h>
 #include <stdlib.h>
 #include <string.h>
+#include <sys/file.h>
 #include <sys/stat.h>
 #include <unistd.h>
 
@@ -73,6 +75,20 @@ int open(const char *path, int flags, ...)
     return is_broken("open") ? -1 : real(path, flags, mode);
 }
 
+int openat(int folder, const char *path, int flags, ...)
+{
+    int (*real)(int, const char *, int, ...) = (int (*)(int, const char *, int, ...))dlsym(RTLD_NEXT, "openat");
+    mode_t mode = 0;
+    va_list more;
+
+    if (flags & (O_CREAT | O_TMPFILE)) {
+        va_start(more, flags);
+        mode = va_arg(more, mode_t);
+        va_end(more);
+    }
+    return is_broken("openat") ? -1 : real(folder, path, flags, mode);
+}
+
 ssize_t write(int fd, const void *bytes, size_t length)
 {
     ssize_t (*real)(int, const void *, size_t) = (ssize_t (*)(int, const void *, size_t))dlsym(RTLD_NEXT, "write");
@@ -128,5 +144,8 @@ BREAKS(int, fsync, (int fd), (fd))
 BREAKS(int, fchmod, (int fd, mode_t mode), (fd, mode))
 BREAKS(int, fchown, (int fd, uid_t uid, gid_t gid), (fd, uid, gid))
 BREAKS(ssize_t, read, (int fd, void *bytes, size_t length), (fd, bytes, length))
+BREAKS(ssize_t, pread, (int fd, void *bytes, size_t length, off_t at), (fd, bytes, length, at))
+BREAKS(int, flock, (int fd, int operation), (fd, operation))
+BREAKS(ssize_t, getdents64, (int fd, void *bytes, size_t length), (fd, bytes, length))
 BREAKS(ssize_t, readlink, (const char *path, char *bytes, size_t length), (path, bytes, length))
 BREAKS(int, statx, (int fd, const char *path, int flags, unsigned mask, struct statx *found), (fd, path, flags, mask, found))

@@ -1,7 +1,7 @@
 #!/usr/bin/env python3
 """Compares what the documents name with what is there: functions, clauses, definitions and fields of
-docs/PROMISES.md, the faults of docs/FORMATS.md, blocks of code, links, paths, names, and the old texts of the
-must-fail edits. It also looks for crates that name the proofs of another one.
+docs/PROMISES.md, the faults of docs/FORMATS.md and docs/INSTALLING.md, blocks of code, links, paths, names, and the
+old texts of the must-fail edits. It also looks for crates that name the proofs of another one.
 
 It prints a line for each name that is not there; the last line is `N passed, M failed`. Needs Python 3.9 or later.
 """
@@ -16,6 +16,7 @@ from named import NAME, QUOTED, ROOT, Index, Report, all_files, read, sources
 from promises import PROMISES, check_promises, check_sentences
 
 FORMATS = "docs/FORMATS.md"
+INSTALLING = "docs/INSTALLING.md"
 ARCHITECTURE = "docs/ARCHITECTURE.md"
 # What scripts make from the sources, and check themselves: a whole document, and the blocks of others.
 MADE = re.compile(r"docs/TRUSTED\.md")
@@ -55,6 +56,19 @@ def check_faults(report, index):
         report.check(function and function.public, "crates/minisign_base/src/faults.rt", f"no function {name}")
     for kind, said in rows:
         report.check((kind, said) in [fault[1:] for fault in faults], FORMATS, f"no such fault: {kind}, {said!r}")
+
+
+def check_installing(report, index):
+    """Each fault that installing adds stands in its table with its text, and in the source."""
+    rows = [row.split("|")[2] for row in read(INSTALLING).split("\n") if row.count("|") == 4]
+    crate = index.library.crates["minisign_install"]
+    faults = sources.read_module(os.path.join(crate, "specs", "Faults.antt")).definitions
+    report.check(faults, "specs/Faults.antt", "no fault is read")
+    for name, definition in faults.items():
+        said = re.search(r'text = codes "([^"]*)"', definition.text)
+        report.check(said and any(f"`{said[1]}`" in row for row in rows), INSTALLING, f"no row for {name}")
+        report.check(any(item.file.endswith("minisign_install/src/faults.rt") and item.public for item in index.functions.get(name, [])),
+                     "crates/minisign_install/src/faults.rt", f"no function {name}")
 
 
 def squeezed(text):
@@ -315,6 +329,7 @@ def main():
             check_sentences(report, index, document, text.split("\n"))
     check_promises(report, index)
     check_faults(report, index)
+    check_installing(report, index)
     check_texts(report, index)
     check_architecture(report, index)
     check_layers(report, index)

@@ -17,7 +17,7 @@ import sys
 import sources
 from sources import ROOT
 
-LIBRARIES = ("minisign_hash", "minisign_kdf", "minisign_base", "minisign")
+LIBRARIES = ("minisign_hash", "minisign_kdf", "minisign_base", "minisign", "minisign_install")
 HEAD = "\n## A caller\n"
 NAMES = re.compile(r"<!-- caller: (?P<callers>[^;>]+?)(?:; without: (?P<without>[^>]+?))? -->")
 # Members of implementations that say nothing to a caller.

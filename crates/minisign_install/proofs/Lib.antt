@@ -1,0 +1,8 @@
+mod Fields
+mod Found
+mod Installs
+mod Judged
+mod Moments
+mod Pieces
+mod Refused
+mod Works

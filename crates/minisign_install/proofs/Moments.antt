@@ -1,0 +1,72 @@
+-- What one call brings to the lasting names.
+use Rattle.std.proofs.Common.{◌≡◌, ◌≢◌, ◌⊎◌, inl, inr, ⊎_elim, ℕ, List, Option, Some, true, ap, sym, subst, ◌∙◌, refl}
+use Rattle.minisign_install.specs.Folders.{IsApart, KeepsNames, MayFind, MayLead, Moment, Renames, Step, TouchesOnly}
+use Rattle.minisign_install.specs.Runs.{Brings}
+use Rattle.minisign_install.specs.declared.folders.Name.{Name}
+use Rattle.minisign_install.specs.declared.folders.Name.TheVariants.{Place, Record}
+
+abbrev pub step : Moment → Moment → Step
+step m m' = record { before = m; after = m' }
+
+pub lead_back : (m m' : Moment) (n : Name) (f : ℕ) → m'.leads ≡ m.leads → m'.left ≡ m.left → MayLead m' n f → MayLead m n f
+lead_back m m' n f leads left (inl e) = inl (sym (ap (λ l. l n) leads) ∙ e)
+lead_back m m' n f leads left (inr e) = inr (sym (ap (λ l. l n f) left) ∙ e)
+
+module _ (P : Name → List ℕ → Type 0) where
+  -- a call that touches one file alone, to which no lasting name may lead
+  pub touching : (g : ℕ) (m m' : Moment) → TouchesOnly g m m' → IsApart m g → Brings P (step m m')
+  touching g m m' only apart n bytes found =
+      let lead = lead_back m m' n found.file only.leads only.left found.lead in
+      let other : found.file ≢ g = λ same. apart n (subst (MayLead m n) same lead) in
+      inl (record {
+        file = found.file;
+        lead = lead;
+        holds = λ kept. found.holds (only.on_disk found.file other ∙ kept) ∙ only.holds found.file other;
+      })
+
+  -- a call that touches no file and no lasting name
+  pub leaving : (m m' : Moment) → m'.leads ≡ m.leads → m'.left ≡ m.left → m'.holds ≡ m.holds → m'.on_disk ≡ m.on_disk → Brings P (step m m')
+  leaving m m' leads left holds on_disk n bytes found =
+      inl (record {
+        file = found.file;
+        lead = lead_back m m' n found.file leads left found.lead;
+        holds = λ kept. found.holds (ap (λ d. d found.file) on_disk ∙ kept) ∙ ap (λ h. h found.file) holds;
+      })
+
+  pub resting : (m m' : Moment) → m' ≡ m → Brings P (step m m')
+  resting m m' same = leaving m m' (ap (λ x. x.leads) same) (ap (λ x. x.left) same) (ap (λ x. x.holds) same) (ap (λ x. x.on_disk) same)
+
+  pub settling_names : (m m' : Moment) → KeepsNames m m' → Brings P (step m m')
+  settling_names m m' keeps n bytes found =
+      inl (record {
+        file = found.file;
+        lead = ⊎_elim (λ e. inl (sym (ap (λ l. l n) keeps.leads) ∙ e)) (λ e. keeps.left n found.file e) found.lead;
+        holds = λ kept. found.holds (ap (λ d. d found.file) keeps.on_disk ∙ kept) ∙ ap (λ h. h found.file) keeps.holds;
+      })
+
+pub place_or_record : (n to : Name) → (n ≡ to) ⊎ (n ≢ to)
+place_or_record Place Place = inl refl
+place_or_record Place Record = inr (λ e. cc)
+place_or_record Record Place = inr (λ e. cc)
+place_or_record Record Record = inl refl
+
+pub some_inj : (f g : ℕ) → (o : Option ℕ) → o ≡ Some f → o ≡ Some g → f ≡ g
+some_inj f g o a b = cc
+
+module _ (P : Name → List ℕ → Type 0) where
+  -- a stage that is on the disk gets a lasting name
+  pub renaming : (name : List ℕ) (to : Name) (g : ℕ) (m m' : Moment) → Renames name to m m' → m.stages name ≡ Some g → m.on_disk g ≡ true → P to (m.holds g) → Brings P (step m m')
+  renaming name to g m m' done leads on_disk due n bytes found =
+      let f = found.file in
+      let holds : m.on_disk f ≡ true → bytes ≡ m.holds f = λ kept. found.holds (ap (λ d. d f) done.on_disk ∙ kept) ∙ ap (λ h. h f) done.holds in
+      let before : MayLead m n f → MayFind m n bytes = λ lead. record { file = f; lead = lead; holds = holds } in
+      ⊎_elim
+      (λ same. ⊎_elim
+      (λ e.
+      let is : f ≡ g = some_inj f g (m'.leads to) (subst (λ x. m'.leads x ≡ Some f) same e) (done.leads ∙ leads) in
+      let what : bytes ≡ m.holds g = holds (ap (λ x. m.on_disk x) is ∙ on_disk) ∙ ap (λ x. m.holds x) is in
+      inr (subst (λ x. P x bytes) (sym same) (subst (P to) (sym what) due)))
+      (λ e. inl (before (subst (λ x. MayLead m x f) (sym same) (done.left f (subst (λ x. m'.left x f ≡ true) same e)))))
+      found.lead)
+      (λ other. inl (before (⊎_elim (λ e. inl (sym (done.other_leads n other) ∙ e)) (λ e. inr (sym (done.other_left n other f) ∙ e)) found.lead)))
+      (place_or_record n to)

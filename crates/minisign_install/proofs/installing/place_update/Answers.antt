@@ -1,0 +1,145 @@
+use Rattle.std.proofs.Common.{◌∙◌, false, inl, inr, subst, sym}
+use Rattle.minisign.specs.Calls.{TextsVouchWith}
+use Rattle.minisign_install.specs.Installing.{IsBrought, IsUpdate, terms_of}
+use Rattle.minisign_install.specs.Refusals.{IsCommentRefused, IsRecordBrought}
+use Rattle.minisign_install.specs.Names.{drawn_bytes}
+use Rattle.minisign_install.proofs.Installs.{installed, is_update, placed, staged_and_kept}
+use Rattle.minisign_install.proofs.Works.{brings_nothing, brings_trans}
+use Rattle.minisign_install.proofs.Refused.{keeping_failed, passed_up, publishing_failed, record_brought, staging_failed, staging_cause, keeping_cause, publishing_cause}
+use Rattle.minisign_install.proofs.installing.place_update.Goals as goal
+
+pub returns-in_err-comment-clause-brings : goal.returns-in_err-comment-clause-brings
+returns-in_err-comment-clause-brings g c = λ stage.
+    brings_nothing (IsBrought (g.S.Scheme.accepts c.args.scheme.now) (terms_of c.args.wanted) c.args.kept) _ _
+    (c.in_err-comment.ensures.works (drawn_bytes c.args.name.now) stage).brings
+
+pub returns-in_err-number-clause-brings : goal.returns-in_err-number-clause-brings
+returns-in_err-number-clause-brings g c = λ stage.
+    brings_nothing (IsBrought (g.S.Scheme.accepts c.args.scheme.now) (terms_of c.args.wanted) c.args.kept) _ _
+    (c.in_ok-comment.ensures.works (drawn_bytes c.args.name.now) stage).brings
+
+pub returns-in_err-keep_number-clause-brings : goal.returns-in_err-keep_number-clause-brings
+returns-in_err-keep_number-clause-brings g c = λ stage.
+    let name = drawn_bytes c.args.name.now in
+    let file = g.F.Handle.Handle.file c.args.handle.now in
+    let accepts = g.S.Scheme.accepts c.args.scheme.now in
+    let terms = terms_of c.args.wanted in
+    let works = c.in_ok-comment.ensures.works name stage in
+    let (on_disk, vouched) = c.in_ok-comment.ensures.staged name stage in
+    let is = is_update accepts terms c.args.kept _ _ c.deref.result.now c.in_ok-number.number vouched c.deref.ensures c.in_ok-number.ensures.says c.in_ok-number.ensures.newer in
+    (staged_and_kept accepts terms c.args.kept name file c.in_ok-number.number _ _ _ works is (c.in_err-keep_number.ensures.goes works.stage.told)).0
+
+pub returns-in-Ok-clause-brings : goal.returns-in-Ok-clause-brings
+returns-in-Ok-clause-brings g c = λ stage.
+    let name = drawn_bytes c.args.name.now in
+    let file = g.F.Handle.Handle.file c.args.handle.now in
+    let accepts = g.S.Scheme.accepts c.args.scheme.now in
+    let terms = terms_of c.args.wanted in
+    let works = c.in_ok-comment.ensures.works name stage in
+    let (on_disk, vouched) = c.in_ok-comment.ensures.staged name stage in
+    let is = is_update accepts terms c.args.kept _ _ c.deref.result.now c.in_ok-number.number vouched c.deref.ensures c.in_ok-number.ensures.says c.in_ok-number.ensures.newer in
+    let (brought, same) = staged_and_kept accepts terms c.args.kept name file c.in_ok-number.number _ _ _ works is (c.in_ok-keep_number.ensures.goes works.stage.told) in
+    placed accepts terms c.args.kept name file c.in_ok-number.number _ _ _ _ brought is same (c.in-Ok.ensures.goes file same.stage (same.on_disk ∙ on_disk))
+
+pub returns-in-Ok-clause-installed : goal.returns-in-Ok-clause-installed
+returns-in-Ok-clause-installed g c = λ stage.
+    let name = drawn_bytes c.args.name.now in
+    let file = g.F.Handle.Handle.file c.args.handle.now in
+    let accepts = g.S.Scheme.accepts c.args.scheme.now in
+    let terms = terms_of c.args.wanted in
+    let works = c.in_ok-comment.ensures.works name stage in
+    let (on_disk, vouched) = c.in_ok-comment.ensures.staged name stage in
+    let is = is_update accepts terms c.args.kept _ _ c.deref.result.now c.in_ok-number.number vouched c.deref.ensures c.in_ok-number.ensures.says c.in_ok-number.ensures.newer in
+    let (brought, same) = staged_and_kept accepts terms c.args.kept name file c.in_ok-number.number _ _ _ works is (c.in_ok-keep_number.ensures.goes works.stage.told) in
+    installed accepts terms c.args.kept name file c.in_ok-number.number _ _ _ is same (c.in_ok-keep_number.ensures.recorded works.stage.told) (c.in-Ok.ensures.published file same.stage (same.on_disk ∙ on_disk))
+
+pub returns-clause-brings : goal.returns-clause-brings
+returns-clause-brings g c = λ stage.
+    let name = drawn_bytes c.args.name.now in
+    let file = g.F.Handle.Handle.file c.args.handle.now in
+    let accepts = g.S.Scheme.accepts c.args.scheme.now in
+    let terms = terms_of c.args.wanted in
+    let works = c.in_ok-comment.ensures.works name stage in
+    let (on_disk, vouched) = c.in_ok-comment.ensures.staged name stage in
+    let is = is_update accepts terms c.args.kept _ _ c.deref.result.now c.in_ok-number.number vouched c.deref.ensures c.in_ok-number.ensures.says c.in_ok-number.ensures.newer in
+    let (brought, same) = staged_and_kept accepts terms c.args.kept name file c.in_ok-number.number _ _ _ works is (c.in_ok-keep_number.ensures.goes works.stage.told) in
+    placed accepts terms c.args.kept name file c.in_ok-number.number _ _ _ _ brought is same (c.in-Err.ensures.goes file same.stage (same.on_disk ∙ on_disk))
+
+pub returns-in_err-comment-clause-refused : goal.returns-in_err-comment-clause-refused
+returns-in_err-comment-clause-refused g c =
+    passed_up _ _ _ c.from_residual.ensures.1 (λ stage empty.
+    let name = drawn_bytes c.args.name.now in
+    let file = g.F.Handle.Handle.file c.args.handle.now in
+    let accepts = g.S.Scheme.accepts c.args.scheme.now in
+    let terms = terms_of c.args.wanted in
+    let ahead = g.R.Source.ahead c.args.update.now in
+    staging_failed accepts terms c.args.kept ahead _ _ _ (c.in_err-comment.ensures.works name stage).brings (c.in_err-comment.ensures.refused name stage empty))
+
+pub returns-in_err-number-clause-refused : goal.returns-in_err-number-clause-refused
+returns-in_err-number-clause-refused g c =
+    passed_up _ _ _ c.from_residual-in_err-number.ensures.1 (λ stage empty.
+    let name = drawn_bytes c.args.name.now in
+    let file = g.F.Handle.Handle.file c.args.handle.now in
+    let accepts = g.S.Scheme.accepts c.args.scheme.now in
+    let terms = terms_of c.args.wanted in
+    let ahead = g.R.Source.ahead c.args.update.now in
+    let works = c.in_ok-comment.ensures.works name stage in
+    let (on_disk, vouched) = c.in_ok-comment.ensures.staged name stage in
+    let given = c.in_ok-comment.ensures.copied name stage empty in
+    inr (inl (works.brings, (_, given, inr (_, vouched, subst (λ t. IsCommentRefused terms c.args.kept t c.in_err-number.field-0.0) c.deref.ensures c.in_err-number.ensures.refused)))))
+
+pub returns-in_err-keep_number-clause-refused : goal.returns-in_err-keep_number-clause-refused
+returns-in_err-keep_number-clause-refused g c =
+    passed_up _ _ _ c.from_residual-in_err-keep_number.ensures.1 (λ stage empty.
+    let name = drawn_bytes c.args.name.now in
+    let file = g.F.Handle.Handle.file c.args.handle.now in
+    let accepts = g.S.Scheme.accepts c.args.scheme.now in
+    let terms = terms_of c.args.wanted in
+    let ahead = g.R.Source.ahead c.args.update.now in
+    let works = c.in_ok-comment.ensures.works name stage in
+    let (on_disk, vouched) = c.in_ok-comment.ensures.staged name stage in
+    let is = is_update accepts terms c.args.kept _ _ c.deref.result.now c.in_ok-number.number vouched c.deref.ensures c.in_ok-number.ensures.says c.in_ok-number.ensures.newer in
+    let Q = IsRecordBrought accepts terms c.args.kept in
+    let goes = c.in_err-keep_number.ensures.goes works.stage.told in
+    keeping_failed accepts terms c.args.kept ahead _ _ _
+    (brings_trans Q _ _ _ (brings_nothing Q _ _ works.brings) (record_brought accepts terms c.args.kept ahead _ c.in_ok-number.number _ _ is goes.brings))
+    c.in_err-keep_number.ensures.refused)
+
+pub returns-clause-refused : goal.returns-clause-refused
+returns-clause-refused g c = λ stage empty.
+    let name = drawn_bytes c.args.name.now in
+    let file = g.F.Handle.Handle.file c.args.handle.now in
+    let accepts = g.S.Scheme.accepts c.args.scheme.now in
+    let terms = terms_of c.args.wanted in
+    let ahead = g.R.Source.ahead c.args.update.now in
+    let works = c.in_ok-comment.ensures.works name stage in
+    let (on_disk, vouched) = c.in_ok-comment.ensures.staged name stage in
+    let is = is_update accepts terms c.args.kept _ _ c.deref.result.now c.in_ok-number.number vouched c.deref.ensures c.in_ok-number.ensures.says c.in_ok-number.ensures.newer in
+    let (brought, same) = staged_and_kept accepts terms c.args.kept name file c.in_ok-number.number _ _ _ works is (c.in_ok-keep_number.ensures.goes works.stage.told) in
+    publishing_failed accepts terms c.args.kept ahead _ _ _ _ _ _ _ c.in_ok-number.number brought
+    (placed accepts terms c.args.kept name file c.in_ok-number.number _ _ _ _ brought is same (c.in-Err.ensures.goes file same.stage (same.on_disk ∙ on_disk)))
+    (subst (λ u. IsUpdate accepts terms c.args.kept u c.in_ok-number.number) (sym same.holds) is)
+    (λ what. c.in-Err.ensures.unsettled what file same.stage (same.on_disk ∙ on_disk))
+    c.fault_of.ensures
+
+pub returns-in-Ok-clause-vouched : goal.returns-in-Ok-clause-vouched
+returns-in-Ok-clause-vouched g c =
+    let (message, vouched) = c.in_ok-comment.ensures.vouched in
+    (message, c.deref.result.now, c.in_ok-number.number, subst (λ t. TextsVouchWith (g.S.Scheme.accepts c.args.scheme.now) c.args.wanted.pk_text.now c.args.wanted.sig_text.now message false t) (sym c.deref.ensures) vouched, c.in_ok-number.ensures.says)
+
+pub returns-in_err-comment-clause-causes : goal.returns-in_err-comment-clause-causes
+returns-in_err-comment-clause-causes g c =
+    passed_up _ _ _ c.from_residual.ensures.1 (staging_cause (g.S.Scheme.accepts c.args.scheme.now) (terms_of c.args.wanted) _ c.in_err-comment.ensures.causes)
+
+pub returns-in_err-number-clause-causes : goal.returns-in_err-number-clause-causes
+returns-in_err-number-clause-causes g c =
+    passed_up _ _ _ c.from_residual-in_err-number.ensures.1 (
+    let (message, vouched) = c.in_ok-comment.ensures.vouched in
+    inr (inl (message, c.args.kept, inr (_, vouched, subst (λ t. IsCommentRefused (terms_of c.args.wanted) c.args.kept t c.in_err-number.field-0.0) c.deref.ensures c.in_err-number.ensures.refused))))
+
+pub returns-in_err-keep_number-clause-causes : goal.returns-in_err-keep_number-clause-causes
+returns-in_err-keep_number-clause-causes g c =
+    passed_up _ _ _ c.from_residual-in_err-keep_number.ensures.1 (keeping_cause (g.S.Scheme.accepts c.args.scheme.now) (terms_of c.args.wanted) _ c.in_err-keep_number.ensures.refused)
+
+pub returns-clause-causes : goal.returns-clause-causes
+returns-clause-causes g c = publishing_cause (g.S.Scheme.accepts c.args.scheme.now) (terms_of c.args.wanted) _ _ _ c.fault_of.ensures

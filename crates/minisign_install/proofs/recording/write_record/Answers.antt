@@ -1,0 +1,14 @@
+use Rattle.std.proofs.Common.{◌∙◌}
+use Rattle.minisign_install.specs.Names.{drawn_bytes}
+use Rattle.minisign_install.specs.Runs.{IsOnly}
+use Rattle.minisign_install.specs.declared.folders.Name.TheVariants.{Record}
+use Rattle.minisign_install.proofs.Works.{goes_trans, perhaps_removed_goes}
+use Rattle.minisign_install.proofs.recording.write_record.Goals as goal
+
+pub returns-in-Err-clause-goes : goal.returns-in-Err-clause-goes
+returns-in-Err-clause-goes g c = λ stage empty.
+    let name = drawn_bytes c.args.name.now in
+    let file = g.F.Handle.Handle.file c.args.handle.now in
+    let so_far = c.in-Err.ensures.goes stage empty in
+    goes_trans (IsOnly Record c.args.bytes.now) name file _ _ _ so_far
+    (perhaps_removed_goes (IsOnly Record c.args.bytes.now) name file _ _ c.remove-removed.result (c.remove-removed.ensures (so_far.brings.told ∙ stage.told)))

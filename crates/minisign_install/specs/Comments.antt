@@ -1,0 +1,40 @@
+-- What a signed comment says of an update.
+use Rattle.std.specs.Prelude.{◌≡◌, ℕ, ◌^◌, ◌<◌, List, [], ◌∷◌, ◌==◌, length, take, drop, Option, Some, None, if◌then◌else◌, bytes_eq, codes}
+use Rattle.std.specs.List.{slice_split}
+use Rattle.std.specs.Str.Parse.{IsNumeral, digits_value, without_leading_plus}
+use Rattle.minisign_install.specs.declared.comments.Numbering.{Numbering}
+use Rattle.minisign_install.specs.declared.comments.Numbering.TheVariants.{Timestamp, Version}
+
+-- the fields of a comment: what stands between its tabs
+abbrev pub fields : List ℕ → List (List ℕ)
+fields comment = slice_split (λ b. b == 9) comment
+
+-- what stands behind the label in the first field that begins with it
+abbrev pub value_in : List ℕ → List (List ℕ) → Option (List ℕ)
+value_in label [] = None
+value_in label (field ∷ more) = if bytes_eq (take (length label) field) label then Some (drop (length label) field) else value_in label more
+
+abbrev pub value_of : List ℕ → List ℕ → Option (List ℕ)
+value_of label comment = value_in label (fields comment)
+
+-- the text writes this number below 2^64 in decimal digits; a plus may stand before them
+pub record IsNumberText (text : List ℕ) (n : ℕ) : Type 0 where
+  pub numeral : IsNumeral 10 (without_leading_plus text)
+  pub is : digits_value 10 (without_leading_plus text) ≡ n
+  pub bound : n < 2 ^ 64
+
+-- the label of the field that has the name of the file
+abbrev pub file_label : List ℕ
+file_label = codes "file:"
+
+-- the label of the field that has the number
+abbrev pub number_label : Numbering → List ℕ
+number_label Timestamp = codes "timestamp:"
+number_label Version = codes "version:"
+
+-- the comment names this file, and has this number
+pub record Says (comment : List ℕ) (file : List ℕ) (numbering : Numbering) (n : ℕ) : Type 0 where
+  pub value : List ℕ
+  pub named : value_of file_label comment ≡ Some file
+  pub numbered : value_of (number_label numbering) comment ≡ Some value
+  pub number : IsNumberText value n

@@ -1,0 +1,219 @@
+-- A folder that processes share, one layer below bytes: names that lead to files, what the files hold, and what a
+-- crash leaves of both. Files are numbered, and no number comes twice. The definitions say what one call of the
+-- system does from one moment to the next, and what other processes may do between two calls.
+use Rattle.std.specs.Prelude.{◌≡◌, ◌≢◌, ◌⊎◌, ℕ, ◌<◌, ◌≤◌, Bool, true, false, List, [], ◌∷◌, ◌++◌, length, take, drop, Option, Some, None, Result, IfOk, MatchResult}
+use Rattle.minisign_install.specs.declared.folders.Name.{Name}
+
+-- what processes find in the folder at one moment
+pub record Moment : Type 0 where
+  -- the file that one of the two lasting names leads to
+  pub leads : Name → Option ℕ
+  -- the file that the name of a stage leads to, by the bytes that were drawn for the name
+  pub stages : List ℕ → Option ℕ
+  -- what a file holds
+  pub holds : ℕ → List ℕ
+  -- whether the file holds this after a crash too; otherwise it may then hold anything
+  pub on_disk : ℕ → Bool
+  -- whether a crash may leave the name leading to this file in place of the one that it leads to
+  pub left : Name → ℕ → Bool
+
+-- one call of this run: the moments before and after it
+pub record Step : Type 0 where
+  pub before : Moment
+  pub after : Moment
+
+-- a run so far: the moment after its last call, all its calls, the newest first, the stages' names that are its
+-- own, and whether its folder tells all this: of one that does not, nothing is said
+pub record Run : Type 0 where
+  pub told : Bool
+  pub now : Moment
+  pub steps : List Step
+  pub owns : List ℕ → Bool
+
+-- where the folder tells what it holds
+abbrev pub Told : Run → Type 0 → Type 0
+Told r fact = r.told ≡ true → fact
+
+-- == What may be found ==
+
+-- the name leads to the file, or may after a crash
+abbrev pub MayLead : Moment → Name → ℕ → Type 0
+MayLead m name file = (m.leads name ≡ Some file) ⊎ (m.left name file ≡ true)
+
+-- who opens the name now or after a crash now may find these bytes
+pub record MayFind (m : Moment) (name : Name) (bytes : List ℕ) : Type 0 where
+  pub file : ℕ
+  pub lead : MayLead m name file
+  pub holds : m.on_disk file ≡ true → bytes ≡ m.holds file
+
+-- neither name leads to the file, nor may after a crash
+abbrev pub IsApart : Moment → ℕ → Type 0
+IsApart m file = (name : Name) → ¬ (MayLead m name file)
+
+-- who opens the name finds exactly these bytes, which are on the disk
+pub record Stands (m : Moment) (name : Name) (bytes : List ℕ) : Type 0 where
+  pub file : ℕ
+  pub leads : m.leads name ≡ Some file
+  pub holds : m.holds file ≡ bytes
+  pub on_disk : m.on_disk file ≡ true
+
+-- == What other processes may do ==
+
+-- Other processes leave the stages alone whose names are this run's own: they neither rename nor remove such a
+-- name, nor write its file, nor give it another name. All else they may do.
+pub record OthersLeave (owns : List ℕ → Bool) (old new : Moment) : Type 0 where
+  pub stages : (s : List ℕ) → owns s ≡ true → new.stages s ≡ old.stages s
+  pub holds : (s : List ℕ) (f : ℕ) → owns s ≡ true → old.stages s ≡ Some f → new.holds f ≡ old.holds f
+  pub on_disk : (s : List ℕ) (f : ℕ) → owns s ≡ true → old.stages s ≡ Some f → new.on_disk f ≡ old.on_disk f
+  pub apart : (s : List ℕ) (f : ℕ) → owns s ≡ true → old.stages s ≡ Some f → IsApart old f → IsApart new f
+
+-- == What one call does ==
+
+-- no name and no other file changed
+pub record TouchesOnly (file : ℕ) (old new : Moment) : Type 0 where
+  pub leads : new.leads ≡ old.leads
+  pub left : new.left ≡ old.left
+  pub holds : (f : ℕ) → f ≢ file → new.holds f ≡ old.holds f
+  pub on_disk : (f : ℕ) → f ≢ file → new.on_disk f ≡ old.on_disk f
+
+-- a new, empty file is made under a stage's name that led to none
+pub record Creates (name : List ℕ) (file : ℕ) (old new : Moment) : Type 0 where
+  pub only : TouchesOnly file old new
+  pub apart : IsApart old file
+  pub fresh : (s : List ℕ) → old.stages s ≢ Some file
+  pub free : old.stages name ≡ None
+  pub made : new.stages name ≡ Some file
+  pub others : (s : List ℕ) → s ≢ name → new.stages s ≡ old.stages s
+  pub empty : new.holds file ≡ []
+
+-- the file is changed somehow, and may hold anything after a crash
+pub record Spoils (file : ℕ) (old new : Moment) : Type 0 where
+  pub only : TouchesOnly file old new
+  pub stages : new.stages ≡ old.stages
+
+-- the file grows by these bytes; after a crash it may hold anything
+pub record Appends (file : ℕ) (bytes : List ℕ) (old new : Moment) : Type 0 where
+  pub spoils : Spoils file old new
+  pub grown : new.holds file ≡ old.holds file ++ bytes
+
+-- what the file holds comes to the disk
+pub record Settles (file : ℕ) (old new : Moment) : Type 0 where
+  pub spoils : Spoils file old new
+  pub same : new.holds file ≡ old.holds file
+  pub on_disk : new.on_disk file ≡ true
+
+-- The file of a stage's name, whichever it is at this moment, gets the lasting name, in one step. Until the folder
+-- is brought to the disk a crash may leave what the name led to before.
+pub record Renames (name : List ℕ) (to : Name) (old new : Moment) : Type 0 where
+  pub leads : new.leads to ≡ old.stages name
+  pub other_leads : (n : Name) → n ≢ to → new.leads n ≡ old.leads n
+  pub left : (f : ℕ) → new.left to f ≡ true → MayLead old to f
+  pub other_left : (n : Name) → n ≢ to → (f : ℕ) → new.left n f ≡ old.left n f
+  pub holds : new.holds ≡ old.holds
+  pub on_disk : new.on_disk ≡ old.on_disk
+  pub gone : new.stages name ≡ None
+  pub stages : (s : List ℕ) → s ≢ name → new.stages s ≡ old.stages s
+
+-- names and files stay, and a crash leaves no more than before
+pub record KeepsNames (old new : Moment) : Type 0 where
+  pub leads : new.leads ≡ old.leads
+  pub left : (n : Name) (f : ℕ) → new.left n f ≡ true → MayLead old n f
+  pub holds : new.holds ≡ old.holds
+  pub on_disk : new.on_disk ≡ old.on_disk
+  pub stages : new.stages ≡ old.stages
+
+-- the names come to the disk: a crash leaves them leading where they lead
+pub record SettlesNames (old new : Moment) : Type 0 where
+  pub same : KeepsNames old new
+  pub settled : (n : Name) (f : ℕ) → new.left n f ≡ true → new.leads n ≡ Some f
+
+-- a stage's name is removed
+pub record Removes (name : List ℕ) (old new : Moment) : Type 0 where
+  pub leads : new.leads ≡ old.leads
+  pub left : new.left ≡ old.left
+  pub holds : new.holds ≡ old.holds
+  pub on_disk : new.on_disk ≡ old.on_disk
+  pub stages : (s : List ℕ) → s ≢ name → new.stages s ≡ old.stages s
+
+-- names of stages are removed, and nothing else is touched
+pub record Clears (old new : Moment) : Type 0 where
+  pub leads : new.leads ≡ old.leads
+  pub left : new.left ≡ old.left
+  pub holds : new.holds ≡ old.holds
+  pub on_disk : new.on_disk ≡ old.on_disk
+
+-- nothing changed
+abbrev pub IsStill : Moment → Moment → Type 0
+IsStill old new = new ≡ old
+
+-- it was done or it was not: so much is known after a fault
+abbrev pub Perhaps : (Moment → Moment → Type 0) → Moment → Moment → Type 0
+Perhaps step old new = (new ≡ old) ⊎ step old new
+
+-- == A call of a run ==
+
+-- Some steps of others, then this call's own, which is noted.
+pub record HasStepped (old new : Run) (call : Moment → Moment → Type 0) : Type 0 where
+  pub before : Moment
+  pub others : OthersLeave old.owns old.now before
+  pub this : call before new.now
+  pub noted : new.steps ≡ (record { before = before; after = new.now }) ∷ old.steps
+  pub told : new.told ≡ old.told
+
+-- what is the run's own stays
+pub record KeepsOwn (old new : Run) : Type 0 where
+  pub owns : new.owns ≡ old.owns
+
+-- one more name is the run's own
+pub record OwnsMore (name : List ℕ) (old new : Run) : Type 0 where
+  pub more : new.owns name ≡ true
+  pub others : (s : List ℕ) → s ≢ name → new.owns s ≡ old.owns s
+
+-- the name is the run's own no longer
+pub record OwnsLess (name : List ℕ) (old new : Run) : Type 0 where
+  pub less : new.owns name ≡ false
+  pub others : (s : List ℕ) → s ≢ name → new.owns s ≡ old.owns s
+
+-- the call did this, or failed and perhaps did it; nothing became or ceased to be the run's own
+abbrev pub HasTried : {A E : Type 0} → (Moment → Moment → Type 0) → (Moment → Moment → Type 0) → Run → Run → Result A E → Type 0
+HasTried done failed old new answer = MatchResult answer (λ _. HasStepped old new done × KeepsOwn old new) (λ _. HasStepped old new failed × KeepsOwn old new)
+
+-- a stage was created, whose name and file are the run's own from now on
+pub record HasCreated (name : List ℕ) (file : ℕ) (old new : Run) : Type 0 where
+  pub stepped : HasStepped old new (Creates name file)
+  pub own : OwnsMore name old new
+
+-- a stage's file got a lasting name
+pub record HasRenamed (name : List ℕ) (to : Name) (old new : Run) : Type 0 where
+  pub stepped : HasStepped old new (Renames name to)
+  pub own : OwnsLess name old new
+
+-- a stage was removed
+pub record HasRemoved (name : List ℕ) (old new : Run) : Type 0 where
+  pub stepped : HasStepped old new (Removes name)
+  pub own : OwnsLess name old new
+
+-- these are the bytes of a file from an offset on, at least one where there are any and there is room
+pub record HasReadAt {E : Type 0} (held : List ℕ) (at : ℕ) (buffer : List ℕ) (answer : Result ℕ E) : Type 0 where
+  pub within : IfOk answer (λ n. n ≤ length (drop at held))
+  pub bytes : IfOk answer (λ n. take n buffer ≡ take n (drop at held))
+  pub end : IfOk answer (λ n. n ≡ 0 → 0 < length buffer → drop at held ≡ [])
+
+-- what a name is found to lead to: no file, or one that holds these bytes
+abbrev pub IsFound : Moment → Name → Option (List ℕ) → Type 0
+IsFound m name None = m.leads name ≡ None
+IsFound m name (Some bytes) = (f : ℕ) × (m.leads name ≡ Some f) × (m.holds f ≡ bytes)
+
+-- nothing changed, and this was found
+pub record Reads (name : Name) (found : Option (List ℕ)) (old new : Moment) : Type 0 where
+  pub still : new ≡ old
+  pub found_there : IsFound old name found
+
+-- the run of a folder that tells nothing
+abbrev pub untold : Run
+untold = record {
+  told = false;
+  now = record { leads = λ _. None; stages = λ _. None; holds = λ _. []; on_disk = λ _. false; left = λ _ _. false };
+  steps = [];
+  owns = λ _. false;
+}

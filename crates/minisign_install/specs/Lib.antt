@@ -1,0 +1,7 @@
+pub mod Comments
+pub mod Faults
+pub mod Folders
+pub mod Installing
+pub mod Names
+pub mod Refusals
+pub mod Runs

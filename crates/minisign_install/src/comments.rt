@@ -1,0 +1,97 @@
+//! What the signed comment says of an update.
+
+ghost use Rattle.std.specs.Prelude.{◌≡◌, ◌≢◌, ◌⊎◌, ◌≤◌, ◌<◌, ℕ, List, Some, None, option_map, IfOk, IfErr, MatchOption, bytes_eq, take, drop, length, true, false};
+ghost use Rattle.minisign_install.specs.Comments.{IsNumberText, Says, file_label, number_label, value_of};
+ghost use Rattle.minisign_install.specs.Faults.{no_number, older_update, other_file};
+
+use crate::faults;
+use minisign::Result;
+
+/// Which field of the trusted comment has the number of an update. Fields end at tabs, and the
+/// first one with the label counts.
+#[derive(Clone, Copy, Debug, PartialEq, Eq)]
+pub enum Numbering {
+    /// `timestamp:`, as signing writes it if no comment is given.
+    Timestamp,
+    /// `version:`, which the signer writes.
+    Version,
+}
+
+impl Numbering {
+    // The label of the field.
+    fn label(self) -> &'static str
+        ensures { result.now ≡ number_label self }
+    {
+        match self {
+            Numbering::Timestamp => "timestamp:",
+            Numbering::Version => "version:",
+        }
+    }
+}
+
+// The number of an update whose comment names this file, where it is not below the kept one.
+pub(crate) fn check_comment(
+    comment: &str,
+    file: &str,
+    numbering: Numbering,
+    kept: u64,
+) -> Result<u64>
+    ensures says { IfOk result (λ n. Says comment.now file.now numbering n) }
+    ensures newer { IfOk result (λ n. kept ≤ n) }
+    ensures refused { IfErr result (λ e. ((e ≡ other_file) × (value_of file_label comment.now ≢ Some file.now))
+        ⊎ ((e ≡ no_number) × ((n : ℕ) → ¬ (Says comment.now file.now numbering n)))
+        ⊎ ((e ≡ older_update) × ((n : ℕ) × Says comment.now file.now numbering n × (n < kept)))) }
+{
+    if value(comment, "file:") != Some(file) {
+        return Err(faults::other_file());
+    }
+    let Some(digits) = value(comment, numbering.label()) else {
+        return Err(faults::no_number());
+    };
+    let Some(number) = number_of(digits) else {
+        return Err(faults::no_number());
+    };
+    if number < kept {
+        return Err(faults::older_update());
+    }
+    Ok(number)
+}
+
+// What stands behind the label in the first field that begins with it.
+fn value<'a>(comment: &'a str, label: &str) -> Option<&'a str>
+    ensures { option_map (λ v. v.now) result ≡ value_of label.now comment.now }
+{
+    let mut rest = comment;
+    'fields: loop {
+        match rest.split_once('\t') {
+            Some((field, more)) => {
+                if let Some(value) = strip(field, label) {
+                    return Some(value);
+                }
+                rest = more;
+            }
+            None => return strip(rest, label),
+        }
+    }
+}
+
+// What stands behind the label in a field that begins with it.
+fn strip<'a>(field: &'a str, label: &str) -> Option<&'a str>
+    ensures { MatchOption result (bytes_eq (take (length label.now) field.now) label.now ≡ false)
+        (λ v. (bytes_eq (take (length label.now) field.now) label.now ≡ true) × (v.now ≡ drop (length label.now) field.now)) }
+{
+    match field.strip_prefix(label) {
+        Some(value) => Some(value),
+        None => None,
+    }
+}
+
+// The number that a text writes.
+pub(crate) fn number_of(text: &str) -> Option<u64>
+    ensures { MatchOption result ((n : ℕ) → ¬ (IsNumberText text.now n)) (IsNumberText text.now) }
+{
+    match text.parse::<u64>() {
+        Ok(number) => Some(number),
+        Err(_) => None,
+    }
+}

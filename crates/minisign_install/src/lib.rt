@@ -1,0 +1,21 @@
+//! Installs an update that two texts vouch for, and nothing else.
+
+#![tactic(auto)]
+
+pub mod comments;
+pub mod faults;
+pub mod folders;
+pub mod installing;
+mod judging;
+mod publishing;
+mod recording;
+pub mod stage_names;
+mod stage_reader;
+mod staging;
+pub mod wanted;
+
+pub use comments::Numbering;
+pub use folders::{Folder, Handle, Lock, Name};
+pub use installing::install_update;
+pub use stage_names::StageName;
+pub use wanted::Wanted;

@@ -1,0 +1,50 @@
+//! A stage gets a lasting name, in one step.
+
+ghost use Rattle.std.specs.Prelude.{◌≡◌, ℕ, true, MatchResult, IfErr, OnOk};
+ghost use Rattle.minisign_install.specs.Folders.{HasStepped, KeepsNames, KeepsOwn, SettlesNames, Told};
+ghost use Rattle.minisign_install.specs.Names.{drawn_bytes};
+ghost use Rattle.minisign_install.specs.Refusals.{HasNamed};
+ghost use Rattle.minisign_install.specs.Runs.{Goes, HasStage, IsOnly, IsPublished};
+
+use crate::folders::{Folder, Name};
+use crate::stage_names::StageName;
+
+// What failed.
+#[derive(Clone, Copy, Debug)]
+pub(crate) enum Unpublished {
+    // The renaming, which was perhaps done.
+    Unnamed,
+    // Bringing the names to the disk.
+    Unsettled,
+}
+
+// Gives the file of a stage that is on the disk the lasting name, and brings the names to the disk.
+pub(crate) fn publish<F: Folder>(
+    folder: &mut F,
+    name: &StageName,
+    to: Name,
+) -> Result<(), Unpublished>
+    ensures goes { (g : ℕ) → HasStage (F.run folder.old) (drawn_bytes name.now) g → (F.run folder.old).now.on_disk g ≡ true
+        → Goes (IsOnly to ((F.run folder.old).now.holds g)) (drawn_bytes name.now) g (F.run folder.old) (F.run folder.new) }
+    ensures published { OnOk result ((g : ℕ) → HasStage (F.run folder.old) (drawn_bytes name.now) g → (F.run folder.old).now.on_disk g ≡ true
+        → IsPublished to ((F.run folder.old).now.holds g) (F.run folder.old).steps (F.run folder.new).steps) }
+    ensures unsettled { IfErr result (λ what. what ≡ Unpublished.Unsettled → (g : ℕ) → HasStage (F.run folder.old) (drawn_bytes name.now) g → (F.run folder.old).now.on_disk g ≡ true
+        → HasNamed to ((F.run folder.old).now.holds g) (F.run folder.old) (F.run folder.new)) }
+{
+    match folder.rename(name, to) {
+        Ok(()) => settle(folder),
+        Err(_) => Err(Unpublished::Unnamed),
+    }
+}
+
+// Brings the names to the disk.
+fn settle<F: Folder>(folder: &mut F) -> Result<(), Unpublished>
+    ensures settled { Told (F.run folder.old) (MatchResult result
+        (λ _. HasStepped (F.run folder.old) (F.run folder.new) SettlesNames) (λ _. HasStepped (F.run folder.old) (F.run folder.new) KeepsNames)) }
+    ensures own { Told (F.run folder.old) (KeepsOwn (F.run folder.old) (F.run folder.new)) }
+{
+    match folder.settle_names() {
+        Ok(()) => Ok(()),
+        Err(_) => Err(Unpublished::Unsettled),
+    }
+}

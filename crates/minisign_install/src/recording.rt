@@ -1,0 +1,167 @@
+//! The number of the newest update is kept beside the place.
+
+ghost use Rattle.std.specs.Prelude.{◌≡◌, ◌++◌, ℕ, List, true, false, [], Option, Some, None, ◌⊎◌, IfOk, IfErr, OnOk, MatchOption};
+ghost use Rattle.std.specs.Fmt.{decimal};
+ghost use Rattle.std.specs.Str.{IsUtf8};
+ghost use Rattle.minisign_base.specs.Faults.{out_of_memory, random_source_failed, reading_failed, writing_failed};
+ghost use Rattle.minisign_install.specs.Faults.{damaged_record, no_record};
+ghost use Rattle.minisign_install.specs.Folders.{HasStepped, IsStill, KeepsOwn, Reads, Step, Told};
+ghost use Rattle.minisign_install.specs.Comments.{IsNumberText};
+ghost use Rattle.minisign_install.specs.Installing.{IsKeptNumber};
+ghost use Rattle.minisign_install.specs.Names.{drawn_bytes};
+ghost use Rattle.minisign_install.specs.Refusals.{IsRecordRefused};
+ghost use Rattle.minisign_install.specs.Runs.{Goes, GoesBeside, HasStage, IsOnly, IsPublished, WorksOn};
+
+use crate::comments::number_of;
+use crate::faults;
+use crate::folders::{Folder, Handle, Lock, Name};
+use crate::publishing::publish;
+use crate::stage_names::StageName;
+use crate::staging::write_all;
+use minisign::Result;
+use minisign_base::devices::DeviceFault;
+use minisign_base::devices::random_sources::RandomSource;
+use minisign_base::faults::{random_source_failed, reading_failed, writing_failed};
+use std::alloc::Global;
+
+// The number that the record holds. Where it holds none and this is the first installation, that is
+// 0.
+pub(crate) fn kept_number<F: Folder>(alloc: Global, folder: &mut F, is_first: bool) -> Result<u64>
+    ensures read { IfOk result (λ kept. Told (F.run folder.old) ((found : Option (List ℕ)) × HasStepped (F.run folder.old) (F.run folder.new) (Reads Name.Record found) × IsKeptNumber is_first found kept)) }
+    ensures still { Told (F.run folder.old) (HasStepped (F.run folder.old) (F.run folder.new) IsStill × KeepsOwn (F.run folder.old) (F.run folder.new)) }
+    ensures refused { IfErr result (λ e. Told (F.run folder.old) ((e ≡ reading_failed)
+        ⊎ ((found : Option (List ℕ)) × HasStepped (F.run folder.old) (F.run folder.new) (Reads Name.Record found) × IsRecordRefused is_first found e))) }
+    ensures causes { IfErr result (λ e. (e ≡ reading_failed) ⊎ ((is_first ≡ false) × ((e ≡ no_record) ⊎ (e ≡ damaged_record)))) }
+{
+    match folder.read_record(alloc) {
+        Ok(Some(bytes)) => number_in(bytes.as_slice(), is_first),
+        Ok(None) => number_without_record(is_first),
+        Err(_) => Err(reading_failed()),
+    }
+}
+
+// The number that these bytes write.
+fn number_in(bytes: &[u8], is_first: bool) -> Result<u64>
+    ensures number { IfOk result (IsKeptNumber is_first (Some bytes.now)) }
+    ensures refused { IfErr result (IsRecordRefused is_first (Some bytes.now)) }
+{
+    match parsed(bytes) {
+        Some(number) => Ok(number),
+        None if is_first => Ok(0),
+        None => Err(faults::damaged_record()),
+    }
+}
+
+fn number_without_record(is_first: bool) -> Result<u64>
+    ensures number { IfOk result (IsKeptNumber is_first None) }
+    ensures refused { IfErr result (IsRecordRefused is_first None) }
+{
+    if is_first {
+        Ok(0)
+    } else {
+        Err(faults::no_record())
+    }
+}
+
+// The number that these bytes write, where they do.
+fn parsed(bytes: &[u8]) -> Option<u64>
+    ensures { MatchOption result (¬ (IsUtf8 bytes.now) ⊎ ((n : ℕ) → ¬ (IsNumberText bytes.now n))) (IsNumberText bytes.now) }
+{
+    match str::from_utf8(bytes) {
+        Ok(text) => number_of(text),
+        Err(_) => None,
+    }
+}
+
+// Keeps the number in the record, on the disk. Other stages stay.
+pub(crate) fn keep_number<F: Folder, Z: RandomSource>(
+    alloc: Global,
+    random: &mut Z,
+    folder: &mut F,
+    lock: &Lock,
+    number: u64,
+) -> Result<()>
+    ensures goes { Told (F.run folder.old) (GoesBeside (IsOnly Name.Record (decimal number)) (F.run folder.old) (F.run folder.new)) }
+    ensures recorded { OnOk result (Told (F.run folder.old) ((earlier : List Step) × IsPublished Name.Record (decimal number) earlier (F.run folder.new).steps)) }
+    ensures refused { IfErr result (λ e. (e ≡ out_of_memory) ⊎ (e ≡ writing_failed) ⊎ (e ≡ random_source_failed)) }
+{
+    let text = format!(in alloc; "{number}")?;
+    keep_bytes(random, folder, lock, text.as_bytes())
+}
+
+// Puts a record of these bytes in the place of the one that is there.
+fn keep_bytes<F: Folder, Z: RandomSource>(
+    random: &mut Z,
+    folder: &mut F,
+    lock: &Lock,
+    bytes: &[u8],
+) -> Result<()>
+    ensures goes { Told (F.run folder.old) (GoesBeside (IsOnly Name.Record bytes.now) (F.run folder.old) (F.run folder.new)) }
+    ensures recorded { OnOk result (Told (F.run folder.old) ((earlier : List Step) × IsPublished Name.Record bytes.now earlier (F.run folder.new).steps)) }
+    ensures refused { IfErr result (λ e. (e ≡ writing_failed) ⊎ (e ≡ random_source_failed)) }
+{
+    let Ok(name) = StageName::draw(random) else {
+        return Err(random_source_failed());
+    };
+    match folder.create(lock, &name) {
+        Ok(handle) => write_record(folder, &name, &handle, bytes),
+        Err(_) => Err(writing_failed()),
+    }
+}
+
+// Writes the record into its stage, which is empty, and gives it its lasting name; or removes it.
+fn write_record<F: Folder>(
+    folder: &mut F,
+    name: &StageName,
+    handle: &F::Handle,
+    bytes: &[u8],
+) -> Result<()>
+    ensures goes { HasStage (F.run folder.old) (drawn_bytes name.now) (F.Handle.file handle.now) → (F.run folder.old).now.holds (F.Handle.file handle.now) ≡ []
+        → Goes (IsOnly Name.Record bytes.now) (drawn_bytes name.now) (F.Handle.file handle.now) (F.run folder.old) (F.run folder.new) }
+    ensures recorded { OnOk result (HasStage (F.run folder.old) (drawn_bytes name.now) (F.Handle.file handle.now) → (F.run folder.old).now.holds (F.Handle.file handle.now) ≡ []
+        → ((earlier : List Step) × IsPublished Name.Record bytes.now earlier (F.run folder.new).steps)) }
+    ensures refused { IfErr result (λ e. e ≡ writing_failed) }
+{
+    match publish_record(folder, name, handle, bytes) {
+        Ok(()) => Ok(()),
+        Err(_) => {
+            let _removed = folder.remove(name);
+            Err(writing_failed())
+        }
+    }
+}
+
+// Writes the record into its stage, which is empty, and gives it its lasting name.
+fn publish_record<F: Folder>(
+    folder: &mut F,
+    name: &StageName,
+    handle: &F::Handle,
+    bytes: &[u8],
+) -> std::result::Result<(), DeviceFault>
+    ensures goes { HasStage (F.run folder.old) (drawn_bytes name.now) (F.Handle.file handle.now) → (F.run folder.old).now.holds (F.Handle.file handle.now) ≡ []
+        → Goes (IsOnly Name.Record bytes.now) (drawn_bytes name.now) (F.Handle.file handle.now) (F.run folder.old) (F.run folder.new) }
+    ensures recorded { OnOk result (HasStage (F.run folder.old) (drawn_bytes name.now) (F.Handle.file handle.now) → (F.run folder.old).now.holds (F.Handle.file handle.now) ≡ []
+        → ((earlier : List Step) × IsPublished Name.Record bytes.now earlier (F.run folder.new).steps)) }
+{
+    write_settled(folder, handle, bytes)?;
+    match publish(folder, name, Name::Record) {
+        Ok(()) => Ok(()),
+        Err(_) => Err(DeviceFault),
+    }
+}
+
+// Writes all of `bytes` behind what the stage holds, and brings that to the disk.
+fn write_settled<F: Folder>(
+    folder: &mut F,
+    handle: &F::Handle,
+    bytes: &[u8],
+) -> std::result::Result<(), DeviceFault>
+    ensures works { (name : List ℕ) → HasStage (F.run folder.old) name (F.Handle.file handle.now)
+        → WorksOn name (F.Handle.file handle.now) (F.run folder.old) (F.run folder.new) }
+    ensures written { OnOk result ((name : List ℕ) → HasStage (F.run folder.old) name (F.Handle.file handle.now)
+        → ((F.run folder.new).now.holds (F.Handle.file handle.now) ≡ (F.run folder.old).now.holds (F.Handle.file handle.now) ++ bytes.now)
+        × ((F.run folder.new).now.on_disk (F.Handle.file handle.now) ≡ true)) }
+{
+    write_all(folder, handle, bytes)?;
+    folder.settle(handle)
+}

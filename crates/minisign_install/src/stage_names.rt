@@ -1,0 +1,39 @@
+//! Names that nobody else knows.
+
+ghost use Rattle.std.specs.Prelude.{◌≡◌, List, ℕ, length, IfOk, OnErr};
+ghost use Rattle.std.specs.Io.KnownBytes.{Consumes};
+ghost use Rattle.minisign_base.specs.Devices.{Rose};
+ghost use Rattle.minisign_install.specs.Names.{drawn_bytes};
+
+use minisign_base::devices::DeviceFault;
+use minisign_base::devices::random_sources::RandomSource;
+
+// How many bytes are drawn for a name.
+const DRAWN: usize = 16;
+
+/// The name of a stage: 16 random bytes. It is made of bytes that were drawn and of nothing else,
+/// so that no two runs have one name, and no other process has a reason to use it.
+#[derive(Debug, Drop)]
+pub struct StageName {
+    bytes: [u8; 16],
+}
+
+impl StageName {
+    /// Draws a name. The only refusal is that of the random source.
+    pub fn draw<Z: RandomSource>(random: &mut Z) -> Result<StageName, DeviceFault>
+        ensures drawn { IfOk result (λ name. Consumes (Z.random_ahead random.old) (Z.random_ahead random.new) (drawn_bytes name)) }
+        ensures calm { IfOk result (λ name. Z.random_faults random.new ≡ Z.random_faults random.old) }
+        ensures refused { OnErr result (Rose (Z.random_faults random.old) (Z.random_faults random.new)) }
+    {
+        let mut bytes = [0u8; DRAWN];
+        random.fill(&mut bytes)?;
+        Ok(StageName { bytes })
+    }
+
+    /// The bytes that were drawn.
+    pub fn as_bytes(&self) -> &[u8]
+        ensures { result.now ≡ drawn_bytes self.now }
+    {
+        &self.bytes
+    }
+}

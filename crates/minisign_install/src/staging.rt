@@ -1,0 +1,103 @@
+//! What is written into a stage.
+
+ghost use Rattle.std.specs.Prelude.{◌≡◌, ◌⊎◌, ◌++◌, ◌<◌, ◌^◌, ℕ, List, length, true, vec_len, IfOk, IfErr, IfSome, OnOk, OnErr};
+ghost use Rattle.minisign_base.specs.Devices.{Rose};
+ghost use Rattle.minisign_base.specs.Faults.{out_of_memory, reading_failed, writing_failed};
+ghost use Rattle.minisign.specs.Reading.{IsAhead};
+ghost use Rattle.minisign_install.specs.Runs.{HasStage, WorksOn};
+
+use crate::folders::{Folder, Handle};
+use minisign::Result;
+use minisign_base::devices::DeviceFault;
+use minisign_base::devices::sources::Source;
+use minisign_base::faults;
+use std::alloc::{AllocError, Global};
+
+// The size of the pieces in which data is copied.
+const PIECE: usize = 65536;
+
+// Copies all the data ahead behind what the stage holds.
+pub(crate) fn fill<F: Folder, R: Source>(
+    alloc: Global,
+    folder: &mut F,
+    handle: &F::Handle,
+    update: &mut R,
+) -> Result<()>
+    ensures works { (name : List ℕ) → HasStage (F.run folder.old) name (F.Handle.file handle.now)
+        → WorksOn name (F.Handle.file handle.now) (F.run folder.old) (F.run folder.new) }
+    ensures copied { OnOk result ((message : List ℕ) × IsAhead (R.ahead update.old) message
+        × ((name : List ℕ) → HasStage (F.run folder.old) name (F.Handle.file handle.now)
+        → (F.run folder.new).now.holds (F.Handle.file handle.now) ≡ (F.run folder.old).now.holds (F.Handle.file handle.now) ++ message)) }
+    ensures refused { IfErr result (λ e. (e ≡ out_of_memory) ⊎ ((e ≡ reading_failed) × Rose (R.faults update.old) (R.faults update.new)) ⊎ (e ≡ writing_failed)) }
+{
+    let mut buf = zeros(alloc, PIECE)?;
+    copy(folder, handle, update, &mut buf)
+}
+
+// A buffer of so many zeros.
+fn zeros(alloc: Global, len: usize) -> std::result::Result<Vec<u8>, AllocError>
+    ensures { IfOk result (λ v. vec_len v ≡ len) }
+{
+    vec![in alloc; 0u8; len]
+}
+
+// Copies all the data ahead in pieces.
+fn copy<F: Folder, R: Source>(
+    folder: &mut F,
+    handle: &F::Handle,
+    update: &mut R,
+    buf: &mut [u8],
+) -> Result<()>
+    requires { 0 < length buf.old }
+    ensures works { (name : List ℕ) → HasStage (F.run folder.old) name (F.Handle.file handle.now)
+        → WorksOn name (F.Handle.file handle.now) (F.run folder.old) (F.run folder.new) }
+    ensures copied { OnOk result ((message : List ℕ) × IsAhead (R.ahead update.old) message
+        × ((name : List ℕ) → HasStage (F.run folder.old) name (F.Handle.file handle.now)
+        → (F.run folder.new).now.holds (F.Handle.file handle.now) ≡ (F.run folder.old).now.holds (F.Handle.file handle.now) ++ message)) }
+    ensures refused { IfErr result (λ e. ((e ≡ reading_failed) × Rose (R.faults update.old) (R.faults update.new)) ⊎ (e ≡ writing_failed)) }
+{
+    'pieces: loop {
+        let Ok(n) = update.read(buf) else {
+            return Err(faults::reading_failed());
+        };
+        if n == 0 {
+            return Ok(());
+        }
+        let Ok(()) = write_all(folder, handle, &buf[..n]) else {
+            return Err(faults::writing_failed());
+        };
+    }
+}
+
+// Writes all of `bytes` behind what the stage holds.
+pub(crate) fn write_all<F: Folder>(
+    folder: &mut F,
+    handle: &F::Handle,
+    bytes: &[u8],
+) -> std::result::Result<(), DeviceFault>
+    ensures works { (name : List ℕ) → HasStage (F.run folder.old) name (F.Handle.file handle.now)
+        → WorksOn name (F.Handle.file handle.now) (F.run folder.old) (F.run folder.new) }
+    ensures written { OnOk result ((name : List ℕ) → HasStage (F.run folder.old) name (F.Handle.file handle.now)
+        → (F.run folder.new).now.holds (F.Handle.file handle.now) ≡ (F.run folder.old).now.holds (F.Handle.file handle.now) ++ bytes.now) }
+{
+    let mut at = 0;
+    'rest: while at < bytes.len() {
+        at += folder.write(handle, &bytes[at..])?;
+    }
+    Ok(())
+}
+
+// Gives the stage the rights of what stands at the place, and brings to the disk what it holds.
+pub(crate) fn settle_stage<F: Folder>(
+    folder: &mut F,
+    handle: &F::Handle,
+) -> std::result::Result<(), DeviceFault>
+    ensures works { (name : List ℕ) → HasStage (F.run folder.old) name (F.Handle.file handle.now)
+        → WorksOn name (F.Handle.file handle.now) (F.run folder.old) (F.run folder.new) }
+    ensures settled { OnOk result ((name : List ℕ) → HasStage (F.run folder.old) name (F.Handle.file handle.now)
+        → ((F.run folder.new).now.holds (F.Handle.file handle.now) ≡ (F.run folder.old).now.holds (F.Handle.file handle.now))
+        × ((F.run folder.new).now.on_disk (F.Handle.file handle.now) ≡ true)) }
+{
+    folder.take_rights(handle)?;
+    folder.settle(handle)
+}
