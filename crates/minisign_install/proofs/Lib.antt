@@ -3,5 +3,6 @@ mod Found
 mod Installs
 mod Judged
 mod Moments
+mod Pasts
 mod Pieces
 mod Works

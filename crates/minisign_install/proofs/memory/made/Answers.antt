@@ -1,0 +1,20 @@
+use Rattle.std.proofs.Common.{◌≡◌, ◌∙◌, suc, arith, length}
+use Rattle.minisign_install.specs.Memory.{past}
+use Rattle.minisign_install.proofs.Pasts.{made_then}
+use Rattle.minisign_install.proofs.memory.made.Goals as goal
+
+pub entries-preserved-then-is_creation : goal.entries-preserved-then-is_creation
+entries-preserved-then-is_creation g c =
+    let (so_far, room) = c.entries.invariant in
+    let (ends, long) = c.in-Some.ensures.cases in
+    let earlier = past g.C.Counter.count c.in-Some.earlier.now in
+    let one : (past g.C.Counter.count c.entries.rest.now).made ≡ suc earlier.made = made_then g.C.Counter.count c.entries.rest.now c.in-Some.earlier.now c.in-Some.last.now ends ∙ c.if-is_creation.ensures earlier.made in
+    (omega (arith, so_far, one), omega (arith, room, long))
+
+pub entries-preserved : goal.entries-preserved
+entries-preserved g c =
+    let (so_far, room) = c.entries.invariant in
+    let (ends, long) = c.in-Some.ensures.cases in
+    let earlier = past g.C.Counter.count c.in-Some.earlier.now in
+    let none : (past g.C.Counter.count c.entries.rest.now).made ≡ earlier.made = made_then g.C.Counter.count c.entries.rest.now c.in-Some.earlier.now c.in-Some.last.now ends ∙ c.if-is_creation.ensures earlier.made in
+    (omega (arith, so_far, none), omega (arith, room, long))

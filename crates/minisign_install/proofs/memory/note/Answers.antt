@@ -1,0 +1,13 @@
+use Rattle.std.proofs.Common.{ap, ◌∙◌}
+use Rattle.minisign_install.specs.Memory.{after, beginning, past, rested}
+use Rattle.minisign_install.proofs.Pasts.{past_more}
+use Rattle.minisign_install.proofs.memory.note.Goals as goal
+
+pub returns-in-Ok-clause-done : goal.returns-in-Ok-clause-done
+returns-in-Ok-clause-done g c =
+    let count = g.C.Counter.count in
+    let old = c.args.entries.now.items in
+    ap (λ n. rested n (past count c.push.new.self.items)) c.take.ensures.begun
+    ∙ ap (λ es. rested 0 (past count es)) c.in-Ok.ensures.items
+    ∙ past_more count beginning old _
+    ∙ ap (λ n. after (rested n (past count old)) c.args.call) c.take.ensures.taken
