@@ -1,3 +1,4 @@
+mod Bounds
 mod Fields
 mod Found
 mod Installs

@@ -1,5 +1,5 @@
 -- What calls make of a folder in memory.
-use Rattle.std.proofs.Common.{◌≡◌, ℕ, suc, zero, List, [], ◌∷◌, ◌++◌, Option, Some, ap, ◌∙◌, refl}
+use Rattle.std.proofs.Common.{◌≡◌, ℕ, List, [], ◌∷◌, ◌++◌, Option, Some, ap, ◌∙◌, refl}
 use Rattle.minisign_install.specs.Folders.{Moment}
 use Rattle.minisign_install.specs.Memory.{Past, after, beginning, made_after, moment_after, past, past_from, rested}
 use Rattle.minisign_install.specs.declared.folders.Name.{Name}

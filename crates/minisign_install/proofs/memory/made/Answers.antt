@@ -1,4 +1,4 @@
-use Rattle.std.proofs.Common.{◌≡◌, ◌∙◌, suc, arith, length}
+use Rattle.std.proofs.Common.{◌≡◌, ◌∙◌, suc, arith}
 use Rattle.minisign_install.specs.Memory.{past}
 use Rattle.minisign_install.proofs.Pasts.{made_then}
 use Rattle.minisign_install.proofs.memory.made.Goals as goal
