@@ -1,7 +1,7 @@
 -- A folder that processes share, one layer below bytes: names that lead to files, what the files hold, and what a
 -- crash leaves of both. Files are numbered, and no number comes twice. The definitions say what one call of the
 -- system does from one moment to the next, and what other processes may do between two calls.
-use Rattle.std.specs.Prelude.{◌≡◌, ◌≢◌, ◌⊎◌, ℕ, ◌<◌, ◌≤◌, Bool, true, false, List, [], ◌∷◌, ◌++◌, length, take, drop, Option, Some, None, Result, IfOk, MatchResult}
+use Rattle.std.specs.Prelude.{◌≡◌, ◌≢◌, ◌⊎◌, ℕ, ◌<◌, ◌≤◌, Bool, true, false, List, [], ◌∷◌, ◌++◌, length, take, drop, Option, Some, None, Result, OnErr, IfOk, MatchResult}
 use Rattle.minisign_install.specs.declared.folders.Name.{Name}
 
 -- what processes find in the folder at one moment
