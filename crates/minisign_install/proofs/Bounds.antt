@@ -5,11 +5,11 @@ use Rattle.std.proofs.lemmas.Slice.Eq.{bytes_eq-Decides}
 use Rattle.std.specs.declared.alloc.Global.{Global}
 use Rattle.std.specs.Prelude.{◌==◌, ◌||◌, bytes_eq}
 use Rattle.minisign_install.specs.Folders.{HasCreated, OthersLeave, Moment}
-use Rattle.minisign_install.specs.Memory.{Past, after, beginning, is_file, is_same, past, past_from, past_of, rested, told_run}
+use Rattle.minisign_install.specs.Memory.{Past, after, beginning, is_file, is_same, past, past_from, count_of, past_of, rested, told_run}
 use Rattle.minisign_install.specs.declared.folders.Name.{Name}
-use Rattle.minisign_install.specs.declared.memory.Call.{Call}
-use Rattle.minisign_install.specs.declared.memory.Call.TheVariants.{Created, Written, Settled, Renamed, NamesSettled, Removed, Cleared}
-use Rattle.minisign_install.specs.declared.memory.Entry.{Entry}
+use Rattle.minisign_install.specs.declared.memory.calls.Call.{Call}
+use Rattle.minisign_install.specs.declared.memory.calls.Call.TheVariants.{Created, Written, Settled, Renamed, NamesSettled, Removed, Cleared}
+use Rattle.minisign_install.specs.declared.memory.calls.Entry.{Entry}
 use Rattle.minisign_install.specs.declared.memory.MemoryFolder.{MemoryFolder}
 
 pub record IsBounded (p : Past) : Type 0 where
@@ -69,16 +69,16 @@ bounded_after p Cleared b = record { stages = λ s f e. absurd (none_some f e); 
 bounded_rested : (n : ℕ) (p : Past) → IsBounded p → IsBounded (rested n p)
 bounded_rested n p b = record { stages = b.stages; leads = b.leads; left = b.left }
 
-bounded_from : {C : Type 0} → (count : C → ℕ) → (p : Past) (es : List (Entry C)) → IsBounded p → IsBounded (past_from count p es)
-bounded_from count p [] b = b
-bounded_from count p (e ∷ es) b =
-    bounded_from count (after (rested (count e.stills) p) e.call) es (bounded_after (rested (count e.stills) p) e.call (bounded_rested (count e.stills) p b))
+bounded_from : (p : Past) (es : List Entry) → IsBounded p → IsBounded (past_from p es)
+bounded_from p [] b = b
+bounded_from p (e ∷ es) b =
+    bounded_from (after (rested (count_of e.stills) p) e.call) es (bounded_after (rested (count_of e.stills) p) e.call (bounded_rested (count_of e.stills) p b))
 
 bounded_beginning : IsBounded beginning
 bounded_beginning = record { stages = λ s f e. absurd (none_some f e); leads = λ n f e. absurd (none_some f e); left = λ n f e. absurd (false_true e) }
 
-pub bounded : {C : Type 0} → (count : C → ℕ) → (folder : MemoryFolder C) → IsBounded (past_of count folder)
-bounded count folder = bounded_rested (count folder.stills) (past count folder.entries.items) (bounded_from count beginning folder.entries.items bounded_beginning)
+pub bounded : (folder : MemoryFolder) → IsBounded (past_of folder)
+bounded folder = bounded_rested (count_of folder.stills) (past folder.entries.items) (bounded_from beginning folder.entries.items bounded_beginning)
 
 -- nobody else does anything
 nobody : (owns : List ℕ → Bool) (m : Moment) → OthersLeave owns m m
@@ -125,11 +125,11 @@ made_at p v b free = record {
   };
 }
 
-pub created : {C : Type 0} → (count : C → ℕ) → (folder : MemoryFolder C) (q : Past) (v : Vec ℕ Global) (name : List ℕ) (file : ℕ) → (past_of count folder).now.stages name ≡ None → v.items ≡ name
-    → file ≡ (past_of count folder).made → q ≡ after (past_of count folder) (Created v) → HasCreated name file (told_run (past_of count folder)) (told_run q)
-created count folder q v name file free named numbered is =
-    let p = past_of count folder in
-    let at = made_at p v (bounded count folder) (ap (λ s. p.now.stages s) named ∙ free) in
+pub created : (folder : MemoryFolder) (q : Past) (v : Vec ℕ Global) (name : List ℕ) (file : ℕ) → (past_of folder).now.stages name ≡ None → v.items ≡ name
+    → file ≡ (past_of folder).made → q ≡ after (past_of folder) (Created v) → HasCreated name file (told_run (past_of folder)) (told_run q)
+created folder q v name file free named numbered is =
+    let p = past_of folder in
+    let at = made_at p v (bounded folder) (ap (λ s. p.now.stages s) named ∙ free) in
     subst (λ r. HasCreated name file (told_run p) (told_run r)) (sym is)
     (subst (λ f. HasCreated name f (told_run p) (told_run (after p (Created v)))) (sym numbered)
     (subst (λ s. HasCreated s p.made (told_run p) (told_run (after p (Created v)))) named at))

@@ -3,11 +3,13 @@ use Rattle.std.specs.Prelude.{ℕ, suc, zero, Bool, true, false, List, [], ◌�
 use Rattle.minisign_install.specs.Folders.{Moment, Run, Step}
 use Rattle.minisign_install.specs.declared.folders.Name.{Name}
 use Rattle.minisign_install.specs.declared.folders.Name.TheVariants.{Place, Record}
-use Rattle.minisign_install.specs.declared.memory.Call.{Call}
-use Rattle.minisign_install.specs.declared.memory.Call.TheVariants.{Created, Written, Settled, Renamed, NamesSettled, Removed, Cleared}
-use Rattle.minisign_install.specs.declared.memory.Change.{Change}
-use Rattle.minisign_install.specs.declared.memory.Change.TheVariants.{Made, Gone, Stays}
-use Rattle.minisign_install.specs.declared.memory.Entry.{Entry}
+use Rattle.minisign_install.specs.declared.memory.calls.Call.{Call}
+use Rattle.minisign_install.specs.declared.memory.calls.Call.TheVariants.{Created, Written, Settled, Renamed, NamesSettled, Removed, Cleared}
+use Rattle.minisign_install.specs.declared.memory.calls.Change.{Change}
+use Rattle.minisign_install.specs.declared.memory.calls.Change.TheVariants.{Made, Gone, Stays}
+use Rattle.minisign_install.specs.declared.memory.calls.Entry.{Entry}
+use Rattle.minisign_install.specs.declared.memory.tally.Tally.{Tally}
+use Rattle.minisign_install.specs.declared.memory.tally.Tally.TheVariants.{Nothing, More'}
 use Rattle.minisign_install.specs.declared.memory.MemoryFolder.{MemoryFolder}
 
 -- a run of a folder in memory, and how many files it made: the next one has that number
@@ -113,6 +115,11 @@ after p call = record {
   made = made_after p.made call;
 }
 
+-- how often something was counted
+abbrev pub count_of : Tally → ℕ
+count_of Nothing = 0
+count_of (More' marker before) = suc (count_of before)
+
 -- so many calls at this moment that changed nothing
 abbrev pub still_steps : ℕ → Moment → List Step → List Step
 still_steps zero m steps = steps
@@ -131,16 +138,16 @@ beginning = record {
 }
 
 -- entries, the oldest first: some calls that changed nothing, and then one that did
-abbrev pub past_from : {C : Type 0} → (C → ℕ) → Past → List (Entry C) → Past
-past_from count p [] = p
-past_from count p (e ∷ es) = past_from count (after (rested (count e.stills) p) e.call) es
+abbrev pub past_from : Past → List Entry → Past
+past_from p [] = p
+past_from p (e ∷ es) = past_from (after (rested (count_of e.stills) p) e.call) es
 
-abbrev pub past : {C : Type 0} → (C → ℕ) → List (Entry C) → Past
-past count es = past_from count beginning es
+abbrev pub past : List Entry → Past
+past es = past_from beginning es
 
--- what is past of a folder in memory, by how far its counters count
-abbrev pub past_of : {C : Type 0} → (C → ℕ) → MemoryFolder C → Past
-past_of count folder = rested (count folder.stills) (past count folder.entries.items)
+-- what is past of a folder in memory
+abbrev pub past_of : MemoryFolder → Past
+past_of folder = rested (count_of folder.stills) (past folder.entries.items)
 
 -- the folder tells all its run
 abbrev pub told_run : Past → Run

@@ -1,13 +1,13 @@
 use Rattle.std.proofs.Common.{◌≡◌, ◌≤◌, ◌+◌, length}
 use Rattle.minisign_install.specs.Memory.{Past, past, past_from}
-use Rattle.minisign_install.proofs.memory.content.Given as goal
+use Rattle.minisign_install.proofs.memory.calls.content.Given as goal
 
 abbrev pub invariant-entries : goal.invariant-entries
-invariant-entries g l = (p : Past)
-    × (past_from g.C.Counter.count p l.rest ≡ past g.C.Counter.count l.entries)
+invariant-entries l = (p : Past)
+    × (past_from p l.rest ≡ past l.entries)
     × (p.now.holds l.file ≡ l.bytes.items)
     × (l.made ≡ p.made)
     × (l.made + length l.rest ≤ length l.entries)
 
 abbrev pub decreases-entries : goal.decreases-entries
-decreases-entries g l = length l.rest
+decreases-entries l = length l.rest
