@@ -3,14 +3,19 @@
 //!
 //! The texts are of the toy scheme, under its key of 32 zeros; `tests/toy.py` makes such texts.
 
+ghost use Rattle.std.specs.Prelude.{ℕ, OnOk};
+ghost use Rattle.minisign_install.specs.Installing.{InstallsOnlyUpdates, IsInstalled, terms_of};
+ghost use Rattle.minisign_install.specs.Memory.{past_of, told_run};
+
 use super::MemoryFolder;
 use crate::comments::Numbering;
 use crate::folders::Name;
 use crate::installing::install_update;
 use crate::wanted::Wanted;
 use minisign::Result;
-use minisign_base::devices::random_sources::FixedRandom;
-use minisign_base::devices::sources::SliceSource;
+use minisign_base::devices::random_sources::{FixedRandom, RandomSource};
+use minisign_base::devices::sources::{SliceSource, Source};
+use minisign_base::scheme::Scheme;
 use minisign_base::toy::ToyScheme;
 use std::alloc::Global;
 
@@ -40,7 +45,7 @@ fn install(
     sig_text: &str,
     is_first: bool,
 ) -> Result<()> {
-    install_update(
+    install_told(
         alloc,
         &ToyScheme::new(),
         &mut FixedRandom::new(drawn),
@@ -54,6 +59,22 @@ fn install(
         &mut SliceSource::new(data),
         folder,
     )
+}
+
+// What is promised of installing holds without the premise that the folder tells its run.
+fn install_told<S: Scheme, Z: RandomSource, R: Source>(
+    alloc: Global,
+    scheme: &S,
+    random: &mut Z,
+    wanted: Wanted<'_>,
+    is_first: bool,
+    update: &mut R,
+    folder: &mut MemoryFolder,
+) -> Result<()>
+    ensures headline { InstallsOnlyUpdates (S.accepts scheme.now) (terms_of wanted.entry) is_first (told_run (past_of folder.old)) (told_run (past_of folder.new)) }
+    ensures installed { OnOk result ((kept : ℕ) × IsInstalled (S.accepts scheme.now) (terms_of wanted.entry) kept (told_run (past_of folder.new)).steps) }
+{
+    install_update(alloc, scheme, random, wanted, is_first, update, folder)
 }
 
 // Whether the update was refused with this text.
