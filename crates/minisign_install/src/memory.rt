@@ -18,10 +18,10 @@ use minisign_base::devices::DeviceFault;
 use std::alloc::Global;
 use tally::Tally;
 
-/// A folder in memory, which is empty at first. It keeps all calls that changed something, and what
-/// it holds is what they made of it. One run at a time uses it: nobody else changes it, and its lock
-/// is always free. A call fails where memory is refused, where a stage is created under a name that
-/// is taken, and where one is renamed or removed that is not there; then nothing changed.
+/// A folder in memory, which is empty at first. It keeps all calls that changed something, and
+/// what it holds is what they made of it. One run at a time uses it: nobody else changes it, and
+/// its lock is always free. A call fails where memory is refused, where a stage is created under a
+/// name that is taken, and where one is renamed or removed that is not there; then nothing changed.
 #[derive(Drop)]
 pub struct MemoryFolder {
     alloc: Global,
