@@ -1,8 +1,10 @@
+mod Bounds
 mod Fields
 mod Found
 mod Installs
 mod Judged
 mod Moments
+mod Pasts
 mod Pieces
 mod Refused
 mod Works

@@ -7,6 +7,7 @@ pub mod faults;
 pub mod folders;
 pub mod installing;
 mod judging;
+pub mod memory;
 mod publishing;
 mod recording;
 pub mod stage_names;

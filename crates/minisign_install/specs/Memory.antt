@@ -1,0 +1,154 @@
+-- A folder in memory, told by its calls.
+use Rattle.std.specs.Prelude.{ℕ, suc, zero, Bool, true, false, List, [], ◌∷◌, ◌++◌, ◌==◌, ◌||◌, if◌then◌else◌, Option, Some, None, bytes_eq}
+use Rattle.minisign_install.specs.Folders.{Moment, Run, Step}
+use Rattle.minisign_install.specs.declared.folders.Name.{Name}
+use Rattle.minisign_install.specs.declared.folders.Name.TheVariants.{Place, Record}
+use Rattle.minisign_install.specs.declared.memory.calls.Call.{Call}
+use Rattle.minisign_install.specs.declared.memory.calls.Call.TheVariants.{Created, Written, Settled, Renamed, NamesSettled, Removed, Cleared}
+use Rattle.minisign_install.specs.declared.memory.calls.Change.{Change}
+use Rattle.minisign_install.specs.declared.memory.calls.Change.TheVariants.{Made, Gone, Stays}
+use Rattle.minisign_install.specs.declared.memory.calls.Entry.{Entry}
+use Rattle.minisign_install.specs.declared.memory.tally.Tally.{Tally}
+use Rattle.minisign_install.specs.declared.memory.tally.Tally.TheVariants.{Nothing, More'}
+use Rattle.minisign_install.specs.declared.memory.MemoryFolder.{MemoryFolder}
+
+-- a run of a folder in memory, and how many files it made: the next one has that number
+pub record Past : Type 0 where
+  pub now : Moment
+  pub steps : List Step
+  pub owns : List ℕ → Bool
+  pub made : ℕ
+
+abbrev pub is_same : Name → Name → Bool
+is_same Place Place = true
+is_same Place Record = false
+is_same Record Place = false
+is_same Record Record = true
+
+abbrev pub is_file : Option ℕ → ℕ → Bool
+is_file None g = false
+is_file (Some f) g = f == g
+
+-- the moment after a call, where so many files were made before
+abbrev pub moment_after : ℕ → Moment → Call → Moment
+moment_after made m (Created name) = record {
+  leads = m.leads;
+  stages = λ s. if bytes_eq s name.items then Some made else m.stages s;
+  holds = λ g. if g == made then [] else m.holds g;
+  on_disk = λ g. if g == made then false else m.on_disk g;
+  left = m.left;
+}
+moment_after made m (Written file bytes) = record {
+  leads = m.leads;
+  stages = m.stages;
+  holds = λ g. if g == file then m.holds g ++ bytes.items else m.holds g;
+  on_disk = λ g. if g == file then false else m.on_disk g;
+  left = m.left;
+}
+moment_after made m (Settled file) = record {
+  leads = m.leads;
+  stages = m.stages;
+  holds = m.holds;
+  on_disk = λ g. if g == file then true else m.on_disk g;
+  left = m.left;
+}
+moment_after made m (Renamed name to) = record {
+  leads = λ n. if is_same n to then m.stages name.items else m.leads n;
+  stages = λ s. if bytes_eq s name.items then None else m.stages s;
+  holds = m.holds;
+  on_disk = m.on_disk;
+  left = λ n g. if is_same n to then (m.left n g || is_file (m.leads n) g) else m.left n g;
+}
+moment_after made m NamesSettled = record {
+  leads = m.leads;
+  stages = m.stages;
+  holds = m.holds;
+  on_disk = m.on_disk;
+  left = λ _ _. false;
+}
+moment_after made m (Removed name) = record {
+  leads = m.leads;
+  stages = λ s. if bytes_eq s name.items then None else m.stages s;
+  holds = m.holds;
+  on_disk = m.on_disk;
+  left = m.left;
+}
+moment_after made m Cleared = record {
+  leads = m.leads;
+  stages = λ _. None;
+  holds = m.holds;
+  on_disk = m.on_disk;
+  left = m.left;
+}
+
+-- what the name of a stage leads to after a change, where so many files were made before
+abbrev pub changed : Change → ℕ → Option ℕ → Option ℕ
+changed Made made before = Some made
+changed Gone made before = None
+changed Stays made before = before
+
+-- which names of stages are the run's own after a call
+abbrev pub owns_after : (List ℕ → Bool) → Call → List ℕ → Bool
+owns_after owns (Created name) = λ s. if bytes_eq s name.items then true else owns s
+owns_after owns (Written file bytes) = owns
+owns_after owns (Settled file) = owns
+owns_after owns (Renamed name to) = λ s. if bytes_eq s name.items then false else owns s
+owns_after owns NamesSettled = owns
+owns_after owns (Removed name) = λ s. if bytes_eq s name.items then false else owns s
+owns_after owns Cleared = owns
+
+abbrev pub made_after : ℕ → Call → ℕ
+made_after made (Created name) = suc made
+made_after made (Written file bytes) = made
+made_after made (Settled file) = made
+made_after made (Renamed name to) = made
+made_after made NamesSettled = made
+made_after made (Removed name) = made
+made_after made Cleared = made
+
+-- a call that changed something
+abbrev pub after : Past → Call → Past
+after p call = record {
+  now = moment_after p.made p.now call;
+  steps = record { before = p.now; after = moment_after p.made p.now call } ∷ p.steps;
+  owns = owns_after p.owns call;
+  made = made_after p.made call;
+}
+
+-- how often something was counted
+abbrev pub count_of : Tally → ℕ
+count_of Nothing = 0
+count_of (More' marker before) = suc (count_of before)
+
+-- so many calls at this moment that changed nothing
+abbrev pub still_steps : ℕ → Moment → List Step → List Step
+still_steps zero m steps = steps
+still_steps (suc n) m steps = record { before = m; after = m } ∷ still_steps n m steps
+
+abbrev pub rested : ℕ → Past → Past
+rested n p = record { now = p.now; steps = still_steps n p.now p.steps; owns = p.owns; made = p.made }
+
+-- an empty folder
+abbrev pub beginning : Past
+beginning = record {
+  now = record { leads = λ _. None; stages = λ _. None; holds = λ _. []; on_disk = λ _. false; left = λ _ _. false };
+  steps = [];
+  owns = λ _. false;
+  made = 0;
+}
+
+-- entries, the oldest first: some calls that changed nothing, and then one that did
+abbrev pub past_from : Past → List Entry → Past
+past_from p [] = p
+past_from p (e ∷ es) = past_from (after (rested (count_of e.stills) p) e.call) es
+
+abbrev pub past : List Entry → Past
+past es = past_from beginning es
+
+-- what is past of a folder in memory
+abbrev pub past_of : MemoryFolder → Past
+past_of folder = rested (count_of folder.stills) (past folder.entries.items)
+
+-- the folder tells all its run
+abbrev pub told_run : Past → Run
+told_run p = record { told = true; now = p.now; steps = p.steps; owns = p.owns }

@@ -1,0 +1,234 @@
+//! A folder in memory, which meets the contracts of a folder and tells all its run: they can be met
+//! together where what happens is told. For tests of what is built on folders.
+
+mod calls;
+mod tally;
+#[cfg(test)]
+mod tests;
+
+ghost use Rattle.std.specs.Prelude.{◌≡◌, ◌<◌, ◌≤◌, ℕ, [], OnOk, OnErr, IfOk, option_map, take, drop, length};
+ghost use Rattle.minisign_install.specs.Folders.{IsFound};
+ghost use Rattle.minisign_install.specs.Memory.{after, beginning, past_of, rested, told_run};
+ghost use Rattle.minisign_install.specs.Names.{drawn_bytes};
+
+use crate::folders::{Folder, Handle, Lock, Name};
+use crate::stage_names::StageName;
+use calls::{Call, Entry, content, lead, made, note, stage};
+use minisign_base::devices::DeviceFault;
+use std::alloc::Global;
+use tally::Tally;
+
+/// A folder in memory, which is empty at first. It keeps all calls that changed something, and
+/// what it holds is what they made of it. One run at a time uses it: nobody else changes it, and
+/// its lock is always free. A call fails where memory is refused, where a stage is created under a
+/// name that is taken, and where one is renamed or removed that is not there; then nothing changed.
+#[derive(Drop)]
+pub struct MemoryFolder {
+    alloc: Global,
+    entries: Vec<Entry>,
+    stills: Tally,
+}
+
+/// A file of a folder in memory, by its number.
+#[derive(Debug, Drop)]
+pub struct MemoryHandle {
+    file: usize,
+}
+
+impl Handle for MemoryHandle {
+    ghost file = { λ h. h.file };
+}
+
+impl MemoryFolder {
+    /// An empty folder.
+    pub fn new(alloc: Global) -> MemoryFolder
+        ensures { past_of result ≡ beginning }
+    {
+        MemoryFolder {
+            alloc,
+            entries: Vec::new(alloc),
+            stills: Tally::new(),
+        }
+    }
+
+    /// What stands at a lasting name, where anything does. It fails where memory is refused.
+    pub fn find(&self, name: Name) -> Result<Option<Vec<u8>>, DeviceFault>
+        ensures { IfOk result (λ found. IsFound (past_of self.now).now name (option_map (λ v. v.items) found)) }
+    {
+        match lead(self.entries.as_slice(), name) {
+            Some(file) => match content(self.alloc, self.entries.as_slice(), file) {
+                Ok(bytes) => Ok(Some(bytes)),
+                Err(_) => Err(DeviceFault),
+            },
+            None => Ok(None),
+        }
+    }
+
+    // Notes a call that changed something. Where memory is refused, it notes that nothing changed.
+    fn note(&mut self, call: Call) -> Result<(), DeviceFault>
+        ensures done { OnOk result (past_of self.new ≡ after (past_of self.old) call) }
+        ensures refused { OnErr result (past_of self.new ≡ rested 1 (past_of self.old)) }
+    {
+        note(&mut self.entries, &mut self.stills, call)
+    }
+
+    // Notes a call that changed nothing.
+    fn pass(&mut self)
+        ensures { past_of self.new ≡ rested 1 (past_of self.old) }
+    {
+        self.stills.raise();
+    }
+
+    // The file of a stage.
+    fn stage(&self, name: &StageName) -> Option<usize>
+        ensures { result ≡ (past_of self.now).now.stages (drawn_bytes name.now) }
+    {
+        stage(self.entries.as_slice(), name.as_bytes())
+    }
+
+    // How many files were made.
+    fn made(&self) -> usize
+        ensures { result ≡ (past_of self.now).made }
+    {
+        made(self.entries.as_slice())
+    }
+}
+
+impl Folder for MemoryFolder {
+    type Handle = MemoryHandle;
+
+    ghost run = { λ f. told_run (past_of f) };
+
+    fn lock(&mut self) -> Result<Option<Lock>, DeviceFault> {
+        self.pass();
+        Ok(Some(Lock::held_by(None)))
+    }
+
+    fn clear(&mut self, _lock: &Lock) -> Result<(), DeviceFault> {
+        self.note(Call::Cleared)
+    }
+
+    fn create(&mut self, _lock: &Lock, name: &StageName) -> Result<MemoryHandle, DeviceFault> {
+        match self.stage(name) {
+            Some(_) => {
+                self.pass();
+                Err(DeviceFault)
+            }
+            None => {
+                let file = self.made();
+                match name.as_bytes().to_vec(self.alloc) {
+                    Ok(drawn) => match self.note(Call::Created(drawn)) {
+                        Ok(()) => Ok(MemoryHandle { file }),
+                        Err(fault) => Err(fault),
+                    },
+                    Err(_) => {
+                        self.pass();
+                        Err(DeviceFault)
+                    }
+                }
+            }
+        }
+    }
+
+    fn write(&mut self, handle: &MemoryHandle, bytes: &[u8]) -> Result<usize, DeviceFault> {
+        match bytes.to_vec(self.alloc) {
+            Ok(copy) => match self.note(Call::Written(handle.file, copy)) {
+                Ok(()) => Ok(bytes.len()),
+                Err(fault) => Err(fault),
+            },
+            Err(_) => {
+                self.pass();
+                Err(DeviceFault)
+            }
+        }
+    }
+
+    fn read_at(
+        &self,
+        handle: &MemoryHandle,
+        at: u64,
+        buf: &mut [u8],
+    ) -> Result<usize, DeviceFault> {
+        match content(self.alloc, self.entries.as_slice(), handle.file) {
+            Ok(held) => Ok(copy_from(held.as_slice(), at, buf)),
+            Err(_) => Err(DeviceFault),
+        }
+    }
+
+    fn take_rights(&mut self, _handle: &MemoryHandle) -> Result<(), DeviceFault> {
+        self.pass();
+        Ok(())
+    }
+
+    fn settle(&mut self, handle: &MemoryHandle) -> Result<(), DeviceFault> {
+        self.note(Call::Settled(handle.file))
+    }
+
+    fn rename(&mut self, name: &StageName, to: Name) -> Result<(), DeviceFault> {
+        match self.stage(name) {
+            Some(_) => match name.as_bytes().to_vec(self.alloc) {
+                Ok(drawn) => self.note(Call::Renamed(drawn, to)),
+                Err(_) => {
+                    self.pass();
+                    Err(DeviceFault)
+                }
+            },
+            None => {
+                self.pass();
+                Err(DeviceFault)
+            }
+        }
+    }
+
+    fn settle_names(&mut self) -> Result<(), DeviceFault> {
+        self.note(Call::NamesSettled)
+    }
+
+    fn remove(&mut self, name: &StageName) -> Result<(), DeviceFault> {
+        match self.stage(name) {
+            Some(_) => match name.as_bytes().to_vec(self.alloc) {
+                Ok(drawn) => self.note(Call::Removed(drawn)),
+                Err(_) => {
+                    self.pass();
+                    Err(DeviceFault)
+                }
+            },
+            None => {
+                self.pass();
+                Err(DeviceFault)
+            }
+        }
+    }
+
+    fn read_record(&mut self, _alloc: Global) -> Result<Option<Vec<u8>>, DeviceFault> {
+        self.pass();
+        self.find(Name::Record)
+    }
+}
+
+// Copies what is held from an offset on, as far as there is room, and returns how much.
+fn copy_from(held: &[u8], at: u64, buf: &mut [u8]) -> usize
+    ensures bound { result ≤ length buf.new }
+    ensures within { result ≤ length (drop at held.now) }
+    ensures bytes { take result buf.new ≡ take result (drop at held.now) }
+    ensures end { result ≡ 0 → 0 < length buf.new → drop at held.now ≡ [] }
+{
+    if at >= held.len() as u64 {
+        return 0;
+    }
+    let (_, rest) = held.split_at(at as usize);
+    copy_front(rest, buf)
+}
+
+// Copies a beginning, as far as there is room.
+fn copy_front(rest: &[u8], buf: &mut [u8]) -> usize
+    ensures bound { result ≤ length buf.new }
+    ensures within { result ≤ length rest.now }
+    ensures bytes { take result buf.new ≡ take result rest.now }
+    ensures end { result ≡ 0 → 0 < length buf.new → rest.now ≡ [] }
+{
+    let n = rest.len().min(buf.len());
+    let (front, _) = buf.split_at_mut(n);
+    front.copy_from_slice(&rest[..n]);
+    n
+}

@@ -1,0 +1,173 @@
+//! Updates that are installed in a folder in memory: what stands at the place and in the record
+//! after each call, and what is refused.
+//!
+//! The texts are of the toy scheme, under its key of 32 zeros; `tests/toy.py` makes such texts.
+
+ghost use Rattle.std.specs.Prelude.{ℕ, OnOk};
+ghost use Rattle.minisign_install.specs.Installing.{InstallsOnlyUpdates, IsInstalled, terms_of};
+ghost use Rattle.minisign_install.specs.Memory.{past_of, told_run};
+
+use super::MemoryFolder;
+use crate::comments::Numbering;
+use crate::folders::Name;
+use crate::installing::install_update;
+use crate::wanted::Wanted;
+use minisign::Result;
+use minisign_base::devices::random_sources::{FixedRandom, RandomSource};
+use minisign_base::devices::sources::{SliceSource, Source};
+use minisign_base::scheme::Scheme;
+use minisign_base::toy::ToyScheme;
+use std::alloc::Global;
+
+const KEY_TEXT: &str =
+    "untrusted comment: minisign public key: 0807060504030201\nRWQBAgMEBQYHCFpaWlpaWlpaWlpaWlpaWlpaWlpaWlpaWlpaWlpaWlpa\n";
+
+// Over `first`, with the comment `file:app`, a tab and `timestamp:5`.
+const FIRST: &str =
+    "untrusted comment: c\nRUQBAgMEBQYHCAAAAAAAAAAAAAAAAAAAAAAAAAAAAAAAAAAAAAAAAAAAMcIQHGXWJcA1g6g1LigQoA2eMt1IZlP3H6y1Xyf22iA=\ntrusted comment: file:app\ttimestamp:5\nAAAAAAAAAAAAAAAAAAAAAAAAAAAAAAAAAAAAAAAAAAAN8SYjBe0P6matmwIRAT6bOrRSshI8Ca1F9u8FfayAeg==\n";
+
+// Over `second`, with the comment `file:app`, a tab and `timestamp:6`.
+const SECOND: &str =
+    "untrusted comment: c\nRUQBAgMEBQYHCAAAAAAAAAAAAAAAAAAAAAAAAAAAAAAAAAAAAAAAAAAA/4bmf7Gc8IMqobS6xZ4S2sjS+HmqkH3Styw7qQa1i8M=\ntrusted comment: file:app\ttimestamp:6\nAAAAAAAAAAAAAAAAAAAAAAAAAAAAAAAAAAAAAAAAAADDtdBA0afaqXmPh436tzzh//iYFfDKJ4jtdmHzXO/RmQ==\n";
+
+// What is drawn for the names of two stages.
+const DRAWN: [u8; 32] = [
+    0x00, 0x01, 0x02, 0x03, 0x04, 0x05, 0x06, 0x07, 0x08, 0x09, 0x0a, 0x0b, 0x0c, 0x0d, 0x0e, 0x0f,
+    0x10, 0x11, 0x12, 0x13, 0x14, 0x15, 0x16, 0x17, 0x18, 0x19, 0x1a, 0x1b, 0x1c, 0x1d, 0x1e, 0x1f,
+];
+
+// Installs an update of the file `app`.
+fn install(
+    alloc: Global,
+    folder: &mut MemoryFolder,
+    drawn: &[u8],
+    data: &[u8],
+    sig_text: &str,
+    is_first: bool,
+) -> Result<()> {
+    install_told(
+        alloc,
+        &ToyScheme::new(),
+        &mut FixedRandom::new(drawn),
+        Wanted {
+            pk_text: KEY_TEXT,
+            sig_text,
+            file: "app",
+            numbering: Numbering::Timestamp,
+        },
+        is_first,
+        &mut SliceSource::new(data),
+        folder,
+    )
+}
+
+// What is promised of installing holds without the premise that the folder tells its run.
+fn install_told<S: Scheme, Z: RandomSource, R: Source>(
+    alloc: Global,
+    scheme: &S,
+    random: &mut Z,
+    wanted: Wanted<'_>,
+    is_first: bool,
+    update: &mut R,
+    folder: &mut MemoryFolder,
+) -> Result<()>
+    ensures headline { InstallsOnlyUpdates (S.accepts scheme.now) (terms_of wanted.entry) is_first (told_run (past_of folder.old)) (told_run (past_of folder.new)) }
+    ensures installed { OnOk result ((kept : ℕ) × IsInstalled (S.accepts scheme.now) (terms_of wanted.entry) kept (told_run (past_of folder.new)).steps) }
+{
+    install_update(alloc, scheme, random, wanted, is_first, update, folder)
+}
+
+// Whether the update was refused with this text.
+fn is_refused(alloc: Global, answer: &Result<()>, text: &str) -> bool {
+    match answer {
+        Ok(()) => false,
+        Err(fault) => match format!(in alloc; "{fault}") {
+            Ok(shown) => shown.as_str() == text,
+            Err(_) => false,
+        },
+    }
+}
+
+// Whether just these bytes stand at the place and in the record.
+fn holds(folder: &MemoryFolder, place: &[u8], record: &[u8]) -> bool {
+    stands(folder, Name::Place, place) && stands(folder, Name::Record, record)
+}
+
+fn stands(folder: &MemoryFolder, name: Name, bytes: &[u8]) -> bool {
+    match folder.find(name) {
+        Ok(Some(found)) => found.as_slice() == bytes,
+        _ => false,
+    }
+}
+
+// Whether nothing stands at the name.
+fn is_free(folder: &MemoryFolder, name: Name) -> bool {
+    match folder.find(name) {
+        Ok(None) => true,
+        _ => false,
+    }
+}
+
+// A folder into which `second` was installed, where that succeeds.
+fn with_second(alloc: Global) -> Option<MemoryFolder> {
+    let mut folder = MemoryFolder::new(alloc);
+    match install(alloc, &mut folder, &DRAWN, b"second", SECOND, true) {
+        Ok(()) => Some(folder),
+        Err(_) => None,
+    }
+}
+
+#[test]
+fn updates_are_installed_one_after_another(rt: HostRuntime) {
+    let alloc = rt.alloc();
+    let mut folder = MemoryFolder::new(alloc);
+    assert!(rt; install(alloc, &mut folder, &DRAWN, b"first", FIRST, true).is_ok());
+    assert!(rt; holds(&folder, b"first", b"5"));
+    assert!(rt; install(alloc, &mut folder, &DRAWN, b"second", SECOND, false).is_ok());
+    assert!(rt; holds(&folder, b"second", b"6"));
+    assert!(rt; install(alloc, &mut folder, &DRAWN, b"second", SECOND, false).is_ok());
+    assert!(rt; holds(&folder, b"second", b"6"));
+}
+
+#[test]
+fn an_older_update_is_refused(rt: HostRuntime) {
+    let alloc = rt.alloc();
+    let mut folder = with_second(alloc).expect(&rt, "installed");
+    let answer = install(alloc, &mut folder, &DRAWN, b"first", FIRST, false);
+    assert!(rt;
+        is_refused(
+            alloc,
+            &answer,
+            "the update is older than what was installed"
+        )
+    );
+    assert!(rt; holds(&folder, b"second", b"6"));
+}
+
+#[test]
+fn what_the_texts_do_not_vouch_for_is_refused(rt: HostRuntime) {
+    let alloc = rt.alloc();
+    let mut folder = with_second(alloc).expect(&rt, "installed");
+    let answer = install(alloc, &mut folder, &DRAWN, b"Second", SECOND, false);
+    assert!(rt; is_refused(alloc, &answer, "Signature verification failed"));
+    assert!(rt; holds(&folder, b"second", b"6"));
+}
+
+#[test]
+fn without_a_number_only_a_first_installation_goes_through(rt: HostRuntime) {
+    let alloc = rt.alloc();
+    let mut folder = MemoryFolder::new(alloc);
+    let answer = install(alloc, &mut folder, &DRAWN, b"first", FIRST, false);
+    assert!(rt; is_refused(alloc, &answer, "no number is kept beside the place"));
+    assert!(rt; is_free(&folder, Name::Place));
+    assert!(rt; is_free(&folder, Name::Record));
+}
+
+#[test]
+fn a_name_that_is_drawn_twice_is_refused(rt: HostRuntime) {
+    let alloc = rt.alloc();
+    let mut folder = with_second(alloc).expect(&rt, "installed");
+    let answer = install(alloc, &mut folder, &[7u8; 32], b"second", SECOND, false);
+    assert!(rt; is_refused(alloc, &answer, "writing failed"));
+    assert!(rt; holds(&folder, b"second", b"6"));
+}
