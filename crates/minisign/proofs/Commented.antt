@@ -6,7 +6,7 @@ use Rattle.std.specs.Prelude.{◌&&◌, ⊤, IsSome, bytes_eq, codes}
 use Rattle.std.specs.declared.result.Result.{Result}
 use Rattle.std.specs.declared.result.Result.TheVariants.{Ok, Err}
 use Rattle.minisign_base.specs.Fault.{Fault}
-use Rattle.minisign_base.specs.Faults.{out_of_memory}
+use Rattle.minisign_base.specs.Faults.{out_of_memory, reading_failed}
 use Rattle.minisign_base.specs.declared.errors.ErrorKind.{ErrorKind}
 use Rattle.minisign_base.specs.declared.errors.ErrorKind.TheVariants.{Encoding, EncryptedKey, Generate, Hash, Io, KDF, Misc, OutOfMemory, RNG, Sign, Verify}
 use Rattle.minisign_base.specs.Passages.{RereaderPassage, SinkPassage}
@@ -135,23 +135,41 @@ silent_failure accepts pk sig output reader status out e (inr (key, box, read, i
 silent_failure accepts pk sig output reader status out e (inr (key, box, read, inl (uncopied, gives, inr (message, pass, inr unsaid)))) =
     absurd (true≢false unsaid.wanted)
 
--- what files gave is vouched for, or it is refused
-pub file_verdict : {T R W O : Type 0} (bytes : T → List ℕ) (accepts : Verifier) (pk sig : List ℕ) (reader : RereaderPassage R) (status : SinkPassage W) (out : SinkPassage O) (r : Result T Fault)
+-- what was ahead is vouched for, with the comment
+pub ahead_vouched : {T R W O : Type 0} (bytes : T → List ℕ) (accepts : Verifier) (pk sig : List ℕ) (reader : RereaderPassage R) (status : SinkPassage W) (out : SinkPassage O) (r : Result T Fault)
     → OnOk r (VerifyingTextsSucceeds accepts pk sig (silently false) reader status out) → IfOk r (λ t. IsCommentOf sig (bytes t))
-    → IfErr r (VerifyingTextsFails accepts pk sig (silently false) reader status out) → IsFileVerdict bytes accepts pk r
-file_verdict bytes accepts pk sig reader status out (Ok t) ok said err = (
-  sig,
+    → IfOk r (λ t. (message : List ℕ) × IsAhead (reader.source.ahead reader.old) message × TextsVouchWith accepts pk sig message false (bytes t))
+ahead_vouched bytes accepts pk sig reader status out (Ok t) ok said = (
   ok.verified.message,
+  ok.verified.given,
   signed_comment accepts pk sig ok.verified.message false (bytes t)
       (record { key = ok.key; box = ok.box; key_read = ok.read.key_read; box_read = ok.read.box_read; vouches = ok.verified.vouches }) said,
 )
-file_verdict bytes accepts pk sig reader status out (Err e) ok said err =
+ahead_vouched bytes accepts pk sig reader status out (Err e) ok said = tt
+
+-- why it is refused
+pub ahead_refused : {T R W O : Type 0} (accepts : Verifier) (pk sig : List ℕ) (reader : RereaderPassage R) (status : SinkPassage W) (out : SinkPassage O) (r : Result T Fault)
+    → IfErr r (VerifyingTextsFails accepts pk sig (silently false) reader status out)
+    → IfErr r (λ e. (e ≡ out_of_memory) ⊎ (e ≡ reading_failed)
+    ⊎ ((message : List ℕ) × IsAhead (reader.source.ahead reader.old) message × TextsRefuse accepts pk sig message false e))
+ahead_refused accepts pk sig reader status out (Ok t) err = tt
+ahead_refused accepts pk sig reader status out (Err e) err =
     ⊎_elim
-    (λ (same, why). ⊎_elim (λ memory. inl (inl memory))
-    (λ more. ⊎_elim (λ (wanted, mark). absurd (true≢false (sym wanted)))
-    (λ more. ⊎_elim (λ failed. inl (inr (inl failed.fault))) (λ (message, ahead, refused). inr (sig, message, refused)) more) more) why)
+    (λ (same, why). ⊎_elim inl
+    (λ more. inr (⊎_elim (λ (wanted, mark). absurd (true≢false (sym wanted)))
+    (λ rest. ⊎_elim (λ failed. inl failed.fault) inr rest) more)) why)
     (λ (key, box, read, copying). absurd (true≢false (sym copying.wanted)))
     (silent_failure accepts pk sig false reader status out e err)
+
+-- the verdict on a file's data
+pub file_verdict : {T : Type 0} (bytes : T → List ℕ) (accepts : Verifier) (pk sig : List ℕ) (ahead : Option (List ℕ)) (r : Result T Fault)
+    → IfOk r (λ t. (message : List ℕ) × IsAhead ahead message × TextsVouchWith accepts pk sig message false (bytes t))
+    → IfErr r (λ e. (e ≡ out_of_memory) ⊎ (e ≡ reading_failed) ⊎ ((message : List ℕ) × IsAhead ahead message × TextsRefuse accepts pk sig message false e))
+    → IsFileVerdict bytes accepts pk r
+file_verdict bytes accepts pk sig ahead (Ok t) (message, given, vouched) refused = (sig, message, vouched)
+file_verdict bytes accepts pk sig ahead (Err e) vouched refused =
+    ⊎_elim (λ memory. inl (inl memory))
+    (λ more. ⊎_elim (λ failed. inl (inr (inl failed))) (λ (message, given, why). inr (sig, message, why)) more) refused
 
 same_ahead : (known : Option (List ℕ)) (message copy : List ℕ) → IsAhead known message → (IsSome known → copy ≡ message) → IfSome known (λ xs. copy ≡ xs)
 same_ahead None message copy given same = tt

@@ -1,9 +1,11 @@
 //! Calls for callers: verifying with texts, and the comment that was signed.
 
-ghost use Rattle.std.specs.Prelude.{◌≡◌, true, false, string_bytes, IfOk, IfErr, OnOk};
+ghost use Rattle.std.specs.Prelude.{◌≡◌, ◌⊎◌, ℕ, List, true, false, string_bytes, IfOk, IfErr, OnOk};
+ghost use Rattle.minisign_base.specs.Faults.{out_of_memory, reading_failed};
 ghost use Rattle.minisign_base.specs.Passages.{rereader_passage, sink_passage};
-ghost use Rattle.minisign.specs.Calls.{CopiesExactly, CopyIsVouchedWith, CopyingFails, IsCommentOf, IsCommentVerdict, IsFileVerdict};
-ghost use Rattle.minisign.specs.Headline.{VerifiesExactly};
+ghost use Rattle.minisign.specs.Calls.{CopiesExactly, CopyIsVouchedWith, CopyingFails, IsCommentOf, IsCommentVerdict, IsFileVerdict, TextsVouchWith};
+ghost use Rattle.minisign.specs.Headline.{TextsRefuse, VerifiesExactly};
+ghost use Rattle.minisign.specs.Reading.{IsAhead};
 ghost use Rattle.minisign.specs.VerifyingTexts.{ReadTexts, TextsFail, VerifyingTextsFails, VerifyingTextsSucceeds};
 
 use crate::memory::{MemorySource, NoSink};
@@ -153,7 +155,7 @@ pub fn verify_file<F: Files, S: Scheme>(
 {
     let sig_text = read_text_file(files, alloc, sig_path)?;
     match fs::open(files, data_path) {
-        Ok(file) => verify_source(
+        Ok(file) => verify_untold(
             alloc,
             scheme,
             pk_text,
@@ -164,15 +166,32 @@ pub fn verify_file<F: Files, S: Scheme>(
     }
 }
 
-// Verifies all that is ahead, says nothing and copies nothing.
-fn verify_source<S: Scheme, R: Rereader>(
+/// Verifies that the texts of a public key and of a signature vouch for all the data ahead of
+/// `data_reader`, and returns the trusted comment, which was signed with the data. The data is read
+/// in pieces of 64 KiB, so that memory does not grow with it, and it is not copied.
+///
+/// Refused are, in this order: a text, as `verify_bytes` says; data that cannot be read,
+/// `reading_failed`; and what `verify_bytes` refuses of the data. It may run out of memory at any
+/// time.
+///
+/// ```
+/// let comment = verify_reader(alloc, &scheme, PUBLIC_KEY, signature, &mut ReaderSource::new(reader))?;
+/// ```
+pub fn verify_reader<S: Scheme, R: Rereader>(
     alloc: Global,
     scheme: &S,
     pk_text: &str,
     sig_text: &str,
     data_reader: &mut R,
 ) -> Result<String>
-    ensures { IsFileVerdict string_bytes (S.accepts scheme.now) pk_text.now result }
+    // The texts vouch for the data ahead, with this comment.
+    ensures vouched { IfOk result (λ t. (message : List ℕ) × IsAhead (R.ahead data_reader.old) message
+        × TextsVouchWith (S.accepts scheme.now) pk_text.now sig_text.now message false (string_bytes t)) }
+
+    // Why it was refused.
+    ensures refused { IfErr result (λ e. (e ≡ out_of_memory) ⊎ (e ≡ reading_failed)
+        ⊎ ((message : List ℕ) × IsAhead (R.ahead data_reader.old) message
+        × TextsRefuse (S.accepts scheme.now) pk_text.now sig_text.now message false e)) }
 {
     verify_with(
         alloc,
@@ -184,6 +203,19 @@ fn verify_source<S: Scheme, R: Rereader>(
         &mut NoSink,
         &mut NoSink,
     )
+}
+
+// Verifies what a file gives, which tells no bytes.
+fn verify_untold<S: Scheme, R: Rereader>(
+    alloc: Global,
+    scheme: &S,
+    pk_text: &str,
+    sig_text: &str,
+    data_reader: &mut R,
+) -> Result<String>
+    ensures { IsFileVerdict string_bytes (S.accepts scheme.now) pk_text.now result }
+{
+    verify_reader(alloc, scheme, pk_text, sig_text, data_reader)
 }
 
 /// Copies all the data ahead of `data_reader` to `out`, where the texts of a public key and of a

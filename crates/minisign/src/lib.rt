@@ -35,7 +35,7 @@ mod texts;
 pub mod verifying;
 pub mod verifying_texts;
 
-pub use calls::{copy_verified, verify_bytes, verify_file, verify_with};
+pub use calls::{copy_verified, verify_bytes, verify_file, verify_reader, verify_with};
 pub use constants::{
     DEFAULT_COMMENT, SIG_DEFAULT_CONFIG_DIR, SIG_DEFAULT_CONFIG_DIR_ENV_VAR, SIG_DEFAULT_PKFILE,
     SIG_DEFAULT_SKFILE, SIG_SUFFIX,

@@ -2,7 +2,6 @@ mod Bounds
 mod Fields
 mod Found
 mod Installs
-mod Judged
 mod Moments
 mod Pasts
 mod Pieces

@@ -1,19 +1,18 @@
 //! Whether two texts vouch for what a stage holds.
 
-ghost use Rattle.std.specs.Prelude.{◌≡◌, ◌⊎◌, ℕ, List, false, None, string_bytes, IfOk, IfErr};
+ghost use Rattle.std.specs.Prelude.{◌≡◌, ◌⊎◌, ℕ, List, false, string_bytes, IfOk, IfErr};
 ghost use Rattle.minisign_base.specs.Faults.{out_of_memory, reading_failed};
 ghost use Rattle.minisign.specs.Calls.{TextsVouchWith};
 ghost use Rattle.minisign.specs.Headline.{TextsRefuse};
 ghost use Rattle.minisign.specs.Reading.{IsAhead};
 
-use minisign::{Result, VerifyOptions, verify_with};
-use minisign_base::devices::DeviceFault;
-use minisign_base::devices::sinks::Sink;
+use minisign::{Result, verify_reader};
 use minisign_base::devices::sources::Rereader;
 use minisign_base::scheme::Scheme;
 use std::alloc::Global;
 
-// Verifies all that is ahead, and returns the comment that was signed with it.
+// Verifies all that is ahead, and returns the comment that was signed with it. A signature over the
+// data itself is refused.
 pub(crate) fn judge<S: Scheme, R: Rereader>(
     alloc: Global,
     scheme: &S,
@@ -24,34 +23,8 @@ pub(crate) fn judge<S: Scheme, R: Rereader>(
     ensures vouched { IfOk result (λ t. (message : List ℕ) × IsAhead (R.ahead staged.old) message
         × TextsVouchWith (S.accepts scheme.now) pk_text.now sig_text.now message false (string_bytes t)) }
     ensures refused { IfErr result (λ e. (e ≡ out_of_memory) ⊎ (e ≡ reading_failed)
-        ⊎ ((message : List ℕ) × IsAhead (R.ahead staged.old) message × TextsRefuse (S.accepts scheme.now) pk_text.now sig_text.now message false e)) }
+        ⊎ ((message : List ℕ) × IsAhead (R.ahead staged.old) message
+        × TextsRefuse (S.accepts scheme.now) pk_text.now sig_text.now message false e)) }
 {
-    verify_with(
-        alloc,
-        scheme,
-        pk_text,
-        sig_text,
-        staged,
-        VerifyOptions::SILENT,
-        &mut NoSink,
-        &mut NoSink,
-    )
-}
-
-// Takes all bytes, and keeps none.
-#[derive(Drop)]
-struct NoSink;
-
-impl Sink for NoSink {
-    ghost taken = { λ _. None };
-
-    ghost sink_faults = { λ _. 0 };
-
-    fn write(&mut self, bytes: &[u8]) -> std::result::Result<usize, DeviceFault> {
-        Ok(bytes.len())
-    }
-
-    fn flush(&mut self) -> std::result::Result<(), DeviceFault> {
-        Ok(())
-    }
+    verify_reader(alloc, scheme, pk_text, sig_text, staged)
 }

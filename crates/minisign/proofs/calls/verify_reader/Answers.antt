@@ -1,0 +1,13 @@
+use Rattle.std.proofs.Common.{string_bytes}
+use Rattle.minisign.proofs.Commented.{ahead_refused, ahead_vouched}
+use Rattle.minisign.proofs.calls.verify_reader.Goals as goal
+
+pub returns-clause-vouched : goal.returns-clause-vouched
+returns-clause-vouched g c =
+    ahead_vouched string_bytes (g.S.Scheme.accepts c.args.scheme.now) c.args.pk_text.now c.args.sig_text.now _ _ _ c.verify_with.result
+    c.verify_with.ensures.accepted c.verify_with.ensures.comment
+
+pub returns-clause-refused : goal.returns-clause-refused
+returns-clause-refused g c =
+    ahead_refused (g.S.Scheme.accepts c.args.scheme.now) c.args.pk_text.now c.args.sig_text.now _ _ _ c.verify_with.result
+    c.verify_with.ensures.refused

@@ -1,8 +1,0 @@
-use Rattle.std.proofs.Common.{string_bytes}
-use Rattle.minisign.proofs.Commented.{file_verdict}
-use Rattle.minisign.proofs.calls.verify_source.Goals as goal
-
-pub returns : goal.returns
-returns g c =
-    file_verdict string_bytes (g.S.Scheme.accepts c.args.scheme.now) c.args.pk_text.now c.args.sig_text.now _ _ _ c.verify_with.result
-    c.verify_with.ensures.accepted c.verify_with.ensures.comment c.verify_with.ensures.refused
