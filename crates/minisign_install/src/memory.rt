@@ -3,8 +3,6 @@
 
 mod calls;
 mod tally;
-#[cfg(test)]
-mod tests;
 
 ghost use Rattle.std.specs.Prelude.{◌≡◌, ◌<◌, ◌≤◌, ℕ, [], OnOk, OnErr, IfOk, option_map, take, drop, length};
 ghost use Rattle.minisign_install.specs.Folders.{IsFound};

@@ -7,16 +7,13 @@ ghost use Rattle.std.specs.Prelude.{ℕ, OnOk};
 ghost use Rattle.minisign_install.specs.Installing.{InstallsOnlyUpdates, IsInstalled, terms_of};
 ghost use Rattle.minisign_install.specs.Memory.{past_of, told_run};
 
-use super::MemoryFolder;
-use crate::comments::Numbering;
-use crate::folders::Name;
-use crate::installing::install_update;
-use crate::wanted::Wanted;
 use minisign::Result;
 use minisign_base::devices::random_sources::{FixedRandom, RandomSource};
 use minisign_base::devices::sources::{SliceSource, Source};
 use minisign_base::scheme::Scheme;
 use minisign_base::toy::ToyScheme;
+use minisign_install::memory::MemoryFolder;
+use minisign_install::{Name, Numbering, Wanted, install_update};
 use std::alloc::Global;
 
 const KEY_TEXT: &str =
