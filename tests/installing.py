@@ -22,6 +22,7 @@ import tempfile
 import threading
 
 import toy
+from real_runs import count_over
 from running import HERE, NOBODY, SECONDS, Failure, Skip, build_preload
 from surviving import MEMORY, MOST_CALLS, SmallDisk, content
 
@@ -337,22 +338,21 @@ def cases(it):
     yield "while another holds the lock", it.while_locked
 
 
-def main():
+def run_all(program):
+    """Runs all cases, prints those that failed or were skipped, and answers how many passed and how many failed."""
     passed = failed = 0
-    for program in sys.argv[1:] or [PROGRAM]:
-        with tempfile.TemporaryDirectory() as room:
-            for name, case in cases(Installing(program, room)):
-                try:
-                    case()
-                    passed += 1
-                except Skip as why:
-                    print(f"skipped {name}: {why}")
-                except (Failure, subprocess.TimeoutExpired) as why:
-                    print(f"FAILED {name}: {why}")
-                    failed += 1
-    print(f"{passed} passed, {failed} failed")
-    return 1 if failed or not passed else 0
+    with tempfile.TemporaryDirectory(prefix="installing-") as room:
+        for name, case in cases(Installing(program, room)):
+            try:
+                case()
+                passed += 1
+            except Skip as why:
+                print(f"skipped: {name}: {why}")
+            except (Failure, subprocess.SubprocessError) as why:
+                print(f"FAILED: {name}: {why}")
+                failed += 1
+    return passed, failed
 
 
 if __name__ == "__main__":
-    sys.exit(main())
+    sys.exit(count_over(sys.argv[1:] or [PROGRAM], run_all))
