@@ -61,31 +61,33 @@ static int is_opened_file(int fd)
     return fd > 2 && fstat(fd, &found) == 0 && S_ISREG(found.st_mode);
 }
 
+/* The rights of a file that may be made: only then is there a third argument. */
+static mode_t mode_of(int flags, va_list more)
+{
+    return flags & (O_CREAT | O_TMPFILE) ? va_arg(more, mode_t) : 0;
+}
+
 int open(const char *path, int flags, ...)
 {
     int (*real)(const char *, int, ...) = (int (*)(const char *, int, ...))dlsym(RTLD_NEXT, "open");
-    mode_t mode = 0;
+    mode_t mode;
     va_list more;
 
-    if (flags & (O_CREAT | O_TMPFILE)) {
-        va_start(more, flags);
-        mode = va_arg(more, mode_t);
-        va_end(more);
-    }
+    va_start(more, flags);
+    mode = mode_of(flags, more);
+    va_end(more);
     return is_broken("open") ? -1 : real(path, flags, mode);
 }
 
 int openat(int folder, const char *path, int flags, ...)
 {
     int (*real)(int, const char *, int, ...) = (int (*)(int, const char *, int, ...))dlsym(RTLD_NEXT, "openat");
-    mode_t mode = 0;
+    mode_t mode;
     va_list more;
 
-    if (flags & (O_CREAT | O_TMPFILE)) {
-        va_start(more, flags);
-        mode = va_arg(more, mode_t);
-        va_end(more);
-    }
+    va_start(more, flags);
+    mode = mode_of(flags, more);
+    va_end(more);
     return is_broken("openat") ? -1 : real(folder, path, flags, mode);
 }
 
