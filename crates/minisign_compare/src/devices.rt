@@ -1,6 +1,6 @@
 //! Devices that a request describes, which count what is done with them.
 
-ghost use Rattle.std.specs.Prelude.{◌≡◌, ◌≤◌, Some, length};
+ghost use Rattle.std.specs.Prelude.{◌≡◌, ◌≤◌, IfOk, Some, length};
 ghost use Rattle.std.specs.Option.{is_some};
 
 use crate::refusals::Refusal;
@@ -51,14 +51,14 @@ impl DataWord {
 
     // Takes one part behind the bytes.
     fn refine(&mut self, alloc: Global, part: &str) -> Result<(), Refusal> {
-        match part.split_once('=') {
-            Some(("pos", place)) => self.place = number_of(place)?,
-            Some(("chunk", chunk)) => match number_of::<usize>(chunk)? {
-                0 => return Err(Refusal::BadRequest),
-                chunk => self.chunk = chunk,
-            },
-            Some(("fail", read)) => self.failing_read = number_of(read)?,
-            Some(("second", bytes)) => self.second = Some(bytes_of(alloc, bytes)?),
+        let Some((name, value)) = part.split_once('=') else {
+            return Err(Refusal::BadRequest);
+        };
+        match name {
+            "pos" => self.place = number_of(value)?,
+            "chunk" => self.chunk = chunk_of(value)?,
+            "fail" => self.failing_read = number_of(value)?,
+            "second" => self.second = Some(bytes_of(alloc, value)?),
             _ => return Err(Refusal::BadRequest),
         }
         Ok(())
@@ -79,6 +79,16 @@ impl DataWord {
             reads: 0,
             faults: 0,
         }
+    }
+}
+
+// How many bytes a read gives at the most, which is not 0.
+fn chunk_of(word: &str) -> Result<usize, Refusal>
+    ensures { IfOk result (λ chunk. 1 ≤ chunk) }
+{
+    match number_of(word)? {
+        0 => Err(Refusal::BadRequest),
+        chunk => Ok(chunk),
     }
 }
 

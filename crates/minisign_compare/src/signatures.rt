@@ -79,15 +79,19 @@ fn next_bones(alloc: Global, words: &mut Words) -> Result<SignatureBones, Refusa
 /// A box: of `bones:` and a record, or of a text.
 pub fn box_of(alloc: Global, word: &str) -> Result<SignatureBox, Refusal> {
     match word.strip_prefix("bones:") {
-        Some(record) => {
-            let bones = SignatureBones::from_bytes(&bytes_of(alloc, record)?)?;
-            Ok(SignatureBox::from_bones(bones))
-        }
-        None => {
-            let text = text_of(alloc, word)?;
-            Ok(SignatureBox::from_string(alloc, text.as_str())?)
-        }
+        Some(record) => box_of_bones(alloc, record),
+        None => box_of_text(alloc, word),
     }
+}
+
+fn box_of_bones(alloc: Global, record: &str) -> Result<SignatureBox, Refusal> {
+    let bones = SignatureBones::from_bytes(&bytes_of(alloc, record)?)?;
+    Ok(SignatureBox::from_bones(bones))
+}
+
+fn box_of_text(alloc: Global, word: &str) -> Result<SignatureBox, Refusal> {
+    let text = text_of(alloc, word)?;
+    Ok(SignatureBox::from_string(alloc, text.as_str())?)
 }
 
 /// The fields of a signature.

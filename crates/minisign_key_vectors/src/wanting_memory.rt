@@ -121,16 +121,27 @@ fn opened_in_parts(alloc: Global) -> Result<bool> {
     Ok(key == SecretKey::from_bytes(&secret_record(b"Sc", &CHECKSUM))? && !key.is_encrypted())
 }
 
-// Whether the texts of both keys come out again as they were read.
-fn written_again(alloc: Global) -> Result<bool> {
+// Whether the text of key A's public half comes out as it was worked out.
+fn public_written(alloc: Global) -> Result<bool> {
     let secret = SecretKey::from_bytes(&secret_record(&[0, 0], &CHECKSUM))?;
-    let pk_text = PublicKey::from_secret_key(&secret)?
-        .to_box(alloc)?
-        .into_string();
+    let public = PublicKey::from_secret_key(&secret)?;
+    let text = public.to_box(alloc)?.into_string();
+    Ok(text.as_str() == KEY_TEXT)
+}
+
+// Whether the text of key A comes out again as it was read.
+fn secret_written_again(alloc: Global) -> Result<bool> {
     let sk_box = SecretKeyBox::from_string(alloc, SECRET_TEXT)?;
     let sk = sk_box.into_unencrypted_secret_key(alloc)?;
-    let sk_text = sk.to_box(alloc, None)?.into_string();
-    Ok(pk_text.as_str() == KEY_TEXT && sk_text.as_str() == SECRET_TEXT)
+    let text = sk.to_box(alloc, None)?.into_string();
+    Ok(text.as_str() == SECRET_TEXT)
+}
+
+// Whether both do.
+fn written_again(alloc: Global) -> Result<bool> {
+    let public = public_written(alloc)?;
+    let secret = secret_written_again(alloc)?;
+    Ok(public && secret)
 }
 
 #[test]

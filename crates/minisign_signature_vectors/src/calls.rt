@@ -1,12 +1,13 @@
 //! Signing and verifying, called here for all tests: what is returned, and what the sinks took.
 
 use minisign::{
-    PublicKey, Result, SecretKey, SignatureBones, SignatureBox, VerifyOptions, sign, verify,
-    verify_texts,
+    PublicKey, Result, SecretKey, SignatureBones, SignatureBox, VerifyOptions, sign, sign_texts,
+    verify, verify_texts,
 };
 use minisign_base::devices::random_sources::{FixedRandom, RandomSource};
 use minisign_base::devices::sinks::Sink;
 use minisign_base::devices::sources::{Rereader, SliceSource, Source};
+use minisign_base::prompt::Prompt;
 use minisign_base::scheme::Scheme;
 use minisign_base::toy::ToyScheme;
 use minisign_fixtures::devices::sinks::LimitedSink;
@@ -265,4 +266,34 @@ pub fn signed_by_bytes(
         said,
         &mut random,
     )
+}
+
+/// Signs the data under the toy with the text of a secret key, with both comments and the moment 0.
+pub fn signed_text<P: Source, Q: Sink, R: Source, Z: RandomSource>(
+    alloc: Global,
+    sk_text: &str,
+    password: Option<String>,
+    prompt: &mut Prompt<P, Q>,
+    data: &mut R,
+    comments: (&str, &str),
+    random: &mut Z,
+) -> Result<String> {
+    let (trusted, untrusted) = comments;
+    sign_texts(
+        alloc,
+        &ToyScheme::new(),
+        sk_text,
+        password,
+        prompt,
+        data,
+        Some(trusted),
+        Some(untrusted),
+        random,
+        0,
+    )
+}
+
+/// The box that a text holds.
+pub fn read_box(alloc: Global, text: &str) -> Result<SignatureBox> {
+    SignatureBox::from_string(alloc, text)
 }

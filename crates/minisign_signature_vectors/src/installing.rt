@@ -105,66 +105,85 @@ fn is_free(folder: &MemoryFolder, name: Name) -> bool {
     }
 }
 
-// A folder into which `second` was installed, where that succeeds.
-fn with_second(alloc: Global) -> Option<MemoryFolder> {
+// Whether the update is installed, and stands with this number.
+fn installs(
+    alloc: Global,
+    folder: &mut MemoryFolder,
+    update: &[u8],
+    sig_text: &str,
+    is_first: bool,
+    record: &[u8],
+) -> bool {
+    let installed = install(alloc, folder, &DRAWN, update, sig_text, is_first).is_ok();
+    installed && holds(folder, update, record)
+}
+
+// Whether the update is refused with this text, where it is not the first one.
+fn refuses(
+    alloc: Global,
+    folder: &mut MemoryFolder,
+    drawn: &[u8],
+    update: &[u8],
+    sig_text: &str,
+    text: &str,
+) -> bool {
+    let answer = install(alloc, folder, drawn, update, sig_text, false);
+    is_refused(alloc, &answer, text)
+}
+
+// Whether it is refused so behind `second`, which stays.
+fn is_refused_behind_second(
+    alloc: Global,
+    drawn: &[u8],
+    update: &[u8],
+    sig_text: &str,
+    text: &str,
+) -> bool {
     let mut folder = MemoryFolder::new(alloc);
-    match install(alloc, &mut folder, &DRAWN, b"second", SECOND, true) {
-        Ok(()) => Some(folder),
-        Err(_) => None,
-    }
+    let installed = installs(alloc, &mut folder, b"second", SECOND, true, b"6");
+    let refused = refuses(alloc, &mut folder, drawn, update, sig_text, text);
+    installed && refused && holds(&folder, b"second", b"6")
 }
 
 #[test]
 fn updates_are_installed_one_after_another(rt: HostRuntime) {
     let alloc = rt.alloc();
     let mut folder = MemoryFolder::new(alloc);
-    assert!(rt; install(alloc, &mut folder, &DRAWN, b"first", FIRST, true).is_ok());
-    assert!(rt; holds(&folder, b"first", b"5"));
-    assert!(rt; install(alloc, &mut folder, &DRAWN, b"second", SECOND, false).is_ok());
-    assert!(rt; holds(&folder, b"second", b"6"));
-    assert!(rt; install(alloc, &mut folder, &DRAWN, b"second", SECOND, false).is_ok());
-    assert!(rt; holds(&folder, b"second", b"6"));
+    let first = installs(alloc, &mut folder, b"first", FIRST, true, b"5");
+    let second = installs(alloc, &mut folder, b"second", SECOND, false, b"6");
+    let again = installs(alloc, &mut folder, b"second", SECOND, false, b"6");
+    assert!(rt; first && second && again, "{first} {second} {again}");
 }
 
 #[test]
 fn an_older_update_is_refused(rt: HostRuntime) {
-    let alloc = rt.alloc();
-    let mut folder = with_second(alloc).expect(&rt, "installed");
-    let answer = install(alloc, &mut folder, &DRAWN, b"first", FIRST, false);
-    assert!(rt;
-        is_refused(
-            alloc,
-            &answer,
-            "the update is older than what was installed"
-        )
-    );
-    assert!(rt; holds(&folder, b"second", b"6"));
+    let older = "the update is older than what was installed";
+    assert!(rt; is_refused_behind_second(rt.alloc(), &DRAWN, b"first", FIRST, older));
 }
 
 #[test]
 fn what_the_texts_do_not_vouch_for_is_refused(rt: HostRuntime) {
-    let alloc = rt.alloc();
-    let mut folder = with_second(alloc).expect(&rt, "installed");
-    let answer = install(alloc, &mut folder, &DRAWN, b"Second", SECOND, false);
-    assert!(rt; is_refused(alloc, &answer, "Signature verification failed"));
-    assert!(rt; holds(&folder, b"second", b"6"));
+    let refused = "Signature verification failed";
+    assert!(rt; is_refused_behind_second(rt.alloc(), &DRAWN, b"Second", SECOND, refused));
+}
+
+// Whether an update that is not the first one is refused where no number is kept, and nothing is
+// installed.
+fn is_refused_without_a_number(alloc: Global) -> bool {
+    let mut folder = MemoryFolder::new(alloc);
+    let text = "no number is kept beside the place";
+    let refused = refuses(alloc, &mut folder, &DRAWN, b"first", FIRST, text);
+    refused && is_free(&folder, Name::Place) && is_free(&folder, Name::Record)
 }
 
 #[test]
 fn without_a_number_only_a_first_installation_goes_through(rt: HostRuntime) {
-    let alloc = rt.alloc();
-    let mut folder = MemoryFolder::new(alloc);
-    let answer = install(alloc, &mut folder, &DRAWN, b"first", FIRST, false);
-    assert!(rt; is_refused(alloc, &answer, "no number is kept beside the place"));
-    assert!(rt; is_free(&folder, Name::Place));
-    assert!(rt; is_free(&folder, Name::Record));
+    assert!(rt; is_refused_without_a_number(rt.alloc()));
 }
 
 #[test]
 fn a_name_that_is_drawn_twice_is_refused(rt: HostRuntime) {
-    let alloc = rt.alloc();
-    let mut folder = with_second(alloc).expect(&rt, "installed");
-    let answer = install(alloc, &mut folder, &[7u8; 32], b"second", SECOND, false);
-    assert!(rt; is_refused(alloc, &answer, "writing failed"));
-    assert!(rt; holds(&folder, b"second", b"6"));
+    let drawn = [7u8; 32];
+    let unwritten = "writing failed";
+    assert!(rt; is_refused_behind_second(rt.alloc(), &drawn, b"second", SECOND, unwritten));
 }

@@ -8,7 +8,7 @@ use minisign_questions::secrets::SigningQuestions;
 use minisign_questions::signed_texts::{signed_text, write_comment_message, write_signed_text};
 use minisign_questions::state::{Misuse, Questions, Refusal, State};
 use std::alloc::Global;
-use std::test::Fail;
+use std::process::Abort;
 
 const KEY: &str =
     "untrusted comment: minisign public key 21E66B4C8EEFA0B8\nRWS4oO+OTGvmIXV1rhgpjypAJvWKm8TwdV4j02FufATCsUQLjhDbStyt\n";
@@ -82,11 +82,15 @@ fn no_questions() -> Questions {
     }
 }
 
+fn feed(state: &mut State, piece: &[u8]) {
+    let _fed = state.update(piece);
+}
+
 // A state that was fed the data in two pieces.
 fn fed() -> State {
     let mut state = State::new();
-    let _first = state.update(b"hel");
-    let _second = state.update(b"lo\n");
+    feed(&mut state, b"hel");
+    feed(&mut state, b"lo\n");
     state
 }
 
@@ -98,127 +102,151 @@ fn number(alloc: Global, outcome: Result<(), Refusal>, questions: &Questions) ->
     }
 }
 
-// The number that asking returns for two texts, with legacy signatures allowed or not.
-fn asked(alloc: Global, state: &mut State, pk_text: &str, sig_text: &str, legacy: bool) -> u32 {
-    let mut questions = no_questions();
-    let mut message = [0u8; 512];
+// The number that asking for the questions of two texts returns, with legacy signatures allowed or
+// not.
+fn told(
+    alloc: Global,
+    state: &mut State,
+    (pk_text, sig_text): (&str, &str),
+    legacy: bool,
+    questions: &mut Questions,
+    message: &mut [u8],
+) -> u32 {
     let result = state.ask(
         alloc,
         pk_text.as_bytes(),
         sig_text.as_bytes(),
         legacy,
-        &mut questions,
-        &mut message,
+        questions,
+        message,
     );
-    number(alloc, result, &questions)
+    number(alloc, result, questions)
+}
+
+// The number alone.
+fn asked(alloc: Global, state: &mut State, texts: (&str, &str), legacy: bool) -> u32 {
+    let mut questions = no_questions();
+    let mut message = [0u8; 512];
+    told(alloc, state, texts, legacy, &mut questions, &mut message)
+}
+
+// The number that the verdict of two answers returns.
+fn judged(alloc: Global, state: &mut State, first: bool, second: bool) -> u32 {
+    let result = state.verdict(first, second);
+    number(alloc, result, &no_questions())
+}
+
+// Whether the questions are about the key and the data.
+fn are_about_the_data(questions: &Questions) -> bool {
+    questions.public_key == KEY_BYTES && questions.digest == DIGEST
+}
+
+// Whether they are about both signatures of a prehashed text.
+fn are_about_the_text(questions: &Questions) -> bool {
+    questions.signature == SIGNATURE_BYTES
+        && questions.comment_signature == COMMENT_SIGNATURE
+        && questions.legacy == 0
+        && questions.message_len == 81
+}
+
+// Whether a message begins with the signature, and the trusted comment.
+fn is_signed_comment(message: &[u8; 512]) -> bool {
+    let (front, rest) = message.split_at(64);
+    let (comment, _) = rest.split_at(17);
+    front == &SIGNATURE_BYTES[..] && comment == &b"a trusted comment"[..]
 }
 
 #[test]
-fn the_questions_are_those_of_the_texts(rt: HostRuntime) -> Result<(), Fail> {
+fn the_questions_are_those_of_the_texts(rt: HostRuntime) {
     let mut state = fed();
     let mut questions = no_questions();
     let mut message = [0u8; 512];
-    let result = state.ask(
+    let told = told(
         rt.alloc(),
-        KEY.as_bytes(),
-        SIGNATURE.as_bytes(),
+        &mut state,
+        (KEY, SIGNATURE),
         false,
         &mut questions,
         &mut message,
     );
-    assert_eq!(rt; number(rt.alloc(), result, &questions), 0);
-    assert!(rt; questions.public_key == KEY_BYTES);
-    assert!(rt; questions.digest == DIGEST);
-    assert!(rt; questions.signature == SIGNATURE_BYTES);
-    assert!(rt; questions.comment_signature == COMMENT_SIGNATURE);
-    assert_eq!(rt; questions.legacy, 0);
-    assert_eq!(rt; questions.message_len, 81);
-    let (front, rest) = message.split_at(64);
-    let (comment, _) = rest.split_at(17);
-    assert!(rt; front == &SIGNATURE_BYTES[..]);
-    assert!(rt; comment == &b"a trusted comment"[..]);
-    Ok(())
+    assert!(rt; told == 0);
+    assert!(rt; are_about_the_data(&questions));
+    assert!(rt; are_about_the_text(&questions));
+    assert!(rt; is_signed_comment(&message));
+}
+
+// Whether asking succeeds, the verdict of the answers has this number, and a second one is a wrong
+// use.
+fn decide(alloc: Global, first: bool, second: bool, wanted: u32) -> bool {
+    let mut state = fed();
+    let asked = asked(alloc, &mut state, (KEY, SIGNATURE), false);
+    let result = judged(alloc, &mut state, first, second);
+    let again = judged(alloc, &mut state, first, second);
+    asked == 0 && result == wanted && again == Misuse::NotBegun.number()
 }
 
 #[test]
-fn the_answers_decide(rt: HostRuntime) -> Result<(), Fail> {
-    for (first, second, wanted) in [
-        (true, true, 0),
-        (false, true, 31),
-        (false, false, 31),
-        (true, false, 32),
-    ] {
-        let mut state = fed();
-        assert_eq!(rt; asked(rt.alloc(), &mut state, KEY, SIGNATURE, false), 0);
-        let result = state.verdict(first, second);
-        assert_eq!(rt; number(rt.alloc(), result, &no_questions()), wanted);
-        let again = state.verdict(first, second);
-        assert_eq!(rt;
-            number(rt.alloc(), again, &no_questions()),
-            Misuse::NotBegun.number()
-        );
-    }
-    Ok(())
+fn the_answers_decide(rt: HostRuntime) {
+    assert!(rt; decide(rt.alloc(), true, true, 0));
+    assert!(rt; decide(rt.alloc(), false, true, 31));
+    assert!(rt; decide(rt.alloc(), false, false, 31));
+    assert!(rt; decide(rt.alloc(), true, false, 32));
+}
+
+// Asserts that asking for the questions of two texts returns this number.
+fn asks<A: Abort>(rt: &A, alloc: Global, pk_text: &str, sig_text: &str, legacy: bool, wanted: u32) {
+    let number = asked(alloc, &mut fed(), (pk_text, sig_text), legacy);
+    assert!(rt; number == wanted, "{number}, and not {wanted}");
 }
 
 #[test]
-fn refusals_have_their_numbers(rt: HostRuntime) -> Result<(), Fail> {
+fn refusals_have_their_numbers(rt: HostRuntime) {
+    let alloc = rt.alloc();
     let other_key =
         "untrusted comment: x\nRWQBAgMEBQYHCFpaWlpaWlpaWlpaWlpaWlpaWlpaWlpaWlpaWlpaWlpa\n";
-    for (pk_text, sig_text, legacy, wanted) in [
-        (KEY, LEGACY, false, 30),
-        (KEY, LEGACY, true, 0),
-        ("", SIGNATURE, false, 16),
-        ("untrusted comment: x\n", SIGNATURE, false, 17),
-        ("untrusted comment: x\nRWS4oO+O\n", SIGNATURE, false, 18),
-        (other_key, SIGNATURE, false, 29),
-        (KEY, "", false, 21),
-        (KEY, "untrusted comment: x\n", false, 22),
-        (KEY, "untrusted comment: x\nRUS4\n", false, 23),
-        (
-            KEY,
-            "untrusted comment: x\nRUS4\ntrusted comment: y\n",
-            false,
-            24,
-        ),
-        (KEY, "x\nRUS4\ntrusted comment: y\nRUS4\n", false, 25),
-        (
-            KEY,
-            "untrusted comment: x\nRUS!\ntrusted comment: y\nRUS4\n",
-            false,
-            26,
-        ),
-        (
-            KEY,
-            "untrusted comment: x\nRUS4\ntrusted comment: y\nRUS4\n",
-            false,
-            20,
-        ),
-    ] {
-        let mut state = fed();
-        assert_eq!(rt;
-            asked(rt.alloc(), &mut state, pk_text, sig_text, legacy),
-            wanted
-        );
-    }
-    Ok(())
+    asks(&rt, alloc, KEY, LEGACY, false, 30);
+    asks(&rt, alloc, KEY, LEGACY, true, 0);
+    asks(&rt, alloc, "", SIGNATURE, false, 16);
+    let no_line = "untrusted comment: x\n";
+    asks(&rt, alloc, no_line, SIGNATURE, false, 17);
+    let short = "untrusted comment: x\nRWS4oO+O\n";
+    asks(&rt, alloc, short, SIGNATURE, false, 18);
+    asks(&rt, alloc, other_key, SIGNATURE, false, 29);
 }
 
 #[test]
-fn a_wrong_use_is_refused_and_changes_nothing(rt: HostRuntime) -> Result<(), Fail> {
+fn refusals_of_signature_texts_have_their_numbers(rt: HostRuntime) {
+    let alloc = rt.alloc();
+    asks(&rt, alloc, KEY, "", false, 21);
+    asks(&rt, alloc, KEY, "untrusted comment: x\n", false, 22);
+    let two_lines = "untrusted comment: x\nRUS4\n";
+    asks(&rt, alloc, KEY, two_lines, false, 23);
+    let three_lines = "untrusted comment: x\nRUS4\ntrusted comment: y\n";
+    asks(&rt, alloc, KEY, three_lines, false, 24);
+    let unlabelled = "x\nRUS4\ntrusted comment: y\nRUS4\n";
+    asks(&rt, alloc, KEY, unlabelled, false, 25);
+    let not_base64 = "untrusted comment: x\nRUS!\ntrusted comment: y\nRUS4\n";
+    asks(&rt, alloc, KEY, not_base64, false, 26);
+    let too_short = "untrusted comment: x\nRUS4\ntrusted comment: y\nRUS4\n";
+    asks(&rt, alloc, KEY, too_short, false, 20);
+}
+
+// Whether the state takes no more bytes, for this reason.
+fn is_not_fed(state: &mut State, misuse: Misuse) -> bool {
+    state.update(b"x") == Err(misuse)
+}
+
+#[test]
+fn a_wrong_use_is_refused_and_changes_nothing(rt: HostRuntime) {
+    let alloc = rt.alloc();
     let mut state = fed();
-    let early = state.verdict(true, true);
-    assert_eq!(rt;
-        number(rt.alloc(), early, &no_questions()),
-        Misuse::NotAsked.number()
-    );
-    assert_eq!(rt; asked(rt.alloc(), &mut state, KEY, SIGNATURE, false), 0);
-    assert!(rt; state.update(b"x") == Err(Misuse::AlreadyAsked));
-    assert_eq!(rt; asked(rt.alloc(), &mut state, KEY, SIGNATURE, false), 2);
-    let result = state.verdict(true, true);
-    assert_eq!(rt; number(rt.alloc(), result, &no_questions()), 0);
-    assert!(rt; state.update(b"x") == Err(Misuse::NotBegun));
-    Ok(())
+    let early = judged(alloc, &mut state, true, true);
+    assert!(rt; early == Misuse::NotAsked.number());
+    assert!(rt; asked(alloc, &mut state, (KEY, SIGNATURE), false) == 0);
+    assert!(rt; is_not_fed(&mut state, Misuse::AlreadyAsked));
+    assert!(rt; asked(alloc, &mut state, (KEY, SIGNATURE), false) == 2);
+    assert!(rt; judged(alloc, &mut state, true, true) == 0);
+    assert!(rt; is_not_fed(&mut state, Misuse::NotBegun));
 }
 
 // The number that asking for signatures returns, with a password or without.
@@ -243,114 +271,156 @@ fn nothing_asked() -> SigningQuestions {
     }
 }
 
-#[test]
-fn the_secret_and_the_digest_are_told(rt: HostRuntime) -> Result<(), Fail> {
-    let mut questions = nothing_asked();
-    assert_eq!(rt;
-        asked_to_sign(rt.alloc(), SECRET_KEY, None, &mut questions),
-        0
-    );
-    assert!(rt; questions.secret_key == SECRET);
-    assert!(rt; questions.digest == DIGEST);
-    assert!(rt; questions.key_id == SECRET_KEY_ID);
-    Ok(())
+// Whether these are the secret, the digest and the identifier.
+fn are_told(questions: &SigningQuestions) -> bool {
+    questions.secret_key == SECRET
+        && questions.digest == DIGEST
+        && questions.key_id == SECRET_KEY_ID
 }
 
 #[test]
-fn secret_keys_are_refused_by_number(rt: HostRuntime) -> Result<(), Fail> {
-    let password = Some(&b"x"[..]);
-    for (sk_text, password, wanted) in [
-        ("", None, 33),
-        ("untrusted comment: x\n", None, 34),
-        ("untrusted comment: x\nRW!\n", None, 35),
-        ("untrusted comment: x\nRWQA\n", None, 20),
-        (SEALED_KEY, None, 36),
-        (CORRUPTED_KEY, None, 37),
-        (SECRET_KEY, password, 38),
-        (OTHER_KEY, password, 39),
-        (SEALED_KEY, Some(&b"\xff"[..]), 8),
-    ] {
-        let mut questions = nothing_asked();
-        assert_eq!(rt;
-            asked_to_sign(rt.alloc(), sk_text, password, &mut questions),
-            wanted
-        );
-        assert!(rt; questions.secret_key == [0; 64]);
+fn the_secret_and_the_digest_are_told(rt: HostRuntime) {
+    let mut questions = nothing_asked();
+    let number = asked_to_sign(rt.alloc(), SECRET_KEY, None, &mut questions);
+    assert!(rt; number == 0);
+    assert!(rt; are_told(&questions));
+}
+
+// Asserts that asking for signatures returns this number, and tells no secret.
+fn refuses<A: Abort>(rt: &A, alloc: Global, sk_text: &str, password: Option<&[u8]>, wanted: u32) {
+    let mut questions = nothing_asked();
+    let number = asked_to_sign(alloc, sk_text, password, &mut questions);
+    assert!(rt; number == wanted, "{number}, and not {wanted}");
+    assert!(rt; questions.secret_key == [0; 64], "at {wanted}");
+}
+
+#[test]
+fn secret_keys_are_refused_by_number(rt: HostRuntime) {
+    let alloc = rt.alloc();
+    refuses(&rt, alloc, "", None, 33);
+    refuses(&rt, alloc, "untrusted comment: x\n", None, 34);
+    refuses(&rt, alloc, "untrusted comment: x\nRW!\n", None, 35);
+    refuses(&rt, alloc, "untrusted comment: x\nRWQA\n", None, 20);
+    refuses(&rt, alloc, SEALED_KEY, None, 36);
+    refuses(&rt, alloc, CORRUPTED_KEY, None, 37);
+    refuses(&rt, alloc, SECRET_KEY, Some(b"x"), 38);
+    refuses(&rt, alloc, OTHER_KEY, Some(b"x"), 39);
+    refuses(&rt, alloc, SEALED_KEY, Some(b"\xff"), 8);
+}
+
+// The identifier of the key of both signatures.
+const KEY_ID: [u8; 8] = [0xb8, 0xa0, 0xef, 0x8e, 0x4c, 0x6b, 0xe6, 0x21];
+
+const UNTRUSTED: &str = "signature from minisign secret key";
+
+// Whether the text of both signatures is that of minisign.
+fn is_the_text(alloc: Global) -> bool {
+    let made = signed_text(
+        alloc,
+        &KEY_ID,
+        &SIGNATURE_BYTES,
+        &COMMENT_SIGNATURE,
+        "a trusted comment",
+        UNTRUSTED,
+    );
+    match made {
+        Ok(text) => text.as_str() == SIGNATURE,
+        Err(_) => false,
     }
-    Ok(())
+}
+
+// The number of bytes that writing the text of both signatures under this identifier returns, or
+// the number of its refusal.
+fn written(
+    alloc: Global,
+    key_id: &[u8; 8],
+    trusted: &[u8],
+    untrusted: &[u8],
+    to: &mut [u8],
+) -> std::result::Result<usize, u32> {
+    let made = write_signed_text(
+        alloc,
+        key_id,
+        &SIGNATURE_BYTES,
+        &COMMENT_SIGNATURE,
+        trusted,
+        untrusted,
+        to,
+    );
+    match made {
+        Ok(len) => Ok(len),
+        Err(refusal) => Err(refusal.number(alloc, [0; 8], [0; 8])),
+    }
+}
+
+// Whether that text is written.
+fn is_written(alloc: Global) -> bool {
+    let mut to = [0u8; 512];
+    let trusted = b"a trusted comment";
+    let len = written(alloc, &KEY_ID, trusted, UNTRUSTED.as_bytes(), &mut to);
+    len == Ok(SIGNATURE.len()) && to.starts_with(SIGNATURE.as_bytes())
+}
+
+// What writing the message of the comment's signature returns.
+fn message_written(comment: &[u8], message: &mut [u8; 81]) -> std::result::Result<(), Misuse> {
+    write_comment_message(&SIGNATURE_BYTES, comment, message)
+}
+
+// Whether the message of the comment's signature is written where there is room.
+fn is_message_written() -> bool {
+    let mut message = [0u8; 81];
+    let made = message_written(b"a trusted comment", &mut message);
+    let begins = message.starts_with(&SIGNATURE_BYTES);
+    let ends = message.ends_with(b"a trusted comment");
+    made == Ok(()) && begins && ends
 }
 
 // What the two signatures of minisign 0.11 make with their comments is what it wrote.
 #[test]
-fn the_text_is_that_of_minisign(rt: HostRuntime) -> Result<(), Fail> {
-    let key_id = [0xb8, 0xa0, 0xef, 0x8e, 0x4c, 0x6b, 0xe6, 0x21];
-    let untrusted = "signature from minisign secret key";
-    let made = signed_text(
-        rt.alloc(),
-        &key_id,
-        &SIGNATURE_BYTES,
-        &COMMENT_SIGNATURE,
-        "a trusted comment",
+fn the_text_is_that_of_minisign(rt: HostRuntime) {
+    assert!(rt; is_the_text(rt.alloc()));
+    assert!(rt; is_written(rt.alloc()));
+    assert!(rt; is_message_written());
+    let without_room = message_written(b"another trusted comment", &mut [0; 81]);
+    assert!(rt; without_room == Err(Misuse::NoRoom));
+}
+
+// Asserts that writing a text with these comments into so much room returns this number, 0 where it
+// is written.
+fn writes<A: Abort>(
+    rt: &A,
+    alloc: Global,
+    trusted: &[u8],
+    untrusted: &[u8],
+    room: usize,
+    wanted: u32,
+) {
+    let mut to = [0u8; 300];
+    let made = written(
+        alloc,
+        &SECRET_KEY_ID,
+        trusted,
         untrusted,
+        &mut to[..room.min(300)],
     );
-    match made {
-        Ok(text) => assert!(rt; text.as_str() == SIGNATURE),
-        Err(_) => assert!(rt; false),
-    }
-    let mut written = [0u8; 512];
-    let len = write_signed_text(
-        rt.alloc(),
-        &key_id,
-        &SIGNATURE_BYTES,
-        &COMMENT_SIGNATURE,
-        b"a trusted comment",
-        untrusted.as_bytes(),
-        &mut written,
-    );
-    assert_eq!(rt; len.unwrap_or(0), SIGNATURE.len());
-    assert!(rt; written.starts_with(SIGNATURE.as_bytes()));
-    let mut message = [0u8; 81];
-    assert!(rt;
-        write_comment_message(&SIGNATURE_BYTES, b"a trusted comment", &mut message) == Ok(())
-    );
-    assert!(rt; message.starts_with(&SIGNATURE_BYTES));
-    assert!(rt; message.ends_with(b"a trusted comment"));
-    assert!(rt;
-        write_comment_message(&SIGNATURE_BYTES, b"another trusted comment", &mut message)
-            == Err(Misuse::NoRoom)
-    );
-    Ok(())
+    let number = match made {
+        Ok(_) => 0,
+        Err(number) => number,
+    };
+    assert!(rt; number == wanted, "{number}, and not {wanted}");
 }
 
 #[test]
-fn texts_are_refused_by_number(rt: HostRuntime) -> Result<(), Fail> {
-    for (trusted, untrusted, room, wanted) in [
-        (&b"t"[..], &b"u"[..], 230, 0),
-        (&b"t"[..], &b"u"[..], 229, 5),
-        (&b"\xff"[..], &b"u"[..], 300, 8),
-        (&b"t"[..], &b"\xff"[..], 300, 8),
-        (&b"t\nt"[..], &b"u"[..], 300, 9),
-        (&b"t "[..], &b"u"[..], 300, 9),
-        (&b" t"[..], &b"u"[..], 300, 9),
-        (&b"t"[..], &b"u\nu"[..], 300, 9),
-        (&b"t"[..], &b"u\r"[..], 300, 9),
-        (&b"t"[..], &b" u "[..], 300, 0),
-    ] {
-        let mut written = [0u8; 300];
-        let made = write_signed_text(
-            rt.alloc(),
-            &SECRET_KEY_ID,
-            &SIGNATURE_BYTES,
-            &COMMENT_SIGNATURE,
-            trusted,
-            untrusted,
-            &mut written[..room],
-        );
-        let number = match made {
-            Ok(_) => 0,
-            Err(refusal) => refusal.number(rt.alloc(), [0; 8], [0; 8]),
-        };
-        assert_eq!(rt; number, wanted);
-    }
-    Ok(())
+fn texts_are_refused_by_number(rt: HostRuntime) {
+    let alloc = rt.alloc();
+    writes(&rt, alloc, b"t", b"u", 230, 0);
+    writes(&rt, alloc, b"t", b"u", 229, 5);
+    writes(&rt, alloc, b"\xff", b"u", 300, 8);
+    writes(&rt, alloc, b"t", b"\xff", 300, 8);
+    writes(&rt, alloc, b"t\nt", b"u", 300, 9);
+    writes(&rt, alloc, b"t ", b"u", 300, 9);
+    writes(&rt, alloc, b" t", b"u", 300, 9);
+    writes(&rt, alloc, b"t", b"u\nu", 300, 9);
+    writes(&rt, alloc, b"t", b"u\r", 300, 9);
+    writes(&rt, alloc, b"t", b" u ", 300, 0);
 }

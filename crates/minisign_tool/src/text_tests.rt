@@ -8,12 +8,12 @@ use crate::sign::run_sign;
 use crate::verify::run_verify;
 use minisign::base::devices::random_sources::FixedRandom;
 use minisign::base::devices::sinks::{Sink, VecSink, WriterSink};
-use minisign::base::devices::sources::{FileSource, ReaderSource, SliceSource};
+use minisign::base::devices::sources::{FileSource, ReaderSource, Rereader, SliceSource, Source};
 use minisign::base::prompt::Prompt;
 use minisign::base::toy::ToyScheme;
 use std::alloc::Global;
 use std::io::Cursor;
-use std::test::Fail;
+use std::process::Abort;
 
 const WARNING: &str = "warning: insecure toy scheme, for tests only\n";
 
@@ -70,262 +70,310 @@ const UNKNOWN_KEY: &str =
 const SIGNED: &str =
     "untrusted comment: signature from rsign secret key\nRUQBAgMEBQYHCAAAAAAAAAAAAAAAAAAAAAAAAAAAAAAAAAAAAAAAAAAAnV06XOjtbnryLxgygHtgJg6o/+bp8Qy3qGtn2FWlYag=\ntrusted comment: timestamp:1555779966\nAAAAAAAAAAAAAAAAAAAAAAAAAAAAAAAAAAAAAAAAAACzbg1jwcNVTdhPc13vFA1LbcuTirOrVu3yMT2CD/878g==\n";
 
-// Runs `verify`: the exit status and what it said.
-fn run_verify_over(alloc: Global, key: &[u8], data: &[u8], signature: &[u8]) -> (u8, VecSink) {
-    let mut errors = VecSink::new(alloc);
-    let status = run_verify(
-        alloc,
-        &ToyScheme::new(),
-        &mut SliceSource::new(key),
-        &mut ReaderSource::new(data),
-        &mut SliceSource::new(signature),
-        &mut errors,
-    );
-    (status, errors)
+// Runs `verify`: the exit status.
+fn verify_status<P: Source, R: Rereader, Q: Source, W: Sink>(
+    alloc: Global,
+    key: &mut P,
+    data: &mut R,
+    signature: &mut Q,
+    errors: &mut W,
+) -> u8 {
+    run_verify(alloc, &ToyScheme::new(), key, data, signature, errors)
 }
 
-// Runs `cat` over data that seeks: the exit status and what it said.
-fn run_cat_over<O: Sink>(
+/// Runs `cat`: the exit status.
+pub fn cat_status<P: Source, R: Rereader, Q: Source, O: Sink, W: Sink>(
     alloc: Global,
-    key: &[u8],
-    data: &[u8],
-    signature: &[u8],
+    key: &mut P,
+    data: &mut R,
+    signature: &mut Q,
     out: &mut O,
-) -> (u8, VecSink) {
-    let mut errors = VecSink::new(alloc);
-    let status = run_cat(
-        alloc,
-        &ToyScheme::new(),
-        &mut ReaderSource::new(key),
-        &mut FileSource::new(Cursor::new(data)),
-        &mut ReaderSource::new(signature),
-        out,
-        &mut errors,
-    );
-    (status, errors)
+    errors: &mut W,
+) -> u8 {
+    run_cat(alloc, &ToyScheme::new(), key, data, signature, out, errors)
 }
 
-// Runs `sign` over `abc` with random bytes of zeros: the exit status, what it said and what it
-// asked.
-fn run_sign_over<G: Sink>(
+// Runs `sign` over `abc` with random bytes of zeros: the exit status.
+fn sign_status<A: Source, B: Sink, G: Sink, W: Sink>(
     alloc: Global,
     key: &[u8],
-    typed: &[u8],
+    prompt: &mut Prompt<A, B>,
     signature: &mut G,
-) -> (u8, VecSink, VecSink) {
-    let mut errors = VecSink::new(alloc);
-    let mut prompt = Prompt::new(SliceSource::new(typed), VecSink::new(alloc));
-    let status = run_sign(
+    errors: &mut W,
+) -> u8 {
+    run_sign(
         alloc,
         &ToyScheme::new(),
         &mut SliceSource::new(key),
         &mut SliceSource::new(b"abc"),
         signature,
         &mut FixedRandom::new(&[0; 128]),
-        &mut prompt,
+        prompt,
         1555779966,
+        errors,
+    )
+}
+
+// Whether the sink took this text.
+fn took(sink: &VecSink, text: &str) -> bool {
+    sink.as_slice() == text.as_bytes()
+}
+
+// Whether `verify` ends with this exit status and says this text.
+fn verify_ends(
+    alloc: Global,
+    key: &[u8],
+    data: &[u8],
+    signature: &[u8],
+    status: u8,
+    text: &str,
+) -> bool {
+    let mut errors = VecSink::new(alloc);
+    let answer = verify_status(
+        alloc,
+        &mut SliceSource::new(key),
+        &mut ReaderSource::new(data),
+        &mut SliceSource::new(signature),
         &mut errors,
     );
-    (status, errors, prompt.writer)
+    let said = took(&errors, text);
+    answer == status && said
+}
+
+/// Whether `cat` ends with this exit status and says this text.
+pub fn cat_ends<P: Source, R: Rereader, Q: Source, O: Sink>(
+    alloc: Global,
+    key: &mut P,
+    data: &mut R,
+    signature: &mut Q,
+    out: &mut O,
+    status: u8,
+    text: &str,
+) -> bool {
+    let mut errors = VecSink::new(alloc);
+    let answer = cat_status(alloc, key, data, signature, out, &mut errors);
+    let said = took(&errors, text);
+    answer == status && said
+}
+
+// The same over data that seeks.
+fn cat_ends_over<O: Sink>(
+    alloc: Global,
+    key: &[u8],
+    data: &[u8],
+    signature: &[u8],
+    out: &mut O,
+    status: u8,
+    text: &str,
+) -> bool {
+    cat_ends(
+        alloc,
+        &mut ReaderSource::new(key),
+        &mut FileSource::new(Cursor::new(data)),
+        &mut ReaderSource::new(signature),
+        out,
+        status,
+        text,
+    )
+}
+
+// Whether `cat` over data that seeks ends so, and copies the data where its exit status is 0, and
+// otherwise nothing.
+fn cat_copies(
+    alloc: Global,
+    key: &[u8],
+    data: &[u8],
+    signature: &[u8],
+    status: u8,
+    text: &str,
+) -> bool {
+    let mut out = VecSink::new(alloc);
+    let ended = cat_ends_over(alloc, key, data, signature, &mut out, status, text);
+    let wanted: &[u8] = if status == 0 { data } else { b"" };
+    let copied = out.as_slice() == wanted;
+    ended && copied
+}
+
+// Whether `sign` ends with this exit status and says this text, and so its prompt.
+fn sign_ends<G: Sink>(
+    alloc: Global,
+    key: &[u8],
+    typed: &[u8],
+    signature: &mut G,
+    status: u8,
+    text: &str,
+    asked: &str,
+) -> bool {
+    let mut errors = VecSink::new(alloc);
+    let mut prompt = Prompt::new(SliceSource::new(typed), VecSink::new(alloc));
+    let answer = sign_status(alloc, key, &mut prompt, signature, &mut errors);
+    let said = took(&errors, text);
+    let shown = took(&prompt.writer, asked);
+    answer == status && said && shown
+}
+
+// Whether `sign` ends so, and makes this text.
+fn sign_makes(
+    alloc: Global,
+    key_and_typed: (&[u8], &[u8]),
+    status: u8,
+    said: &str,
+    asked: &str,
+    text: &str,
+) -> bool {
+    let (key, typed) = key_and_typed;
+    let mut signature = VecSink::new(alloc);
+    let ended = sign_ends(alloc, key, typed, &mut signature, status, said, asked);
+    let made = took(&signature, text);
+    ended && made
+}
+
+// Asserts of `verify` and of `cat` that they end with this exit status and say this text over a key,
+// data and a signature, and of `cat` that it copies the data where its exit status is 0.
+fn judges<A: Abort>(
+    rt: &A,
+    alloc: Global,
+    name: &str,
+    slices: (&[u8], &[u8], &[u8]),
+    status: u8,
+    text: &str,
+) {
+    let (key, data, signature) = slices;
+    let verified = verify_ends(alloc, key, data, signature, status, text);
+    assert!(rt; verified, "{name}");
+    let copied = cat_copies(alloc, key, data, signature, status, text);
+    assert!(rt; copied, "{name}");
 }
 
 #[test]
-fn verdicts_and_copies(rt: HostRuntime) -> Result<(), Fail> {
+fn verdicts_and_copies(rt: HostRuntime) {
     let alloc = rt.alloc();
-    let rows: [(&str, &[u8], &[u8], &[u8], u8, &str); 7] = [
-        (
-            "a good signature",
-            PUBLIC_KEY.as_bytes(),
-            b"abc",
-            SIGNATURE.as_bytes(),
-            0,
-            VERIFIED,
-        ),
-        (
-            "other data",
-            PUBLIC_KEY.as_bytes(),
-            b"abd",
-            SIGNATURE.as_bytes(),
-            1,
-            REFUSED,
-        ),
-        (
-            "no data",
-            PUBLIC_KEY.as_bytes(),
-            b"",
-            SIGNATURE.as_bytes(),
-            1,
-            REFUSED,
-        ),
-        (
-            "key and signature swapped",
-            SIGNATURE.as_bytes(),
-            b"abc",
-            PUBLIC_KEY.as_bytes(),
-            1,
-            NO_KEY,
-        ),
-        ("a key that is no UTF-8", b"\xff", b"abc", b"", 1, NOT_UTF8),
-        (
-            "a signature that is no UTF-8",
-            b"",
-            b"abc",
-            b"\xff",
-            1,
-            NOT_UTF8,
-        ),
-        (
-            "an empty signature",
-            PUBLIC_KEY.as_bytes(),
-            b"abc",
-            b"",
-            1,
-            NO_SIGNATURE,
-        ),
-    ];
-    for (name, key, data, signature, status, said) in rows {
-        let (answer, errors) = run_verify_over(alloc, key, data, signature);
-        assert_eq!(rt; answer, status, "{name}");
-        assert_eq!(rt; errors.as_slice(), said.as_bytes(), "{name}");
-        let mut out = VecSink::new(alloc);
-        let (answer, errors) = run_cat_over(alloc, key, data, signature, &mut out);
-        assert_eq!(rt; answer, status, "{name}");
-        assert_eq!(rt; errors.as_slice(), said.as_bytes(), "{name}");
-        let copied: &[u8] = if status == 0 { data } else { b"" };
-        assert_eq!(rt; out.as_slice(), copied, "{name}");
-    }
-    Ok(())
+    let key = PUBLIC_KEY.as_bytes();
+    let signature = SIGNATURE.as_bytes();
+    let nothing: &[u8] = b"";
+    let bad: &[u8] = b"\xff";
+    let data: &[u8] = b"abc";
+    let other: &[u8] = b"abd";
+    let good = (key, data, signature);
+    judges(&rt, alloc, "a good signature", good, 0, VERIFIED);
+    let other = (key, other, signature);
+    judges(&rt, alloc, "other data", other, 1, REFUSED);
+    let empty = (key, nothing, signature);
+    judges(&rt, alloc, "no data", empty, 1, REFUSED);
+    let swapped = (signature, data, key);
+    judges(&rt, alloc, "key and signature swapped", swapped, 1, NO_KEY);
+    let bad_key = (bad, data, nothing);
+    judges(&rt, alloc, "a key that is no UTF-8", bad_key, 1, NOT_UTF8);
+    let bad_signature = (nothing, data, bad);
+    let name = "a signature that is no UTF-8";
+    judges(&rt, alloc, name, bad_signature, 1, NOT_UTF8);
+    let unsigned = (key, data, nothing);
+    judges(&rt, alloc, "an empty signature", unsigned, 1, NO_SIGNATURE);
 }
 
 #[test]
-fn a_full_output_is_told_behind_the_status(rt: HostRuntime) -> Result<(), Fail> {
+fn a_full_output_is_told_behind_the_status(rt: HostRuntime) {
     let mut room = [0u8; 2];
-    let (status, errors) = run_cat_over(
+    let told = cat_ends_over(
         rt.alloc(),
         PUBLIC_KEY.as_bytes(),
         b"abc",
         SIGNATURE.as_bytes(),
         &mut WriterSink::new(&mut room[..]),
+        1,
+        UNCOPIED,
     );
-    assert_eq!(rt; status, 1);
-    assert_eq!(rt; errors.as_slice(), UNCOPIED.as_bytes());
-    assert_eq!(rt; room, *b"ab");
-    Ok(())
+    let begun = room == *b"ab";
+    assert!(rt; told && begun);
 }
 
 #[test]
-fn what_cannot_go_back_is_not_copied(rt: HostRuntime) -> Result<(), Fail> {
+fn what_cannot_go_back_is_not_copied(rt: HostRuntime) {
     let alloc = rt.alloc();
-    let mut errors = VecSink::new(alloc);
     let mut out = VecSink::new(alloc);
-    let status = run_cat(
+    let told = cat_ends(
         alloc,
-        &ToyScheme::new(),
         &mut SliceSource::new(PUBLIC_KEY.as_bytes()),
         &mut ReaderSource::new(b"abc".as_slice()),
         &mut SliceSource::new(SIGNATURE.as_bytes()),
         &mut out,
-        &mut errors,
+        1,
+        NO_WAY_BACK,
     );
-    assert_eq!(rt; status, 1);
-    assert_eq!(rt; errors.as_slice(), NO_WAY_BACK.as_bytes());
-    assert!(rt; out.as_slice().is_empty());
-    Ok(())
+    let nothing_copied = took(&out, "");
+    assert!(rt; told && nothing_copied);
+}
+
+// Asserts it.
+fn signs<A: Abort>(
+    rt: &A,
+    alloc: Global,
+    name: &str,
+    key_and_typed: (&[u8], &[u8]),
+    status: u8,
+    said: &str,
+    asked: &str,
+    text: &str,
+) {
+    let made = sign_makes(alloc, key_and_typed, status, said, asked, text);
+    assert!(rt; made, "{name}");
 }
 
 #[test]
-fn signatures_and_prompts(rt: HostRuntime) -> Result<(), Fail> {
+fn signatures_and_prompts(rt: HostRuntime) {
     let alloc = rt.alloc();
-    let rows: [(&str, &[u8], &[u8], u8, &str, &str, &str); 5] = [
-        (
-            "a key that was never sealed",
-            SECRET_KEY.as_bytes(),
-            b"",
-            0,
-            WARNING,
-            "",
-            SIGNED,
-        ),
-        (
-            "a sealed key",
-            SEALED_KEY.as_bytes(),
-            b"p\n",
-            0,
-            WARNING,
-            OPENED,
-            SIGNED,
-        ),
-        (
-            "a wrong password",
-            SEALED_KEY.as_bytes(),
-            b"q\n",
-            1,
-            WRONG_PASSWORD,
-            OPENED,
-            "",
-        ),
-        (
-            "an unknown key derivation",
-            UNKNOWN_KEY.as_bytes(),
-            b"p\n",
-            1,
-            UNSUPPORTED,
-            "",
-            "",
-        ),
-        (
-            "a key that is no UTF-8",
-            b"\xff",
-            b"p\n",
-            1,
-            NOT_UTF8,
-            "",
-            "",
-        ),
-    ];
-    for (name, key, typed, status, said, asked, text) in rows {
-        let mut signature = VecSink::new(alloc);
-        let (answer, errors, shown) = run_sign_over(alloc, key, typed, &mut signature);
-        assert_eq!(rt; answer, status, "{name}");
-        assert_eq!(rt; errors.as_slice(), said.as_bytes(), "{name}");
-        assert_eq!(rt; shown.as_slice(), asked.as_bytes(), "{name}");
-        assert_eq!(rt; signature.as_slice(), text.as_bytes(), "{name}");
-    }
-    Ok(())
+    let sealed = SEALED_KEY.as_bytes();
+    let right: &[u8] = b"p\n";
+    let wrong: &[u8] = b"q\n";
+    let nothing: &[u8] = b"";
+    let bad: &[u8] = b"\xff";
+    let name = "a key that was never sealed";
+    let open = (SECRET_KEY.as_bytes(), nothing);
+    signs(&rt, alloc, name, open, 0, WARNING, "", SIGNED);
+    let name = "a sealed key";
+    let opened = (sealed, right);
+    signs(&rt, alloc, name, opened, 0, WARNING, OPENED, SIGNED);
+    let name = "a wrong password";
+    let refused = (sealed, wrong);
+    signs(&rt, alloc, name, refused, 1, WRONG_PASSWORD, OPENED, "");
+    let name = "an unknown key derivation";
+    let unknown = (UNKNOWN_KEY.as_bytes(), right);
+    signs(&rt, alloc, name, unknown, 1, UNSUPPORTED, "", "");
+    let name = "a key that is no UTF-8";
+    signs(&rt, alloc, name, (bad, right), 1, NOT_UTF8, "", "");
 }
 
 #[test]
-fn a_full_signature_is_told(rt: HostRuntime) -> Result<(), Fail> {
+fn a_full_signature_is_told(rt: HostRuntime) {
     let mut room = [0u8; 9];
-    let (status, errors, _shown) = run_sign_over(
+    let told = sign_ends(
         rt.alloc(),
         SECRET_KEY.as_bytes(),
         b"",
         &mut WriterSink::new(&mut room[..]),
+        1,
+        UNWRITTEN,
+        "",
     );
-    assert_eq!(rt; status, 1);
-    assert_eq!(rt; errors.as_slice(), UNWRITTEN.as_bytes());
-    assert_eq!(rt; room, *b"untrusted");
-    Ok(())
+    let begun = room == *b"untrusted";
+    assert!(rt; told && begun);
 }
 
 #[test]
-fn a_full_error_stream_fails_only_the_status(rt: HostRuntime) -> Result<(), Fail> {
+fn a_full_error_stream_fails_only_the_status(rt: HostRuntime) {
     let alloc = rt.alloc();
     let mut out = VecSink::new(alloc);
     // Room for the warning and five bytes more.
     let mut room = [0u8; 50];
-    let status = run_cat(
+    let status = cat_status(
         alloc,
-        &ToyScheme::new(),
         &mut SliceSource::new(PUBLIC_KEY.as_bytes()),
         &mut SliceSource::new(b"abc"),
         &mut SliceSource::new(SIGNATURE.as_bytes()),
         &mut out,
         &mut WriterSink::new(&mut room[..]),
     );
-    assert_eq!(rt; status, 1);
-    assert!(rt; &room[..] == b"warning: insecure toy scheme, for tests only\nSigna".as_slice());
-    assert!(rt; out.as_slice().is_empty());
-    Ok(())
+    let nothing_copied = took(&out, "");
+    let begun = &room[..] == b"warning: insecure toy scheme, for tests only\nSigna".as_slice();
+    assert!(rt; status == 1 && begun && nothing_copied);
 }

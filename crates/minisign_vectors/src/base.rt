@@ -6,6 +6,7 @@ mod faults;
 mod limits;
 mod lines;
 mod prompts;
+mod reading;
 mod seeking;
 mod sizes;
 mod table;

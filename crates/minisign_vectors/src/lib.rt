@@ -11,3 +11,5 @@ mod base;
 mod hash;
 #[cfg(test)]
 mod kdf;
+#[cfg(test)]
+mod shown;

@@ -16,6 +16,7 @@ use minisign_fixtures::outcomes::{comes_to, counted, front, holds, is_record};
 use minisign_fixtures::prompts::{typed, typed_at_once};
 use minisign_fixtures::texts::{COUNTED_PUBLIC_TEXT, COUNTED_SEALED_UNDER_NOTHING};
 use std::alloc::Global;
+use std::process::Abort;
 
 // Sealed under `password`.
 const SEALED_LINE: &str =
@@ -73,9 +74,9 @@ fn is_text_of(bytes: &[u8], comment: &str, line: &str) -> bool {
 
 // Whether the pair is the one of these records, and is not sealed.
 fn is_pair(alloc: Global, pair: &KeyPair, public: &[u8], secret: &[u8]) -> bool {
-    is_record(&pair.pk.to_bytes(alloc), public)
-        && is_record(&pair.sk.to_bytes(alloc), secret)
-        && !pair.sk.is_encrypted()
+    let pk_bytes = pair.pk.to_bytes(alloc);
+    let sk_bytes = pair.sk.to_bytes(alloc);
+    is_record(&pk_bytes, public) && is_record(&sk_bytes, secret) && !pair.sk.is_encrypted()
 }
 
 // Whether a pair that is not sealed is made so of this number of random bytes, over two sinks with
@@ -111,28 +112,35 @@ fn is_written_raw(
         && secret.as_slice() == front(&sk_record, took.1)
 }
 
+// Asserts it of sinks with this room each, that are flushed so many times.
+fn writes_raw<A: Abort>(
+    rt: &A,
+    alloc: Global,
+    random_bytes: usize,
+    pk_room: (usize, usize),
+    sk_room: (usize, usize),
+    expected: &str,
+    took: (usize, usize),
+) {
+    let public = LimitedSink::new(alloc, pk_room.0).flushed(pk_room.1);
+    let secret = LimitedSink::new(alloc, sk_room.0).flushed(sk_room.1);
+    let written = is_written_raw(alloc, random_bytes, public, secret, expected, took);
+    assert!(rt; written, "at {random_bytes} {pk_room:?} {sk_room:?}");
+}
+
 // The public sink gets 42 bytes and the secret one 158, and too few random bytes leave both alone.
 // Each row: how many random bytes there are, the room and the flushes of both sinks, the answer,
 // and what both took.
 #[test]
 fn raw_pairs_are_written(rt: HostRuntime) {
     let alloc = rt.alloc();
-    for (random_bytes, pk_room, pk_flushes, sk_room, sk_flushes, expected, took) in [
-        (40, 42, 1, 158, 1, ACCEPTED, (42, 158)),
-        (39, 42, 1, 158, 1, UNDRAWN, (0, 0)),
-        (0, 42, 1, 158, 1, UNDRAWN, (0, 0)),
-        (40, 41, 1, 158, 1, UNWRITTEN, (41, 0)),
-        (40, 42, 0, 158, 1, UNWRITTEN, (42, 0)),
-        (40, 42, 1, 1, 1, UNWRITTEN, (42, 1)),
-        (40, 42, 1, 158, 0, UNWRITTEN, (42, 158)),
-    ] {
-        let public = LimitedSink::new(alloc, pk_room).flushed(pk_flushes);
-        let secret = LimitedSink::new(alloc, sk_room).flushed(sk_flushes);
-        assert!(rt;
-            is_written_raw(alloc, random_bytes, public, secret, expected, took),
-            "at {random_bytes} {pk_room} {pk_flushes} {sk_room} {sk_flushes}"
-        );
-    }
+    writes_raw(&rt, alloc, 40, (42, 1), (158, 1), ACCEPTED, (42, 158));
+    writes_raw(&rt, alloc, 39, (42, 1), (158, 1), UNDRAWN, (0, 0));
+    writes_raw(&rt, alloc, 0, (42, 1), (158, 1), UNDRAWN, (0, 0));
+    writes_raw(&rt, alloc, 40, (41, 1), (158, 1), UNWRITTEN, (41, 0));
+    writes_raw(&rt, alloc, 40, (42, 0), (158, 1), UNWRITTEN, (42, 0));
+    writes_raw(&rt, alloc, 40, (42, 1), (1, 1), UNWRITTEN, (42, 1));
+    writes_raw(&rt, alloc, 40, (42, 1), (158, 0), UNWRITTEN, (42, 158));
 }
 
 // Whether both sinks hold the texts of the pair, with the comment by default, or nothing where there
@@ -174,30 +182,38 @@ fn is_made(
         && hold_texts(public.as_slice(), secret.as_slice(), line)
 }
 
+// Asserts it.
+fn makes<A: Abort>(
+    rt: &A,
+    alloc: Global,
+    random_bytes: usize,
+    bytes: &[u8],
+    expected: &str,
+    shown: &str,
+    line: &str,
+) {
+    let made = is_made(alloc, random_bytes, bytes, expected, shown, line);
+    assert!(rt; made, "at {random_bytes} {bytes:?}");
+}
+
 // What generation returns where the password is typed, what the prompt shows, and the secret key's
 // line.
 #[test]
 fn sealed_pairs_are_made_of_typed_passwords(rt: HostRuntime) {
-    let rows: [(usize, &[u8], &str, &str, &str); 6] = [
-        (72, b"p\np\n", ACCEPTED, SHOWN, SEALED_UNDER_P),
-        (
-            72,
-            b"\r\n\nx",
-            ACCEPTED,
-            MARKED,
-            COUNTED_SEALED_UNDER_NOTHING,
-        ),
-        (72, b"a\nb\n", DIFFERENT, BOTH_ASKED, ""),
-        (72, b"a\n", ENDED, BOTH_ASKED, ""),
-        (72, b"\xff\n", NO_UTF8, ONCE_ASKED, ""),
-        (71, b"p\np\n", UNDRAWN, "", ""),
-    ];
-    for (random_bytes, bytes, expected, shown, line) in rows {
-        assert!(rt;
-            is_made(rt.alloc(), random_bytes, bytes, expected, shown, line),
-            "at {random_bytes} {bytes:?}"
-        );
-    }
+    let alloc = rt.alloc();
+    let under_nothing = COUNTED_SEALED_UNDER_NOTHING;
+    makes(&rt, alloc, 72, b"p\np\n", ACCEPTED, SHOWN, SEALED_UNDER_P);
+    makes(&rt, alloc, 72, b"\r\n\nx", ACCEPTED, MARKED, under_nothing);
+    makes(&rt, alloc, 72, b"a\nb\n", DIFFERENT, BOTH_ASKED, "");
+    makes(&rt, alloc, 72, b"a\n", ENDED, BOTH_ASKED, "");
+    makes(&rt, alloc, 72, b"\xff\n", NO_UTF8, ONCE_ASKED, "");
+    makes(&rt, alloc, 71, b"p\np\n", UNDRAWN, "", "");
+}
+
+// Whether a sealed key does not sign.
+fn does_not_sign(alloc: Global, sk: &SecretKey) -> bool {
+    let refused = signed(alloc, sk, b"test");
+    sk.is_encrypted() && refused.is_err()
 }
 
 // What a sealed pair returns whose password is passed in, and what a public sink of this room and
@@ -229,7 +245,7 @@ fn is_written_sealed(
         None => sk_sink.as_slice().is_empty(),
     };
     let sealed = match &answer {
-        Ok(pair) => pair.sk.is_encrypted() && signed(alloc, &pair.sk, b"test").is_err(),
+        Ok(pair) => does_not_sign(alloc, &pair.sk),
         Err(_) => true,
     };
     comes_to(alloc, &answer, expected)
@@ -247,13 +263,27 @@ fn sealed_pairs_are_written(rt: HostRuntime) {
     assert!(rt; is_written_sealed(alloc, 9, UNWRITTEN, b"untrusted", None));
 }
 
-// Whether the text is neither that of an unsealed key nor one that opens.
-fn is_no_key(alloc: Global, text: &str) -> Result<bool> {
-    let sk_box = SecretKeyBox::from_string(alloc, text)?;
+// Whether the text is not that of an unsealed key.
+fn is_not_unsealed(alloc: Global, text: &str) -> bool {
+    let Ok(sk_box) = SecretKeyBox::from_string(alloc, text) else {
+        return false;
+    };
     let plain = sk_box.into_unencrypted_secret_key(alloc);
+    comes_to(alloc, &plain, "Io: Key might be encrypted")
+}
+
+// Whether the text is not one that opens.
+fn is_closed(alloc: Global, text: &str) -> bool {
     let sealed = opened(alloc, text, "");
-    let closed = comes_to(alloc, &sealed, "Verify: Wrong password for that key");
-    Ok(closed && comes_to(alloc, &plain, "Io: Key might be encrypted"))
+    comes_to(alloc, &sealed, "Verify: Wrong password for that key")
+}
+
+// Whether the key is written as neither a sealed one nor one that was never sealed.
+fn is_written_as_none(alloc: Global, sk: &SecretKey) -> bool {
+    let Ok(again) = text_of(alloc, sk) else {
+        return false;
+    };
+    is_not_unsealed(alloc, again.as_str()) && is_closed(alloc, again.as_str())
 }
 
 // Whether the counted pair accepts what the key signs.
@@ -264,41 +294,65 @@ fn signs_as_counted(alloc: Global, sk: &SecretKey) -> Result<bool> {
     Ok(judged && !sk.is_encrypted())
 }
 
-// Whether the text of a sealed key opens under its password; the opened key signs, and written again
-// it is neither a sealed key nor one that was never sealed.
-fn signs_once_it_is_opened(alloc: Global) -> Result<bool> {
+// Whether the text opens, and the opened key signs, and written again it is neither a sealed key
+// nor one that was never sealed.
+fn opens_and_signs(alloc: Global, text: &str) -> bool {
+    let Ok(sk) = opened(alloc, text, "") else {
+        return false;
+    };
+    let signs = signs_as_counted(alloc, &sk);
+    is_written_as_none(alloc, &sk) && holds(&signs)
+}
+
+// The text of a sealed pair's secret key.
+fn sealed_text(alloc: Global) -> Result<String> {
     let sealed = sealed_pair(alloc, "")?;
-    let text = text_of(alloc, &sealed.sk)?;
+    text_of(alloc, &sealed.sk)
+}
+
+// Whether the text of a sealed key is the one that was worked out, and opens under its password to
+// a key that signs.
+fn signs_once_it_is_opened(alloc: Global) -> bool {
+    let Ok(text) = sealed_text(alloc) else {
+        return false;
+    };
     let bytes = text.as_str().as_bytes();
-    let written = is_text_of(
-        bytes,
-        "rsign encrypted secret key",
-        COUNTED_SEALED_UNDER_NOTHING,
-    );
-    let sk = opened(alloc, text.as_str(), "")?;
-    let again = text_of(alloc, &sk)?;
-    let no_key = is_no_key(alloc, again.as_str())?;
-    let signs = signs_as_counted(alloc, &sk)?;
-    Ok(written && no_key && signs)
+    let comment = "rsign encrypted secret key";
+    is_text_of(bytes, comment, COUNTED_SEALED_UNDER_NOTHING)
+        && opens_and_signs(alloc, text.as_str())
 }
 
 #[test]
 fn sealed_keys_sign_once_they_are_opened(rt: HostRuntime) {
-    assert!(rt; holds(&signs_once_it_is_opened(rt.alloc())));
+    assert!(rt; signs_once_it_is_opened(rt.alloc()));
+}
+
+// Whether the public key comes back from its bytes.
+fn public_comes_back(alloc: Global, pk: &PublicKey) -> Result<bool> {
+    let bytes = pk.to_bytes(alloc)?;
+    let read = PublicKey::from_bytes(&bytes)?;
+    Ok(read == *pk)
+}
+
+// Whether the secret key comes back from its bytes.
+fn secret_comes_back(alloc: Global, sk: &SecretKey) -> Result<bool> {
+    let bytes = sk.to_bytes(alloc)?;
+    let read = SecretKey::from_bytes(&bytes)?;
+    Ok(read == *sk)
+}
+
+// Whether a copy has both keys.
+fn is_copied(pair: &KeyPair) -> Result<bool> {
+    let copy = pair.clone()?;
+    Ok(copy.pk == pair.pk && copy.sk == pair.sk)
 }
 
 // Whether both keys of a pair that is not sealed come back from their bytes, and as a copy.
-fn comes_back(alloc: Global, pair: &KeyPair) -> Result<bool> {
-    let copy = pair.clone()?;
-    let pk = PublicKey::from_bytes(&pair.pk.to_bytes(alloc)?)?;
-    let sk = SecretKey::from_bytes(&pair.sk.to_bytes(alloc)?)?;
-    Ok(
-        pk == pair.pk
-            && sk == pair.sk
-            && copy.pk == pair.pk
-            && copy.sk == pair.sk
-            && !pair.sk.is_encrypted(),
-    )
+fn comes_back(alloc: Global, pair: &KeyPair) -> bool {
+    let public = public_comes_back(alloc, &pair.pk);
+    let secret = secret_comes_back(alloc, &pair.sk);
+    let copied = is_copied(pair);
+    holds(&public) && holds(&secret) && holds(&copied) && !pair.sk.is_encrypted()
 }
 
 // Whether the box is accepted under the public key for the data alone.
@@ -317,28 +371,57 @@ fn signs(alloc: Global, key: &SecretKey, pk: &PublicKey) -> Result<bool> {
     Ok(whole && is_right(alloc, pk, &bare))
 }
 
+// Whether no password opens the text.
+fn is_not_sealed(alloc: Global, text: &str) -> bool {
+    let asked = opened(alloc, text, "");
+    comes_to(alloc, &asked, "Io: Key is not encrypted")
+}
+
+// Whether the key of the text signs.
+fn signs_from_text(alloc: Global, text: &str, pk: &PublicKey) -> Result<bool> {
+    let sk_box = SecretKeyBox::from_string(alloc, text)?;
+    let sk = sk_box.into_unencrypted_secret_key(alloc)?;
+    signs(alloc, &sk, pk)
+}
+
 // Whether the key is read again from its text, which no password opens.
-fn is_read_again(alloc: Global, pair: &KeyPair) -> Result<bool> {
-    let text = text_of(alloc, &pair.sk)?;
-    let asked = opened(alloc, text.as_str(), "");
-    let sk = SecretKeyBox::from_string(alloc, text.as_str())?.into_unencrypted_secret_key(alloc)?;
-    let signs = signs(alloc, &sk, &pair.pk)?;
-    Ok(signs && comes_to(alloc, &asked, "Io: Key is not encrypted"))
+fn is_read_again(alloc: Global, pair: &KeyPair) -> bool {
+    let Ok(text) = text_of(alloc, &pair.sk) else {
+        return false;
+    };
+    let signs = signs_from_text(alloc, text.as_str(), &pair.pk);
+    is_not_sealed(alloc, text.as_str()) && holds(&signs)
+}
+
+// Whether both keys are encoded as one text.
+fn are_encoded_alike(alloc: Global, one: &PublicKey, other: &PublicKey) -> Result<bool> {
+    let encoded = one.to_base64(alloc)?;
+    let own = other.to_base64(alloc)?;
+    Ok(encoded.as_str() == own.as_str())
+}
+
+// Whether the pair's public key is the one of its secret key, under which it signs.
+fn is_public_half(alloc: Global, pair: &KeyPair) -> bool {
+    let Ok(made) = PublicKey::from_secret_key(&pair.sk) else {
+        return false;
+    };
+    let alike = are_encoded_alike(alloc, &made, &pair.pk);
+    let signs = signs(alloc, &pair.sk, &made);
+    holds(&alike) && holds(&signs)
 }
 
 // A pair that is not sealed: its bytes, its texts, and its signatures.
-fn is_used_unsealed(alloc: Global) -> Result<bool> {
-    let pair = counted_pair()?;
-    let made = PublicKey::from_secret_key(&pair.sk)?;
-    let encoded = made.to_base64(alloc)?;
-    let own = pair.pk.to_base64(alloc)?;
-    let back = comes_back(alloc, &pair)?;
-    let signs = signs(alloc, &pair.sk, &made)?;
-    let again = is_read_again(alloc, &pair)?;
-    Ok(encoded.as_str() == own.as_str() && back && signs && again)
+fn is_used_unsealed(alloc: Global) -> bool {
+    let Ok(pair) = counted_pair() else {
+        return false;
+    };
+    let half = is_public_half(alloc, &pair);
+    let back = comes_back(alloc, &pair);
+    let again = is_read_again(alloc, &pair);
+    half && back && again
 }
 
 #[test]
 fn unsealed_pairs_sign_and_are_read_again(rt: HostRuntime) {
-    assert!(rt; holds(&is_used_unsealed(rt.alloc())));
+    assert!(rt; is_used_unsealed(rt.alloc()));
 }

@@ -19,7 +19,8 @@ const UNSUPPORTED: &str = "Io: Unsupported encryption algorithm";
 
 // Whether a sealed key does not sign.
 fn does_not_sign(alloc: Global, sk: &SecretKey) -> bool {
-    comes_to(alloc, &signed(alloc, sk, b"test"), SEALED) && sk.is_encrypted()
+    let refused = signed(alloc, sk, b"test");
+    comes_to(alloc, &refused, SEALED) && sk.is_encrypted()
 }
 
 // Whether a key that is sealed no more signs.
@@ -29,19 +30,25 @@ fn signs(alloc: Global, sk: &SecretKey, pk: &PublicKey) -> Result<bool> {
     Ok(judged && !sk.is_encrypted())
 }
 
+// Whether the text of the key opens under its password to a key that signs.
+fn opens_and_signs(alloc: Global, sk: &SecretKey, password: &str, pk: &PublicKey) -> Result<bool> {
+    let text = text_of(alloc, sk)?;
+    let sk = opened(alloc, text.as_str(), password)?;
+    signs(alloc, &sk, pk)
+}
+
 // Whether a sealed key does not sign, and its text opens under its password to a key that signs.
 fn signs_once_it_is_opened(alloc: Global, password: &str) -> Result<bool> {
     let pair = sealed_pair(alloc, password)?;
-    let text = text_of(alloc, &pair.sk)?;
-    let sk = opened(alloc, text.as_str(), password)?;
-    let signs = signs(alloc, &sk, &pair.pk)?;
-    Ok(signs && does_not_sign(alloc, &pair.sk))
+    let opens = opens_and_signs(alloc, &pair.sk, password, &pair.pk);
+    Ok(does_not_sign(alloc, &pair.sk) && holds(&opens))
 }
 
 #[test]
 fn a_sealed_pair_signs_once_its_text_is_opened(rt: HostRuntime) {
     for password in ["password", ""] {
-        assert!(rt; holds(&signs_once_it_is_opened(rt.alloc(), password)));
+        let signs = signs_once_it_is_opened(rt.alloc(), password);
+        assert!(rt; holds(&signs));
     }
 }
 
@@ -53,32 +60,58 @@ fn has_default_comments(alloc: Global, signature_box: &SignatureBox) -> bool {
     is_text(&trusted, "timestamp:0") && said
 }
 
+// The public key of a text.
+fn read_public(alloc: Global, public: &str) -> Result<PublicKey> {
+    PublicKeyBox::from_string(alloc, public)?.into_public_key(alloc)
+}
+
 // Whether the text of a signature has the comments by default, and vouches for the data under the
 // text of the public key.
 fn is_vouched_for(alloc: Global, public: &str, text: &str) -> Result<bool> {
     let signature_box = SignatureBox::from_string(alloc, text)?;
-    let pk = PublicKeyBox::from_string(alloc, public)?.into_public_key(alloc)?;
+    let pk = read_public(alloc, public)?;
     let judged = is_judged(alloc, &pk, &signature_box, b"lorem ipsum", "accepted");
     Ok(judged && has_default_comments(alloc, &signature_box))
+}
+
+// The text of the signature by the key of a text, which is opened.
+fn signed_by_key(alloc: Global, secret: &str) -> Result<String> {
+    let sk = opened(alloc, secret, "key password")?;
+    let signature_box = signed(alloc, &sk, b"lorem ipsum")?;
+    signature_box.into_string(alloc)
+}
+
+// The same by the text and its password.
+fn signed_by_text(alloc: Global, secret: &str) -> Result<String> {
+    signed_text(
+        alloc,
+        secret,
+        Some("key password"),
+        &mut typed(alloc, b""),
+        &mut SliceSource::new(b"lorem ipsum"),
+        &mut FixedRandom::new(&counted()),
+    )
+}
+
+// Whether both are one text, which is vouched for.
+fn is_signed(alloc: Global, public: &str, secret: &str) -> Result<bool> {
+    let text = signed_by_key(alloc, secret)?;
+    let again = signed_by_text(alloc, secret)?;
+    let vouched_for = is_vouched_for(alloc, public, text.as_str());
+    Ok(again.as_str() == text.as_str() && holds(&vouched_for))
+}
+
+// The text of a public key.
+fn public_text_of(alloc: Global, pk: &PublicKey) -> Result<String> {
+    Ok(pk.to_box(alloc)?.into_string())
 }
 
 // Whether all that goes from one party to another goes as a text: both keys, and the signature.
 fn goes_through_texts(alloc: Global) -> Result<bool> {
     let pair = sealed_pair(alloc, "key password")?;
-    let public = pair.pk.to_box(alloc)?.into_string();
+    let public = public_text_of(alloc, &pair.pk)?;
     let secret = text_of(alloc, &pair.sk)?;
-    let sk = opened(alloc, secret.as_str(), "key password")?;
-    let text = signed(alloc, &sk, b"lorem ipsum")?.into_string(alloc)?;
-    let again = signed_text(
-        alloc,
-        secret.as_str(),
-        Some("key password"),
-        &mut typed(alloc, b""),
-        &mut SliceSource::new(b"lorem ipsum"),
-        &mut FixedRandom::new(&counted()),
-    )?;
-    let vouched_for = is_vouched_for(alloc, public.as_str(), text.as_str())?;
-    Ok(vouched_for && again.as_str() == text.as_str())
+    is_signed(alloc, public.as_str(), secret.as_str())
 }
 
 #[test]

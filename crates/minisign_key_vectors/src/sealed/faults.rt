@@ -10,32 +10,41 @@ use minisign_fixtures::keys::{CHECKSUM, secret_record};
 use minisign_fixtures::outcomes::comes_to;
 use minisign_fixtures::texts::{SEALED, SECRET_TEXT};
 use std::alloc::Global;
-
-const WAYS: [Way; 3] = [Way::AnyParts, Way::Within(512), Way::Keeping(3)];
+use std::process::Abort;
 
 // A line without an end.
 const LONG: [u8; 1026] = [b'a'; 1026];
 
-// Whether each call refuses the box so over a prompt whose reader fails behind so many reads, and
+// Whether this call refuses the box so over a prompt whose reader fails behind so many reads, and
 // whose writer has this room.
+fn is_refused_by(
+    alloc: Global,
+    way: Way,
+    sk_box: &SecretKeyBox,
+    typed: (&[u8], u64),
+    room: usize,
+    expected: &str,
+) -> bool {
+    let Ok(copy) = sk_box.try_clone(alloc) else {
+        return false;
+    };
+    let reader = FailsAfter::new(typed.0, typed.1);
+    let mut prompt = Prompt::new(reader, LimitedSink::new(alloc, room));
+    let answer = opened(alloc, copy, None, &mut prompt, way);
+    comes_to(alloc, &answer, expected)
+}
+
+// Whether each call does.
 fn is_refused(
     alloc: Global,
     sk_box: &SecretKeyBox,
     typed: (&[u8], u64),
     room: usize,
     expected: &str,
-) -> Result<bool> {
-    let (bytes, reads) = typed;
-    for way in WAYS {
-        let reader = FailsAfter::new(bytes, reads);
-        let mut prompt = Prompt::new(reader, LimitedSink::new(alloc, room));
-        let copy = sk_box.try_clone(alloc)?;
-        let answer = opened(alloc, copy, None, &mut prompt, way);
-        if !comes_to(alloc, &answer, expected) {
-            return Ok(false);
-        }
-    }
-    Ok(true)
+) -> bool {
+    is_refused_by(alloc, Way::AnyParts, sk_box, typed, room, expected)
+        && is_refused_by(alloc, Way::Within(512), sk_box, typed, room, expected)
+        && is_refused_by(alloc, Way::Keeping(3), sk_box, typed, room, expected)
 }
 
 // The same of a text.
@@ -45,56 +54,62 @@ fn is_refused_text(
     typed: (&[u8], u64),
     room: usize,
     expected: &str,
-) -> Result<bool> {
-    let sk_box = SecretKeyBox::from_string(alloc, text)?;
+) -> bool {
+    let Ok(sk_box) = SecretKeyBox::from_string(alloc, text) else {
+        return false;
+    };
     is_refused(alloc, &sk_box, typed, room, expected)
 }
 
-// Each row: the text, what is typed, how many reads pass, the room of the writer, and the fault.
+// Asserts it.
+fn refuses<A: Abort>(
+    rt: &A,
+    alloc: Global,
+    text: &str,
+    typed: (&[u8], u64),
+    room: usize,
+    expected: &str,
+) {
+    let refused = is_refused_text(alloc, text, typed, room, expected);
+    assert!(rt; refused, "at {expected}");
+}
+
+// Each row: the text, what is typed and how many reads pass, the room of the writer, and the fault.
 #[test]
-fn faults_of_texts_and_prompts(rt: HostRuntime) {
-    let rows: [(&str, &[u8], u64, usize, &str); 12] = [
-        ("", b"p\n", 9, 99, "Io: Missing comment in secret key"),
-        (
-            "c\n",
-            b"p\n",
-            9,
-            99,
-            "Io: Missing encoded key in secret key",
-        ),
-        ("c\n!\n", b"p\n", 9, 99, "Encoding: invalid base64"),
-        (
-            "c\nAAAA\n",
-            b"p\n",
-            9,
-            99,
-            "Io: failed to fill whole buffer",
-        ),
-        (SECRET_TEXT, b"p\n", 9, 99, "Io: Key is not encrypted"),
-        (SEALED, b"", 9, 99, "Io: unexpected end of input"),
-        (
-            SEALED,
-            b"\xff\n",
-            9,
-            99,
-            "Io: stream did not contain valid UTF-8",
-        ),
-        (
-            SEALED,
-            &LONG,
-            2000,
-            99,
-            "Misc: passphrase can't exceed 1024 bytes length",
-        ),
-        (SEALED, b"p\n", 1, 99, "Io: reading failed"),
-        (SEALED, b"p\n", 9, 4, "Io: writing failed"),
-        (SEALED, b"p\n", 9, 80, "Io: writing failed"),
-        (SEALED, b"p\n", 9, 99, "Verify: Wrong password for that key"),
-    ];
-    for (text, bytes, reads, room, expected) in rows {
-        let refused = is_refused_text(rt.alloc(), text, (bytes, reads), room, expected);
-        assert!(rt; matches!(refused, Ok(true)), "at {expected}");
-    }
+fn faults_of_texts(rt: HostRuntime) {
+    let alloc = rt.alloc();
+    let no_comment = "Io: Missing comment in secret key";
+    let no_key = "Io: Missing encoded key in secret key";
+    let too_short = "Io: failed to fill whole buffer";
+    let unsealed = "Io: Key is not encrypted";
+    refuses(&rt, alloc, "", (b"p\n", 9), 99, no_comment);
+    refuses(&rt, alloc, "c\n", (b"p\n", 9), 99, no_key);
+    refuses(
+        &rt,
+        alloc,
+        "c\n!\n",
+        (b"p\n", 9),
+        99,
+        "Encoding: invalid base64",
+    );
+    refuses(&rt, alloc, "c\nAAAA\n", (b"p\n", 9), 99, too_short);
+    refuses(&rt, alloc, SECRET_TEXT, (b"p\n", 9), 99, unsealed);
+}
+
+#[test]
+fn faults_of_prompts(rt: HostRuntime) {
+    let alloc = rt.alloc();
+    let ended = "Io: unexpected end of input";
+    let no_utf8 = "Io: stream did not contain valid UTF-8";
+    let too_long = "Misc: passphrase can't exceed 1024 bytes length";
+    let wrong = "Verify: Wrong password for that key";
+    refuses(&rt, alloc, SEALED, (b"", 9), 99, ended);
+    refuses(&rt, alloc, SEALED, (b"\xff\n", 9), 99, no_utf8);
+    refuses(&rt, alloc, SEALED, (&LONG, 2000), 99, too_long);
+    refuses(&rt, alloc, SEALED, (b"p\n", 1), 99, "Io: reading failed");
+    refuses(&rt, alloc, SEALED, (b"p\n", 9), 4, "Io: writing failed");
+    refuses(&rt, alloc, SEALED, (b"p\n", 9), 80, "Io: writing failed");
+    refuses(&rt, alloc, SEALED, (b"p\n", 9), 99, wrong);
 }
 
 // Whether key A's record under this key derivation and these limits is refused so.
@@ -112,7 +127,7 @@ fn is_refused_record(
     operations_part.copy_from_slice(&operations.to_le_bytes());
     memory_part.copy_from_slice(&memory.to_le_bytes());
     let sk_box = SecretKey::from_bytes(&record)?.to_box(alloc, None)?;
-    is_refused(alloc, &sk_box, (b"p\n", 9), 99, expected)
+    Ok(is_refused(alloc, &sk_box, (b"p\n", 9), 99, expected))
 }
 
 #[test]

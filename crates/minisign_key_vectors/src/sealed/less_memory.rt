@@ -26,20 +26,24 @@ fn sealed_box(alloc: Global) -> Result<SecretKeyBox> {
     pair.sk.to_box(alloc, None)
 }
 
+// The record of the key that opens with all rows.
+fn opened_whole(alloc: Global, sk_box: &SecretKeyBox) -> Result<Vec<u8>> {
+    let copy = sk_box.try_clone(alloc)?;
+    let mut prompt = typed(alloc, b"");
+    let key = opened(alloc, copy, Some("password"), &mut prompt, Way::AnyParts)?;
+    key.to_bytes(alloc)
+}
+
 // Whether the key that opens with every k-th row kept is the one that opens with all of them, with
 // a password that is passed in and with a typed one.
 fn is_the_same(alloc: Global, k: u64) -> Result<bool> {
-    let sk_box = sealed_box(alloc)?;
-    let mut prompt = typed(alloc, b"");
-    let copy = sk_box.try_clone(alloc)?;
-    let whole = opened(alloc, copy, Some("password"), &mut prompt, Way::AnyParts)?;
-    let whole = whole.to_bytes(alloc)?;
-    let copy = sk_box.try_clone(alloc)?;
     let way = Way::Keeping(k);
-    Ok(
-        gives(alloc, Ok(copy), Some("password"), b"", way, &whole)
-            && gives(alloc, Ok(sk_box), None, b"password\n", way, &whole),
-    )
+    let sk_box = sealed_box(alloc)?;
+    let whole = opened_whole(alloc, &sk_box)?;
+    let copy = sk_box.try_clone(alloc);
+    let handed = gives(alloc, copy, Some("password"), b"", way, &whole);
+    let typed = gives(alloc, Ok(sk_box), None, b"password\n", way, &whole);
+    Ok(handed && typed)
 }
 
 #[test]

@@ -13,6 +13,7 @@ use minisign_fixtures::keys::{CHECKSUM, secret_record};
 use minisign_fixtures::outcomes::{beginning, comes_to, holds};
 use minisign_fixtures::texts::{SEALED, SEALED_AS_MINISIGN, SEALED_AS_USUAL, SEALED_WITH_NOTHING};
 use std::alloc::Global;
+use std::process::Abort;
 
 // What a prompt is told up to the password, up to the derivation, and in all.
 const ASKED: &str = "Password: ";
@@ -93,18 +94,27 @@ fn sealed_keys_stay_closed_to_other_passwords(rt: HostRuntime) {
     }
 }
 
+// The key that opens to an empty password.
+fn opened_with_nothing(alloc: Global) -> Result<SecretKey> {
+    let sk_box = SecretKeyBox::from_string(alloc, SEALED_WITH_NOTHING)?;
+    let mut prompt = Prompt::new(SliceSource::new(b"\n"), LimitedSink::new(alloc, 100));
+    opened(alloc, sk_box, None, &mut prompt, Way::AnyParts)
+}
+
+// Whether the box is not that of an unsealed key.
+fn is_not_unsealed(alloc: Global, sk_box: SecretKeyBox) -> bool {
+    let plain = SecretKey::from_unencrypted_box(alloc, sk_box);
+    comes_to(alloc, &plain, "Io: Key might be encrypted")
+}
+
 // Whether an opened key is written in the clear, and is then neither an unsealed key nor one that
 // opens.
 fn is_written_as_it_stands(alloc: Global) -> Result<bool> {
-    let sk_box = SecretKeyBox::from_string(alloc, SEALED_WITH_NOTHING)?;
-    let mut prompt = Prompt::new(SliceSource::new(b"\n"), LimitedSink::new(alloc, 100));
-    let key = opened(alloc, sk_box, None, &mut prompt, Way::AnyParts)?;
+    let key = opened_with_nothing(alloc)?;
     let again = key.to_box(alloc, None)?;
-    let plain = SecretKey::from_unencrypted_box(alloc, again.try_clone(alloc)?);
-    Ok(
-        comes_to(alloc, &plain, "Io: Key might be encrypted")
-            && has_outcome(alloc, Ok(again), "", Way::AnyParts, WRONG),
-    )
+    let copy = again.try_clone(alloc)?;
+    let closed = has_outcome(alloc, Ok(again), "", Way::AnyParts, WRONG);
+    Ok(is_not_unsealed(alloc, copy) && closed)
 }
 
 #[test]
@@ -112,30 +122,36 @@ fn an_opened_key_is_written_as_it_stands(rt: HostRuntime) {
     assert!(rt; holds(&is_written_as_it_stands(rt.alloc())));
 }
 
+// Asserts this outcome of opening with these limits and this bound.
+fn is_bounded<A: Abort>(
+    rt: &A,
+    alloc: Global,
+    memory: u64,
+    operations: u64,
+    max_p: u32,
+    expected: &str,
+) {
+    let sk_box = box_of(alloc, &limited_record(b"Sc", memory, operations));
+    let came = has_outcome(alloc, sk_box, "p", Way::Within(max_p), expected);
+    assert!(rt; came, "at {memory} {operations} {max_p}");
+}
+
 // Key A's record that is not sealed restores no checksum.
 #[test]
 fn limits_and_work_are_bounded(rt: HostRuntime) {
     let alloc = rt.alloc();
-    for (memory, operations, max_p, expected) in [
-        (0, u64::MAX, 16, TOO_MUCH_WORK),
-        (0, 0, 511, TOO_MUCH_WORK),
-        (0, 0, 512, WRONG),
-        (33554432, 1048576, 0, TOO_MUCH_WORK),
-        (1073741825, 0, 0, TOO_HIGH),
-        (0, 1099511627776, 0, INVALID),
-        (0, 1099511627776, u32::MAX, INVALID),
-        (1073741825, 0, u32::MAX, TOO_HIGH),
-        (u64::MAX, 0, u32::MAX, TOO_HIGH),
-        (1073741824, 0, u32::MAX, WRONG),
-        (1073741824, 0, 1, WRONG),
-        (1073741824, 0, 0, TOO_MUCH_WORK),
-    ] {
-        let sk_box = box_of(alloc, &limited_record(b"Sc", memory, operations));
-        assert!(rt;
-            has_outcome(alloc, sk_box, "p", Way::Within(max_p), expected),
-            "at {memory} {operations} {max_p}"
-        );
-    }
+    is_bounded(&rt, alloc, 0, u64::MAX, 16, TOO_MUCH_WORK);
+    is_bounded(&rt, alloc, 0, 0, 511, TOO_MUCH_WORK);
+    is_bounded(&rt, alloc, 0, 0, 512, WRONG);
+    is_bounded(&rt, alloc, 33554432, 1048576, 0, TOO_MUCH_WORK);
+    is_bounded(&rt, alloc, 1073741825, 0, 0, TOO_HIGH);
+    is_bounded(&rt, alloc, 0, 1099511627776, 0, INVALID);
+    is_bounded(&rt, alloc, 0, 1099511627776, u32::MAX, INVALID);
+    is_bounded(&rt, alloc, 1073741825, 0, u32::MAX, TOO_HIGH);
+    is_bounded(&rt, alloc, u64::MAX, 0, u32::MAX, TOO_HIGH);
+    is_bounded(&rt, alloc, 1073741824, 0, u32::MAX, WRONG);
+    is_bounded(&rt, alloc, 1073741824, 0, 1, WRONG);
+    is_bounded(&rt, alloc, 1073741824, 0, 0, TOO_MUCH_WORK);
 }
 
 #[test]
@@ -210,32 +226,46 @@ fn keys_of_other_derivations(rt: HostRuntime) {
     }
 }
 
+// Asserts that opening with what is typed comes out so.
+fn asks<A: Abort>(
+    rt: &A,
+    alloc: Global,
+    text: &str,
+    bytes: &[u8],
+    outcome: &str,
+    told: &str,
+    unread: usize,
+) {
+    let sk_box = SecretKeyBox::from_string(alloc, text);
+    let wanted = Wanted {
+        outcome,
+        told,
+        unread,
+    };
+    let came = comes_out(alloc, sk_box, None, bytes, Way::AnyParts, wanted);
+    assert!(rt; came, "at {bytes:?}");
+}
+
 // Each row: the text, what is typed, the outcome, what the prompt is told, and what is left.
 #[test]
 fn a_password_is_asked_for(rt: HostRuntime) {
     let alloc = rt.alloc();
-    let rows: [(&str, &[u8], &str, &str, usize); 8] = [
-        (SEALED, b"password\nmore", "accepted", DONE, 4),
-        (SEALED, b"password", "accepted", DONE, 0),
-        (SEALED, b"password\r\n", "accepted", DONE, 0),
-        (SEALED, b"pass\n", WRONG, DONE, 0),
-        (SEALED, b"password\r", WRONG, DONE, 0),
-        (SEALED_WITH_NOTHING, b"\n\n", "accepted", MARKED, 1),
-        (SEALED, b"", ENDED, ASKED, 0),
-        (SEALED, b"\xff\n", NO_UTF8, ASKED, 0),
-    ];
-    for (text, bytes, outcome, told, unread) in rows {
-        let sk_box = SecretKeyBox::from_string(alloc, text);
-        let wanted = Wanted {
-            outcome,
-            told,
-            unread,
-        };
-        assert!(rt;
-            comes_out(alloc, sk_box, None, bytes, Way::AnyParts, wanted),
-            "at {bytes:?}"
-        );
-    }
+    asks(&rt, alloc, SEALED, b"password\nmore", "accepted", DONE, 4);
+    asks(&rt, alloc, SEALED, b"password", "accepted", DONE, 0);
+    asks(&rt, alloc, SEALED, b"password\r\n", "accepted", DONE, 0);
+    asks(&rt, alloc, SEALED, b"pass\n", WRONG, DONE, 0);
+    asks(&rt, alloc, SEALED, b"password\r", WRONG, DONE, 0);
+    asks(
+        &rt,
+        alloc,
+        SEALED_WITH_NOTHING,
+        b"\n\n",
+        "accepted",
+        MARKED,
+        1,
+    );
+    asks(&rt, alloc, SEALED, b"", ENDED, ASKED, 0);
+    asks(&rt, alloc, SEALED, b"\xff\n", NO_UTF8, ASKED, 0);
 }
 
 // The limits and the bound are tested once the password is there, and before the derivation.
@@ -272,25 +302,24 @@ fn fills(alloc: Global, room: usize, memory: u64, bytes: &[u8], outcome: &str) -
     comes_to(alloc, &answer, outcome) && writer.as_slice() == beginning(DONE, room).as_bytes()
 }
 
+// Asserts it.
+fn is_told<A: Abort>(rt: &A, alloc: Global, room: usize, memory: u64, bytes: &[u8], outcome: &str) {
+    let filled = fills(alloc, room, memory, bytes, outcome);
+    assert!(rt; filled, "at {room} {memory}");
+}
+
 // A writer that fails at the line behind the derivation is told before a wrong password, and after
 // the limits.
 #[test]
 fn failing_writers_are_told_in_their_place(rt: HostRuntime) {
-    let rows: [(usize, u64, &[u8], &str); 9] = [
-        (4, 1048576, b"p\n", UNWRITTEN),
-        (10, 1048576, b"p\n", UNWRITTEN),
-        (75, 1048576, b"p\n", UNWRITTEN),
-        (76, 1048576, b"p\n", UNWRITTEN),
-        (80, 1048576, b"p\n", UNWRITTEN),
-        (81, 1048576, b"p\n", WRONG),
-        (76, 1073741825, b"p\n", TOO_HIGH),
-        (75, 1073741825, b"p\n", UNWRITTEN),
-        (10, 1048576, b"", ENDED),
-    ];
-    for (room, memory, bytes, outcome) in rows {
-        assert!(rt;
-            fills(rt.alloc(), room, memory, bytes, outcome),
-            "at {room} {memory}"
-        );
-    }
+    let alloc = rt.alloc();
+    is_told(&rt, alloc, 4, 1048576, b"p\n", UNWRITTEN);
+    is_told(&rt, alloc, 10, 1048576, b"p\n", UNWRITTEN);
+    is_told(&rt, alloc, 75, 1048576, b"p\n", UNWRITTEN);
+    is_told(&rt, alloc, 76, 1048576, b"p\n", UNWRITTEN);
+    is_told(&rt, alloc, 80, 1048576, b"p\n", UNWRITTEN);
+    is_told(&rt, alloc, 81, 1048576, b"p\n", WRONG);
+    is_told(&rt, alloc, 76, 1073741825, b"p\n", TOO_HIGH);
+    is_told(&rt, alloc, 75, 1073741825, b"p\n", UNWRITTEN);
+    is_told(&rt, alloc, 10, 1048576, b"", ENDED);
 }

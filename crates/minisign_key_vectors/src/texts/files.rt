@@ -3,13 +3,18 @@
 use crate::generated::calls::counted_pair;
 use crate::texts::joined;
 use minisign::{PublicKey, Result, SecretKey, SignatureBox};
+use minisign_base::devices::sinks::VecSink;
+use minisign_base::devices::sources::SliceSource;
+use minisign_base::prompt::Prompt;
 use minisign_fixtures::keys::{IDENTIFIER, PUBLIC_BYTES, public_record};
-use minisign_fixtures::outcomes::{comes_to, holds, is_record, is_text};
+use minisign_fixtures::outcomes::{comes_to, is_record, is_text};
 use minisign_fixtures::prompts::{handed, typed_at_once};
 use minisign_fixtures::texts::{COUNTED_SEALED_UNDER_NOTHING, KEY_TEXT, SIGNATURE_TEXT};
+use std::alloc::Global;
 use std::fs::OpenOptions;
 use std::io::Write;
 use std::os::unix::fs::OpenOptionsExt;
+use std::process::Abort;
 use std::test::Fail;
 use std::{env, fs, process};
 
@@ -40,15 +45,6 @@ enum Kind {
     Signature,
 }
 
-// Names of what gives no text, and the fault.
-const NO_TEXTS: [(&str, &str); 5] = [
-    ("missing", UNREADABLE),
-    ("empty/inside", UNREADABLE),
-    (".", UNREADABLE),
-    ("ff", NOT_UTF8),
-    ("long", NOT_UTF8),
-];
-
 // What stands in a file behind the first line, without the last line feed.
 fn body_of(kind: Kind) -> &'static str {
     match kind {
@@ -60,23 +56,53 @@ fn body_of(kind: Kind) -> &'static str {
     }
 }
 
+// The three readers of files.
+fn read_public(rt: &HostRuntime, path: &str) -> Result<PublicKey> {
+    PublicKey::from_file(rt, rt.alloc(), path)
+}
+
+fn read_secret(
+    rt: &HostRuntime,
+    path: &str,
+    password: Option<&str>,
+    prompt: &mut Prompt<SliceSource, VecSink>,
+) -> Result<SecretKey> {
+    let password = handed(rt.alloc(), password)?;
+    SecretKey::from_file(rt, rt.alloc(), path, password, prompt)
+}
+
+fn read_signature(rt: &HostRuntime, path: &str) -> Result<SignatureBox> {
+    SignatureBox::from_file(rt, rt.alloc(), path)
+}
+
+// Whether reading the file as a public key has this outcome.
+fn gives_public(rt: &HostRuntime, path: &str, expected: &str) -> bool {
+    let answer = read_public(rt, path);
+    comes_to(rt.alloc(), &answer, expected)
+}
+
 // Whether reading the file as a secret key has this outcome where an empty password is typed.
 // Nothing is asked for a file that gives no key.
 fn gives_secret(rt: &HostRuntime, path: &str, expected: &str) -> bool {
     let alloc = rt.alloc();
     let mut prompt = typed_at_once(alloc, b"\n");
-    let answer = SecretKey::from_file(rt, alloc, path, None, &mut prompt);
+    let answer = read_secret(rt, path, None, &mut prompt);
     let told = if answer.is_ok() { OPENING } else { "" };
     comes_to(alloc, &answer, expected) && prompt.writer.as_slice() == told.as_bytes()
 }
 
+// Whether reading the file as a signature has this outcome.
+fn gives_signature(rt: &HostRuntime, path: &str, expected: &str) -> bool {
+    let answer = read_signature(rt, path);
+    comes_to(rt.alloc(), &answer, expected)
+}
+
 // Whether reading the file so has this outcome.
 fn gives(rt: &HostRuntime, kind: Kind, path: &str, expected: &str) -> bool {
-    let alloc = rt.alloc();
     match kind {
-        Kind::Public => comes_to(alloc, &PublicKey::from_file(rt, alloc, path), expected),
+        Kind::Public => gives_public(rt, path, expected),
         Kind::Secret => gives_secret(rt, path, expected),
-        Kind::Signature => comes_to(alloc, &SignatureBox::from_file(rt, alloc, path), expected),
+        Kind::Signature => gives_signature(rt, path, expected),
     }
 }
 
@@ -85,154 +111,217 @@ fn path_of(rt: &HostRuntime, folder: &str, name: &str) -> Result<String> {
     joined(rt.alloc(), folder, "/", name)
 }
 
-// A folder for this test, which is empty.
-fn new_folder(rt: &HostRuntime, test: &str) -> std::result::Result<String, Fail> {
+// The path of a folder for this test.
+fn folder_path(rt: &HostRuntime, test: &str) -> std::result::Result<String, Fail> {
     let id = process::id(rt.process());
     let parent = env::temp_dir(rt)?;
     let folder = format!(in rt.alloc(); "{}/minisign_{test}_{id}", parent.as_str())?;
-    if fs::exists(rt, folder.as_str())? {
-        fs::remove_dir_all(rt, folder.as_str())?;
-    }
-    fs::create_dir(rt, folder.as_str())?;
     Ok(folder)
 }
 
-// Writes a file of the folder, of three texts.
-fn write(rt: &HostRuntime, folder: &str, name: &str, parts: (&str, &str, &str)) -> Result<String> {
-    let path = path_of(rt, folder, name)?;
-    let text = joined(rt.alloc(), parts.0, parts.1, parts.2)?;
-    fs::write(rt, path.as_str(), text.as_bytes())?;
-    Ok(path)
+// Makes a folder that is empty.
+fn make_empty(rt: &HostRuntime, folder: &str) -> std::result::Result<(), Fail> {
+    if fs::exists(rt, folder)? {
+        fs::remove_dir_all(rt, folder)?;
+    }
+    fs::create_dir(rt, folder)?;
+    Ok(())
+}
+
+// A folder for this test, which is empty.
+fn new_folder(rt: &HostRuntime, test: &str) -> std::result::Result<String, Fail> {
+    let folder = folder_path(rt, test)?;
+    make_empty(rt, folder.as_str())?;
+    Ok(folder)
+}
+
+// Writes a file of the folder, of these bytes: whether it was written.
+fn put(rt: &HostRuntime, folder: &str, name: &str, bytes: &[u8]) -> bool {
+    let Ok(path) = path_of(rt, folder, name) else {
+        return false;
+    };
+    let written = fs::write(rt, path.as_str(), bytes);
+    written.is_ok()
+}
+
+// The same of three texts.
+fn put_parts(
+    rt: &HostRuntime,
+    folder: &str,
+    name: &str,
+    before: &str,
+    middle: &str,
+    behind: &str,
+) -> bool {
+    let Ok(text) = joined(rt.alloc(), before, middle, behind) else {
+        return false;
+    };
+    put(rt, folder, name, text.as_bytes())
 }
 
 // Writes the three texts and an empty file.
-fn write_texts(rt: &HostRuntime, folder: &str) -> Result<()> {
-    write(rt, folder, "key.pk", (KEY_TEXT, "", ""))?;
-    write(rt, folder, "abc.sig", (SIGNATURE_TEXT, "", ""))?;
+fn put_texts(rt: &HostRuntime, folder: &str) -> bool {
     let secret = body_of(Kind::Secret);
-    write(
-        rt,
-        folder,
-        "key.sk",
-        ("untrusted comment: c\n", secret, "\n"),
-    )?;
-    write(rt, folder, "empty", ("", "", ""))?;
-    Ok(())
+    put(rt, folder, "key.pk", KEY_TEXT.as_bytes())
+        && put(rt, folder, "abc.sig", SIGNATURE_TEXT.as_bytes())
+        && put_parts(rt, folder, "key.sk", "untrusted comment: c\n", secret, "\n")
+        && put(rt, folder, "empty", b"")
 }
 
-// Writes a file of the byte `ff`, and one that is UTF-8 but for its last byte, behind more than is
-// read at once.
-fn write_no_texts(rt: &HostRuntime, folder: &str) -> Result<()> {
-    let alloc = rt.alloc();
+// Bytes that are UTF-8 but for the last one, behind more than is read at once.
+fn long_no_text(alloc: Global) -> Result<Vec<u8>> {
     let mut long = KEY_TEXT.as_bytes().to_vec(alloc)?;
     long.extend_from_slice(&vec![in alloc; b'x'; 70000]?)?;
     long.push(0xff)?;
-    fs::write(rt, path_of(rt, folder, "ff")?.as_str(), b"\xff")?;
-    fs::write(rt, path_of(rt, folder, "long")?.as_str(), long.as_slice())?;
-    Ok(())
+    Ok(long)
 }
 
-// Whether the public key and the signature are read as they were written.
-fn are_read(rt: &HostRuntime, folder: &str) -> Result<bool> {
-    let alloc = rt.alloc();
-    write_texts(rt, folder)?;
-    let pk = PublicKey::from_file(rt, alloc, path_of(rt, folder, "key.pk")?.as_str())?;
-    let made = SignatureBox::from_file(rt, alloc, path_of(rt, folder, "abc.sig")?.as_str())?;
-    let record = public_record(&IDENTIFIER, &PUBLIC_BYTES);
-    let public = is_record(&pk.to_bytes(alloc), &record);
-    let signature = is_text(&made.to_string(alloc), SIGNATURE_TEXT);
-    Ok(public && signature)
+// Writes a file of those bytes, and one of the byte `ff`.
+fn put_no_texts(rt: &HostRuntime, folder: &str) -> bool {
+    let Ok(long) = long_no_text(rt.alloc()) else {
+        return false;
+    };
+    put(rt, folder, "ff", b"\xff") && put(rt, folder, "long", long.as_slice())
 }
 
-// Whether the secret key is read with an empty password, passed in and typed.
-fn is_secret_read_both_ways(rt: &HostRuntime, folder: &str) -> Result<bool> {
-    let handed = is_secret_read(rt, folder, Some(""), "")?;
-    Ok(handed && is_secret_read(rt, folder, None, OPENING)?)
+// Whether the public key is read as it was written.
+fn is_public_read(rt: &HostRuntime, folder: &str) -> bool {
+    let Ok(path) = path_of(rt, folder, "key.pk") else {
+        return false;
+    };
+    let Ok(pk) = read_public(rt, path.as_str()) else {
+        return false;
+    };
+    let written = pk.to_bytes(rt.alloc());
+    is_record(&written, &public_record(&IDENTIFIER, &PUBLIC_BYTES))
 }
 
-// Whether the secret key is read with the password that is passed in, or with an empty one that is
-// typed, and so much is asked.
-fn is_secret_read(
-    rt: &HostRuntime,
-    folder: &str,
-    password: Option<&str>,
-    told: &str,
-) -> Result<bool> {
-    let alloc = rt.alloc();
-    let path = path_of(rt, folder, "key.sk")?;
-    let password = handed(alloc, password)?;
-    let mut prompt = typed_at_once(alloc, b"\n");
-    let sk = SecretKey::from_file(rt, alloc, path.as_str(), password, &mut prompt)?;
-    Ok(
-        sk == counted_pair()?.sk
-            && !sk.is_encrypted()
-            && prompt.writer.as_slice() == told.as_bytes(),
-    )
+// Whether the signature is read as it was written.
+fn is_signature_read(rt: &HostRuntime, folder: &str) -> bool {
+    let Ok(path) = path_of(rt, folder, "abc.sig") else {
+        return false;
+    };
+    let Ok(made) = read_signature(rt, path.as_str()) else {
+        return false;
+    };
+    let written = made.to_string(rt.alloc());
+    is_text(&written, SIGNATURE_TEXT)
+}
+
+// Whether this is the secret key of the counted pair, and is not sealed.
+fn is_counted(sk: &SecretKey) -> bool {
+    let Ok(pair) = counted_pair() else {
+        return false;
+    };
+    *sk == pair.sk && !sk.is_encrypted()
+}
+
+// Whether the file is read as that key with the password that is passed in, or with an empty one
+// that is typed, and so much is asked.
+fn gives_counted(rt: &HostRuntime, path: &str, password: Option<&str>, told: &str) -> bool {
+    let mut prompt = typed_at_once(rt.alloc(), b"\n");
+    let Ok(sk) = read_secret(rt, path, password, &mut prompt) else {
+        return false;
+    };
+    is_counted(&sk) && prompt.writer.as_slice() == told.as_bytes()
+}
+
+// The same of the secret key's file.
+fn is_secret_read(rt: &HostRuntime, folder: &str, password: Option<&str>, told: &str) -> bool {
+    let Ok(path) = path_of(rt, folder, "key.sk") else {
+        return false;
+    };
+    gives_counted(rt, path.as_str(), password, told)
 }
 
 #[test]
 fn keys_and_signatures_are_read_from_files(rt: HostRuntime) -> std::result::Result<(), Fail> {
     let folder = new_folder(&rt, "texts")?;
-    assert!(rt; holds(&are_read(&rt, folder.as_str())));
-    assert!(rt; holds(&is_secret_read_both_ways(&rt, folder.as_str())));
+    assert!(rt; put_texts(&rt, folder.as_str()));
+    let public = is_public_read(&rt, folder.as_str());
+    assert!(rt; public);
+    let signature = is_signature_read(&rt, folder.as_str());
+    assert!(rt; signature);
+    let handed = is_secret_read(&rt, folder.as_str(), Some(""), "");
+    assert!(rt; handed);
+    let typed = is_secret_read(&rt, folder.as_str(), None, OPENING);
+    assert!(rt; typed);
     fs::remove_dir_all(&rt, folder.as_str())?;
     Ok(())
 }
 
-// Whether a file of the folder is refused so.
-fn is_refused(
+// Whether a file of the folder has this outcome.
+fn has_outcome(rt: &HostRuntime, folder: &str, kind: Kind, name: &str, expected: &str) -> bool {
+    let Ok(path) = path_of(rt, folder, name) else {
+        return false;
+    };
+    gives(rt, kind, path.as_str(), expected)
+}
+
+// Asserts it.
+fn comes_out<A: Abort>(
+    abort: &A,
     rt: &HostRuntime,
     folder: &str,
     kind: Kind,
     name: &str,
     expected: &str,
-) -> Result<bool> {
-    Ok(gives(rt, kind, path_of(rt, folder, name)?.as_str(), expected))
+) {
+    let came = has_outcome(rt, folder, kind, name, expected);
+    assert!(abort; came, "at {name}");
+}
+
+// Asserts that what gives no text is refused so.
+fn are_no_texts<A: Abort>(abort: &A, rt: &HostRuntime, folder: &str, kind: Kind) {
+    comes_out(abort, rt, folder, kind, "missing", UNREADABLE);
+    comes_out(abort, rt, folder, kind, "empty/inside", UNREADABLE);
+    comes_out(abort, rt, folder, kind, ".", UNREADABLE);
+    comes_out(abort, rt, folder, kind, "ff", NOT_UTF8);
+    comes_out(abort, rt, folder, kind, "long", NOT_UTF8);
 }
 
 #[test]
 fn files_that_hold_no_text(rt: HostRuntime) -> std::result::Result<(), Fail> {
     let folder = new_folder(&rt, "no_texts")?;
-    write_texts(&rt, folder.as_str())?;
-    write_no_texts(&rt, folder.as_str())?;
-    for kind in [Kind::Public, Kind::Secret, Kind::Signature] {
-        for (name, expected) in NO_TEXTS {
-            let refused = is_refused(&rt, folder.as_str(), kind, name, expected);
-            assert!(rt; holds(&refused), "at {name}");
-        }
-    }
+    assert!(rt; put_texts(&rt, folder.as_str()));
+    assert!(rt; put_no_texts(&rt, folder.as_str()));
+    are_no_texts(&rt, &rt, folder.as_str(), Kind::Public);
+    are_no_texts(&rt, &rt, folder.as_str(), Kind::Secret);
+    are_no_texts(&rt, &rt, folder.as_str(), Kind::Signature);
     fs::remove_dir_all(&rt, folder.as_str())?;
     Ok(())
+}
+
+// Asserts that what holds another text is refused so.
+fn are_other_texts<A: Abort>(abort: &A, rt: &HostRuntime, folder: &str) {
+    let no_public = "Io: Missing comment in public key";
+    comes_out(abort, rt, folder, Kind::Public, "empty", no_public);
+    comes_out(abort, rt, folder, Kind::Public, "abc.sig", LENGTH);
+    let no_secret = "Io: Missing comment in secret key";
+    comes_out(abort, rt, folder, Kind::Secret, "empty", no_secret);
+    let too_short = "Io: failed to fill whole buffer";
+    comes_out(abort, rt, folder, Kind::Secret, "key.pk", too_short);
+    let uncommented = "Io: Missing untrusted comment";
+    comes_out(abort, rt, folder, Kind::Signature, "empty", uncommented);
+    let untrusted = "Io: Missing trusted comment";
+    comes_out(abort, rt, folder, Kind::Signature, "key.pk", untrusted);
 }
 
 #[test]
 fn files_that_hold_another_text(rt: HostRuntime) -> std::result::Result<(), Fail> {
     let folder = new_folder(&rt, "others")?;
-    write_texts(&rt, folder.as_str())?;
-    for (kind, name, expected) in [
-        (Kind::Public, "empty", "Io: Missing comment in public key"),
-        (Kind::Public, "abc.sig", LENGTH),
-        (Kind::Secret, "empty", "Io: Missing comment in secret key"),
-        (Kind::Secret, "key.pk", "Io: failed to fill whole buffer"),
-        (Kind::Signature, "empty", "Io: Missing untrusted comment"),
-        (Kind::Signature, "key.pk", "Io: Missing trusted comment"),
-    ] {
-        let refused = is_refused(&rt, folder.as_str(), kind, name, expected);
-        assert!(rt; holds(&refused), "at {name}");
-    }
+    assert!(rt; put_texts(&rt, folder.as_str()));
+    are_other_texts(&rt, &rt, folder.as_str());
     fs::remove_dir_all(&rt, folder.as_str())?;
     Ok(())
 }
 
 #[test]
 fn a_file_of_nothing(rt: HostRuntime) {
-    for (kind, expected) in [
-        (Kind::Public, "Io: Missing comment in public key"),
-        (Kind::Secret, "Io: Missing comment in secret key"),
-        (Kind::Signature, "Io: Missing untrusted comment"),
-    ] {
-        assert!(rt; gives(&rt, kind, "/dev/null", expected), "{expected}");
-    }
+    let path = "/dev/null";
+    assert!(rt; gives_public(&rt, path, "Io: Missing comment in public key"));
+    assert!(rt; gives_secret(&rt, path, "Io: Missing comment in secret key"));
+    assert!(rt; gives_signature(&rt, path, "Io: Missing untrusted comment"));
 }
 
 // Writes a file that its owner may not read.
@@ -246,17 +335,26 @@ fn write_closed(rt: &HostRuntime, path: &str) -> Result<()> {
     Ok(())
 }
 
+// Whether the file is read as nothing.
+fn gives_nothing(rt: &HostRuntime, path: &str) -> bool {
+    gives_public(rt, path, UNREADABLE)
+        && gives_secret(rt, path, UNREADABLE)
+        && gives_signature(rt, path, UNREADABLE)
+}
+
+// Whether the file is opened.
+fn is_opened(rt: &HostRuntime, path: &str) -> bool {
+    let opened = fs::open(rt, path);
+    opened.is_ok()
+}
+
 // Whoever may read every file, as root may, sees nothing of this.
 #[test]
 fn files_without_rights_are_unreadable(rt: HostRuntime) -> std::result::Result<(), Fail> {
     let folder = new_folder(&rt, "rights")?;
     let path = path_of(&rt, folder.as_str(), "closed")?;
     write_closed(&rt, path.as_str())?;
-    if fs::open(&rt, path.as_str()).is_err() {
-        for kind in [Kind::Public, Kind::Secret, Kind::Signature] {
-            assert!(rt; gives(&rt, kind, path.as_str(), UNREADABLE));
-        }
-    }
+    assert!(rt; is_opened(&rt, path.as_str()) || gives_nothing(&rt, path.as_str()));
     fs::remove_dir_all(&rt, folder.as_str())?;
     Ok(())
 }
@@ -270,106 +368,138 @@ fn stands(
     before: &str,
     behind: &str,
     expected: &str,
-) -> Result<bool> {
-    let path = write(rt, folder, "file", (before, body_of(kind), behind))?;
-    Ok(gives(rt, kind, path.as_str(), expected))
+) -> bool {
+    let written = put_parts(rt, folder, "file", before, body_of(kind), behind);
+    written && has_outcome(rt, folder, kind, "file", expected)
 }
 
 // A text of 70,000 letters.
-fn long_text(rt: &HostRuntime) -> Result<String> {
-    Ok(String::from_utf8(vec![in rt.alloc(); b'x'; 70000]?)?)
+fn long_text(alloc: Global) -> Result<String> {
+    Ok(String::from_utf8(vec![in alloc; b'x'; 70000]?)?)
 }
 
-// Whether the body is read behind this line, with and without a long line behind it, and a letter
-// behind it is refused so.
+// A line feed and a line of that text.
+fn long_end(alloc: Global) -> Result<String> {
+    let letters = long_text(alloc)?;
+    joined(alloc, "\n", letters.as_str(), "")
+}
+
+// A line of comment with that text.
+fn long_line(alloc: Global) -> Result<String> {
+    let letters = long_text(alloc)?;
+    joined(alloc, "untrusted comment: ", letters.as_str(), "\n")
+}
+
+// Whether the body is read behind this line, with and without more behind it, and a letter behind
+// it is refused so.
 fn is_read_behind(
     rt: &HostRuntime,
     folder: &str,
     kind: Kind,
     line: &str,
-    letter: &str,
-    refused: &str,
-) -> Result<bool> {
-    let more = joined(rt.alloc(), "\n", long_text(rt)?.as_str(), "")?;
-    let alone = stands(rt, folder, kind, line, "", "accepted")?;
-    let followed = stands(rt, folder, kind, line, more.as_str(), "accepted")?;
-    let ended = stands(rt, folder, kind, line, letter, refused)?;
-    Ok(alone && followed && ended)
+    more: &str,
+    refused: (&str, &str),
+) -> bool {
+    let (letter, fault) = refused;
+    stands(rt, folder, kind, line, "", "accepted")
+        && stands(rt, folder, kind, line, more, "accepted")
+        && stands(rt, folder, kind, line, letter, fault)
 }
 
-// The same behind a short comment and a long one, and whether a line feed before them is refused so.
+// The same behind a short comment and a long one, with and without a long line behind it, and
+// whether a line feed before them is refused so.
 fn is_read_whole(
     rt: &HostRuntime,
     folder: &str,
     kind: Kind,
     fed: &str,
-    letter: &str,
-    refused: &str,
-) -> Result<bool> {
-    let comment = long_text(rt)?;
-    let line = joined(rt.alloc(), "untrusted comment: ", comment.as_str(), "\n")?;
-    let short = is_read_behind(rt, folder, kind, "untrusted comment: c\n", letter, refused)?;
-    let long = is_read_behind(rt, folder, kind, line.as_str(), letter, refused)?;
-    let behind = stands(rt, folder, kind, FED, "", fed)?;
-    Ok(short && long && behind)
+    refused: (&str, &str),
+) -> bool {
+    let Ok(line) = long_line(rt.alloc()) else {
+        return false;
+    };
+    let Ok(more) = long_end(rt.alloc()) else {
+        return false;
+    };
+    let (line, more) = (line.as_str(), more.as_str());
+    let short = is_read_behind(rt, folder, kind, "untrusted comment: c\n", more, refused);
+    let long = is_read_behind(rt, folder, kind, line, more, refused);
+    let behind = stands(rt, folder, kind, FED, "", fed);
+    short && long && behind
 }
 
 // Blanks at both ends, and more than is read at once, belong to a file's text.
 #[test]
 fn files_are_read_as_they_stand(rt: HostRuntime) -> std::result::Result<(), Fail> {
     let folder = new_folder(&rt, "as_they_stand")?;
-    for (kind, fed, letter, refused) in [
-        (Kind::Public, NOT_BASE64, " ", LENGTH),
-        (Kind::Secret, SECRET_NOT_BASE64, " ", SECRET_NOT_BASE64),
-        (Kind::Signature, UNTRUSTED, "!", "Io: invalid base64"),
-    ] {
-        let read = is_read_whole(&rt, folder.as_str(), kind, fed, letter, refused);
-        assert!(rt; holds(&read), "at {refused}");
-    }
+    let path = folder.as_str();
+    let public = (" ", LENGTH);
+    assert!(rt; is_read_whole(&rt, path, Kind::Public, NOT_BASE64, public));
+    let secret = (" ", SECRET_NOT_BASE64);
+    assert!(rt; is_read_whole(&rt, path, Kind::Secret, SECRET_NOT_BASE64, secret));
+    let signature = ("!", "Io: invalid base64");
+    assert!(rt; is_read_whole(&rt, path, Kind::Signature, UNTRUSTED, signature));
     fs::remove_dir_all(&rt, folder.as_str())?;
     Ok(())
+}
+
+// Whether a file of a label and a text of 70,000 letters is written.
+fn put_long_line(rt: &HostRuntime, folder: &str) -> bool {
+    let Ok(long) = long_text(rt.alloc()) else {
+        return false;
+    };
+    put_parts(rt, folder, "cut", "untrusted comment: ", long.as_str(), "")
 }
 
 // A text of 70,000 letters is one line, whatever its reader takes at once.
 #[test]
 fn long_files_end_where_they_end(rt: HostRuntime) -> std::result::Result<(), Fail> {
     let folder = new_folder(&rt, "long_files")?;
-    let long = long_text(&rt)?;
-    let parts = ("untrusted comment: ", long.as_str(), "");
-    let path = write(&rt, folder.as_str(), "cut", parts)?;
-    for (kind, expected) in [
-        (Kind::Public, "Io: Missing encoded key in public key"),
-        (Kind::Secret, "Io: Missing encoded key in secret key"),
-        (Kind::Signature, "Io: Missing signature"),
-    ] {
-        assert!(rt; gives(&rt, kind, path.as_str(), expected), "{expected}");
-    }
+    let path = folder.as_str();
+    let no_public = "Io: Missing encoded key in public key";
+    let no_secret = "Io: Missing encoded key in secret key";
+    assert!(rt; put_long_line(&rt, path));
+    comes_out(&rt, &rt, path, Kind::Public, "cut", no_public);
+    comes_out(&rt, &rt, path, Kind::Secret, "cut", no_secret);
+    comes_out(
+        &rt,
+        &rt,
+        path,
+        Kind::Signature,
+        "cut",
+        "Io: Missing signature",
+    );
     fs::remove_dir_all(&rt, folder.as_str())?;
     Ok(())
 }
 
 // Whether a file under this name is read as it was written, and one under the other name is not
 // there.
-fn is_alone(rt: &HostRuntime, folder: &str, kind: Kind, name: &str, trimmed: &str) -> Result<bool> {
-    let parts = ("untrusted comment: c\n", body_of(kind), "\n");
-    let path = write(rt, folder, name, parts)?;
-    let other = path_of(rt, folder, trimmed)?;
-    Ok(gives(rt, kind, path.as_str(), "accepted") && gives(rt, kind, other.as_str(), UNREADABLE))
+fn is_alone(rt: &HostRuntime, folder: &str, kind: Kind, name: &str, trimmed: &str) -> bool {
+    put_parts(
+        rt,
+        folder,
+        name,
+        "untrusted comment: c\n",
+        body_of(kind),
+        "\n",
+    ) && has_outcome(rt, folder, kind, name, "accepted")
+        && has_outcome(rt, folder, kind, trimmed, UNREADABLE)
+}
+
+// Whether blanks at both ends belong to a name.
+fn are_alone(rt: &HostRuntime, folder: &str, kind: Kind) -> bool {
+    is_alone(rt, folder, kind, " led by a blank", "led by a blank")
+        && is_alone(rt, folder, kind, "ended by one ", "ended by one")
 }
 
 // A path is taken as it stands.
 #[test]
 fn paths_are_taken_as_they_stand(rt: HostRuntime) -> std::result::Result<(), Fail> {
     let folder = new_folder(&rt, "paths")?;
-    for kind in [Kind::Public, Kind::Secret, Kind::Signature] {
-        for (name, trimmed) in [
-            (" led by a blank", "led by a blank"),
-            ("ended by one ", "ended by one"),
-        ] {
-            let alone = is_alone(&rt, folder.as_str(), kind, name, trimmed);
-            assert!(rt; holds(&alone), "at {name:?}");
-        }
-    }
+    assert!(rt; are_alone(&rt, folder.as_str(), Kind::Public));
+    assert!(rt; are_alone(&rt, folder.as_str(), Kind::Secret));
+    assert!(rt; are_alone(&rt, folder.as_str(), Kind::Signature));
     fs::remove_dir_all(&rt, folder.as_str())?;
     Ok(())
 }

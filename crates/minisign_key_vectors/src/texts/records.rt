@@ -12,107 +12,155 @@ use std::alloc::Global;
 
 const TOO_SHORT: &str = "Io: failed to fill whole buffer";
 
-// Whether a public key is read from its record and from a longer one, and not from a shorter one.
-fn is_public_record(alloc: Global, record: &[u8; 42]) -> Result<bool> {
-    let key = PublicKey::from_bytes(record)?;
+// Whether the public key of this record is read from these bytes.
+fn is_public_key(alloc: Global, bytes: &[u8], record: &[u8]) -> bool {
+    let Ok(key) = PublicKey::from_bytes(bytes) else {
+        return false;
+    };
+    let written = key.to_bytes(alloc);
+    key.keynum() == IDENTIFIER.as_slice() && is_record(&written, record)
+}
+
+// Whether these bytes are refused as too short for a public key.
+fn is_no_public_key(alloc: Global, bytes: &[u8]) -> bool {
+    let short = PublicKey::from_bytes(bytes);
+    comes_to(alloc, &short, TOO_SHORT)
+}
+
+// A public key is read from its record and from a longer one, and not from a shorter one.
+#[test]
+fn public_keys_are_read_back(rt: HostRuntime) {
+    let alloc = rt.alloc();
+    let record = public_record(&IDENTIFIER, &PUBLIC_BYTES);
     let mut longer = [b'!'; 43];
-    longer[..42].copy_from_slice(record);
-    let short = PublicKey::from_bytes(front(record, 41));
-    Ok(
-        is_record(&key.to_bytes(alloc), record)
-            && key.keynum() == IDENTIFIER.as_slice()
-            && is_record(&PublicKey::from_bytes(&longer)?.to_bytes(alloc), record)
-            && comes_to(alloc, &short, TOO_SHORT),
-    )
+    longer[..42].copy_from_slice(&record);
+    assert!(rt; is_public_key(alloc, &record, &record));
+    assert!(rt; is_public_key(alloc, &longer, &record));
+    assert!(rt; is_no_public_key(alloc, front(&record, 41)));
+}
+
+// Whether the secret key of this record is read from these bytes.
+fn is_secret_key(alloc: Global, bytes: &[u8], record: &[u8]) -> bool {
+    let Ok(key) = SecretKey::from_bytes(bytes) else {
+        return false;
+    };
+    let written = key.to_bytes(alloc);
+    key.keynum() == IDENTIFIER.as_slice() && is_record(&written, record)
+}
+
+// Whether these bytes are refused as too short for a secret key.
+fn is_no_secret_key(alloc: Global, bytes: &[u8]) -> bool {
+    let short = SecretKey::from_bytes(bytes);
+    comes_to(alloc, &short, TOO_SHORT)
 }
 
 // The same of a secret key.
-fn is_secret_record(alloc: Global, record: &[u8; 158]) -> Result<bool> {
-    let key = SecretKey::from_bytes(record)?;
-    let mut longer = [b'!'; 159];
-    longer[..158].copy_from_slice(record);
-    let short = SecretKey::from_bytes(front(record, 157));
-    Ok(
-        is_record(&key.to_bytes(alloc), record)
-            && key.keynum() == IDENTIFIER.as_slice()
-            && is_record(&SecretKey::from_bytes(&longer)?.to_bytes(alloc), record)
-            && comes_to(alloc, &short, TOO_SHORT),
-    )
-}
-
 #[test]
-fn keys_are_read_back(rt: HostRuntime) {
-    let public = public_record(&IDENTIFIER, &PUBLIC_BYTES);
-    let secret = secret_record(&[0, 0], &CHECKSUM);
-    assert!(rt; holds(&is_public_record(rt.alloc(), &public)));
-    assert!(rt; holds(&is_secret_record(rt.alloc(), &secret)));
+fn secret_keys_are_read_back(rt: HostRuntime) {
+    let alloc = rt.alloc();
+    let record = secret_record(&[0, 0], &CHECKSUM);
+    let mut longer = [b'!'; 159];
+    longer[..158].copy_from_slice(&record);
+    assert!(rt; is_secret_key(alloc, &record, &record));
+    assert!(rt; is_secret_key(alloc, &longer, &record));
+    assert!(rt; is_no_secret_key(alloc, front(&record, 157)));
 }
 
-// Whether a signature is read from its record and from a longer one, and not from a shorter one.
-fn is_signature_record(alloc: Global, record: &[u8; 74]) -> Result<bool> {
-    let stored = Signature::from_bytes(record)?;
-    let mut longer = [b'!'; 75];
-    longer[..74].copy_from_slice(record);
-    let short = Signature::from_bytes(front(record, 73));
-    Ok(
-        is_record(&stored.to_bytes(alloc), record)
-            && stored.sig_alg == *b"ED"
-            && stored.keynum == IDENTIFIER
-            && is_record(&Signature::from_bytes(&longer)?.to_bytes(alloc), record)
-            && comes_to(alloc, &short, TOO_SHORT),
-    )
+// Whether the signature of this record is read from these bytes.
+fn is_signature(alloc: Global, bytes: &[u8], record: &[u8]) -> bool {
+    let Ok(stored) = Signature::from_bytes(bytes) else {
+        return false;
+    };
+    let written = stored.to_bytes(alloc);
+    let named = stored.sig_alg == *b"ED" && stored.keynum == IDENTIFIER;
+    is_record(&written, record) && named
 }
 
-// The same of bare bones.
-fn is_bare_record(alloc: Global, record: &[u8; 74]) -> Result<bool> {
-    let mut longer = [b'!'; 75];
-    longer[..74].copy_from_slice(record);
-    let short = SignatureBones::from_bytes(front(record, 73));
-    Ok(
-        is_record(&SignatureBones::from_bytes(record)?.to_bytes(alloc), record)
-            && is_record(
-                &SignatureBones::from_bytes(&longer)?.to_bytes(alloc),
-                record,
-            )
-            && comes_to(alloc, &short, TOO_SHORT),
-    )
+// Whether these bytes are refused as too short for a signature.
+fn is_no_signature(alloc: Global, bytes: &[u8]) -> bool {
+    let short = Signature::from_bytes(bytes);
+    comes_to(alloc, &short, TOO_SHORT)
 }
 
+// A signature is read from its record and from a longer one, and not from a shorter one.
 #[test]
 fn signatures_are_read_back(rt: HostRuntime) {
     let alloc = rt.alloc();
     let record = signature_record(b"ED", &IDENTIFIER, &TIED_TO_ABC);
-    assert!(rt; holds(&is_signature_record(alloc, &record)));
-    assert!(rt; holds(&is_bare_record(alloc, &record)));
-    assert!(rt; is_record(&Signature::default().to_bytes(alloc), &[0; 74]));
-    assert_eq!(rt; (Signature::BYTES, SignatureBones::BYTES), (74, 74));
+    let mut longer = [b'!'; 75];
+    longer[..74].copy_from_slice(&record);
+    assert!(rt; is_signature(alloc, &record, &record));
+    assert!(rt; is_signature(alloc, &longer, &record));
+    assert!(rt; is_no_signature(alloc, front(&record, 73)));
 }
 
-// Whether a bare signature under this algorithm has its record, and no comments.
-fn has_no_comments(alloc: Global, algorithm: &[u8; 2], prehashed: bool) -> Result<bool> {
+// Whether the bare bones of this record are read from these bytes.
+fn are_bones(alloc: Global, bytes: &[u8], record: &[u8]) -> bool {
+    let Ok(bones) = SignatureBones::from_bytes(bytes) else {
+        return false;
+    };
+    let written = bones.to_bytes(alloc);
+    is_record(&written, record)
+}
+
+// Whether these bytes are refused as too short for bare bones.
+fn are_no_bones(alloc: Global, bytes: &[u8]) -> bool {
+    let short = SignatureBones::from_bytes(bytes);
+    comes_to(alloc, &short, TOO_SHORT)
+}
+
+// The same of bare bones.
+#[test]
+fn bare_bones_are_read_back(rt: HostRuntime) {
+    let alloc = rt.alloc();
+    let record = signature_record(b"ED", &IDENTIFIER, &TIED_TO_ABC);
+    let mut longer = [b'!'; 75];
+    longer[..74].copy_from_slice(&record);
+    assert!(rt; are_bones(alloc, &record, &record));
+    assert!(rt; are_bones(alloc, &longer, &record));
+    assert!(rt; are_no_bones(alloc, front(&record, 73)));
+}
+
+#[test]
+fn signatures_of_zeros_and_their_sizes(rt: HostRuntime) {
+    let zeros = Signature::default().to_bytes(rt.alloc());
+    assert!(rt; is_record(&zeros, &[0; 74]));
+    assert!(rt; Signature::BYTES == 74 && SignatureBones::BYTES == 74);
+}
+
+// Whether the box has no comments.
+fn has_no_comments(alloc: Global, signature_box: &SignatureBox) -> bool {
+    let untrusted = signature_box.untrusted_comment(alloc);
+    let trusted = signature_box.trusted_comment(alloc);
+    let empty = is_text(&untrusted, "");
+    comes_to(alloc, &trusted, "Misc: trusted comment is not present") && empty
+}
+
+// Whether the box gives the bones of this record.
+fn gives_bones(alloc: Global, signature_box: SignatureBox, record: &[u8]) -> bool {
+    let written = SignatureBones::from(signature_box).to_bytes(alloc);
+    is_record(&written, record)
+}
+
+// Whether the box of a record under this algorithm has its bytes, and no comments.
+fn is_bare(alloc: Global, algorithm: &[u8; 2], prehashed: bool) -> bool {
     let record = signature_record(algorithm, &OTHER_IDENTIFIER, &TIED_TO_ABC);
-    let bones = SignatureBones::from_bytes(&record)?;
+    let Ok(bones) = SignatureBones::from_bytes(&record) else {
+        return false;
+    };
     let told = bones.is_prehashed();
     let signature_box = SignatureBox::from_bones(bones);
-    let trusted = signature_box.trusted_comment(alloc);
-    Ok(
-        told == prehashed
-            && signature_box.is_prehashed() == prehashed
-            && signature_box.keynum() == OTHER_IDENTIFIER.as_slice()
-            && is_text(&signature_box.untrusted_comment(alloc), "")
-            && comes_to(alloc, &trusted, "Misc: trusted comment is not present")
-            && is_record(
-                &SignatureBones::from(signature_box).to_bytes(alloc),
-                &record,
-            ),
-    )
+    let told_again = signature_box.is_prehashed();
+    let named = signature_box.keynum() == OTHER_IDENTIFIER.as_slice();
+    let bare = has_no_comments(alloc, &signature_box);
+    let given = gives_bones(alloc, signature_box, &record);
+    told == prehashed && told_again == prehashed && named && bare && given
 }
 
 #[test]
 fn bare_signatures_have_no_comments(rt: HostRuntime) {
-    for (algorithm, prehashed) in [(b"ED", true), (b"Ed", false)] {
-        assert!(rt; holds(&has_no_comments(rt.alloc(), algorithm, prehashed)));
-    }
+    assert!(rt; is_bare(rt.alloc(), b"ED", true));
+    assert!(rt; is_bare(rt.alloc(), b"Ed", false));
 }
 
 // Whether the public keys of two records are equal.
@@ -148,52 +196,43 @@ fn secret_keys_are_equal_by_their_key_bytes(rt: HostRuntime) {
     assert!(rt; matches!(are_equal_secret(&record, &changed), Ok(false)));
 }
 
-// The identifier counts too, and of a secret key not the checksum.
+// A public key of key A's bytes, under this identifier.
+fn named(keynum: [u8; 8]) -> KeynumPK {
+    KeynumPK {
+        keynum,
+        pk: PUBLIC_BYTES,
+    }
+}
+
+// The identifier counts too.
 #[test]
 fn identified_keys_are_equal_by_both(rt: HostRuntime) {
-    let one = KeynumPK {
-        keynum: IDENTIFIER,
-        pk: PUBLIC_BYTES,
-    };
-    let same = KeynumPK {
-        keynum: IDENTIFIER,
-        pk: PUBLIC_BYTES,
-    };
-    let other = KeynumPK {
-        keynum: OTHER_IDENTIFIER,
-        pk: PUBLIC_BYTES,
-    };
     let changed = KeynumPK {
         keynum: IDENTIFIER,
         pk: [0x5b; 32],
     };
-    assert!(rt; one == same);
-    assert!(rt; one != other);
-    assert!(rt; one != changed);
-    let one = KeynumSK {
-        keynum: IDENTIFIER,
-        sk: [3; 64],
-        chk: [1; 32],
-    };
-    let same = KeynumSK {
-        keynum: IDENTIFIER,
-        sk: [3; 64],
-        chk: [2; 32],
-    };
-    let other = KeynumSK {
-        keynum: OTHER_IDENTIFIER,
-        sk: [3; 64],
-        chk: [1; 32],
-    };
-    let changed = KeynumSK {
-        keynum: IDENTIFIER,
-        sk: [4; 64],
-        chk: [1; 32],
-    };
-    assert_eq!(rt; one.len(), 104);
-    assert!(rt; one == same);
-    assert!(rt; one != other);
-    assert!(rt; one != changed);
+    assert!(rt; named(IDENTIFIER) == named(IDENTIFIER));
+    assert!(rt; named(IDENTIFIER) != named(OTHER_IDENTIFIER));
+    assert!(rt; named(IDENTIFIER) != changed);
+}
+
+// A secret key of one byte many times, and a checksum of another one.
+fn secret(keynum: [u8; 8], byte: u8, checksum: u8) -> KeynumSK {
+    KeynumSK {
+        keynum,
+        sk: [byte; 64],
+        chk: [checksum; 32],
+    }
+}
+
+// Of a secret key the checksum does not count.
+#[test]
+fn identified_secret_keys_are_equal_by_both(rt: HostRuntime) {
+    let one = secret(IDENTIFIER, 3, 1);
+    assert!(rt; one.len() == 104);
+    assert!(rt; one == secret(IDENTIFIER, 3, 2));
+    assert!(rt; one != secret(OTHER_IDENTIFIER, 3, 1));
+    assert!(rt; one != secret(IDENTIFIER, 4, 1));
 }
 
 // Whether key A's record counts as sealed under this key derivation, with this checksum.

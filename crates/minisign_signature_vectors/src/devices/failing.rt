@@ -1,9 +1,11 @@
 //! Devices that fail at one of their calls and go on after it: each call of the library with each
 //! of its devices failing at each of its calls in turn, until a run meets no fault.
 
-use crate::calls::{COPYING, Said, Sinks, Wanted, ample, key_a, signed_from, texts_come_out};
+use crate::calls::{
+    COPYING, Said, Sinks, Wanted, ample, key_a, signed_from, signed_text, texts_come_out,
+};
 use minisign::reading::read_to_end;
-use minisign::{Result, SecretKey, SecretKeyBox, sign_texts};
+use minisign::{Result, SecretKey, SecretKeyBox};
 use minisign_base::devices::random_sources::{FixedRandom, RandomSource};
 use minisign_base::devices::sinks::{Sink, VecSink};
 use minisign_base::devices::sources::{Rereader, SliceSource, Source};
@@ -12,11 +14,12 @@ use minisign_base::toy::ToyScheme;
 use minisign_fixtures::devices::random::FailingRandom;
 use minisign_fixtures::devices::sinks::LimitedSink;
 use minisign_fixtures::devices::sources::{Changes, FailingSource};
-use minisign_fixtures::outcomes::{comes_to, front, holds, is_record};
+use minisign_fixtures::outcomes::{comes_to, front, holds, is_record, is_text};
 use minisign_fixtures::texts::{
     KEY_TEXT, LEGACY_TEXT, SAID, SEALED, SEALED_WITH_NOTHING, SIGNATURE_TEXT,
 };
 use std::alloc::Global;
+use std::process::Abort;
 
 const UNREAD: &str = "Io: reading failed";
 
@@ -70,47 +73,43 @@ fn signed<P: Source, Q: Sink, R: Source, Z: RandomSource>(
     data: &mut R,
     random: &mut Z,
 ) -> Result<String> {
-    sign_texts(
-        alloc,
-        &ToyScheme::new(),
-        SEALED,
-        None,
-        prompt,
-        data,
-        Some("t"),
-        Some("c"),
-        random,
-        0,
-    )
+    signed_text(alloc, SEALED, None, prompt, data, ("t", "c"), random)
+}
+
+// Asserts that verifying with output over data that fails behind so many calls comes out so, and
+// that so much is said and copied.
+fn copies<A: Abort>(
+    rt: &A,
+    alloc: Global,
+    calls: usize,
+    outcome: &str,
+    (said, copied): (usize, usize),
+) {
+    let mut data = FailingSource::new(b"abc", calls);
+    let wanted = Wanted {
+        outcome,
+        said: front(SAID, said),
+        copied: front(b"abc", copied),
+    };
+    let came = comes_out(alloc, SIGNATURE_TEXT, &mut data, true, ample(alloc), wanted);
+    assert!(rt; came, "at {calls}");
 }
 
 // Calls of the data in their order: the mark, four reads, going back, four reads.
 #[test]
 fn the_data_of_a_copy_fails(rt: HostRuntime) {
     let alloc = rt.alloc();
-    for (calls, outcome, said, copied) in [
-        (0usize, NOT_BACK, 0usize, 0usize),
-        (1, UNREAD, 0, 0),
-        (2, UNREAD, 0, 0),
-        (3, UNREAD, 0, 0),
-        (4, UNREAD, 0, 0),
-        (5, NOT_BACK, 60, 0),
-        (6, UNREAD, 60, 0),
-        (7, UNREAD, 60, 1),
-        (8, UNREAD, 60, 2),
-        (9, UNREAD, 60, 3),
-        (10, "accepted", 60, 3),
-    ] {
-        let mut data = FailingSource::new(b"abc", calls);
-        let wanted = Wanted {
-            outcome,
-            said: front(SAID, said),
-            copied: front(b"abc", copied),
-        };
-        let sinks = ample(alloc);
-        let came = comes_out(alloc, SIGNATURE_TEXT, &mut data, true, sinks, wanted);
-        assert!(rt; came, "at {calls}");
-    }
+    copies(&rt, alloc, 0, NOT_BACK, (0, 0));
+    copies(&rt, alloc, 1, UNREAD, (0, 0));
+    copies(&rt, alloc, 2, UNREAD, (0, 0));
+    copies(&rt, alloc, 3, UNREAD, (0, 0));
+    copies(&rt, alloc, 4, UNREAD, (0, 0));
+    copies(&rt, alloc, 5, NOT_BACK, (60, 0));
+    copies(&rt, alloc, 6, UNREAD, (60, 0));
+    copies(&rt, alloc, 7, UNREAD, (60, 1));
+    copies(&rt, alloc, 8, UNREAD, (60, 2));
+    copies(&rt, alloc, 9, UNREAD, (60, 3));
+    copies(&rt, alloc, 10, "accepted", (60, 3));
 }
 
 // A mark that fails leaves all of the data.
@@ -127,34 +126,37 @@ fn a_failing_mark_leaves_the_data(rt: HostRuntime) {
     assert!(rt; is_record(&read_to_end(alloc, &mut data), b"abc"));
 }
 
+// Whether verifying with the text over data that fails behind so many calls comes out so.
+fn is_read(alloc: Global, text: &str, output: bool, calls: usize, wanted: Wanted) -> bool {
+    let mut data = FailingSource::new(b"abc", calls);
+    comes_out(alloc, text, &mut data, output, ample(alloc), wanted)
+}
+
+// Asserts that verifying with the text reads four times, whichever of the reads fails.
+fn reads_four_times<A: Abort>(rt: &A, alloc: Global, text: &str, output: bool, copied: &[u8]) {
+    for calls in 0..4usize {
+        let unread = Wanted {
+            outcome: UNREAD,
+            said: b"",
+            copied: b"",
+        };
+        assert!(rt; is_read(alloc, text, output, calls, unread), "at {calls}");
+    }
+    let wanted = Wanted {
+        outcome: "accepted",
+        said: SAID,
+        copied,
+    };
+    assert!(rt; is_read(alloc, text, output, 4, wanted));
+}
+
 // Data that is read once: four reads, without a mark.
 #[test]
 fn data_that_is_read_once_fails(rt: HostRuntime) {
     let alloc = rt.alloc();
-    let rows: [(&str, bool, &[u8]); 3] = [
-        (SIGNATURE_TEXT, false, b""),
-        (LEGACY_TEXT, false, b""),
-        (LEGACY_TEXT, true, b"abc"),
-    ];
-    for (text, output, copied) in rows {
-        for calls in 0..4usize {
-            let mut data = FailingSource::new(b"abc", calls);
-            let wanted = Wanted {
-                outcome: UNREAD,
-                said: b"",
-                copied: b"",
-            };
-            let came = comes_out(alloc, text, &mut data, output, ample(alloc), wanted);
-            assert!(rt; came, "at {calls}");
-        }
-        let mut data = FailingSource::new(b"abc", 4);
-        let wanted = Wanted {
-            outcome: "accepted",
-            said: SAID,
-            copied,
-        };
-        assert!(rt; comes_out(alloc, text, &mut data, output, ample(alloc), wanted));
-    }
+    reads_four_times(&rt, alloc, SIGNATURE_TEXT, false, b"");
+    reads_four_times(&rt, alloc, LEGACY_TEXT, false, b"");
+    reads_four_times(&rt, alloc, LEGACY_TEXT, true, b"abc");
 }
 
 // Whether verifying over a status that takes so many bytes a write, and fails behind so many calls,
@@ -166,30 +168,31 @@ fn is_told(alloc: Global, text: &str, most: usize, calls: usize, wanted: Wanted)
     comes_out(alloc, text, &mut data, true, sinks, wanted)
 }
 
+// Asserts that the status is written so often, whichever of the writes of so many bytes fails.
+fn tells<A: Abort>(rt: &A, alloc: Global, text: &str, most: usize, writes: usize) {
+    for calls in 0..writes {
+        let wanted = Wanted {
+            outcome: UNWRITTEN,
+            said: front(SAID, calls),
+            copied: b"",
+        };
+        assert!(rt; is_told(alloc, text, most, calls, wanted), "at {calls}");
+    }
+    let wanted = Wanted {
+        outcome: "accepted",
+        said: SAID,
+        copied: b"abc",
+    };
+    assert!(rt; is_told(alloc, text, most, writes, wanted), "at {writes}");
+}
+
 // The status is written and never flushed: 60 bytes one by one, or all at once.
 #[test]
 fn the_status_fails(rt: HostRuntime) {
     let alloc = rt.alloc();
-    for (text, most, writes) in [
-        (SIGNATURE_TEXT, 1usize, 60usize),
-        (SIGNATURE_TEXT, 100, 1),
-        (LEGACY_TEXT, 1, 60),
-    ] {
-        for calls in 0..writes {
-            let wanted = Wanted {
-                outcome: UNWRITTEN,
-                said: front(SAID, calls),
-                copied: b"",
-            };
-            assert!(rt; is_told(alloc, text, most, calls, wanted), "at {calls}");
-        }
-        let wanted = Wanted {
-            outcome: "accepted",
-            said: SAID,
-            copied: b"abc",
-        };
-        assert!(rt; is_told(alloc, text, most, writes, wanted), "at {writes}");
-    }
+    tells(&rt, alloc, SIGNATURE_TEXT, 1, 60);
+    tells(&rt, alloc, SIGNATURE_TEXT, 100, 1);
+    tells(&rt, alloc, LEGACY_TEXT, 1, 60);
 }
 
 // Whether verifying over data of which a second reading gives this, and an output that takes one
@@ -213,26 +216,37 @@ fn is_copied(
     comes_out(alloc, text, &mut data, true, sinks, wanted)
 }
 
+// Asserts that the output takes these bytes, whichever of so many calls fails, and what comes of it
+// behind them.
+fn outputs<A: Abort>(
+    rt: &A,
+    alloc: Global,
+    text: &str,
+    (second, whole): (&[u8], &[u8]),
+    calls: usize,
+    answer: &str,
+) {
+    for call in 0..calls {
+        let copied = front(whole, call);
+        assert!(rt;
+            is_copied(alloc, text, second, call, UNWRITTEN, copied),
+            "at {call}"
+        );
+    }
+    assert!(rt; is_copied(alloc, text, second, calls, answer, whole));
+    assert!(rt; is_copied(alloc, text, second, 4, answer, whole));
+}
+
 // The output is written and then flushed, but for data that changed: the flush would be its fourth
 // call.
 #[test]
 fn the_output_fails(rt: HostRuntime) {
     let alloc = rt.alloc();
-    let rows: [(&str, &[u8], &[u8], usize, &str); 4] = [
-        (SIGNATURE_TEXT, b"abc", b"abc", 4, "accepted"),
-        (LEGACY_TEXT, b"abc", b"abc", 4, "accepted"),
-        (LEGACY_TEXT, b"abd", b"abc", 4, "accepted"),
-        (SIGNATURE_TEXT, b"abd", b"abd", 3, CHANGED),
-    ];
-    for (text, second, whole, calls, answer) in rows {
-        for calls in 0..calls {
-            let copied = front(whole, calls);
-            let came = is_copied(alloc, text, second, calls, UNWRITTEN, copied);
-            assert!(rt; came, "at {calls}");
-        }
-        assert!(rt; is_copied(alloc, text, second, calls, answer, whole));
-        assert!(rt; is_copied(alloc, text, second, 4, answer, whole));
-    }
+    let same: (&[u8], &[u8]) = (b"abc", b"abc");
+    outputs(&rt, alloc, SIGNATURE_TEXT, same, 4, "accepted");
+    outputs(&rt, alloc, LEGACY_TEXT, same, 4, "accepted");
+    outputs(&rt, alloc, LEGACY_TEXT, (b"abd", b"abc"), 4, "accepted");
+    outputs(&rt, alloc, SIGNATURE_TEXT, (b"abd", b"abd"), 3, CHANGED);
 }
 
 // Whether signing over data that fails behind so many reads and random bytes that fail behind so
@@ -252,24 +266,23 @@ fn is_signed(alloc: Global, reads: usize, draws: usize, expected: &str) -> Resul
     Ok(came && undrawn == (reads < 4 || draws == 0))
 }
 
-// How many reads of the data and draws of random bytes pass, and the outcome.
-const READS_AND_DRAWS: [(usize, usize, &str); 7] = [
-    (0, 0, UNREAD),
-    (1, 0, UNREAD),
-    (2, 0, UNREAD),
-    (3, 0, UNREAD),
-    (4, 0, UNDRAWN),
-    (4, 1, UNDRAWN),
-    (4, 2, "accepted"),
-];
+// Asserts it.
+fn signs<A: Abort>(rt: &A, alloc: Global, reads: usize, draws: usize, expected: &str) {
+    let came = is_signed(alloc, reads, draws, expected);
+    assert!(rt; holds(&came), "at {reads} {draws}");
+}
 
 // Signing reads four times and draws twice; a key that is passed in is tested after that.
 #[test]
 fn the_devices_of_signing_fail(rt: HostRuntime) {
-    for (reads, draws, expected) in READS_AND_DRAWS {
-        let came = is_signed(rt.alloc(), reads, draws, expected);
-        assert!(rt; holds(&came), "at {reads} {draws}");
-    }
+    let alloc = rt.alloc();
+    signs(&rt, alloc, 0, 0, UNREAD);
+    signs(&rt, alloc, 1, 0, UNREAD);
+    signs(&rt, alloc, 2, 0, UNREAD);
+    signs(&rt, alloc, 3, 0, UNREAD);
+    signs(&rt, alloc, 4, 0, UNDRAWN);
+    signs(&rt, alloc, 4, 1, UNDRAWN);
+    signs(&rt, alloc, 4, 2, "accepted");
 }
 
 // Whether signing with this prompt has this outcome, tells so much, and leaves so much of the data
@@ -310,26 +323,26 @@ fn the_reader_of_signing_fails(rt: HostRuntime) {
     assert!(rt; is_signed_with(alloc, prompt, "accepted", 81, false));
 }
 
+// Asserts that signing with a writer that fails behind so many calls has this outcome, and tells so
+// much.
+fn writes<A: Abort>(rt: &A, alloc: Global, calls: usize, expected: &str, told: usize) {
+    let writer = LimitedSink::new(alloc, 100).failing_after(calls);
+    let prompt = Prompt::new(SliceSource::new(b"password\n"), writer);
+    let came = is_signed_with(alloc, prompt, expected, told, calls < 6);
+    assert!(rt; came, "at {calls}");
+}
+
 // The writer writes and flushes three texts.
 #[test]
 fn the_writer_of_signing_fails(rt: HostRuntime) {
     let alloc = rt.alloc();
-    for (calls, expected, told) in [
-        (0usize, UNWRITTEN, 0usize),
-        (1, UNWRITTEN, 10),
-        (2, UNWRITTEN, 10),
-        (3, UNWRITTEN, 76),
-        (4, UNWRITTEN, 76),
-        (5, UNWRITTEN, 81),
-        (6, "accepted", 81),
-    ] {
-        let writer = LimitedSink::new(alloc, 100).failing_after(calls);
-        let prompt = Prompt::new(SliceSource::new(b"password\n"), writer);
-        assert!(rt;
-            is_signed_with(alloc, prompt, expected, told, calls < 6),
-            "at {calls}"
-        );
-    }
+    writes(&rt, alloc, 0, UNWRITTEN, 0);
+    writes(&rt, alloc, 1, UNWRITTEN, 10);
+    writes(&rt, alloc, 2, UNWRITTEN, 10);
+    writes(&rt, alloc, 3, UNWRITTEN, 76);
+    writes(&rt, alloc, 4, UNWRITTEN, 76);
+    writes(&rt, alloc, 5, UNWRITTEN, 81);
+    writes(&rt, alloc, 6, "accepted", 81);
 }
 
 // Whether signing with a text over such data and random bytes has this outcome, and draws so; the
@@ -340,22 +353,29 @@ fn is_signed_by_text(alloc: Global, reads: usize, draws: usize, expected: &str) 
     let mut random = FailingRandom::new(&ZEROS, draws);
     let answer = signed(alloc, &mut prompt, &mut data, &mut random);
     let came = comes_to(alloc, &answer, expected);
-    let text = match &answer {
-        Ok(text) => text.as_str() == SIGNATURE_TEXT,
-        Err(_) => true,
-    };
+    let text = answer.is_err() || is_text(&answer, SIGNATURE_TEXT);
     let told = prompt.writer.as_slice() == ASKED_AND_DONE;
     let undrawn = random.random.fill(&mut [0; 128]).is_ok();
     came && text && told && undrawn == (reads < 4 || draws == 0)
 }
 
+// Asserts it.
+fn signs_by_text<A: Abort>(rt: &A, alloc: Global, reads: usize, draws: usize, expected: &str) {
+    let came = is_signed_by_text(alloc, reads, draws, expected);
+    assert!(rt; came, "at {reads} {draws}");
+}
+
 // Once the key is opened, the data is read four times and random bytes are drawn twice.
 #[test]
 fn the_devices_of_signing_with_a_text_fail(rt: HostRuntime) {
-    for (reads, draws, expected) in READS_AND_DRAWS {
-        let came = is_signed_by_text(rt.alloc(), reads, draws, expected);
-        assert!(rt; came, "at {reads} {draws}");
-    }
+    let alloc = rt.alloc();
+    signs_by_text(&rt, alloc, 0, 0, UNREAD);
+    signs_by_text(&rt, alloc, 1, 0, UNREAD);
+    signs_by_text(&rt, alloc, 2, 0, UNREAD);
+    signs_by_text(&rt, alloc, 3, 0, UNREAD);
+    signs_by_text(&rt, alloc, 4, 0, UNDRAWN);
+    signs_by_text(&rt, alloc, 4, 1, UNDRAWN);
+    signs_by_text(&rt, alloc, 4, 2, "accepted");
 }
 
 #[test]
@@ -391,28 +411,47 @@ fn opens<P: Source + Drop>(
     comes_to(alloc, &answer, expected) && prompt.writer.as_slice() == told
 }
 
+// Asserts that opening the text reads all that is typed, whichever of the reads fails.
+fn reads<A: Abort>(rt: &A, alloc: Global, text: &str, typed: &[u8], whole: &[u8]) {
+    for reads in 0..typed.len() {
+        let reader = FailingSource::new(typed, reads);
+        let prompt = Prompt::new(reader, LimitedSink::new(alloc, 100));
+        let came = opens(alloc, text, prompt, UNREAD, front(whole, 10));
+        assert!(rt; came, "at {reads}");
+    }
+    let reader = FailingSource::new(typed, typed.len());
+    let prompt = Prompt::new(reader, LimitedSink::new(alloc, 100));
+    assert!(rt; opens(alloc, text, prompt, "accepted", whole));
+}
+
 // The prompt's reader, where a password is typed and where an empty one is: it is told that it is
 // empty.
 #[test]
 fn the_reader_of_opening_fails(rt: HostRuntime) {
     let alloc = rt.alloc();
-    let rows: [(&str, &[u8], &[u8]); 2] = [
-        (SEALED, b"password\n", ASKED_AND_DONE),
-        (SEALED_WITH_NOTHING, b"\n", MARKED_AND_DONE),
-    ];
-    for (text, typed, whole) in rows {
-        for reads in 0..typed.len() {
-            let reader = FailingSource::new(typed, reads);
-            let prompt = Prompt::new(reader, LimitedSink::new(alloc, 100));
-            assert!(rt;
-                opens(alloc, text, prompt, UNREAD, front(whole, 10)),
-                "at {reads}"
-            );
-        }
-        let reader = FailingSource::new(typed, typed.len());
-        let prompt = Prompt::new(reader, LimitedSink::new(alloc, 100));
-        assert!(rt; opens(alloc, text, prompt, "accepted", whole));
-    }
+    reads(&rt, alloc, SEALED, b"password\n", ASKED_AND_DONE);
+    reads(&rt, alloc, SEALED_WITH_NOTHING, b"\n", MARKED_AND_DONE);
+}
+
+// Whether opening the key with `password` and a writer that fails behind so many calls has this
+// outcome, and tells so much.
+fn opens_typed(alloc: Global, calls: usize, expected: &str, told: usize) -> bool {
+    let writer = LimitedSink::new(alloc, 100).failing_after(calls);
+    let prompt = Prompt::new(SliceSource::new(b"password\n"), writer);
+    opens(alloc, SEALED, prompt, expected, front(ASKED_AND_DONE, told))
+}
+
+// The same with the empty password.
+fn opens_empty(alloc: Global, calls: usize, expected: &str, told: usize) -> bool {
+    let writer = LimitedSink::new(alloc, 100).failing_after(calls);
+    let prompt = Prompt::new(SliceSource::new(b"\n"), writer);
+    opens(
+        alloc,
+        SEALED_WITH_NOTHING,
+        prompt,
+        expected,
+        front(MARKED_AND_DONE, told),
+    )
 }
 
 // The prompt's writer writes and flushes three texts where a password is typed, and four where an
@@ -420,39 +459,31 @@ fn the_reader_of_opening_fails(rt: HostRuntime) {
 #[test]
 fn the_writer_of_opening_fails(rt: HostRuntime) {
     let alloc = rt.alloc();
-    for (calls, told) in [0usize, 10, 10, 76, 76, 81].into_iter().enumerate() {
-        let writer = LimitedSink::new(alloc, 100).failing_after(calls);
-        let prompt = Prompt::new(SliceSource::new(b"password\n"), writer);
-        let told = front(ASKED_AND_DONE, told);
-        assert!(rt; opens(alloc, SEALED, prompt, UNWRITTEN, told), "at {calls}");
-    }
-    for (calls, told) in [0usize, 10, 10, 18, 18, 84, 84, 89].into_iter().enumerate() {
-        let writer = LimitedSink::new(alloc, 100).failing_after(calls);
-        let prompt = Prompt::new(SliceSource::new(b"\n"), writer);
-        let told = front(MARKED_AND_DONE, told);
-        assert!(rt;
-            opens(alloc, SEALED_WITH_NOTHING, prompt, UNWRITTEN, told),
-            "at {calls}"
-        );
-    }
+    assert!(rt; opens_typed(alloc, 0, UNWRITTEN, 0));
+    assert!(rt; opens_typed(alloc, 1, UNWRITTEN, 10));
+    assert!(rt; opens_typed(alloc, 2, UNWRITTEN, 10));
+    assert!(rt; opens_typed(alloc, 3, UNWRITTEN, 76));
+    assert!(rt; opens_typed(alloc, 4, UNWRITTEN, 76));
+    assert!(rt; opens_typed(alloc, 5, UNWRITTEN, 81));
+}
+
+#[test]
+fn the_writer_of_opening_with_nothing_fails(rt: HostRuntime) {
+    let alloc = rt.alloc();
+    assert!(rt; opens_empty(alloc, 0, UNWRITTEN, 0));
+    assert!(rt; opens_empty(alloc, 1, UNWRITTEN, 10));
+    assert!(rt; opens_empty(alloc, 2, UNWRITTEN, 10));
+    assert!(rt; opens_empty(alloc, 3, UNWRITTEN, 18));
+    assert!(rt; opens_empty(alloc, 4, UNWRITTEN, 18));
+    assert!(rt; opens_empty(alloc, 5, UNWRITTEN, 84));
+    assert!(rt; opens_empty(alloc, 6, UNWRITTEN, 84));
+    assert!(rt; opens_empty(alloc, 7, UNWRITTEN, 89));
 }
 
 // Behind its last call the key opens.
 #[test]
 fn the_writer_of_opening_is_called_so_often(rt: HostRuntime) {
     let alloc = rt.alloc();
-    let writer = LimitedSink::new(alloc, 100).failing_after(6);
-    let prompt = Prompt::new(SliceSource::new(b"password\n"), writer);
-    assert!(rt; opens(alloc, SEALED, prompt, "accepted", ASKED_AND_DONE));
-    let writer = LimitedSink::new(alloc, 100).failing_after(8);
-    let prompt = Prompt::new(SliceSource::new(b"\n"), writer);
-    assert!(rt;
-        opens(
-            alloc,
-            SEALED_WITH_NOTHING,
-            prompt,
-            "accepted",
-            MARKED_AND_DONE
-        )
-    );
+    assert!(rt; opens_typed(alloc, 6, "accepted", 81));
+    assert!(rt; opens_empty(alloc, 8, "accepted", 89));
 }

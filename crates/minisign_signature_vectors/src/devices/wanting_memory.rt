@@ -3,20 +3,18 @@
 //! refused in turn. A buffer that cannot grow is a sink that fails, so that a call with one may
 //! return a failed write too.
 
-use minisign::{
-    ErrorKind, PublicKey, Result, SecretKey, SignatureBones, SignatureBox, sign, sign_texts,
-    verify_texts,
+use crate::calls::{
+    COPYING, Said, key_a, public_a, read_box, signed_from, signed_text, verified_texts,
 };
+use minisign::{ErrorKind, PublicKey, Result, SignatureBones, SignatureBox};
 use minisign_base::devices::random_sources::FixedRandom;
-use minisign_base::devices::sinks::VecSink;
+use minisign_base::devices::sinks::{Sink, VecSink};
 use minisign_base::devices::sources::SliceSource;
 use minisign_base::prompt::Prompt;
 use minisign_base::toy::ToyScheme;
 use minisign_examples::example::sign_and_verify;
 use minisign_fixtures::devices::sinks::Counting;
-use minisign_fixtures::keys::{
-    CHECKSUM, IDENTIFIER, PUBLIC_BYTES, TIED_TO_ABC, public_record, secret_record, signature_record,
-};
+use minisign_fixtures::keys::{IDENTIFIER, TIED_TO_ABC, signature_record};
 use minisign_fixtures::texts::{KEY_TEXT, LEGACY_TEXT, SAID, SEALED, SECRET_TEXT, SIGNATURE_TEXT};
 use std::alloc::Global;
 
@@ -44,125 +42,153 @@ fn is_right_or_unwritten(answer: &Result<bool>) -> bool {
     }
 }
 
+// Verifies `abc` with the text under key A, with output and legacy signatures accepted.
+fn verified<W: Sink, O: Sink>(
+    alloc: Global,
+    sig_text: &str,
+    status: &mut W,
+    out: &mut O,
+) -> Result<()> {
+    let mut data = SliceSource::new(b"abc");
+    verified_texts(
+        alloc,
+        &ToyScheme::new(),
+        (KEY_TEXT, sig_text),
+        &mut data,
+        COPYING,
+        status,
+        out,
+    )
+}
+
 // Whether the status took 60 bytes and the output three.
 fn copied(alloc: Global, sig_text: &str) -> Result<bool> {
     let mut status = Counting { bytes: 0 };
     let mut out = Counting { bytes: 0 };
-    verify_texts(
-        alloc,
-        &ToyScheme::new(),
-        KEY_TEXT,
-        sig_text,
-        &mut SliceSource::new(b"abc"),
-        false,
-        true,
-        true,
-        &mut status,
-        &mut out,
-    )?;
+    verified(alloc, sig_text, &mut status, &mut out)?;
     Ok(status.bytes == 60 && out.bytes == 3)
+}
+
+// The text over `abc` that the text of a secret key signs, with the comments `t` and `c`.
+fn text_signed<Q: Sink>(
+    alloc: Global,
+    sk_text: &str,
+    prompt: &mut Prompt<SliceSource<'_>, Q>,
+) -> Result<String> {
+    signed_text(
+        alloc,
+        sk_text,
+        None,
+        prompt,
+        &mut SliceSource::new(b"abc"),
+        ("t", "c"),
+        &mut FixedRandom::new(&ZEROS),
+    )
 }
 
 // Whether signing with the text and a typed password gives the text that was worked out.
 fn signed(alloc: Global, sk_text: &str) -> Result<bool> {
-    let text = sign_texts(
-        alloc,
-        &ToyScheme::new(),
-        sk_text,
-        None,
-        &mut typed(b"password\n"),
-        &mut SliceSource::new(b"abc"),
-        Some("t"),
-        Some("c"),
-        &mut FixedRandom::new(&ZEROS),
-        0,
-    )?;
+    let text = text_signed(alloc, sk_text, &mut typed(b"password\n"))?;
     Ok(text.as_str() == SIGNATURE_TEXT)
+}
+
+// The box that is made with a public key to test, and with the comments by default.
+fn made_by_default(alloc: Global) -> Result<SignatureBox> {
+    let secret = key_a()?;
+    let public = PublicKey::from_secret_key(&secret)?;
+    let said = Said {
+        trusted: None,
+        untrusted: None,
+        moment: 7,
+    };
+    signed_from(
+        alloc,
+        Some(&public),
+        &secret,
+        &mut SliceSource::new(b"abc"),
+        said,
+        &mut FixedRandom::new(&ZEROS),
+    )
+}
+
+// The box that is read from the text of a copy.
+fn read_again(alloc: Global, signature_box: &SignatureBox) -> Result<SignatureBox> {
+    let text = signature_box.try_clone(alloc)?.into_string(alloc)?;
+    read_box(alloc, text.as_str())
+}
+
+// Whether this is the trusted comment of the box.
+fn has_trusted(alloc: Global, signature_box: &SignatureBox, comment: &str) -> Result<bool> {
+    let shown = signature_box.trusted_comment(alloc)?;
+    Ok(shown.as_str() == comment)
+}
+
+// Whether its untrusted comment is the one by default.
+fn has_usual_comment(alloc: Global, signature_box: &SignatureBox) -> Result<bool> {
+    let shown = signature_box.untrusted_comment(alloc)?;
+    Ok(shown.as_str() == "signature from rsign secret key")
 }
 
 // Whether a box that is made with a public key to test, and with the comments by default, has its
 // own.
 fn made(alloc: Global) -> Result<bool> {
-    let secret = SecretKey::from_bytes(&secret_record(&[0, 0], &CHECKSUM))?;
-    let public = PublicKey::from_secret_key(&secret)?;
-    let signature_box = sign(
-        alloc,
-        &ToyScheme::new(),
-        Some(&public),
-        &secret,
-        &mut SliceSource::new(b"abc"),
-        None,
-        None,
-        &mut FixedRandom::new(&ZEROS),
-        7,
-    )?;
-    let text = signature_box.try_clone(alloc)?.into_string(alloc)?;
-    let again = SignatureBox::from_string(alloc, text.as_str())?;
-    let trusted = again.trusted_comment(alloc)?;
-    let untrusted = again.untrusted_comment(alloc)?;
-    Ok(trusted.as_str() == "timestamp:7" && untrusted.as_str() == "signature from rsign secret key")
+    let signature_box = made_by_default(alloc)?;
+    let again = read_again(alloc, &signature_box)?;
+    let trusted = has_trusted(alloc, &again, "timestamp:7")?;
+    let untrusted = has_usual_comment(alloc, &again)?;
+    Ok(trusted && untrusted)
 }
 
-// Whether signing and verifying with raw keys gives what was worked out.
-fn signed_and_verified(alloc: Global) -> Result<bool> {
-    let secret = SecretKey::from_bytes(&secret_record(&[0, 0], &CHECKSUM))?;
-    let public = PublicKey::from_bytes(&public_record(&IDENTIFIER, &PUBLIC_BYTES))?;
-    let sig_text = sign_and_verify(
+// The text of the example of a caller, that is verified too.
+fn text_verified(alloc: Global) -> Result<String> {
+    let secret = key_a()?;
+    let public = public_a()?;
+    sign_and_verify(
         alloc,
         &ToyScheme::new(),
         &secret,
         &public,
         b"abc",
-        &mut FixedRandom::new(&[0; 128]),
+        &mut FixedRandom::new(&ZEROS),
         1555779966,
-    )?;
-    let signature_box = SignatureBox::from_string(alloc, sig_text.as_str())?;
-    let trusted = signature_box.trusted_comment(alloc)?;
-    let untrusted = signature_box.untrusted_comment(alloc)?;
+    )
+}
+
+// The box of that text.
+fn box_verified(alloc: Global) -> Result<SignatureBox> {
+    let sig_text = text_verified(alloc)?;
+    read_box(alloc, sig_text.as_str())
+}
+
+// Whether the bones of the box have the record that was worked out.
+fn has_record(alloc: Global, signature_box: SignatureBox) -> Result<bool> {
     let bytes = SignatureBones::from(signature_box).to_bytes(alloc)?;
     let record = signature_record(b"ED", &IDENTIFIER, &TIED_TO_ABC);
-    Ok(
-        trusted.as_str() == "timestamp:1555779966"
-            && untrusted.as_str() == "signature from rsign secret key"
-            && bytes.as_slice() == record.as_slice(),
-    )
+    Ok(bytes.as_slice() == record.as_slice())
+}
+
+// Whether signing and verifying with raw keys gives what was worked out.
+fn signed_and_verified(alloc: Global) -> Result<bool> {
+    let signature_box = box_verified(alloc)?;
+    let trusted = has_trusted(alloc, &signature_box, "timestamp:1555779966")?;
+    let untrusted = has_usual_comment(alloc, &signature_box)?;
+    let recorded = has_record(alloc, signature_box)?;
+    Ok(trusted && untrusted && recorded)
 }
 
 // Whether signing with a sealed key tells a prompt over a buffer that grows, and gives the text.
 fn signed_and_told(alloc: Global) -> Result<bool> {
     let mut prompt = Prompt::new(SliceSource::new(b"password\n"), VecSink::new(alloc));
-    let text = sign_texts(
-        alloc,
-        &ToyScheme::new(),
-        SEALED,
-        None,
-        &mut prompt,
-        &mut SliceSource::new(b"abc"),
-        Some("t"),
-        Some("c"),
-        &mut FixedRandom::new(&ZEROS),
-        0,
-    )?;
-    let (_, told) = prompt.into_parts();
-    Ok(text.as_str() == SIGNATURE_TEXT && told.as_slice().len() == 81)
+    let text = text_signed(alloc, SEALED, &mut prompt)?;
+    let told = prompt.writer.as_slice().len() == 81;
+    Ok(told && text.as_str() == SIGNATURE_TEXT)
 }
 
 // Whether the status and the output are taken by buffers that grow.
 fn copied_and_kept(alloc: Global) -> Result<bool> {
     let mut status = VecSink::new(alloc);
     let mut out = VecSink::new(alloc);
-    verify_texts(
-        alloc,
-        &ToyScheme::new(),
-        KEY_TEXT,
-        SIGNATURE_TEXT,
-        &mut SliceSource::new(b"abc"),
-        false,
-        true,
-        true,
-        &mut status,
-        &mut out,
-    )?;
+    verified(alloc, SIGNATURE_TEXT, &mut status, &mut out)?;
     Ok(status.as_slice() == SAID && out.as_slice() == b"abc".as_slice())
 }
 

@@ -1,186 +1,324 @@
 //! The calls for callers and the examples over them, run on the worked texts under the toy.
 
-use minisign::{copy_verified, open_with_password, sign_bytes, verify_bytes, verify_file};
+use minisign::{
+    Result, SecretKey, copy_verified, open_with_password, sign_bytes, verify_bytes, verify_file,
+};
 use minisign_base::devices::random_sources::FixedRandom;
 use minisign_base::devices::sinks::VecSink;
-use minisign_base::devices::sources::{ReaderSource, SliceSource};
+use minisign_base::devices::sources::{ReaderSource, Rereader, SliceSource};
 use minisign_base::toy::ToyScheme;
 use minisign_examples::commenting::is_update_named;
 use minisign_examples::rotating::{NewKey, check_with_new_key};
 use minisign_examples::small_device::open_in_little_memory;
-use minisign_fixtures::outcomes::{is_text, outcome};
+use minisign_fixtures::outcomes::{comes_to, holds, is_text, outcome};
 use minisign_fixtures::texts::{KEY_TEXT, LEGACY_TEXT, SEALED, SECRET_TEXT, SIGNATURE_TEXT};
+use std::alloc::Global;
+use std::process::Abort;
 use std::test::Fail;
 use std::{env, fs, process};
 
 const REFUSED: &str = "Verify: Signature verification failed";
 
+// Verifies the bytes with two texts.
+fn verified(alloc: Global, texts: (&str, &str), message: &[u8]) -> Result<String> {
+    let (pk_text, sig_text) = texts;
+    verify_bytes(alloc, &ToyScheme::new(), pk_text, sig_text, message)
+}
+
+// Whether the worked texts vouch for the bytes, with the comment `t`.
+fn is_vouched_for(alloc: Global) -> bool {
+    let comment = verified(alloc, (KEY_TEXT, SIGNATURE_TEXT), b"abc");
+    is_text(&comment, "t")
+}
+
+// Asserts that verifying the bytes is refused so.
+fn refuses<A: Abort>(rt: &A, alloc: Global, texts: (&str, &str), message: &[u8], expected: &str) {
+    let answer = verified(alloc, texts, message);
+    let came = comes_to(alloc, &answer, expected);
+    assert!(rt; came, "at {expected}");
+}
+
 #[test]
 fn the_comment_of_bytes_is_returned(rt: HostRuntime) {
     let alloc = rt.alloc();
-    let toy = ToyScheme::new();
-    let comment = verify_bytes(alloc, &toy, KEY_TEXT, SIGNATURE_TEXT, b"abc");
-    assert!(rt; is_text(&comment, "t"));
-    let rows: [(&str, &str, &[u8], &str); 4] = [
-        (KEY_TEXT, SIGNATURE_TEXT, b"abd", REFUSED),
-        (
-            KEY_TEXT,
-            LEGACY_TEXT,
-            b"abc",
-            "Verify: Legacy signatures are not accepted",
-        ),
-        (
-            KEY_TEXT,
-            "untrusted comment: c",
-            b"abc",
-            "Io: Missing signature",
-        ),
-        ("", "", b"abc", "Io: Missing comment in public key"),
-    ];
-    for (pk_text, sig_text, message, expected) in rows {
-        let answer = verify_bytes(alloc, &toy, pk_text, sig_text, message);
-        assert_eq!(rt; outcome(alloc, &answer).as_str(), expected);
-    }
+    assert!(rt; is_vouched_for(alloc));
+    let worked = (KEY_TEXT, SIGNATURE_TEXT);
+    refuses(&rt, alloc, worked, b"abd", REFUSED);
+    let legacy = "Verify: Legacy signatures are not accepted";
+    refuses(&rt, alloc, (KEY_TEXT, LEGACY_TEXT), b"abc", legacy);
+    let one_line = (KEY_TEXT, "untrusted comment: c");
+    refuses(&rt, alloc, one_line, b"abc", "Io: Missing signature");
+    let no_key = "Io: Missing comment in public key";
+    refuses(&rt, alloc, ("", ""), b"abc", no_key);
 }
 
-#[test]
-fn the_comment_of_files_is_returned(rt: HostRuntime) -> Result<(), Fail> {
-    let alloc = rt.alloc();
-    let toy = ToyScheme::new();
+// The path of a folder in the system's one for passing files.
+fn folder_path(rt: &HostRuntime) -> std::result::Result<String, Fail> {
     let id = process::id(rt.process());
-    let parent = env::temp_dir(&rt)?;
-    let folder = format!(in alloc; "{}/minisign_callers_{id}", parent.as_str())?;
-    if fs::exists(&rt, folder.as_str())? {
-        fs::remove_dir_all(&rt, folder.as_str())?;
+    let parent = env::temp_dir(rt)?;
+    let folder = format!(in rt.alloc(); "{}/minisign_callers_{id}", parent.as_str())?;
+    Ok(folder)
+}
+
+// Makes a folder that is empty.
+fn make_empty(rt: &HostRuntime, folder: &str) -> std::result::Result<(), Fail> {
+    if fs::exists(rt, folder)? {
+        fs::remove_dir_all(rt, folder)?;
     }
-    fs::create_dir(&rt, folder.as_str())?;
-    let sig_path = format!(in alloc; "{}/abc.sig", folder.as_str())?;
-    let data_path = format!(in alloc; "{}/abc", folder.as_str())?;
-    let missing = format!(in alloc; "{}/missing", folder.as_str())?;
-    fs::write(&rt, sig_path.as_str(), SIGNATURE_TEXT.as_bytes())?;
-    fs::write(&rt, data_path.as_str(), b"abc")?;
-    let comment = verify_file(
-        &rt,
-        alloc,
-        &toy,
-        KEY_TEXT,
-        sig_path.as_str(),
-        data_path.as_str(),
-    );
-    assert!(rt; is_text(&comment, "t"));
-    let rows = [
-        (&missing, &data_path, "Io: reading failed"),
-        (&sig_path, &missing, "Io: reading failed"),
-        (&sig_path, &sig_path, REFUSED),
-    ];
-    for (sig, file, expected) in rows {
-        let answer = verify_file(&rt, alloc, &toy, KEY_TEXT, sig.as_str(), file.as_str());
-        assert_eq!(rt; outcome(alloc, &answer).as_str(), expected);
-    }
-    fs::remove_dir_all(&rt, folder.as_str())?;
+    fs::create_dir(rt, folder)?;
     Ok(())
 }
 
-#[test]
-fn what_is_vouched_for_is_copied(rt: HostRuntime) {
-    let alloc = rt.alloc();
-    let toy = ToyScheme::new();
-    let rows: [(&[u8], &str, &[u8]); 2] = [(b"abc", "accepted", b"abc"), (b"abd", REFUSED, b"")];
-    for (message, expected, copied) in rows {
-        let mut out = VecSink::new(alloc);
-        let mut data = SliceSource::new(message);
-        let answer = copy_verified(alloc, &toy, KEY_TEXT, SIGNATURE_TEXT, &mut data, &mut out);
-        assert_eq!(rt; outcome(alloc, &answer).as_str(), expected);
-        assert!(rt; answer.is_err() || is_text(&answer, "t"));
-        assert!(rt; out.as_slice() == copied);
-    }
+// The path of a file of the folder.
+fn path_of(rt: &HostRuntime, folder: &str, name: &str) -> std::result::Result<String, Fail> {
+    Ok(format!(in rt.alloc(); "{folder}/{name}")?)
+}
+
+// Makes a file of the folder.
+fn put(rt: &HostRuntime, folder: &str, name: &str, bytes: &[u8]) -> std::result::Result<(), Fail> {
+    let path = path_of(rt, folder, name)?;
+    fs::write(rt, path.as_str(), bytes)?;
+    Ok(())
+}
+
+// Verifies a file with key A and the text in another one.
+fn file_verified(rt: &HostRuntime, sig_path: &str, data_path: &str) -> Result<String> {
+    verify_file(
+        rt,
+        rt.alloc(),
+        &ToyScheme::new(),
+        KEY_TEXT,
+        sig_path,
+        data_path,
+    )
+}
+
+// Whether the file in the folder is vouched for, with the comment `t`.
+fn is_file_vouched_for(rt: &HostRuntime, folder: &str) -> std::result::Result<bool, Fail> {
+    let sig_path = path_of(rt, folder, "abc.sig")?;
+    let data_path = path_of(rt, folder, "abc")?;
+    let comment = file_verified(rt, sig_path.as_str(), data_path.as_str());
+    Ok(is_text(&comment, "t"))
+}
+
+// Whether verifying a file of the folder is refused so.
+fn is_file_refused(
+    rt: &HostRuntime,
+    folder: &str,
+    sig: &str,
+    file: &str,
+    expected: &str,
+) -> std::result::Result<bool, Fail> {
+    let sig_path = path_of(rt, folder, sig)?;
+    let data_path = path_of(rt, folder, file)?;
+    let answer = file_verified(rt, sig_path.as_str(), data_path.as_str());
+    Ok(comes_to(rt.alloc(), &answer, expected))
 }
 
 #[test]
-fn a_source_that_cannot_go_back_is_not_copied(rt: HostRuntime) {
-    let alloc = rt.alloc();
-    let mut out = VecSink::new(alloc);
-    let mut data = ReaderSource::new(b"abc".as_slice());
-    let answer = copy_verified(
+fn the_comment_of_files_is_returned(rt: HostRuntime) -> std::result::Result<(), Fail> {
+    let folder = folder_path(&rt)?;
+    let folder = folder.as_str();
+    make_empty(&rt, folder)?;
+    put(&rt, folder, "abc.sig", SIGNATURE_TEXT.as_bytes())?;
+    put(&rt, folder, "abc", b"abc")?;
+    let unread = "Io: reading failed";
+    assert!(rt; is_file_vouched_for(&rt, folder)?);
+    assert!(rt; is_file_refused(&rt, folder, "missing", "abc", unread)?);
+    assert!(rt; is_file_refused(&rt, folder, "abc.sig", "missing", unread)?);
+    assert!(rt; is_file_refused(&rt, folder, "abc.sig", "abc.sig", REFUSED)?);
+    fs::remove_dir_all(&rt, folder)?;
+    Ok(())
+}
+
+// Copies the data, if the worked texts vouch for it.
+fn copied<R: Rereader>(alloc: Global, data: &mut R, out: &mut VecSink) -> Result<String> {
+    copy_verified(
         alloc,
         &ToyScheme::new(),
         KEY_TEXT,
         SIGNATURE_TEXT,
-        &mut data,
-        &mut out,
-    );
-    assert!(rt; answer.is_err());
-    assert!(rt; out.as_slice().is_empty());
+        data,
+        out,
+    )
+}
+
+// Whether the data is vouched for, with the comment `t`, and copied.
+fn is_copied(alloc: Global, message: &[u8]) -> bool {
+    let mut out = VecSink::new(alloc);
+    let answer = copied(alloc, &mut SliceSource::new(message), &mut out);
+    let told = is_text(&answer, "t");
+    told && out.as_slice() == message
+}
+
+// Whether the data is refused so, and nothing of it is copied.
+fn is_left(alloc: Global, message: &[u8], expected: &str) -> bool {
+    let mut out = VecSink::new(alloc);
+    let answer = copied(alloc, &mut SliceSource::new(message), &mut out);
+    let came = comes_to(alloc, &answer, expected);
+    came && out.as_slice().is_empty()
 }
 
 #[test]
-fn opened_keys_sign_bytes(rt: HostRuntime) -> Result<(), Fail> {
-    let alloc = rt.alloc();
-    let toy = ToyScheme::new();
-    for sk_text in [SECRET_TEXT, SEALED] {
-        let sk = open_with_password(alloc, sk_text, "password")?;
-        let zeros = [0u8; 128];
-        let mut random = FixedRandom::new(&zeros);
-        let text = sign_bytes(alloc, &toy, &sk, b"abc", Some("t"), &mut random, 0)?;
-        let lines = text
-            .as_str()
-            .strip_prefix("untrusted comment: signature from rsign secret key");
-        assert_eq!(rt; lines, SIGNATURE_TEXT.strip_prefix("untrusted comment: c"));
-    }
-    let refused = open_with_password(alloc, SEALED, "passwore");
-    let small = open_in_little_memory(alloc, SEALED, "passwore");
-    assert_eq!(rt;
-        outcome(alloc, &refused).as_str(),
-        outcome(alloc, &small).as_str()
-    );
-    assert!(rt; refused.is_err());
-    let small = open_in_little_memory(alloc, SEALED, "password")?;
-    let opened = open_with_password(alloc, SEALED, "password")?;
-    assert!(rt; small.to_bytes(alloc)? == opened.to_bytes(alloc)?);
-    Ok(())
+fn what_is_vouched_for_is_copied(rt: HostRuntime) {
+    assert!(rt; is_copied(rt.alloc(), b"abc"));
+    assert!(rt; is_left(rt.alloc(), b"abd", REFUSED));
+}
+
+// Whether a source that cannot go back is refused, and nothing is copied.
+fn is_read_once(alloc: Global) -> bool {
+    let mut out = VecSink::new(alloc);
+    let mut data = ReaderSource::new(b"abc".as_slice());
+    let refused = copied(alloc, &mut data, &mut out).is_err();
+    refused && out.as_slice().is_empty()
 }
 
 #[test]
-fn an_update_has_the_name_that_was_signed(rt: HostRuntime) -> Result<(), Fail> {
-    let alloc = rt.alloc();
-    let toy = ToyScheme::new();
-    for (name, expected) in [("t", true), ("T", false)] {
-        let named = is_update_named(alloc, &toy, KEY_TEXT, SIGNATURE_TEXT, b"abc", name)?;
-        assert_eq!(rt; named, expected);
-    }
-    let answer = is_update_named(alloc, &toy, KEY_TEXT, SIGNATURE_TEXT, b"abd", "t");
-    assert_eq!(rt; outcome(alloc, &answer).as_str(), REFUSED);
-    Ok(())
+fn a_source_that_cannot_go_back_is_not_copied(rt: HostRuntime) {
+    assert!(rt; is_read_once(rt.alloc()));
 }
 
-#[test]
-fn a_new_key_is_vouched_for_by_the_old_one(rt: HostRuntime) -> Result<(), Fail> {
-    let alloc = rt.alloc();
-    let toy = ToyScheme::new();
-    let sk = open_with_password(alloc, SECRET_TEXT, "")?;
+// Opens the text of a secret key.
+fn opened(alloc: Global, sk_text: &str, password: &str) -> Result<SecretKey> {
+    open_with_password(alloc, sk_text, password)
+}
+
+// Opens the sealed key in little memory.
+fn opened_in_little(alloc: Global, password: &str) -> Result<SecretKey> {
+    open_in_little_memory(alloc, SEALED, password)
+}
+
+// The text over the bytes that the key signs with random bytes that are zeros.
+fn signed(alloc: Global, sk: &SecretKey, message: &[u8], comment: &str) -> Result<String> {
     let zeros = [0u8; 128];
     let mut random = FixedRandom::new(&zeros);
-    let signed = sign_bytes(
+    sign_bytes(
         alloc,
-        &toy,
-        &sk,
-        KEY_TEXT.as_bytes(),
-        Some("key of 2027"),
+        &ToyScheme::new(),
+        sk,
+        message,
+        Some(comment),
         &mut random,
         0,
-    )?;
-    let rows: [(&str, &[u8], &str); 3] = [
-        (signed.as_str(), b"abc", "accepted"),
-        (signed.as_str(), b"abd", REFUSED),
-        (SIGNATURE_TEXT, b"abc", REFUSED),
-    ];
-    for (sig_text, update, expected) in rows {
-        let new_key = NewKey {
-            pk_text: KEY_TEXT,
-            sig_text,
-        };
-        let answer = check_with_new_key(alloc, &toy, KEY_TEXT, new_key, SIGNATURE_TEXT, update);
-        assert_eq!(rt; outcome(alloc, &answer).as_str(), expected);
-    }
-    Ok(())
+    )
+}
+
+// The text over the bytes that the key of a text signs.
+fn signed_with(
+    alloc: Global,
+    sk_text: &str,
+    password: &str,
+    message: &[u8],
+    comment: &str,
+) -> Result<String> {
+    let sk = opened(alloc, sk_text, password)?;
+    signed(alloc, &sk, message, comment)
+}
+
+// Whether the text is the worked one but for its untrusted comment, which is the one by default.
+fn is_worked_out(text: &str) -> bool {
+    let lines = text.strip_prefix("untrusted comment: signature from rsign secret key");
+    lines == SIGNATURE_TEXT.strip_prefix("untrusted comment: c")
+}
+
+// Whether the key of the text signs so.
+fn signs(alloc: Global, sk_text: &str) -> Result<bool> {
+    let text = signed_with(alloc, sk_text, "password", b"abc", "t")?;
+    Ok(is_worked_out(text.as_str()))
+}
+
+#[test]
+fn opened_keys_sign_bytes(rt: HostRuntime) {
+    assert!(rt; holds(&signs(rt.alloc(), SECRET_TEXT)));
+    assert!(rt; holds(&signs(rt.alloc(), SEALED)));
+}
+
+// Whether another password is refused, and in little memory in the same words.
+fn is_refused_alike(alloc: Global) -> bool {
+    let whole = opened(alloc, SEALED, "passwore");
+    let told = outcome(alloc, &whole);
+    let little = opened_in_little(alloc, "passwore");
+    let came = comes_to(alloc, &little, told.as_str());
+    whole.is_err() && came
+}
+
+// The record of the sealed key.
+fn record(alloc: Global) -> Result<Vec<u8>> {
+    opened(alloc, SEALED, "password")?.to_bytes(alloc)
+}
+
+// The same in little memory.
+fn record_in_little(alloc: Global) -> Result<Vec<u8>> {
+    opened_in_little(alloc, "password")?.to_bytes(alloc)
+}
+
+// Whether the sealed key is the same in little memory.
+fn is_opened_alike(alloc: Global) -> Result<bool> {
+    let whole = record(alloc)?;
+    let little = record_in_little(alloc)?;
+    Ok(whole.as_slice() == little.as_slice())
+}
+
+#[test]
+fn keys_are_opened_alike_in_little_memory(rt: HostRuntime) {
+    assert!(rt; is_refused_alike(rt.alloc()));
+    assert!(rt; holds(&is_opened_alike(rt.alloc())));
+}
+
+// Whether the bytes are an update of this name.
+fn named(alloc: Global, message: &[u8], name: &str) -> Result<bool> {
+    is_update_named(
+        alloc,
+        &ToyScheme::new(),
+        KEY_TEXT,
+        SIGNATURE_TEXT,
+        message,
+        name,
+    )
+}
+
+// Whether the update has the one name and not the other.
+fn has_its_name(alloc: Global) -> Result<bool> {
+    let own = named(alloc, b"abc", "t")?;
+    let other = named(alloc, b"abc", "T")?;
+    Ok(own && !other)
+}
+
+#[test]
+fn an_update_has_the_name_that_was_signed(rt: HostRuntime) {
+    let alloc = rt.alloc();
+    assert!(rt; holds(&has_its_name(alloc)));
+    let changed = named(alloc, b"abd", "t");
+    assert!(rt; comes_to(alloc, &changed, REFUSED));
+}
+
+// Whether the update under a new key, which this text has to vouch for, comes out so.
+fn is_checked(alloc: Global, sig_text: &str, update: &[u8], expected: &str) -> bool {
+    let new_key = NewKey {
+        pk_text: KEY_TEXT,
+        sig_text,
+    };
+    let answer = check_with_new_key(
+        alloc,
+        &ToyScheme::new(),
+        KEY_TEXT,
+        new_key,
+        SIGNATURE_TEXT,
+        update,
+    );
+    comes_to(alloc, &answer, expected)
+}
+
+// Whether the update comes out so with a new key that the old one signed.
+fn is_vouched_by_the_old(alloc: Global, update: &[u8], expected: &str) -> Result<bool> {
+    let text = signed_with(alloc, SECRET_TEXT, "", KEY_TEXT.as_bytes(), "key of 2027")?;
+    Ok(is_checked(alloc, text.as_str(), update, expected))
+}
+
+#[test]
+fn a_new_key_is_vouched_for_by_the_old_one(rt: HostRuntime) {
+    let alloc = rt.alloc();
+    assert!(rt; holds(&is_vouched_by_the_old(alloc, b"abc", "accepted")));
+    assert!(rt; holds(&is_vouched_by_the_old(alloc, b"abd", REFUSED)));
+    assert!(rt; is_checked(alloc, SIGNATURE_TEXT, b"abc", REFUSED));
 }

@@ -1,13 +1,14 @@
 //! Signing with a raw secret key, and verifying what was signed, under the toy.
 
 use crate::calls::{
-    SAYING, Said, Sinks, Wanted, ample, box_comes_out, box_judges, key_a, public_a, signed,
-    signed_by_bytes, signed_from,
+    SAYING, Said, Sinks, Wanted, ample, box_comes_out, box_judges, key_a, public_a, read_box,
+    signed, signed_by_bytes, signed_from,
 };
 use minisign::reading::read_to_end;
 use minisign::{PublicKey, Result, SecretKey, SignatureBones, SignatureBox, VerifyOptions};
 use minisign_base::devices::random_sources::{FixedRandom, RandomSource, SourceRandom};
 use minisign_base::devices::sources::{SliceSource, Source};
+use minisign_base::scheme::Scheme;
 use minisign_base::toy::ToyScheme;
 use minisign_examples::example::sign_and_verify;
 use minisign_fixtures::devices::sinks::LimitedSink;
@@ -21,6 +22,7 @@ use minisign_fixtures::outcomes::{comes_to, front, holds, is_record, is_text};
 use minisign_fixtures::texts::SAID;
 use minisign_fixtures::two_signatures::TwoSignatures;
 use std::alloc::Global;
+use std::process::Abort;
 
 const MOMENT: u64 = 1555779966;
 
@@ -59,22 +61,46 @@ const SAID_BARE: &[u8] = b"Signature and comment signature verified\n";
 
 const SAID_NOTHING: &[u8] = b"Signature and comment signature verified\nTrusted comment: \n";
 
-// Both comments by what they hold, at the moment of the tests.
-fn saying<'a>(trusted: Option<&'a str>, untrusted: Option<&'a str>) -> Said<'a> {
-    Said {
-        trusted,
-        untrusted,
-        moment: MOMENT,
-    }
-}
+// Both comments, the empty ones and those by default, at the moment of the tests.
+const COMMENTED: Said<'static> = Said {
+    trusted: Some("t"),
+    untrusted: Some("c"),
+    moment: MOMENT,
+};
 
-// What verifying is wanted to come to, where nothing is copied.
-fn wanted<'a>(outcome: &'a str, said: &'a [u8]) -> Wanted<'a> {
-    Wanted {
+const BOTH_OF_T: Said<'static> = Said {
+    trusted: Some("t"),
+    untrusted: Some("t"),
+    moment: MOMENT,
+};
+
+const EMPTY: Said<'static> = Said {
+    trusted: Some(""),
+    untrusted: Some(""),
+    moment: MOMENT,
+};
+
+const BY_DEFAULT: Said<'static> = Said {
+    trusted: None,
+    untrusted: None,
+    moment: MOMENT,
+};
+
+// Whether verifying the data with a box comes out so, where nothing is copied.
+fn judges<S: Scheme>(
+    alloc: Global,
+    scheme: &S,
+    parts: (&PublicKey, &SignatureBox),
+    data: &[u8],
+    outcome: &str,
+    said: &[u8],
+) -> bool {
+    let wanted = Wanted {
         outcome,
         said,
         copied: b"",
-    }
+    };
+    box_judges(alloc, scheme, parts, data, wanted)
 }
 
 // What a signature was worked out to be: its data and both comments, what is said, the digest, and
@@ -82,7 +108,7 @@ fn wanted<'a>(outcome: &'a str, said: &'a [u8]) -> Wanted<'a> {
 #[derive(Clone, Copy)]
 struct Worked {
     data: &'static [u8],
-    comment: &'static str,
+    comments: Said<'static>,
     said: &'static [u8],
     digest: [u8; 64],
     tied: [u8; 32],
@@ -91,7 +117,7 @@ struct Worked {
 
 const OF_ABC: Worked = Worked {
     data: b"abc",
-    comment: "t",
+    comments: BOTH_OF_T,
     said: SAID,
     digest: DIGEST_OF_ABC,
     tied: TIED_TO_ABC,
@@ -100,7 +126,7 @@ const OF_ABC: Worked = Worked {
 
 const OF_NOTHING: Worked = Worked {
     data: b"",
-    comment: "",
+    comments: EMPTY,
     said: SAID_NOTHING,
     digest: DIGEST_OF_NOTHING,
     tied: TIED_TO_NOTHING,
@@ -112,21 +138,17 @@ fn is_exact(alloc: Global, worked: Worked, parts: (&PublicKey, &SignatureBox)) -
     let signature = with_zeros(&worked.tied);
     let mut comment_signature = with_zeros(&worked.comment_tied);
     let exact = TwoSignatures::new(worked.digest, signature, comment_signature);
-    let accepted = wanted("accepted", worked.said);
-    let is_accepted = box_judges(alloc, &exact, parts, worked.data, accepted);
+    let is_accepted = judges(alloc, &exact, parts, worked.data, "accepted", worked.said);
     comment_signature[63] ^= 1;
     let changed = TwoSignatures::new(worked.digest, signature, comment_signature);
-    let refused = wanted(COMMENT_REFUSED, b"");
-    is_accepted && box_judges(alloc, &changed, parts, worked.data, refused)
+    is_accepted && judges(alloc, &changed, parts, worked.data, COMMENT_REFUSED, b"")
 }
 
 // Whether the box is accepted under the toy for its data alone.
 fn is_accepted(alloc: Global, worked: Worked, parts: (&PublicKey, &SignatureBox)) -> bool {
     let toy = ToyScheme::new();
-    let accepted = wanted("accepted", worked.said);
-    let refused = wanted(REFUSED, b"");
-    box_judges(alloc, &toy, parts, worked.data, accepted)
-        && box_judges(alloc, &toy, parts, b"x", refused)
+    judges(alloc, &toy, parts, worked.data, "accepted", worked.said)
+        && judges(alloc, &toy, parts, b"x", REFUSED, b"")
 }
 
 // Whether its bones have the record that was worked out, and are accepted without comments.
@@ -136,46 +158,67 @@ fn has_bones(alloc: Global, worked: Worked, pk: &PublicKey, signature_box: Signa
     let recorded = is_record(&bones.to_bytes(alloc), &record);
     let bare = SignatureBox::from_bones(bones);
     let toy = ToyScheme::new();
-    let accepted = wanted("accepted", SAID_BARE);
-    recorded && box_judges(alloc, &toy, (pk, &bare), worked.data, accepted)
+    recorded && judges(alloc, &toy, (pk, &bare), worked.data, "accepted", SAID_BARE)
 }
 
-// Whether the boxes that key A signs with random bytes that are zeros, of data that is read at once
-// and one byte a read, are as they were worked out.
-fn is_worked_out(alloc: Global, worked: Worked) -> Result<bool> {
+// Whether the box is as it was worked out.
+fn is_right(alloc: Global, worked: Worked, signature_box: SignatureBox) -> Result<bool> {
     let pk = public_a()?;
-    let said = saying(Some(worked.comment), Some(worked.comment));
-    let at_once = signed(alloc, worked.data, said, &ZEROS)?;
-    let by_bytes = signed_by_bytes(alloc, worked.data, said, &ZEROS)?;
-    let once = is_exact(alloc, worked, (&pk, &at_once));
-    let bytes = is_exact(alloc, worked, (&pk, &by_bytes));
-    let accepted = is_accepted(alloc, worked, (&pk, &by_bytes));
-    Ok(once && bytes && accepted && has_bones(alloc, worked, &pk, at_once))
+    let exact = is_exact(alloc, worked, (&pk, &signature_box));
+    let accepted = is_accepted(alloc, worked, (&pk, &signature_box));
+    Ok(exact && accepted && has_bones(alloc, worked, &pk, signature_box))
+}
+
+// Whether the box that key A signs with random bytes that are zeros is so, of data that is read at
+// once.
+fn is_worked_out(alloc: Global, worked: Worked) -> Result<bool> {
+    let made = signed(alloc, worked.data, worked.comments, &ZEROS)?;
+    is_right(alloc, worked, made)
+}
+
+// The same of data that is read one byte a read.
+fn is_worked_out_by_bytes(alloc: Global, worked: Worked) -> Result<bool> {
+    let made = signed_by_bytes(alloc, worked.data, worked.comments, &ZEROS)?;
+    is_right(alloc, worked, made)
 }
 
 // Each box has its comments, both signatures byte by byte, and is accepted for its data alone.
 #[test]
 fn signatures_are_as_worked_out(rt: HostRuntime) {
-    assert!(rt; holds(&is_worked_out(rt.alloc(), OF_ABC)));
-    assert!(rt; holds(&is_worked_out(rt.alloc(), OF_NOTHING)));
+    let alloc = rt.alloc();
+    assert!(rt; holds(&is_worked_out(alloc, OF_ABC)));
+    assert!(rt; holds(&is_worked_out_by_bytes(alloc, OF_ABC)));
+    assert!(rt; holds(&is_worked_out(alloc, OF_NOTHING)));
+    assert!(rt; holds(&is_worked_out_by_bytes(alloc, OF_NOTHING)));
+}
+
+// Whether these are the comments of the box.
+fn has_comments(
+    alloc: Global,
+    signature_box: &SignatureBox,
+    trusted: &str,
+    untrusted: &str,
+) -> bool {
+    let shown = is_text(&signature_box.trusted_comment(alloc), trusted);
+    let below = is_text(&signature_box.untrusted_comment(alloc), untrusted);
+    shown && below
 }
 
 // Whether the box that is signed with these comments shows those.
 fn shows(alloc: Global, said: Said, trusted: &str, untrusted: &str) -> Result<bool> {
     let signature_box = signed(alloc, b"abc", said, &ZEROS)?;
     let named = signature_box.is_prehashed() && signature_box.keynum() == IDENTIFIER.as_slice();
-    let shown = signature_box.trusted_comment(alloc)?;
-    let below = signature_box.untrusted_comment(alloc)?;
-    Ok(named && shown.as_str() == trusted && below.as_str() == untrusted)
+    let commented = has_comments(alloc, &signature_box, trusted, untrusted);
+    Ok(named && commented)
 }
 
 #[test]
 fn comments_are_kept_or_made(rt: HostRuntime) {
     let (timestamp, untrusted) = ("timestamp:1555779966", "signature from rsign secret key");
     let alloc = rt.alloc();
-    assert!(rt; holds(&shows(alloc, saying(Some("t"), Some("c")), "t", "c")));
-    assert!(rt; holds(&shows(alloc, saying(Some(""), Some("")), "", "")));
-    assert!(rt; holds(&shows(alloc, saying(None, None), timestamp, untrusted)));
+    assert!(rt; holds(&shows(alloc, COMMENTED, "t", "c")));
+    assert!(rt; holds(&shows(alloc, EMPTY, "", "")));
+    assert!(rt; holds(&shows(alloc, BY_DEFAULT, timestamp, untrusted)));
 }
 
 // Whether random byte number 95 is byte 31 of the comment signature of the box.
@@ -186,10 +229,9 @@ fn has_byte_95(alloc: Global, signature_box: &SignatureBox) -> Result<bool> {
     comment_signature[63] = 0;
     let exact = TwoSignatures::new(DIGEST_OF_ABC, with_zeros(&TIED_TO_ABC), comment_signature);
     let toy = ToyScheme::new();
-    let accepted = wanted("accepted", SAID);
     let parts = (&pk, signature_box);
-    let tied = box_judges(alloc, &exact, parts, b"abc", accepted);
-    Ok(tied && box_judges(alloc, &toy, parts, b"abc", accepted))
+    let tied = judges(alloc, &exact, parts, b"abc", "accepted", SAID);
+    Ok(tied && judges(alloc, &toy, parts, b"abc", "accepted", SAID))
 }
 
 // Whether it is so where the data and the random bytes come from these sources.
@@ -199,8 +241,7 @@ fn is_drawn<R: Source, Z: RandomSource>(
     random: &mut Z,
 ) -> Result<bool> {
     let sk = key_a()?;
-    let said = saying(Some("t"), Some("c"));
-    let made = signed_from(alloc, None, &sk, data, said, random)?;
+    let made = signed_from(alloc, None, &sk, data, COMMENTED, random)?;
     has_byte_95(alloc, &made)
 }
 
@@ -214,6 +255,14 @@ fn random_bytes_go_where_they_belong(rt: HostRuntime) {
     assert!(rt; holds(&is_drawn(alloc, &mut SliceSource::new(b"abc"), &mut whole)));
     let mut bytes = SourceRandom::new(OneByOne::new(&drawn));
     assert!(rt; holds(&is_drawn(alloc, &mut OneByOne::new(b"abc"), &mut bytes)));
+}
+
+// Whether so many random bytes are left.
+fn are_left(random: &mut FixedRandom<'_>, left: usize) -> bool {
+    let mut rest = [0u8; 128];
+    let filled = random.fill(&mut rest[..left.min(128)]).is_ok();
+    let ended = random.fill(&mut [0]).is_err();
+    filled && ended
 }
 
 // Whether signing with key A's record under this key derivation and checksum, over data that fails
@@ -230,35 +279,43 @@ fn leaves(
     let drawn = [7u8; 128];
     let mut random = FixedRandom::new(front(&drawn, random_bytes));
     let mut source = FailsAfter::new(b"abc", reads);
-    let said = saying(None, None);
-    let answer = signed_from(alloc, None, &secret, &mut source, said, &mut random);
+    let answer = signed_from(alloc, None, &secret, &mut source, BY_DEFAULT, &mut random);
     let came = comes_to(alloc, &answer, expected);
-    let mut rest = [0u8; 128];
-    let filled = random.fill(&mut rest[..left.min(128)]).is_ok();
-    let ended = random.fill(&mut [0]).is_err();
-    Ok(came && filled && ended)
+    Ok(came && are_left(&mut random, left))
 }
 
-// What a refused or a good run leaves in the random source. Each row: the key derivation and the
-// checksum of key A, how many reads pass, how many random bytes there are, the answer, and how many
-// of them are left.
+// Asserts it.
+fn leaving<A: Abort>(
+    rt: &A,
+    alloc: Global,
+    record: &[u8; 158],
+    (reads, random_bytes): (u64, usize),
+    expected: &str,
+    left: usize,
+) {
+    let came = leaves(alloc, record, reads, random_bytes, expected, left);
+    assert!(rt; holds(&came), "at {reads} {random_bytes}");
+}
+
+// What a refused or a good run leaves in the random source. Each row: key A's record by its key
+// derivation and its checksum, how many reads pass, how many random bytes there are, the answer,
+// and how many of them are left.
 #[test]
 fn signing_is_refused_in_its_order(rt: HostRuntime) {
-    for (kdf, checksum, reads, random_bytes, expected, left) in [
-        (b"\0\0", [0u8; 32], 4u64, 128usize, "accepted", 0usize),
-        (b"Sc", CHECKSUM, 4, 128, "accepted", 0),
-        (b"Sc", [0; 32], 4, 128, SEALED, 128),
-        (b"Sc", [0; 32], 0, 0, SEALED, 0),
-        (b"\0\0", CHECKSUM, 4, 127, UNDRAWN, 63),
-        (b"\0\0", CHECKSUM, 4, 64, UNDRAWN, 0),
-        (b"\0\0", CHECKSUM, 4, 63, UNDRAWN, 63),
-        (b"\0\0", CHECKSUM, 1, 128, UNREAD, 128),
-        (b"\0\0", CHECKSUM, 3, 0, UNREAD, 0),
-    ] {
-        let record = secret_record(kdf, &checksum);
-        let left = leaves(rt.alloc(), &record, reads, random_bytes, expected, left);
-        assert!(rt; holds(&left), "at {kdf:?} {reads} {random_bytes}");
-    }
+    let alloc = rt.alloc();
+    let without_checksum = secret_record(b"\0\0", &[0; 32]);
+    leaving(&rt, alloc, &without_checksum, (4, 128), "accepted", 0);
+    let opened = secret_record(b"Sc", &CHECKSUM);
+    leaving(&rt, alloc, &opened, (4, 128), "accepted", 0);
+    let sealed = secret_record(b"Sc", &[0; 32]);
+    leaving(&rt, alloc, &sealed, (4, 128), SEALED, 128);
+    leaving(&rt, alloc, &sealed, (0, 0), SEALED, 0);
+    let unsealed = secret_record(b"\0\0", &CHECKSUM);
+    leaving(&rt, alloc, &unsealed, (4, 127), UNDRAWN, 63);
+    leaving(&rt, alloc, &unsealed, (4, 64), UNDRAWN, 0);
+    leaving(&rt, alloc, &unsealed, (4, 63), UNDRAWN, 63);
+    leaving(&rt, alloc, &unsealed, (1, 128), UNREAD, 128);
+    leaving(&rt, alloc, &unsealed, (3, 0), UNREAD, 0);
 }
 
 // Whether signing under this key derivation with no random bytes is refused, and leaves so much of
@@ -271,22 +328,25 @@ fn leaves_ahead<R: Source>(
 ) -> Result<bool> {
     let secret = SecretKey::from_bytes(&secret_record(kdf, &[0; 32]))?;
     let mut random = FixedRandom::new(&[]);
-    let answer = signed_from(alloc, None, &secret, data, saying(None, None), &mut random);
+    let answer = signed_from(alloc, None, &secret, data, BY_DEFAULT, &mut random);
     let refused = answer.is_err();
-    Ok(refused && is_record(&read_to_end(alloc, data), ahead))
+    let left = is_record(&read_to_end(alloc, data), ahead);
+    Ok(refused && left)
+}
+
+// Asserts it of data that is read at once, and one byte a read.
+fn leaving_ahead<A: Abort>(rt: &A, alloc: Global, kdf: &[u8; 2], ahead: &[u8]) {
+    let whole = leaves_ahead(alloc, kdf, &mut SliceSource::new(b"abc"), ahead);
+    assert!(rt; holds(&whole), "at {kdf:?}");
+    let bytes = leaves_ahead(alloc, kdf, &mut OneByOne::new(b"abc"), ahead);
+    assert!(rt; holds(&bytes), "at {kdf:?}");
 }
 
 // A sealed key leaves all of the source, and too few random bytes leave none.
 #[test]
 fn sources_are_read_to_their_end_or_not_at_all(rt: HostRuntime) {
-    let alloc = rt.alloc();
-    let rows: [(&[u8; 2], &[u8]); 2] = [(b"Sc", b"abc"), (b"\0\0", b"")];
-    for (kdf, ahead) in rows {
-        let whole = leaves_ahead(alloc, kdf, &mut SliceSource::new(b"abc"), ahead);
-        assert!(rt; holds(&whole), "at {kdf:?}");
-        let bytes = leaves_ahead(alloc, kdf, &mut OneByOne::new(b"abc"), ahead);
-        assert!(rt; holds(&bytes), "at {kdf:?}");
-    }
+    leaving_ahead(&rt, rt.alloc(), b"Sc", b"abc");
+    leaving_ahead(&rt, rt.alloc(), b"\0\0", b"");
 }
 
 // Whether signing with this public key to test has this outcome.
@@ -299,8 +359,7 @@ fn is_tested<R: Source>(
     let sk = key_a()?;
     let pk = PublicKey::from_bytes(record)?;
     let mut random = FixedRandom::new(&ZEROS);
-    let said = saying(Some("t"), Some("c"));
-    let answer = signed_from(alloc, Some(&pk), &sk, data, said, &mut random);
+    let answer = signed_from(alloc, Some(&pk), &sk, data, COMMENTED, &mut random);
     Ok(comes_to(alloc, &answer, expected))
 }
 
@@ -322,18 +381,30 @@ fn a_given_public_key_is_tested_by_its_bytes(rt: HostRuntime) {
     }
 }
 
-// Whether the box of `abc` is refused under another identifier, over the data and over a source
-// whose second read fails.
-fn is_of_another_key(alloc: Global) -> Result<bool> {
-    let made = signed(alloc, b"abc", saying(Some("t"), Some("c")), &ZEROS)?;
-    let renamed = PublicKey::from_bytes(&public_record(&OTHER_IDENTIFIER, &PUBLIC_BYTES))?;
-    let parts = (&renamed, &made);
+// The public key of key A's bytes under another identifier.
+fn renamed() -> Result<PublicKey> {
+    PublicKey::from_bytes(&public_record(&OTHER_IDENTIFIER, &PUBLIC_BYTES))
+}
+
+// Whether the box is refused under this key over `abc`, and over a source whose second read fails.
+fn is_refused_under(alloc: Global, parts: (&PublicKey, &SignatureBox)) -> bool {
     let toy = ToyScheme::new();
-    let other = box_judges(alloc, &toy, parts, b"abc", wanted(OTHER_KEY, b""));
+    let other = judges(alloc, &toy, parts, b"abc", OTHER_KEY, b"");
     let mut failing = FailsAfter::new(b"abc", 1);
-    let unread = wanted(UNREAD, b"");
+    let unread = Wanted {
+        outcome: UNREAD,
+        said: b"",
+        copied: b"",
+    };
     let sinks = ample(alloc);
-    Ok(other && box_comes_out(alloc, &toy, parts, &mut failing, SAYING, sinks, unread))
+    other && box_comes_out(alloc, &toy, parts, &mut failing, SAYING, sinks, unread)
+}
+
+// Whether the box of `abc` is refused so under another identifier.
+fn is_of_another_key(alloc: Global) -> Result<bool> {
+    let made = signed(alloc, b"abc", COMMENTED, &ZEROS)?;
+    let pk = renamed()?;
+    Ok(is_refused_under(alloc, (&pk, &made)))
 }
 
 #[test]
@@ -341,11 +412,16 @@ fn signed_boxes_are_judged(rt: HostRuntime) {
     assert!(rt; holds(&is_of_another_key(rt.alloc())));
 }
 
-// Whether verifying the box of `abc` over a status with this room, that can't be flushed, has this
-// outcome, and says so much.
-fn is_told(alloc: Global, quiet: bool, room: usize, outcome: &str, said: usize) -> Result<bool> {
-    let made = signed(alloc, b"abc", saying(Some("t"), Some("c")), &ZEROS)?;
-    let pk = public_a()?;
+// Whether verifying the box over a status with this room, that can't be flushed, has this outcome,
+// and says so much.
+fn is_told_of(
+    alloc: Global,
+    parts: (&PublicKey, &SignatureBox),
+    quiet: bool,
+    room: usize,
+    outcome: &str,
+    said: usize,
+) -> bool {
     let sinks = Sinks {
         status: LimitedSink::new(alloc, room).flushed(0),
         out: LimitedSink::new(alloc, 0),
@@ -357,8 +433,19 @@ fn is_told(alloc: Global, quiet: bool, room: usize, outcome: &str, said: usize) 
     };
     let toy = ToyScheme::new();
     let mut data = SliceSource::new(b"abc");
-    let wanted = wanted(outcome, front(SAID, said));
-    Ok(box_comes_out(alloc, &toy, (&pk, &made), &mut data, options, sinks, wanted))
+    let wanted = Wanted {
+        outcome,
+        said: front(SAID, said),
+        copied: b"",
+    };
+    box_comes_out(alloc, &toy, parts, &mut data, options, sinks, wanted)
+}
+
+// Whether it is so of the box of `abc`.
+fn is_told(alloc: Global, quiet: bool, room: usize, outcome: &str, said: usize) -> Result<bool> {
+    let made = signed(alloc, b"abc", COMMENTED, &ZEROS)?;
+    let pk = public_a()?;
+    Ok(is_told_of(alloc, (&pk, &made), quiet, room, outcome, said))
 }
 
 #[test]
@@ -389,17 +476,22 @@ fn example(alloc: Global, pk: &PublicKey) -> Result<String> {
     )
 }
 
-// Whether the example gives a text with its moment, and refuses another public key.
+// Whether the example gives a text with its moment.
 fn is_exemplary(alloc: Global) -> Result<bool> {
-    let other = PublicKey::from_bytes(&public_record(&IDENTIFIER, &[0x5b; 32]))?;
-    let refused = comes_to(alloc, &example(alloc, &other), REFUSED);
     let text = example(alloc, &public_a()?)?;
-    let made = SignatureBox::from_string(alloc, text.as_str())?;
-    Ok(refused && is_text(&made.trusted_comment(alloc), "timestamp:1555779966"))
+    let made = read_box(alloc, text.as_str())?;
+    Ok(is_text(&made.trusted_comment(alloc), "timestamp:1555779966"))
+}
+
+// Whether the example refuses another public key.
+fn is_exemplary_of_another(alloc: Global) -> Result<bool> {
+    let other = PublicKey::from_bytes(&public_record(&IDENTIFIER, &[0x5b; 32]))?;
+    Ok(comes_to(alloc, &example(alloc, &other), REFUSED))
 }
 
 // The example of a caller, with its own public key and with another one.
 #[test]
 fn the_example_signs_and_verifies(rt: HostRuntime) {
     assert!(rt; holds(&is_exemplary(rt.alloc())));
+    assert!(rt; holds(&is_exemplary_of_another(rt.alloc())));
 }

@@ -1,61 +1,69 @@
 //! The signing tool in small, run: the texts of a pair sealed under a password, and what its key
 //! signed.
 
-use minisign::SignatureBox;
+use crate::calls::read_box;
+use minisign::Result;
 use minisign_base::devices::random_sources::FixedRandom;
 use minisign_base::toy::ToyScheme;
 use minisign_examples::releasing::{Release, sign_release};
 use minisign_examples::updating::check_update;
-use minisign_fixtures::outcomes::{counted, is_text, outcome};
+use minisign_fixtures::outcomes::{comes_to, counted, holds, is_text};
 use minisign_fixtures::texts::COUNTED_PUBLIC_TEXT;
-use std::test::Fail;
+use std::alloc::Global;
 
-#[test]
-fn a_release_is_verified_with_its_texts(rt: HostRuntime) -> Result<(), Fail> {
-    let alloc = rt.alloc();
-    let toy = ToyScheme::new();
-    let Release { pk_text, sig_text } = sign_release(
+// The release that is signed with these random bytes.
+fn released(alloc: Global, random: &[u8]) -> Result<Release> {
+    sign_release(
         alloc,
-        &toy,
-        "key password",
-        b"lorem ipsum",
-        &mut FixedRandom::new(&counted()),
-        0,
-    )?;
-    assert_eq!(rt; pk_text.as_str(), COUNTED_PUBLIC_TEXT);
-    let signature_box = SignatureBox::from_string(alloc, sig_text.as_str())?;
-    let untrusted = signature_box.untrusted_comment(alloc);
-    assert!(rt; is_text(&untrusted, "signature from rsign secret key"));
-    assert!(rt; is_text(&signature_box.trusted_comment(alloc), "timestamp:0"));
-    for (update, answer) in [
-        ("lorem ipsum", "accepted"),
-        ("lorem ipsun", "Verify: Signature verification failed"),
-    ] {
-        let checked = check_update(
-            alloc,
-            &toy,
-            pk_text.as_str(),
-            sig_text.as_str(),
-            update.as_bytes(),
-        );
-        assert_eq!(rt; outcome(alloc, &checked).as_str(), answer);
-    }
-    Ok(())
-}
-
-#[test]
-fn a_release_wants_all_its_random_bytes(rt: HostRuntime) -> Result<(), Fail> {
-    let answer = sign_release(
-        rt.alloc(),
         &ToyScheme::new(),
         "key password",
         b"lorem ipsum",
-        &mut FixedRandom::new(&[7; 199]),
+        &mut FixedRandom::new(random),
         0,
-    );
-    assert_eq!(rt;
-        outcome(rt.alloc(), &answer).as_str(),
-        "RNG: random source failed"
-    );
-    Ok(())
+    )
+}
+
+// Whether the text of the signature has the comments by default.
+fn has_comments(alloc: Global, sig_text: &str) -> Result<bool> {
+    let signature_box = read_box(alloc, sig_text)?;
+    let untrusted = signature_box.untrusted_comment(alloc);
+    let below = is_text(&untrusted, "signature from rsign secret key");
+    let trusted = signature_box.trusted_comment(alloc);
+    Ok(below && is_text(&trusted, "timestamp:0"))
+}
+
+// Whether checking the update with both texts comes out so.
+fn is_checked(alloc: Global, texts: (&str, &str), update: &str, expected: &str) -> bool {
+    let (pk_text, sig_text) = texts;
+    let toy = ToyScheme::new();
+    let checked = check_update(alloc, &toy, pk_text, sig_text, update.as_bytes());
+    comes_to(alloc, &checked, expected)
+}
+
+// Whether the two texts are those of the release: its update alone is accepted.
+fn are_released(alloc: Global, texts: (&str, &str)) -> bool {
+    let (pk_text, sig_text) = texts;
+    let refused = "Verify: Signature verification failed";
+    let commented = has_comments(alloc, sig_text);
+    pk_text == COUNTED_PUBLIC_TEXT
+        && holds(&commented)
+        && is_checked(alloc, texts, "lorem ipsum", "accepted")
+        && is_checked(alloc, texts, "lorem ipsun", refused)
+}
+
+// Whether it is so of the texts that are made.
+fn is_verified(alloc: Global) -> Result<bool> {
+    let made = released(alloc, &counted())?;
+    Ok(are_released(alloc, (made.pk_text.as_str(), made.sig_text.as_str())))
+}
+
+#[test]
+fn a_release_is_verified_with_its_texts(rt: HostRuntime) {
+    assert!(rt; holds(&is_verified(rt.alloc())));
+}
+
+#[test]
+fn a_release_wants_all_its_random_bytes(rt: HostRuntime) {
+    let answer = released(rt.alloc(), &[7; 199]);
+    assert!(rt; comes_to(rt.alloc(), &answer, "RNG: random source failed"));
 }

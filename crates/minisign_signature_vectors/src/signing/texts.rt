@@ -1,102 +1,112 @@
 //! Signing with the text of a secret key: the text that is returned, what is refused before
 //! anything is read, and what the prompt is told.
 
-use minisign::{Result, sign_texts};
+use crate::calls::signed_text;
+use minisign::Result;
 use minisign_base::devices::random_sources::FixedRandom;
 use minisign_base::devices::sinks::VecSink;
-use minisign_base::devices::sources::Rereader;
+use minisign_base::devices::sources::Source;
 use minisign_base::prompt::Prompt;
 use minisign_base::toy::ToyScheme;
 use minisign_examples::updating::check_update;
 use minisign_fixtures::devices::sources::{FailsAfter, OneByOne};
-use minisign_fixtures::outcomes::outcome;
+use minisign_fixtures::outcomes::{comes_to, holds};
+use minisign_fixtures::prompts::{handed, typed};
 use minisign_fixtures::texts::{KEY_TEXT, SEALED, SECRET_TEXT, SIGNATURE_TEXT};
 use std::alloc::Global;
-use std::test::Fail;
+use std::process::Abort;
 
 const SAID: &str =
     "Password: Deriving a key from the password and decrypting the secret key... done\n";
 
-// Signs what the source gives with the comments `t` and `c` and random bytes of zeros, and returns
-// what the prompt was told too. Without a password one is typed.
-fn signed<R: Rereader>(
+// Signs what the source gives with the comments `t` and `c` and random bytes of zeros. Without a
+// password one is typed.
+fn signed<R: Source>(
     alloc: Global,
     text: &str,
     password: Option<String>,
-    typed: &[u8],
+    prompt: &mut Prompt<OneByOne<'_>, VecSink>,
     data: &mut R,
-) -> (Result<String>, VecSink) {
+) -> Result<String> {
     let zeros = [0u8; 128];
-    let mut prompt = Prompt::new(OneByOne::new(typed), VecSink::new(alloc));
     let mut random = FixedRandom::new(&zeros);
-    let answer = sign_texts(
-        alloc,
-        &ToyScheme::new(),
-        text,
-        password,
-        &mut prompt,
-        data,
-        Some("t"),
-        Some("c"),
-        &mut random,
-        0,
-    );
-    let (_, told) = prompt.into_parts();
-    (answer, told)
+    signed_text(alloc, text, password, prompt, data, ("t", "c"), &mut random)
 }
 
-#[test]
-fn an_unsealed_key_signs_without_a_password(rt: HostRuntime) -> std::result::Result<(), Fail> {
-    let alloc = rt.alloc();
+// Whether the prompt was told this.
+fn is_told(prompt: &Prompt<OneByOne<'_>, VecSink>, told: &str) -> bool {
+    prompt.writer.as_slice() == told.as_bytes()
+}
+
+// Whether the key of the text signs `abc` where this is typed, and the prompt is told this.
+fn signs(alloc: Global, sk_text: &str, bytes: &[u8], told: &str) -> Result<bool> {
+    let mut prompt = typed(alloc, bytes);
     let mut data = OneByOne::new(b"abc");
-    let (answer, told) = signed(alloc, SECRET_TEXT, None, b"", &mut data);
-    assert_eq!(rt; answer?.as_str(), SIGNATURE_TEXT);
-    assert!(rt; told.as_slice().is_empty());
-    Ok(())
+    let text = signed(alloc, sk_text, None, &mut prompt, &mut data)?;
+    Ok(text.as_str() == SIGNATURE_TEXT && is_told(&prompt, told))
 }
 
 #[test]
-fn a_sealed_key_signs_once_it_is_opened(rt: HostRuntime) -> std::result::Result<(), Fail> {
-    let alloc = rt.alloc();
+fn an_unsealed_key_signs_without_a_password(rt: HostRuntime) {
+    assert!(rt; holds(&signs(rt.alloc(), SECRET_TEXT, b"", "")));
+}
+
+// Whether the text that the sealed key signs is accepted.
+fn is_accepted(alloc: Global) -> Result<bool> {
+    let mut prompt = typed(alloc, b"password\n");
     let mut data = OneByOne::new(b"abc");
-    let (answer, told) = signed(alloc, SEALED, None, b"password\n", &mut data);
-    let text = answer?;
-    assert_eq!(rt; text.as_str(), SIGNATURE_TEXT);
-    assert!(rt; told.as_slice() == SAID.as_bytes());
-    assert!(rt; check_update(alloc, &ToyScheme::new(), KEY_TEXT, text.as_str(), b"abc").is_ok());
-    Ok(())
+    let text = signed(alloc, SEALED, None, &mut prompt, &mut data)?;
+    let checked = check_update(alloc, &ToyScheme::new(), KEY_TEXT, text.as_str(), b"abc");
+    Ok(checked.is_ok())
 }
 
 #[test]
-fn a_text_is_refused_before_anything_is_read(rt: HostRuntime) -> std::result::Result<(), Fail> {
+fn a_sealed_key_signs_once_it_is_opened(rt: HostRuntime) {
+    assert!(rt; holds(&signs(rt.alloc(), SEALED, b"password\n", SAID)));
+    assert!(rt; holds(&is_accepted(rt.alloc())));
+}
+
+// Whether signing over data that fails behind so many reads is refused so where a password is
+// typed, and the prompt is told this.
+fn is_refused(
+    alloc: Global,
+    sk_text: &str,
+    password: Option<String>,
+    reads: u64,
+    expected: &str,
+    told: &str,
+) -> bool {
+    let mut prompt = typed(alloc, b"password\n");
+    let mut data = FailsAfter::new(b"abc", reads);
+    let refused = signed(alloc, sk_text, password, &mut prompt, &mut data);
+    let came = comes_to(alloc, &refused, expected);
+    came && is_told(&prompt, told)
+}
+
+// Asserts that the text is refused so before anything is read.
+fn refuses<A: Abort>(rt: &A, alloc: Global, sk_text: &str, expected: &str) {
+    let came = is_refused(alloc, sk_text, None, 0, expected, "");
+    assert!(rt; came, "at {expected}");
+}
+
+// Whether a wrong password that is passed in is refused before anything is read.
+fn is_wrong(alloc: Global) -> Result<bool> {
+    let wrong = handed(alloc, Some("another"))?;
+    let expected = "Verify: Wrong password for that key";
+    Ok(is_refused(alloc, SEALED, wrong, 0, expected, ""))
+}
+
+#[test]
+fn a_text_is_refused_before_anything_is_read(rt: HostRuntime) {
     let alloc = rt.alloc();
-    let rows: [(&str, &str); 3] = [
-        ("", "Io: Missing comment in secret key"),
-        ("c\n", "Io: Missing encoded key in secret key"),
-        ("c\n!\n", "Encoding: invalid base64"),
-    ];
-    for (text, answer) in rows {
-        let mut data = FailsAfter::new(b"abc", 0);
-        let (refused, told) = signed(alloc, text, None, b"password\n", &mut data);
-        assert_eq!(rt; outcome(alloc, &refused).as_str(), answer);
-        assert!(rt; told.as_slice().is_empty());
-    }
-    let wrong = Some(String::from_str(alloc, "another")?);
-    let mut data = FailsAfter::new(b"abc", 0);
-    let (refused, told) = signed(alloc, SEALED, wrong, b"password\n", &mut data);
-    assert_eq!(rt;
-        outcome(alloc, &refused).as_str(),
-        "Verify: Wrong password for that key"
-    );
-    assert!(rt; told.as_slice().is_empty());
-    Ok(())
+    refuses(&rt, alloc, "", "Io: Missing comment in secret key");
+    refuses(&rt, alloc, "c\n", "Io: Missing encoded key in secret key");
+    refuses(&rt, alloc, "c\n!\n", "Encoding: invalid base64");
+    assert!(rt; holds(&is_wrong(alloc)));
 }
 
 #[test]
 fn a_failing_source_comes_after_the_prompt(rt: HostRuntime) {
-    let alloc = rt.alloc();
-    let mut data = FailsAfter::new(b"abc", 2);
-    let (refused, told) = signed(alloc, SEALED, None, b"password\n", &mut data);
-    assert_eq!(rt; outcome(alloc, &refused).as_str(), "Io: reading failed");
-    assert!(rt; told.as_slice() == SAID.as_bytes());
+    let came = is_refused(rt.alloc(), SEALED, None, 2, "Io: reading failed", SAID);
+    assert!(rt; came);
 }

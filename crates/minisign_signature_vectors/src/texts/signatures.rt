@@ -2,7 +2,7 @@
 //!
 //! The texts hold the base64 of Python's base64 module, and what the upstream tool wrote.
 
-use crate::calls::{COPYING, Said, Wanted, signed, signed_by_bytes, texts_judge};
+use crate::calls::{COPYING, Said, Wanted, read_box, signed, signed_by_bytes, texts_judge};
 use minisign::{PublicKey, Result, Signature, SignatureBones, SignatureBox};
 use minisign_base::toy::ToyScheme;
 use minisign_examples::updating::check_update;
@@ -12,6 +12,7 @@ use minisign_fixtures::keys::{
 use minisign_fixtures::outcomes::{beginning, comes_to, holds, is_record, is_text};
 use minisign_fixtures::texts::{KEY_TEXT, SAID, SIGNATURE_TEXT};
 use std::alloc::Global;
+use std::process::Abort;
 
 // The second and the fourth line of that text.
 const SIGNED: &str =
@@ -62,39 +63,66 @@ fn is_judged(alloc: Global, sig_text: &str, expected: &str) -> bool {
     are_judged(alloc, (KEY_TEXT, sig_text), b"abc", expected)
 }
 
-// What is said beside the data: this trusted comment, and `c`.
-fn saying<'a>(trusted: &'a str) -> Said<'a> {
-    Said {
-        trusted: Some(trusted),
-        untrusted: Some("c"),
-        moment: 0,
-    }
+// Asserts it.
+fn judges<A: Abort>(rt: &A, alloc: Global, sig_text: &str, expected: &str) {
+    let came = is_judged(alloc, sig_text, expected);
+    assert!(rt; came, "at {sig_text} {expected}");
+}
+
+// The comments of the worked text.
+const WORKED: Said<'static> = Said {
+    trusted: Some("t"),
+    untrusted: Some("c"),
+    moment: 0,
+};
+
+// A trusted comment with blanks at both ends.
+const BLANK: Said<'static> = Said {
+    trusted: Some(" t "),
+    untrusted: Some("c"),
+    moment: 0,
+};
+
+// The text of a copy of the box.
+fn text_of_a_copy(alloc: Global, made: &SignatureBox) -> Result<String> {
+    made.try_clone(alloc)?.into_string(alloc)
 }
 
 // Whether the box is its text, whichever way it is asked.
-fn is_its_text(alloc: Global, made: &SignatureBox) -> Result<bool> {
-    let copy = made.try_clone(alloc)?.into_string(alloc)?;
-    let text = made.to_string(alloc)?;
+fn is_its_text(alloc: Global, made: &SignatureBox) -> bool {
+    let copied = is_text(&text_of_a_copy(alloc, made), SIGNATURE_TEXT);
+    let shown = is_text(&made.to_string(alloc), SIGNATURE_TEXT);
     let written = is_record(&made.to_bytes(alloc), SIGNATURE_TEXT.as_bytes());
-    Ok(written && text.as_str() == SIGNATURE_TEXT && copy.as_str() == SIGNATURE_TEXT)
+    copied && shown && written
 }
 
 // Whether the box that key A signs is the text that was worked out, at once and one byte a read.
 fn is_written(alloc: Global) -> Result<bool> {
-    let at_once = signed(alloc, b"abc", saying("t"), &[0; 128])?;
-    let by_bytes = signed_by_bytes(alloc, b"abc", saying("t"), &[0; 128])?;
-    let once = is_its_text(alloc, &at_once)?;
-    Ok(once && is_its_text(alloc, &by_bytes)?)
+    let at_once = signed(alloc, b"abc", WORKED, &[0; 128])?;
+    let by_bytes = signed_by_bytes(alloc, b"abc", WORKED, &[0; 128])?;
+    let once = is_its_text(alloc, &at_once);
+    Ok(once && is_its_text(alloc, &by_bytes))
+}
+
+// The box that the text is read as.
+fn read_whole(alloc: Global) -> Result<SignatureBox> {
+    SignatureBox::try_from_string(alloc, String::from_str(alloc, SIGNATURE_TEXT)?)
+}
+
+// Whether the box has what the text holds.
+fn is_as_read(alloc: Global, read: &SignatureBox) -> bool {
+    let named = read.is_prehashed() && read.keynum() == IDENTIFIER.as_slice();
+    let untrusted = is_text(&read.untrusted_comment(alloc), "c");
+    let trusted = is_text(&read.trusted_comment(alloc), "t");
+    named && untrusted && trusted
 }
 
 // Whether the text is read back as the box that it was.
 fn is_read_back(alloc: Global) -> Result<bool> {
-    let read = SignatureBox::try_from_string(alloc, String::from_str(alloc, SIGNATURE_TEXT)?)?;
-    let named = read.is_prehashed() && read.keynum() == IDENTIFIER.as_slice();
-    let untrusted = is_text(&read.untrusted_comment(alloc), "c");
-    let trusted = is_text(&read.trusted_comment(alloc), "t");
-    let text = read.into_string(alloc)?;
-    Ok(named && untrusted && trusted && text.as_str() == SIGNATURE_TEXT)
+    let read = read_whole(alloc)?;
+    let held = is_as_read(alloc, &read);
+    let text = is_text(&read.into_string(alloc), SIGNATURE_TEXT);
+    Ok(held && text)
 }
 
 // Whether a signature is shown as the second line.
@@ -111,19 +139,24 @@ fn a_signature_is_written_and_read_back(rt: HostRuntime) {
     assert!(rt; holds(&is_shown(rt.alloc())));
 }
 
+// The trusted comment of a text.
+fn trusted_of(alloc: Global, text: &str) -> Result<String> {
+    read_box(alloc, text)?.trusted_comment(alloc)
+}
+
 // Whether a trusted comment with blanks at both ends is written with them, and read without.
 fn loses_its_blanks(alloc: Global, made: SignatureBox) -> Result<bool> {
     let text = made.into_string(alloc)?;
     let written = text.as_str().contains("\ntrusted comment:  t \n");
-    let read = SignatureBox::from_string(alloc, text.as_str())?;
-    let trimmed = is_text(&read.trusted_comment(alloc), "t");
-    Ok(written && trimmed && is_judged(alloc, text.as_str(), COMMENT_REFUSED))
+    let trimmed = is_text(&trusted_of(alloc, text.as_str()), "t");
+    let refused = is_judged(alloc, text.as_str(), COMMENT_REFUSED);
+    Ok(written && trimmed && refused)
 }
 
 // The same of the box that is signed at once, and of that one byte a read.
 fn do_not_survive(alloc: Global) -> Result<bool> {
-    let at_once = signed(alloc, b"abc", saying(" t "), &[0; 128])?;
-    let by_bytes = signed_by_bytes(alloc, b"abc", saying(" t "), &[0; 128])?;
+    let at_once = signed(alloc, b"abc", BLANK, &[0; 128])?;
+    let by_bytes = signed_by_bytes(alloc, b"abc", BLANK, &[0; 128])?;
     let once = loses_its_blanks(alloc, at_once)?;
     Ok(once && loses_its_blanks(alloc, by_bytes)?)
 }
@@ -133,17 +166,24 @@ fn a_trusted_comment_with_spaces_does_not_survive(rt: HostRuntime) {
     assert!(rt; holds(&do_not_survive(rt.alloc())));
 }
 
+const INCOMPLETE: &str = "Misc: Incomplete SignatureBox: trusted comment is missing";
+
+const ABSENT: &str = "Misc: trusted comment is not present";
+
+// Whether the box has no text, whichever way it is asked.
+fn is_without_text(alloc: Global, bare: &SignatureBox) -> bool {
+    let text = comes_to(alloc, &bare.to_string(alloc), INCOMPLETE);
+    let bytes = comes_to(alloc, &bare.to_bytes(alloc), INCOMPLETE);
+    let copy = comes_to(alloc, &text_of_a_copy(alloc, bare), INCOMPLETE);
+    text && bytes && copy
+}
+
 // Whether a box from bones has no trusted comment and no text.
 fn has_no_text(alloc: Global) -> Result<bool> {
     let record = signature_record(b"ED", &IDENTIFIER, &TIED_TO_ABC);
-    let incomplete = "Misc: Incomplete SignatureBox: trusted comment is missing";
-    let absent = "Misc: trusted comment is not present";
     let bare = SignatureBox::from_bones(SignatureBones::from_bytes(&record)?);
-    let text = comes_to(alloc, &bare.to_string(alloc), incomplete);
-    let bytes = comes_to(alloc, &bare.to_bytes(alloc), incomplete);
-    let comment = comes_to(alloc, &bare.trusted_comment(alloc), absent);
-    let other = bare.try_clone(alloc)?;
-    Ok(text && bytes && comment && comes_to(alloc, &other.into_string(alloc), incomplete))
+    let comment = comes_to(alloc, &bare.trusted_comment(alloc), ABSENT);
+    Ok(comment && is_without_text(alloc, &bare))
 }
 
 #[test]
@@ -168,45 +208,47 @@ fn beginnings_of_a_signature_text(rt: HostRuntime) {
     }
 }
 
-// Whether a text of these four lines has this outcome.
-fn is_judged_by_lines(
-    alloc: Global,
-    first: &str,
-    second: &str,
-    third: &str,
-    fourth: &str,
-    expected: &str,
-) -> Result<bool> {
-    let text = format!(in alloc; "{first}\n{second}\n{third}\n{fourth}")?;
+// The first of four lines.
+const FIRST: &str = "untrusted comment: c";
+
+// Whether a text of these lines has this outcome, of which the fourth is `!`.
+fn is_judged_by_lines(alloc: Global, second: &str, third: &str, expected: &str) -> Result<bool> {
+    let text = format!(in alloc; "{FIRST}\n{second}\n{third}\n!")?;
     Ok(is_judged(alloc, text.as_str(), expected))
+}
+
+// Asserts it.
+fn judges_lines<A: Abort>(rt: &A, alloc: Global, second: &str, third: &str, expected: &str) {
+    let came = is_judged_by_lines(alloc, second, third, expected);
+    assert!(rt; holds(&came), "at {expected}");
 }
 
 #[test]
 fn texts_in_the_order_of_their_tests(rt: HostRuntime) {
-    for (text, expected) in [
-        ("", NO_FIRST),
-        ("a", NO_SECOND),
-        ("\n\n\n", NO_FOURTH),
-        ("a\nb\nc", NO_FOURTH),
-        ("Untrusted comment: c\n!\nt\n!", UNTRUSTED),
-        ("untrusted comment: c\n!\nt\n!", NOT_BASE64),
-    ] {
-        assert!(rt; is_judged(rt.alloc(), text, expected), "at {text:?}");
-    }
-    let first = "untrusted comment: c";
-    let cut =
-        "RUQBAgMEBQYHCAAAAAAAAAAAAAAAAAAAAAAAAAAAAAAAAAAAAAAAAAAAnV06XOjtbnryLxgygHtgJg6o/+bp8Qy3qGtn2FWlYQ==";
-    let unknown =
-        "RXgBAgMEBQYHCAAAAAAAAAAAAAAAAAAAAAAAAAAAAAAAAAAAAAAAAAAAnV06XOjtbnryLxgygHtgJg6o/+bp8Qy3qGtn2FWlYag=";
-    for (second, third, expected) in [
-        (cut, "t", TOO_SHORT),
-        (unknown, "t", TRUSTED),
-        (unknown, "trusted comment: t", UNSUPPORTED),
-        (SIGNED, "trusted comment: t", NOT_BASE64),
-    ] {
-        let came = is_judged_by_lines(rt.alloc(), first, second, third, "!", expected);
-        assert!(rt; holds(&came), "at {expected}");
-    }
+    let alloc = rt.alloc();
+    judges(&rt, alloc, "", NO_FIRST);
+    judges(&rt, alloc, "a", NO_SECOND);
+    judges(&rt, alloc, "\n\n\n", NO_FOURTH);
+    judges(&rt, alloc, "a\nb\nc", NO_FOURTH);
+    judges(&rt, alloc, "Untrusted comment: c\n!\nt\n!", UNTRUSTED);
+    judges(&rt, alloc, "untrusted comment: c\n!\nt\n!", NOT_BASE64);
+}
+
+// A second line that is too short, and one of an unknown algorithm.
+const CUT: &str =
+    "RUQBAgMEBQYHCAAAAAAAAAAAAAAAAAAAAAAAAAAAAAAAAAAAAAAAAAAAnV06XOjtbnryLxgygHtgJg6o/+bp8Qy3qGtn2FWlYQ==";
+
+const UNKNOWN: &str =
+    "RXgBAgMEBQYHCAAAAAAAAAAAAAAAAAAAAAAAAAAAAAAAAAAAAAAAAAAAnV06XOjtbnryLxgygHtgJg6o/+bp8Qy3qGtn2FWlYag=";
+
+#[test]
+fn lines_in_the_order_of_their_tests(rt: HostRuntime) {
+    let alloc = rt.alloc();
+    let labelled = "trusted comment: t";
+    judges_lines(&rt, alloc, CUT, "t", TOO_SHORT);
+    judges_lines(&rt, alloc, UNKNOWN, "t", TRUSTED);
+    judges_lines(&rt, alloc, UNKNOWN, labelled, UNSUPPORTED);
+    judges_lines(&rt, alloc, SIGNED, labelled, NOT_BASE64);
 }
 
 // Whether an odd text has this outcome: what stands before the text, behind its first three lines,
@@ -225,34 +267,52 @@ fn is_odd(
     Ok(is_judged(alloc, text.as_str(), expected))
 }
 
+// Asserts that a text with this before it, these ends of its first three lines, and this before its
+// trusted comment, has this outcome.
+fn judges_odd<A: Abort>(
+    rt: &A,
+    alloc: Global,
+    front: &str,
+    end: &str,
+    before: &str,
+    expected: &str,
+) {
+    let odd = is_odd(alloc, front, end, before, COMMENT_SIGNED, expected);
+    assert!(rt; holds(&odd), "at {front:?} {end:?} {before:?}");
+}
+
+// Asserts that a text with this fourth line has this outcome.
+fn judges_fourth<A: Abort>(rt: &A, alloc: Global, comment_signed: &str, expected: &str) {
+    let odd = is_odd(alloc, "", "\n", "", comment_signed, expected);
+    assert!(rt; holds(&odd), "at {comment_signed:?}");
+}
+
 #[test]
 fn odd_signature_texts(rt: HostRuntime) {
+    let alloc = rt.alloc();
+    judges_odd(&rt, alloc, "", "\n", "", "accepted");
+    judges_odd(&rt, alloc, "", "\r\n", "", "accepted");
+    judges_odd(&rt, alloc, "", "\r\r\n", "", "accepted");
+    judges_odd(&rt, alloc, "", " \t\n", " ", "accepted");
+    judges_odd(&rt, alloc, "\n", "\n", "", UNTRUSTED);
+    judges_odd(&rt, alloc, "", "\n", "\u{a0}", "accepted");
+    judges_odd(&rt, alloc, "", "\n", "\u{200b}", COMMENT_REFUSED);
+}
+
+#[test]
+fn odd_fourth_lines(rt: HostRuntime) {
+    let alloc = rt.alloc();
     let changed =
         "AAAAAAAAAAAAAAAAAAAAAAAAAAAAAAAAAAAAAAAAAPKzB2AGsrc0IKh1QmjaITp8VPKlvLOrVu3yMT2CD/87AA==";
     let cut =
         "AAAAAAAAAAAAAAAAAAAAAAAAAAAAAAAAAAAAAAAAAPKzB2AGsrc0IKh1QmjaITp8VPKlvLOrVu3yMT2CD/87";
     let longer =
         "AAAAAAAAAAAAAAAAAAAAAAAAAAAAAAAAAAAAAAAAAPKzB2AGsrc0IKh1QmjaITp8VPKlvLOrVu3yMT2CD/87AAc=";
-    for (front, end, before, comment_signed, expected) in [
-        ("", "\n", "", COMMENT_SIGNED, "accepted"),
-        ("", "\r\n", "", COMMENT_SIGNED, "accepted"),
-        ("", "\r\r\n", "", COMMENT_SIGNED, "accepted"),
-        ("", " \t\n", " ", COMMENT_SIGNED, "accepted"),
-        ("\n", "\n", "", COMMENT_SIGNED, UNTRUSTED),
-        ("", "\n", "\u{a0}", COMMENT_SIGNED, "accepted"),
-        ("", "\n", "\u{200b}", COMMENT_SIGNED, COMMENT_REFUSED),
-        ("", "\n", "", changed, "accepted"),
-        ("", "\n", "", cut, COMMENT_REFUSED),
-        ("", "\n", "", longer, "accepted"),
-        ("", "\n", "", "", COMMENT_REFUSED),
-        ("", "\n", "", " \u{a0}", COMMENT_REFUSED),
-    ] {
-        let odd = is_odd(rt.alloc(), front, end, before, comment_signed, expected);
-        assert!(rt;
-            holds(&odd),
-            "at {front:?} {end:?} {before:?} {comment_signed:?}"
-        );
-    }
+    judges_fourth(&rt, alloc, changed, "accepted");
+    judges_fourth(&rt, alloc, cut, COMMENT_REFUSED);
+    judges_fourth(&rt, alloc, longer, "accepted");
+    judges_fourth(&rt, alloc, "", COMMENT_REFUSED);
+    judges_fourth(&rt, alloc, " \u{a0}", COMMENT_REFUSED);
 }
 
 // Whether a second line of 75 bytes is accepted, and written again as one of 74.
@@ -263,8 +323,9 @@ fn is_cut(alloc: Global) -> Result<bool> {
         "untrusted comment: c\n{longer}\ntrusted comment: t\n{COMMENT_SIGNED}\n"
     )?;
     let accepted = is_judged(alloc, text.as_str(), "accepted");
-    let read = SignatureBox::from_string(alloc, text.as_str())?;
-    Ok(accepted && is_text(&read.to_string(alloc), SIGNATURE_TEXT))
+    let read = read_box(alloc, text.as_str())?;
+    let written = is_text(&read.to_string(alloc), SIGNATURE_TEXT);
+    Ok(accepted && written)
 }
 
 #[test]
@@ -284,30 +345,35 @@ fn is_of_another_key(alloc: Global) -> Result<bool> {
     Ok(are_judged(alloc, (text.as_str(), SIGNATURE_TEXT), b"abc", OTHER_KEY))
 }
 
+// Asserts that the data with two texts has this outcome.
+fn judges_texts<A: Abort>(rt: &A, alloc: Global, texts: (&str, &str), data: &[u8], expected: &str) {
+    let judged = are_judged(alloc, texts, data, expected);
+    assert!(rt; judged, "at {expected}");
+}
+
 #[test]
 fn verdicts_of_two_texts(rt: HostRuntime) {
     let alloc = rt.alloc();
-    let rows: [(&str, &str, &[u8], &str); 6] = [
-        (KEY_TEXT, SIGNATURE_TEXT, b"abc", "accepted"),
-        (KEY_TEXT, SIGNATURE_TEXT, b"abd", REFUSED),
-        (KEY_TEXT, SIGNATURE_TEXT, b"", REFUSED),
-        ("", "", b"abc", "Io: Missing comment in public key"),
-        ("a", "", b"abc", "Io: Missing encoded key in public key"),
-        (KEY_TEXT, "", b"abc", NO_FIRST),
-    ];
-    for (pk_text, sig_text, data, expected) in rows {
-        let judged = are_judged(alloc, (pk_text, sig_text), data, expected);
-        assert!(rt; judged, "at {expected}");
-    }
+    let worked = (KEY_TEXT, SIGNATURE_TEXT);
+    judges_texts(&rt, alloc, worked, b"abc", "accepted");
+    judges_texts(&rt, alloc, worked, b"abd", REFUSED);
+    judges_texts(&rt, alloc, worked, b"", REFUSED);
+    let no_comment = "Io: Missing comment in public key";
+    judges_texts(&rt, alloc, ("", ""), b"abc", no_comment);
+    let no_key = "Io: Missing encoded key in public key";
+    judges_texts(&rt, alloc, ("a", ""), b"abc", no_key);
+    judges_texts(&rt, alloc, (KEY_TEXT, ""), b"abc", NO_FIRST);
     assert!(rt; holds(&is_of_another_key(alloc)));
+}
+
+// Whether checking the update with the worked texts comes out so.
+fn is_checked(alloc: Global, update: &[u8], expected: &str) -> bool {
+    let told = check_update(alloc, &ToyScheme::new(), KEY_TEXT, SIGNATURE_TEXT, update);
+    comes_to(alloc, &told, expected)
 }
 
 #[test]
 fn an_update_is_checked_by_its_texts(rt: HostRuntime) {
-    let alloc = rt.alloc();
-    let rows: [(&[u8], &str); 2] = [(b"abc", "accepted"), (b"abd", REFUSED)];
-    for (update, expected) in rows {
-        let told = check_update(alloc, &ToyScheme::new(), KEY_TEXT, SIGNATURE_TEXT, update);
-        assert!(rt; comes_to(alloc, &told, expected));
-    }
+    assert!(rt; is_checked(rt.alloc(), b"abc", "accepted"));
+    assert!(rt; is_checked(rt.alloc(), b"abd", REFUSED));
 }

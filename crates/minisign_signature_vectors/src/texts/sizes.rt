@@ -1,9 +1,10 @@
 //! Comments and data of many sizes, with ample memory, and moments that need more than 32 bits.
 
 use crate::calls::{
-    COPYING, Said, Wanted, ample, key_a, public_a, signed, signed_from, texts_come_out,
+    COPYING, Said, Wanted, ample, key_a, public_a, read_box, signed, signed_from, signed_text,
+    texts_come_out,
 };
-use minisign::{Result, SignatureBox, sign_texts};
+use minisign::{PublicKey, Result, SecretKey, SignatureBox};
 use minisign_base::devices::random_sources::FixedRandom;
 use minisign_base::devices::sources::SliceSource;
 use minisign_base::toy::ToyScheme;
@@ -11,24 +12,24 @@ use minisign_fixtures::outcomes::{front, holds, is_text};
 use minisign_fixtures::prompts::typed_at_once;
 use minisign_fixtures::texts::{KEY_TEXT, SAID, SECRET_TEXT};
 use std::alloc::Global;
+use std::process::Abort;
 
 const REFUSED: &str = "Verify: Signature verification failed";
 
 const ZEROS: [u8; 128] = [0; 128];
 
-// The box over the data that key A signs with these comments, its public key tested.
-fn tested(alloc: Global, data: &[u8], said: Said) -> Result<SignatureBox> {
+// The box over `abc` that a key signs with these comments, this public key tested.
+fn tested_by(alloc: Global, sk: &SecretKey, pk: &PublicKey, said: Said) -> Result<SignatureBox> {
+    let mut random = FixedRandom::new(&ZEROS);
+    let mut data = SliceSource::new(b"abc");
+    signed_from(alloc, Some(pk), sk, &mut data, said, &mut random)
+}
+
+// The text of the box that key A signs so, with its own public key.
+fn tested(alloc: Global, said: Said) -> Result<String> {
     let sk = key_a()?;
     let pk = public_a()?;
-    let mut random = FixedRandom::new(&ZEROS);
-    signed_from(
-        alloc,
-        Some(&pk),
-        &sk,
-        &mut SliceSource::new(data),
-        said,
-        &mut random,
-    )
+    tested_by(alloc, &sk, &pk, said)?.into_string(alloc)
 }
 
 // Whether verifying the data with two texts comes out so, with output.
@@ -72,6 +73,14 @@ fn is_said(alloc: Global, texts: (&str, &str), comment: &str) -> Result<bool> {
     Ok(comes_out(alloc, texts, b"abc", wanted))
 }
 
+// Whether both comments of the text are this one.
+fn are_read_back(alloc: Global, text: &str, comment: &str) -> Result<bool> {
+    let read = read_box(alloc, text)?;
+    let trusted = is_text(&read.trusted_comment(alloc), comment);
+    let untrusted = is_text(&read.untrusted_comment(alloc), comment);
+    Ok(trusted && untrusted)
+}
+
 // Whether both comments of this many letters come back, and the box is accepted.
 fn come_back(alloc: Global, size: usize) -> Result<bool> {
     let comment = String::from_utf8(vec![in alloc; b'x'; size]?)?;
@@ -81,13 +90,10 @@ fn come_back(alloc: Global, size: usize) -> Result<bool> {
         untrusted: Some(comment),
         moment: 0,
     };
-    let made = tested(alloc, b"abc", said)?;
-    let text = made.into_string(alloc)?;
-    let read = SignatureBox::from_string(alloc, text.as_str())?;
-    let trusted = is_text(&read.trusted_comment(alloc), comment);
-    let untrusted = is_text(&read.untrusted_comment(alloc), comment);
+    let text = tested(alloc, said)?;
+    let read_back = are_read_back(alloc, text.as_str(), comment)?;
     let accepted = is_said(alloc, (KEY_TEXT, text.as_str()), comment)?;
-    Ok(accepted && trusted && untrusted)
+    Ok(accepted && read_back)
 }
 
 // Around each power of two up to 2^17: both comments come back, and the box is accepted.
@@ -101,12 +107,17 @@ fn comments_of_many_sizes(rt: HostRuntime) {
     }
 }
 
-// The text with these letters behind the label of its first line.
-fn with_comment(alloc: Global, text: &str, comment: &str) -> Result<String> {
-    let rest = match text.split_once('\n') {
+// What stands behind the first line of a text.
+fn behind_first_line(text: &str) -> &str {
+    match text.split_once('\n') {
         Some((_, rest)) => rest,
         None => "",
-    };
+    }
+}
+
+// The text with these letters behind the label of its first line.
+fn with_comment(alloc: Global, text: &str, comment: &str) -> Result<String> {
+    let rest = behind_first_line(text);
     let text = format!(in alloc; "untrusted comment: {comment}\n{rest}")?;
     Ok(text)
 }
@@ -114,17 +125,14 @@ fn with_comment(alloc: Global, text: &str, comment: &str) -> Result<String> {
 // The text over `abc` that the text of a secret key signs, with this as both comments.
 fn signed_by_text(alloc: Global, sk_text: &str, comment: &str) -> Result<String> {
     let mut random = FixedRandom::new(&ZEROS);
-    sign_texts(
+    signed_text(
         alloc,
-        &ToyScheme::new(),
         sk_text,
         None,
         &mut typed_at_once(alloc, b""),
         &mut SliceSource::new(b"abc"),
-        Some(comment),
-        Some(comment),
+        (comment, comment),
         &mut random,
-        0,
     )
 }
 
@@ -204,6 +212,11 @@ fn data_of_every_byte(rt: HostRuntime) {
     }
 }
 
+// The trusted comment of a text.
+fn trusted_of(alloc: Global, text: &str) -> Result<String> {
+    read_box(alloc, text)?.trusted_comment(alloc)
+}
+
 // Whether a box of this moment has this comment, and is accepted.
 fn is_dated(alloc: Global, moment: u64, expected: &str) -> Result<bool> {
     let said = Said {
@@ -211,26 +224,31 @@ fn is_dated(alloc: Global, moment: u64, expected: &str) -> Result<bool> {
         untrusted: None,
         moment,
     };
-    let text = tested(alloc, b"abc", said)?.into_string(alloc)?;
-    let read = SignatureBox::from_string(alloc, text.as_str())?;
-    let dated = is_text(&read.trusted_comment(alloc), expected);
-    Ok(dated && is_said(alloc, (KEY_TEXT, text.as_str()), expected)?)
+    let text = tested(alloc, said)?;
+    let dated = is_text(&trusted_of(alloc, text.as_str()), expected);
+    let accepted = is_said(alloc, (KEY_TEXT, text.as_str()), expected)?;
+    Ok(dated && accepted)
+}
+
+// Asserts it.
+fn dates<A: Abort>(rt: &A, alloc: Global, moment: u64, expected: &str) {
+    let dated = is_dated(alloc, moment, expected);
+    assert!(rt; holds(&dated), "at {moment}");
 }
 
 // The last second of 32 bits with a sign and the one behind it, the same without a sign, and the
 // last of all.
 #[test]
 fn moments_after_2038_and_2106(rt: HostRuntime) {
-    for (moment, expected) in [
-        (2147483647u64, "timestamp:2147483647"),
-        (2147483648, "timestamp:2147483648"),
-        (4294967295, "timestamp:4294967295"),
-        (4294967296, "timestamp:4294967296"),
-        (18446744073709551615, "timestamp:18446744073709551615"),
-    ] {
-        assert!(rt;
-            holds(&is_dated(rt.alloc(), moment, expected)),
-            "at {moment}"
-        );
-    }
+    let alloc = rt.alloc();
+    dates(&rt, alloc, 2147483647, "timestamp:2147483647");
+    dates(&rt, alloc, 2147483648, "timestamp:2147483648");
+    dates(&rt, alloc, 4294967295, "timestamp:4294967295");
+    dates(&rt, alloc, 4294967296, "timestamp:4294967296");
+    dates(
+        &rt,
+        alloc,
+        18446744073709551615,
+        "timestamp:18446744073709551615",
+    );
 }

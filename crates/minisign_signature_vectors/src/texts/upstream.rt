@@ -1,11 +1,12 @@
 //! Texts that the upstream tool wrote, under a table of what its scheme accepts, and the letters of
 //! base64.
 
-use crate::calls::{Wanted, texts_judge};
-use minisign::{PublicKey, Result, Signature, SignatureBox, VerifyOptions};
+use crate::calls::{Wanted, read_box, texts_judge};
+use minisign::{PublicKey, Result, Signature, VerifyOptions};
 use minisign_base::toy::{ToyScheme, Triple};
 use minisign_fixtures::outcomes::{holds, is_text};
 use std::alloc::Global;
+use std::process::Abort;
 
 // The key of both signatures.
 pub const KEY: &str = "RWQf6LRCGA9i53mlYecO4IzT51TGPpvWucNSCh1CBM0QTaLn73Y7GFO3";
@@ -110,6 +111,13 @@ const TABLE: [Triple<'static>; 4] = [
     },
 ];
 
+/// The text of that key.
+pub fn key_text(alloc: Global) -> Result<String> {
+    let pk = PublicKey::from_base64(alloc, KEY)?;
+    let pk_box = pk.to_box(alloc)?;
+    Ok(pk_box.into_string())
+}
+
 // Whether the text has this outcome over the data, at once and one byte a read, in a quiet run.
 fn is_judged(
     alloc: Global,
@@ -118,9 +126,7 @@ fn is_judged(
     allow_legacy: bool,
     outcome: &str,
 ) -> Result<bool> {
-    let pk_text = PublicKey::from_base64(alloc, KEY)?
-        .to_box(alloc)?
-        .into_string();
+    let pk_text = key_text(alloc)?;
     let scheme = ToyScheme::with_table(&TABLE);
     let mut options = VerifyOptions::SILENT;
     options.allow_legacy = allow_legacy;
@@ -129,37 +135,39 @@ fn is_judged(
         said: b"",
         copied: b"",
     };
-    Ok(texts_judge(
-        alloc,
-        &scheme,
-        (pk_text.as_str(), text),
-        data,
-        options,
-        wanted,
-    ))
+    let texts = (pk_text.as_str(), text);
+    Ok(texts_judge(alloc, &scheme, texts, data, options, wanted))
+}
+
+// Asserts it.
+fn judges<A: Abort>(
+    rt: &A,
+    alloc: Global,
+    text: &str,
+    data: &[u8],
+    allow_legacy: bool,
+    outcome: &str,
+) {
+    let judged = is_judged(alloc, text, data, allow_legacy, outcome);
+    assert!(rt; holds(&judged), "at {outcome} {allow_legacy}");
 }
 
 #[test]
 fn texts_of_the_upstream_tool(rt: HostRuntime) {
+    let alloc = rt.alloc();
     let legacy = "Verify: Legacy signatures are not accepted";
     let refused = "Verify: Signature verification failed";
-    let rows: [(&str, &[u8], bool, &str); 6] = [
-        (LEGACY_TEXT, b"test", true, "accepted"),
-        (LEGACY_TEXT, b"test", false, legacy),
-        (LEGACY_TEXT, b"test2", true, refused),
-        (PREHASHED_TEXT, b"test", false, "accepted"),
-        (PREHASHED_TEXT, b"test", true, "accepted"),
-        (PREHASHED_TEXT, b"test2", false, refused),
-    ];
-    for (text, data, allow_legacy, expected) in rows {
-        let judged = is_judged(rt.alloc(), text, data, allow_legacy, expected);
-        assert!(rt; holds(&judged), "at {expected} {allow_legacy}");
-    }
+    judges(&rt, alloc, LEGACY_TEXT, b"test", true, "accepted");
+    judges(&rt, alloc, LEGACY_TEXT, b"test", false, legacy);
+    judges(&rt, alloc, LEGACY_TEXT, b"test2", true, refused);
+    judges(&rt, alloc, PREHASHED_TEXT, b"test", false, "accepted");
+    judges(&rt, alloc, PREHASHED_TEXT, b"test", true, "accepted");
+    judges(&rt, alloc, PREHASHED_TEXT, b"test2", false, refused);
 }
 
 // Whether the text holds the untrusted comment by default and this trusted one.
 fn has_comments(alloc: Global, text: &str, prehashed: bool, trusted: &str) -> Result<bool> {
-    let made = SignatureBox::from_string(alloc, text)?;
+    let made = read_box(alloc, text)?;
     let untrusted = "signature from minisign secret key";
     let below = is_text(&made.untrusted_comment(alloc), untrusted);
     let shown = is_text(&made.trusted_comment(alloc), trusted);

@@ -13,6 +13,7 @@ use minisign_fixtures::outcomes::front;
 use std::alloc::Global;
 use std::io;
 use std::io::Read;
+use std::process::Abort;
 use std::test::Fail;
 
 const VERIFIED: &[u8] = b"Signature and comment signature verified\n";
@@ -99,42 +100,91 @@ fn signature(algorithm: &[u8; 2], tied: &[u8; 32]) -> [u8; 74] {
     signature_record(algorithm, &IDENTIFIER, tied)
 }
 
+// Key A's public record.
+fn key_record() -> [u8; 42] {
+    public_record(&IDENTIFIER, &PUBLIC_BYTES)
+}
+
+// Asserts that the two records have this outcome over the data.
+fn judges<A: Abort>(
+    rt: &A,
+    alloc: Global,
+    records: (&[u8], &[u8]),
+    data: &[u8],
+    allow_legacy: bool,
+    outcome: &str,
+) {
+    let came = is_judged(alloc, records, data, allow_legacy, outcome);
+    assert!(rt; came, "at {data:?} {allow_legacy} {outcome}");
+}
+
+// Asserts that a signature under key A's identifier has this outcome under its key.
+fn judges_signature<A: Abort>(
+    rt: &A,
+    alloc: Global,
+    signature: &[u8],
+    data: &[u8],
+    allow_legacy: bool,
+    outcome: &str,
+) {
+    judges(
+        rt,
+        alloc,
+        (&key_record(), signature),
+        data,
+        allow_legacy,
+        outcome,
+    );
+}
+
 #[test]
 fn bare_signatures_are_judged(rt: HostRuntime) {
-    let key = public_record(&IDENTIFIER, &PUBLIC_BYTES);
-    let other_key = public_record(&OTHER_IDENTIFIER, &PUBLIC_BYTES);
+    let alloc = rt.alloc();
     let good = signature(b"ED", &TIED_TO_ABC);
+    judges_signature(&rt, alloc, &good, b"abc", false, "accepted");
+    judges_signature(&rt, alloc, &good, b"abc", true, "accepted");
+    judges_signature(&rt, alloc, &good, b"", false, REFUSED);
+    judges_signature(&rt, alloc, &good, b"abd", false, REFUSED);
     let mut changed = good;
     changed[73] = 0xa9;
-    let named = signature(b"Ed", &TIED_TO_ABC);
-    let legacy = signature(b"Ed", &TIED_TO_LEGACY_ABC);
-    let unknown = signature(b"Ex", &TIED_TO_ABC);
+    judges_signature(&rt, alloc, &changed, b"abc", false, REFUSED);
     let of_nothing = signature(b"ED", &TIED_TO_NOTHING);
-    let rows: [(&[u8], &[u8], &[u8], bool, &str); 17] = [
-        (&key, &good, b"abc", false, "accepted"),
-        (&key, &good, b"abc", true, "accepted"),
-        (&key, &good, b"", false, REFUSED),
-        (&key, &good, b"abd", false, REFUSED),
-        (&key, &changed, b"abc", false, REFUSED),
-        (&key, &named, b"abc", false, LEGACY),
-        (&key, &named, b"abc", true, REFUSED),
-        (&key, &legacy, b"abc", false, LEGACY),
-        (&key, &legacy, b"abc", true, "accepted"),
-        (&key, &legacy, b"abd", true, REFUSED),
-        (&key, front(&good, 73), b"abc", false, TOO_SHORT),
-        (front(&key, 41), &good, b"abc", false, TOO_SHORT),
-        (&key, &unknown, b"abc", false, UNSUPPORTED),
-        (&key, front(&unknown, 73), b"abc", false, TOO_SHORT),
-        (&key, &of_nothing, b"", false, "accepted"),
-        (&other_key, &good, b"abc", false, OTHER_KEY),
-        (&other_key, &legacy, b"abd", false, OTHER_KEY),
-    ];
-    for (key, signature, data, allow_legacy, expected) in rows {
-        assert!(rt;
-            is_judged(rt.alloc(), (key, signature), data, allow_legacy, expected),
-            "at {signature:?}, {data:?}"
-        );
-    }
+    judges_signature(&rt, alloc, &of_nothing, b"", false, "accepted");
+}
+
+#[test]
+fn bare_legacy_signatures_are_judged(rt: HostRuntime) {
+    let alloc = rt.alloc();
+    let named = signature(b"Ed", &TIED_TO_ABC);
+    judges_signature(&rt, alloc, &named, b"abc", false, LEGACY);
+    judges_signature(&rt, alloc, &named, b"abc", true, REFUSED);
+    let legacy = signature(b"Ed", &TIED_TO_LEGACY_ABC);
+    judges_signature(&rt, alloc, &legacy, b"abc", false, LEGACY);
+    judges_signature(&rt, alloc, &legacy, b"abc", true, "accepted");
+    judges_signature(&rt, alloc, &legacy, b"abd", true, REFUSED);
+}
+
+#[test]
+fn short_records_are_refused(rt: HostRuntime) {
+    let alloc = rt.alloc();
+    let good = signature(b"ED", &TIED_TO_ABC);
+    judges_signature(&rt, alloc, front(&good, 73), b"abc", false, TOO_SHORT);
+    let key = key_record();
+    let short_key = (front(&key, 41), good.as_slice());
+    judges(&rt, alloc, short_key, b"abc", false, TOO_SHORT);
+    let unknown = signature(b"Ex", &TIED_TO_ABC);
+    judges_signature(&rt, alloc, &unknown, b"abc", false, UNSUPPORTED);
+    judges_signature(&rt, alloc, front(&unknown, 73), b"abc", false, TOO_SHORT);
+}
+
+#[test]
+fn bare_signatures_of_another_key_are_refused(rt: HostRuntime) {
+    let alloc = rt.alloc();
+    let other_key = public_record(&OTHER_IDENTIFIER, &PUBLIC_BYTES);
+    let good = signature(b"ED", &TIED_TO_ABC);
+    judges(&rt, alloc, (&other_key, &good), b"abc", false, OTHER_KEY);
+    let legacy = signature(b"Ed", &TIED_TO_LEGACY_ABC);
+    judges(&rt, alloc, (&other_key, &legacy), b"abd", false, OTHER_KEY);
 }
 
 // What stands behind a record is not read.
@@ -173,29 +223,38 @@ fn a_long_message_is_judged(rt: HostRuntime) -> std::result::Result<(), Fail> {
     Ok(())
 }
 
+// Asserts that the two records have this outcome over data that fails behind so many reads, legacy
+// signatures accepted.
+fn judges_failing<A: Abort>(
+    rt: &A,
+    alloc: Global,
+    records: (&[u8], &[u8]),
+    reads: u64,
+    outcome: &str,
+) {
+    let mut data = FailsAfter::new(b"abc", reads);
+    let came = comes_to(alloc, records, &mut data, true, outcome);
+    assert!(rt; came, "at {reads}");
+}
+
 // A failing source is told before any verdict: at the first read, at the second, and at that of the
 // end.
 #[test]
 fn failing_sources_are_told_from_verdicts(rt: HostRuntime) {
-    let key = public_record(&IDENTIFIER, &PUBLIC_BYTES);
+    let alloc = rt.alloc();
+    let key = key_record();
     let other_key = public_record(&OTHER_IDENTIFIER, &PUBLIC_BYTES);
     let prehashed = signature(b"ED", &TIED_TO_ABC);
+    judges_failing(&rt, alloc, (&key, &prehashed), 0, UNREAD);
+    judges_failing(&rt, alloc, (&key, &prehashed), 1, UNREAD);
+    judges_failing(&rt, alloc, (&key, &prehashed), 3, UNREAD);
+    judges_failing(&rt, alloc, (&key, &prehashed), 4, "accepted");
+    judges_failing(&rt, alloc, (&other_key, &prehashed), 1, UNREAD);
+    judges_failing(&rt, alloc, (&other_key, &prehashed), 3, UNREAD);
+    judges_failing(&rt, alloc, (&other_key, &prehashed), 4, OTHER_KEY);
     let legacy = signature(b"Ed", &TIED_TO_LEGACY_ABC);
-    for (key, signature, reads, expected) in [
-        (&key, &prehashed, 0u64, UNREAD),
-        (&key, &prehashed, 1, UNREAD),
-        (&key, &prehashed, 3, UNREAD),
-        (&key, &prehashed, 4, "accepted"),
-        (&other_key, &prehashed, 1, UNREAD),
-        (&other_key, &prehashed, 3, UNREAD),
-        (&other_key, &prehashed, 4, OTHER_KEY),
-        (&key, &legacy, 1, UNREAD),
-        (&key, &legacy, 4, "accepted"),
-    ] {
-        let mut data = FailsAfter::new(b"abc", reads);
-        let came = comes_to(rt.alloc(), (key, signature), &mut data, true, expected);
-        assert!(rt; came, "at {reads}");
-    }
+    judges_failing(&rt, alloc, (&key, &legacy), 1, UNREAD);
+    judges_failing(&rt, alloc, (&key, &legacy), 4, "accepted");
 }
 
 // A reader of std, which can't be marked, and one that breaks off.

@@ -6,20 +6,19 @@
 use crate::calls::{COPYING, SAYING, Sinks, Wanted, ample, texts_come_out};
 use crate::texts::upstream;
 use crate::texts::upstream::{
-    DIGEST_OF_TEST, KEY, KEY_BYTES, LEGACY_COMMENT_SIGNATURE, LEGACY_SIGNATURE,
-    LEGACY_SIGNED_COMMENT, PREHASHED_COMMENT_SIGNATURE, PREHASHED_SIGNATURE,
-    PREHASHED_SIGNED_COMMENT,
+    DIGEST_OF_TEST, KEY_BYTES, LEGACY_COMMENT_SIGNATURE, LEGACY_SIGNATURE, LEGACY_SIGNED_COMMENT,
+    PREHASHED_COMMENT_SIGNATURE, PREHASHED_SIGNATURE, PREHASHED_SIGNED_COMMENT,
 };
 use minisign::reading::read_to_end;
-use minisign::{PublicKey, Result, VerifyOptions};
+use minisign::{Result, VerifyOptions};
 use minisign_base::devices::sources::{ReaderSource, Rereader, SliceSource, Source};
 use minisign_base::toy::{ToyScheme, Triple};
 use minisign_fixtures::devices::sinks::LimitedSink;
 use minisign_fixtures::devices::sources::{Changes, FailsAfter, OneByOne};
-use minisign_fixtures::outcomes::is_record;
+use minisign_fixtures::outcomes::{holds, is_record};
 use minisign_fixtures::texts::{KEY_TEXT, LEGACY_TEXT, SAID, SIGNATURE_TEXT};
 use std::alloc::Global;
-use std::test::Fail;
+use std::process::Abort;
 
 // The two texts with the last bit of the comment signature turned.
 const CHANGED_COMMENT: &str =
@@ -105,43 +104,97 @@ fn is_judged(
     true
 }
 
+// Asserts that the signature's text under key A has this outcome.
+fn judges<A: Abort>(
+    rt: &A,
+    alloc: Global,
+    sig_text: &str,
+    whole: &[u8],
+    allow_legacy: bool,
+    outcome: &str,
+) {
+    judges_texts(
+        rt,
+        alloc,
+        (KEY_TEXT, sig_text),
+        whole,
+        allow_legacy,
+        outcome,
+    );
+}
+
+// Asserts that two texts have this outcome.
+fn judges_texts<A: Abort>(
+    rt: &A,
+    alloc: Global,
+    texts: (&str, &str),
+    whole: &[u8],
+    allow_legacy: bool,
+    outcome: &str,
+) {
+    let came = is_judged(alloc, texts, whole, allow_legacy, outcome);
+    assert!(rt; came, "at {whole:?} {allow_legacy} {outcome}");
+}
+
 // Where several conditions fail, the first is named.
 #[test]
 fn texts_are_judged_in_their_order(rt: HostRuntime) {
-    let rows: [(&str, &str, &[u8], bool, &str); 19] = [
-        (KEY_TEXT, SIGNATURE_TEXT, b"abc", false, "accepted"),
-        (KEY_TEXT, SIGNATURE_TEXT, b"abc", true, "accepted"),
-        (KEY_TEXT, LEGACY_TEXT, b"abc", true, "accepted"),
-        (KEY_TEXT, LEGACY_TEXT, b"abc", false, LEGACY),
-        (KEY_TEXT, LEGACY_TEXT, b"abd", false, LEGACY),
-        (KEY_TEXT, LEGACY_TEXT, b"abd", true, REFUSED),
-        (KEY_TEXT, SIGNATURE_TEXT, b"abd", false, REFUSED),
-        (KEY_TEXT, SIGNATURE_TEXT, b"", false, REFUSED),
-        (KEY_TEXT, CHANGED_COMMENT, b"abd", false, REFUSED),
-        (KEY_TEXT, CHANGED_COMMENT, b"abc", false, COMMENT_REFUSED),
-        (KEY_TEXT, CHANGED_LEGACY_COMMENT, b"abc", false, LEGACY),
-        (
-            KEY_TEXT,
-            CHANGED_LEGACY_COMMENT,
-            b"abc",
-            true,
-            COMMENT_REFUSED,
-        ),
-        (RENAMED_KEY_TEXT, SIGNATURE_TEXT, b"abc", false, OTHER_KEY),
-        (RENAMED_KEY_TEXT, LEGACY_TEXT, b"abd", false, OTHER_KEY),
-        (RENAMED_KEY_TEXT, CHANGED_COMMENT, b"", false, OTHER_KEY),
-        ("", "", b"abc", false, NO_KEY),
-        ("", SIGNATURE_TEXT, b"abc", false, NO_KEY),
-        (KEY_TEXT, "", b"abc", false, NO_SIGNATURE),
-        (RENAMED_KEY_TEXT, "", b"abc", false, NO_SIGNATURE),
-    ];
-    for (pk_text, sig_text, whole, allow_legacy, expected) in rows {
-        let texts = (pk_text, sig_text);
-        assert!(rt;
-            is_judged(rt.alloc(), texts, whole, allow_legacy, expected),
-            "at {pk_text:?} {sig_text:?} {expected}"
-        );
-    }
+    let alloc = rt.alloc();
+    judges(&rt, alloc, SIGNATURE_TEXT, b"abc", false, "accepted");
+    judges(&rt, alloc, SIGNATURE_TEXT, b"abc", true, "accepted");
+    judges(&rt, alloc, LEGACY_TEXT, b"abc", true, "accepted");
+    judges(&rt, alloc, LEGACY_TEXT, b"abc", false, LEGACY);
+    judges(&rt, alloc, LEGACY_TEXT, b"abd", false, LEGACY);
+    judges(&rt, alloc, LEGACY_TEXT, b"abd", true, REFUSED);
+    judges(&rt, alloc, SIGNATURE_TEXT, b"abd", false, REFUSED);
+    judges(&rt, alloc, SIGNATURE_TEXT, b"", false, REFUSED);
+    judges(&rt, alloc, "", b"abc", false, NO_SIGNATURE);
+}
+
+// The same where the comment signature is changed.
+#[test]
+fn changed_comments_are_judged_in_their_order(rt: HostRuntime) {
+    let alloc = rt.alloc();
+    let changed = CHANGED_COMMENT;
+    judges(&rt, alloc, changed, b"abd", false, REFUSED);
+    judges(&rt, alloc, changed, b"abc", false, COMMENT_REFUSED);
+    let changed = CHANGED_LEGACY_COMMENT;
+    judges(&rt, alloc, changed, b"abc", false, LEGACY);
+    judges(&rt, alloc, changed, b"abc", true, COMMENT_REFUSED);
+}
+
+// The same under another identifier, and without a key.
+#[test]
+fn texts_of_another_key_are_judged_in_their_order(rt: HostRuntime) {
+    let alloc = rt.alloc();
+    let other = (RENAMED_KEY_TEXT, SIGNATURE_TEXT);
+    judges_texts(&rt, alloc, other, b"abc", false, OTHER_KEY);
+    let other = (RENAMED_KEY_TEXT, LEGACY_TEXT);
+    judges_texts(&rt, alloc, other, b"abd", false, OTHER_KEY);
+    let other = (RENAMED_KEY_TEXT, CHANGED_COMMENT);
+    judges_texts(&rt, alloc, other, b"", false, OTHER_KEY);
+    let other = (RENAMED_KEY_TEXT, "");
+    judges_texts(&rt, alloc, other, b"abc", false, NO_SIGNATURE);
+    judges_texts(&rt, alloc, ("", ""), b"abc", false, NO_KEY);
+    judges_texts(&rt, alloc, ("", SIGNATURE_TEXT), b"abc", false, NO_KEY);
+}
+
+// Whether verifying over data that fails behind so many reads has this outcome.
+fn is_failed(alloc: Global, texts: (&str, &str), reads: u64, outcome: &str) -> bool {
+    let mut data = FailsAfter::new(b"abc", reads);
+    let wanted = Wanted {
+        outcome,
+        said: b"",
+        copied: b"",
+    };
+    let toy = ToyScheme::new();
+    texts_come_out(alloc, &toy, texts, &mut data, SAYING, ample(alloc), wanted)
+}
+
+// Asserts it.
+fn fails<A: Abort>(rt: &A, alloc: Global, texts: (&str, &str), reads: u64, outcome: &str) {
+    let came = is_failed(alloc, texts, reads, outcome);
+    assert!(rt; came, "at {outcome} {reads}");
 }
 
 // A source that fails is told before any verdict, and after a refused text.
@@ -149,27 +202,16 @@ fn texts_are_judged_in_their_order(rt: HostRuntime) {
 fn failing_data_comes_between_texts_and_verdicts(rt: HostRuntime) {
     let alloc = rt.alloc();
     let unread = "Io: reading failed";
-    for (pk_text, sig_text, reads, outcome) in [
-        (KEY_TEXT, SIGNATURE_TEXT, 1u64, unread),
-        (RENAMED_KEY_TEXT, SIGNATURE_TEXT, 1, unread),
-        (KEY_TEXT, LEGACY_TEXT, 1, unread),
-        (KEY_TEXT, CHANGED_COMMENT, 3, unread),
-        (KEY_TEXT, CHANGED_COMMENT, 4, COMMENT_REFUSED),
-        (RENAMED_KEY_TEXT, SIGNATURE_TEXT, 4, OTHER_KEY),
-        ("", SIGNATURE_TEXT, 0, NO_KEY),
-        (KEY_TEXT, "", 0, NO_SIGNATURE),
-    ] {
-        let mut data = FailsAfter::new(b"abc", reads);
-        let wanted = Wanted {
-            outcome,
-            said: b"",
-            copied: b"",
-        };
-        let toy = ToyScheme::new();
-        let texts = (pk_text, sig_text);
-        let came = texts_come_out(alloc, &toy, texts, &mut data, SAYING, ample(alloc), wanted);
-        assert!(rt; came, "at {outcome} {reads}");
-    }
+    let other = (RENAMED_KEY_TEXT, SIGNATURE_TEXT);
+    let changed = (KEY_TEXT, CHANGED_COMMENT);
+    fails(&rt, alloc, (KEY_TEXT, SIGNATURE_TEXT), 1, unread);
+    fails(&rt, alloc, other, 1, unread);
+    fails(&rt, alloc, (KEY_TEXT, LEGACY_TEXT), 1, unread);
+    fails(&rt, alloc, changed, 3, unread);
+    fails(&rt, alloc, changed, 4, COMMENT_REFUSED);
+    fails(&rt, alloc, other, 4, OTHER_KEY);
+    fails(&rt, alloc, ("", SIGNATURE_TEXT), 0, NO_KEY);
+    fails(&rt, alloc, (KEY_TEXT, ""), 0, NO_SIGNATURE);
 }
 
 // Whether `abc` is copied of a source that was marked and of which two bytes were read.
@@ -188,69 +230,91 @@ fn data_is_copied_from_the_place_that_was_reached(rt: HostRuntime) {
     }
 }
 
-// Whether verifying data of which a second reading gives this comes out as wanted, over sinks that
-// take all and over an output that cannot be flushed.
-fn is_told(alloc: Global, first: &[u8], second: &[u8], wanted: Wanted) -> bool {
+// Whether verifying data of which a second reading gives this comes out as wanted over these sinks.
+fn is_told_by(alloc: Global, first: &[u8], second: &[u8], sinks: Sinks, wanted: Wanted) -> bool {
     let toy = ToyScheme::new();
     let texts = (KEY_TEXT, SIGNATURE_TEXT);
     let mut data = Changes::new(first, second);
-    let whole = texts_come_out(alloc, &toy, texts, &mut data, COPYING, ample(alloc), wanted);
-    let mut data = Changes::new(first, second);
-    let sinks = Sinks {
+    texts_come_out(alloc, &toy, texts, &mut data, COPYING, sinks, wanted)
+}
+
+// An output that cannot be flushed.
+fn unflushed(alloc: Global) -> Sinks {
+    Sinks {
         status: LimitedSink::new(alloc, 60),
         out: LimitedSink::new(alloc, 10).flushed(0),
+    }
+}
+
+// Asserts that verifying data of which a second reading gives this comes out so, over sinks that
+// take all and over an output that cannot be flushed.
+fn tells<A: Abort>(rt: &A, alloc: Global, first: &[u8], second: &[u8], wanted: Wanted) {
+    let whole = is_told_by(alloc, first, second, ample(alloc), wanted);
+    assert!(rt; whole, "at {second:?}");
+    let flushed = is_told_by(alloc, first, second, unflushed(alloc), wanted);
+    assert!(rt; flushed, "at {second:?}, unflushed");
+}
+
+// The same of `abc`, that changes: all that comes is copied.
+fn tells_a_change<A: Abort>(rt: &A, alloc: Global, second: &[u8]) {
+    let wanted = Wanted {
+        outcome: CHANGED,
+        said: SAID,
+        copied: second,
     };
-    let unflushed = texts_come_out(alloc, &toy, texts, &mut data, COPYING, sinks, wanted);
-    whole && unflushed
+    tells(rt, alloc, b"abc", second, wanted);
 }
 
 // What a second reading gives is copied as it comes, and told from the first once it is whole; an
 // output that cannot be flushed makes no other fault of it.
 #[test]
 fn data_that_changes_is_told(rt: HostRuntime) {
-    let rows: [(&[u8], &[u8], &str, &[u8], &[u8]); 6] = [
-        (b"abc", b"abd", CHANGED, SAID, b"abd"),
-        (b"abc", b"xyz", CHANGED, SAID, b"xyz"),
-        (b"abc", b"ab", CHANGED, SAID, b"ab"),
-        (b"abc", b"abcd", CHANGED, SAID, b"abcd"),
-        (b"abc", b"", CHANGED, SAID, b""),
-        (b"abd", b"abc", REFUSED, b"", b""),
-    ];
-    for (first, second, outcome, said, copied) in rows {
-        let wanted = Wanted {
-            outcome,
-            said,
-            copied,
-        };
-        assert!(rt; is_told(rt.alloc(), first, second, wanted), "at {second:?}");
-    }
+    let alloc = rt.alloc();
+    tells_a_change(&rt, alloc, b"abd");
+    tells_a_change(&rt, alloc, b"xyz");
+    tells_a_change(&rt, alloc, b"ab");
+    tells_a_change(&rt, alloc, b"abcd");
+    tells_a_change(&rt, alloc, b"");
+    let refused = Wanted {
+        outcome: REFUSED,
+        said: b"",
+        copied: b"",
+    };
+    tells(&rt, alloc, b"abd", b"abc", refused);
 }
+
+// Whether verifying data that cannot be read again comes out so, and leaves this.
+fn is_read_once(alloc: Global, text: &str, output: bool, wanted: Wanted, left: &[u8]) -> bool {
+    let mut data = ReaderSource::new(b"abc".as_slice());
+    let mut options = COPYING;
+    options.output = output;
+    let toy = ToyScheme::new();
+    let texts = (KEY_TEXT, text);
+    let came = texts_come_out(alloc, &toy, texts, &mut data, options, ample(alloc), wanted);
+    came && is_record(&read_to_end(alloc, &mut data), left)
+}
+
+// What is wanted where the data is accepted and not copied.
+const ACCEPTED: Wanted<'static> = Wanted {
+    outcome: "accepted",
+    said: SAID,
+    copied: b"",
+};
 
 // What cannot be read again is refused at the mark, before a byte is read, and only where it would
 // be read again.
 #[test]
 fn data_that_cannot_be_read_again(rt: HostRuntime) {
     let alloc = rt.alloc();
-    let rows: [(&str, bool, &str, &[u8], &[u8], &[u8]); 4] = [
-        (SIGNATURE_TEXT, true, NOT_BACK, b"", b"", b"abc"),
-        (SIGNATURE_TEXT, false, "accepted", SAID, b"", b""),
-        (LEGACY_TEXT, true, "accepted", SAID, b"abc", b""),
-        (LEGACY_TEXT, false, "accepted", SAID, b"", b""),
-    ];
-    for (text, output, outcome, said, copied, left) in rows {
-        let mut data = ReaderSource::new(b"abc".as_slice());
-        let wanted = Wanted {
-            outcome,
-            said,
-            copied,
-        };
-        let mut options = COPYING;
-        options.output = output;
-        let toy = ToyScheme::new();
-        let texts = (KEY_TEXT, text);
-        let came = texts_come_out(alloc, &toy, texts, &mut data, options, ample(alloc), wanted);
-        assert!(rt; came && is_record(&read_to_end(alloc, &mut data), left));
-    }
+    let mut refused = ACCEPTED;
+    refused.outcome = NOT_BACK;
+    refused.said = b"";
+    assert!(rt; is_read_once(alloc, SIGNATURE_TEXT, true, refused, b"abc"));
+    assert!(rt; is_read_once(alloc, SIGNATURE_TEXT, false, ACCEPTED, b""));
+    let mut copied = ACCEPTED;
+    copied.copied = b"abc";
+    assert!(rt; is_read_once(alloc, LEGACY_TEXT, true, copied, b""));
+    assert!(rt; is_read_once(alloc, LEGACY_TEXT, false, ACCEPTED, b""));
 }
 
 // The table of the legacy text's two signatures.
@@ -287,62 +351,71 @@ const LEGACY_SAID: &[u8] =
 const PREHASHED_SAID: &[u8] =
     b"Signature and comment signature verified\nTrusted comment: timestamp:1556193335\tfile:test\n";
 
-// The text of the upstream tool's key.
-fn upstream_key_text(alloc: Global) -> Result<String> {
-    Ok(
-        PublicKey::from_base64(alloc, KEY)?
-            .to_box(alloc)?
-            .into_string(),
-    )
+// Whether the text under the upstream tool's key and a table comes out so over a reader of std.
+fn is_told(
+    alloc: Global,
+    table: &[Triple],
+    sig_text: &str,
+    (allow_legacy, output): (bool, bool),
+    wanted: Wanted,
+) -> Result<bool> {
+    let pk_text = upstream::key_text(alloc)?;
+    let scheme = ToyScheme::with_table(table);
+    let mut data = ReaderSource::new(b"test".as_slice());
+    let options = VerifyOptions {
+        quiet: false,
+        output,
+        allow_legacy,
+    };
+    let texts = (pk_text.as_str(), sig_text);
+    let sinks = ample(alloc);
+    Ok(texts_come_out(alloc, &scheme, texts, &mut data, options, sinks, wanted))
 }
+
+// What is wanted of a refused text.
+const LEGACY_REFUSED: Wanted<'static> = Wanted {
+    outcome: LEGACY,
+    said: b"",
+    copied: b"",
+};
+
+const UNMARKED: Wanted<'static> = Wanted {
+    outcome: NOT_BACK,
+    said: b"",
+    copied: b"",
+};
+
+// What is wanted of the two texts where they are accepted.
+const LEGACY_ACCEPTED: Wanted<'static> = Wanted {
+    outcome: "accepted",
+    said: LEGACY_SAID,
+    copied: b"test",
+};
+
+const PREHASHED_ACCEPTED: Wanted<'static> = Wanted {
+    outcome: "accepted",
+    said: PREHASHED_SAID,
+    copied: b"",
+};
 
 // The texts of the upstream tool, each under a table of its own two signatures, and what is said of
 // them, over a reader of std.
 #[test]
-fn texts_of_the_upstream_tool_are_told(rt: HostRuntime) -> std::result::Result<(), Fail> {
+fn texts_of_the_upstream_tool_are_told(rt: HostRuntime) {
     let alloc = rt.alloc();
-    let legacy = ToyScheme::with_table(&LEGACY_TABLE);
-    let prehashed = ToyScheme::with_table(&PREHASHED_TABLE);
-    let pk_text = upstream_key_text(alloc)?;
-    let pk_text = pk_text.as_str();
     let (old, new) = (upstream::LEGACY_TEXT, upstream::PREHASHED_TEXT);
-    let rows: [(&ToyScheme, &str, bool, bool, &str, &[u8], &[u8]); 4] = [
-        (&legacy, old, true, true, "accepted", LEGACY_SAID, b"test"),
-        (&legacy, old, false, false, LEGACY, b"", b""),
-        (
-            &prehashed,
-            new,
-            false,
-            false,
-            "accepted",
-            PREHASHED_SAID,
-            b"",
-        ),
-        (&prehashed, new, false, true, NOT_BACK, b"", b""),
-    ];
-    for (scheme, sig_text, allow_legacy, output, outcome, said, copied) in rows {
-        let mut data = ReaderSource::new(b"test".as_slice());
-        let wanted = Wanted {
-            outcome,
-            said,
-            copied,
-        };
-        let options = VerifyOptions {
-            quiet: false,
-            output,
-            allow_legacy,
-        };
-        let texts = (pk_text, sig_text);
-        let came = texts_come_out(
-            alloc,
-            scheme,
-            texts,
-            &mut data,
-            options,
-            ample(alloc),
-            wanted,
-        );
-        assert!(rt; came, "at {outcome} {output}");
-    }
-    Ok(())
+    let copied = is_told(alloc, &LEGACY_TABLE, old, (true, true), LEGACY_ACCEPTED);
+    assert!(rt; holds(&copied));
+    let refused = is_told(alloc, &LEGACY_TABLE, old, (false, false), LEGACY_REFUSED);
+    assert!(rt; holds(&refused));
+    let said = is_told(
+        alloc,
+        &PREHASHED_TABLE,
+        new,
+        (false, false),
+        PREHASHED_ACCEPTED,
+    );
+    assert!(rt; holds(&said));
+    let unmarked = is_told(alloc, &PREHASHED_TABLE, new, (false, true), UNMARKED);
+    assert!(rt; holds(&unmarked));
 }

@@ -1,5 +1,6 @@
 //! The devices that bytes come from and go to.
 
+use super::reading::reads;
 use minisign_base::devices::random_sources::{FixedRandom, RandomSource, SourceRandom};
 use minisign_base::devices::sinks::{Sink, VecSink, WriterSink, put_all};
 use minisign_base::devices::sources::{ReaderSource, Rereader, SliceSource, Source};
@@ -46,16 +47,13 @@ fn slices_are_read_and_read_again(rt: HostRuntime) {
     let mut source = SliceSource::new(b"abcde");
     let mut buf = [0u8; 2];
     assert!(rt; source.back().is_err());
-    assert_eq!(rt; source.read(&mut buf), Ok(2));
-    assert_eq!(rt; buf, *b"ab");
+    assert!(rt; reads(&mut source, &mut buf, 2, b"ab"));
     assert!(rt; source.mark().is_ok());
-    assert_eq!(rt; source.read(&mut buf), Ok(2));
-    assert_eq!(rt; source.read(&mut buf), Ok(1));
-    assert_eq!(rt; buf, *b"ed");
-    assert_eq!(rt; source.read(&mut buf), Ok(0));
+    assert!(rt; reads(&mut source, &mut buf, 2, b"cd"));
+    assert!(rt; reads(&mut source, &mut buf, 1, b"ed"));
+    assert!(rt; reads(&mut source, &mut buf, 0, b"ed"));
     assert!(rt; source.back().is_ok());
-    assert_eq!(rt; source.read(&mut buf), Ok(2));
-    assert_eq!(rt; buf, *b"cd");
+    assert!(rt; reads(&mut source, &mut buf, 2, b"cd"));
 }
 
 #[test]
@@ -63,38 +61,50 @@ fn readers_are_read_and_never_go_back(rt: HostRuntime) {
     let bytes: &[u8] = b"abc";
     let mut source = ReaderSource::new(bytes);
     let mut buf = [0u8; 2];
-    assert_eq!(rt; source.read(&mut buf), Ok(2));
-    assert_eq!(rt; buf, *b"ab");
-    assert_eq!(rt; source.read(&mut buf), Ok(1));
-    assert_eq!(rt; source.read(&mut buf), Ok(0));
+    assert!(rt; reads(&mut source, &mut buf, 2, b"ab"));
+    assert!(rt; reads(&mut source, &mut buf, 1, b"cb"));
+    assert!(rt; reads(&mut source, &mut buf, 0, b"cb"));
     assert!(rt; source.mark().is_err());
     assert!(rt; source.back().is_err());
-    let mut failing = ReaderSource::new(FailsOnce { reads: 0 });
-    assert_eq!(rt; failing.read(&mut buf), Ok(1));
-    assert!(rt; failing.read(&mut buf).is_err());
-    assert_eq!(rt; failing.read(&mut buf), Ok(1));
-    assert_eq!(rt; buf[0], 3);
 }
 
 #[test]
-fn sinks_take_all_that_is_put(rt: HostRuntime) -> Result<(), Fail> {
+fn readers_go_on_behind_a_fault(rt: HostRuntime) {
+    let mut failing = ReaderSource::new(FailsOnce { reads: 0 });
+    let mut buf = [0u8; 2];
+    assert!(rt; reads(&mut failing, &mut buf, 1, &[1, 0]));
+    assert!(rt; failing.read(&mut buf).is_err());
+    assert!(rt; reads(&mut failing, &mut buf, 1, &[3, 0]));
+}
+
+#[test]
+fn sinks_take_all_that_is_put(rt: HostRuntime) {
     let mut sink = VecSink::new(rt.alloc());
     assert!(rt; put_all(&mut sink, b"abc").is_ok());
     assert!(rt; put_all(&mut sink, b"").is_ok());
     assert!(rt; put_all(&mut sink, b"de").is_ok());
     assert!(rt; sink.flush().is_ok());
-    assert_eq!(rt; sink.as_slice(), b"abcde".as_slice());
-    assert_eq!(rt; sink.into_vec().as_slice(), b"abcde".as_slice());
+    assert!(rt; sink.as_slice() == b"abcde".as_slice());
+    let taken = sink.into_vec();
+    assert!(rt; taken.as_slice() == b"abcde".as_slice());
+}
+
+#[test]
+fn writers_take_all_that_is_put(rt: HostRuntime) -> Result<(), Fail> {
     let mut held = vec![in rt.alloc(); b'a']?;
     let mut writer = WriterSink::new(&mut held);
     assert!(rt; put_all(&mut writer, b"bc").is_ok());
     assert!(rt; writer.flush().is_ok());
-    assert_eq!(rt; held.as_slice(), b"abc".as_slice());
+    assert!(rt; held.as_slice() == b"abc".as_slice());
+    Ok(())
+}
+
+#[test]
+fn a_writer_that_takes_nothing_is_a_fault(rt: HostRuntime) {
     let mut nothing = WriterSink::new(TakesNothing);
     assert!(rt; put_all(&mut nothing, b"a").is_err());
-    assert_eq!(rt; nothing.write(b""), Ok(0));
+    assert!(rt; nothing.write(b"") == Ok(0));
     assert!(rt; nothing.flush().is_err());
-    Ok(())
 }
 
 #[test]
@@ -102,17 +112,22 @@ fn random_bytes_come_in_order(rt: HostRuntime) {
     let mut fixed = FixedRandom::new(b"abcde");
     let mut buf = [0u8; 3];
     assert!(rt; fixed.fill(&mut buf).is_ok());
-    assert_eq!(rt; buf, *b"abc");
+    assert!(rt; buf == *b"abc");
     assert!(rt; fixed.fill(&mut buf).is_err());
     let mut two = [0u8; 2];
     assert!(rt; fixed.fill(&mut two).is_ok());
-    assert_eq!(rt; two, *b"de");
+    assert!(rt; two == *b"de");
+}
+
+#[test]
+fn random_bytes_come_from_a_source(rt: HostRuntime) {
     let mut drawn = SourceRandom::new(SliceSource::new(b"abcd"));
+    let mut buf = [0u8; 3];
     assert!(rt; drawn.fill(&mut buf).is_ok());
-    assert_eq!(rt; buf, *b"abc");
+    assert!(rt; buf == *b"abc");
     assert!(rt; drawn.fill(&mut buf).is_err());
     let mut failing = SourceRandom::new(ReaderSource::new(FailsOnce { reads: 0 }));
     assert!(rt; failing.fill(&mut buf).is_err());
     assert!(rt; failing.fill(&mut buf).is_ok());
-    assert_eq!(rt; buf, [3, 4, 5]);
+    assert!(rt; buf == [3, 4, 5]);
 }

@@ -6,12 +6,11 @@ use minisign_base::helpers::get_password;
 use minisign_base::prompt::Prompt;
 use minisign_fixtures::devices::sinks::LimitedSink;
 use minisign_fixtures::devices::sources::{FailsAfter, OneByOne};
-use minisign_fixtures::outcomes::{comes_to, outcome};
+use minisign_fixtures::outcomes::{comes_to, is_text};
 use minisign_fixtures::prompts::bytes_left;
 use std::alloc::{AllocError, Global};
 use std::io;
 use std::io::Write;
-use std::test::Fail;
 
 const TOO_LONG: &str = "Misc: passphrase can't exceed 1024 bytes length";
 
@@ -62,6 +61,22 @@ fn comes_so<R: Source + Drop>(
         && bytes_left(&mut reader) == unread
 }
 
+// The same of a reader that gives the line at once, and of one that gives one byte a read.
+fn both_come_so(
+    alloc: Global,
+    line: &std::result::Result<Vec<u8>, AllocError>,
+    expected: &str,
+    count: usize,
+    unread: usize,
+) -> bool {
+    let Ok(line) = line else {
+        return false;
+    };
+    let at_once = comes_so(alloc, SliceSource::new(line), expected, count, unread);
+    let by_bytes = comes_so(alloc, OneByOne::new(line), expected, count, unread);
+    at_once && by_bytes
+}
+
 // The letter so many times, and then the tail.
 fn line(
     alloc: Global,
@@ -75,7 +90,7 @@ fn line(
 }
 
 #[test]
-fn long_lines_are_cut_and_refused(rt: HostRuntime) -> Result<(), Fail> {
+fn long_lines_are_cut_and_refused(rt: HostRuntime) {
     for (count, letter, tail, expected, unread) in [
         (1024usize, b'a', "\n", "accepted", 0usize),
         (1024, b'a', "\r\n", "accepted", 0),
@@ -92,20 +107,22 @@ fn long_lines_are_cut_and_refused(rt: HostRuntime) -> Result<(), Fail> {
         (0, b'a', "", ENDED, 0),
         (8, b'p', "\nmore", "accepted", 4),
     ] {
-        let bytes = line(rt.alloc(), letter, count, tail)?;
-        let at_once = SliceSource::new(&bytes);
-        let by_bytes = OneByOne::new(&bytes);
-        assert!(rt;
-            comes_so(rt.alloc(), at_once, expected, count, unread)
-                && comes_so(rt.alloc(), by_bytes, expected, count, unread),
-            "at {count} of {letter} and {tail:?}"
-        );
+        let line = line(rt.alloc(), letter, count, tail);
+        let right = both_come_so(rt.alloc(), &line, expected, count, unread);
+        assert!(rt; right, "at {count} of {letter} and {tail:?}");
     }
-    Ok(())
+}
+
+// Whether the password is this where so much is typed, and so much is shown for it.
+fn gives(alloc: Global, typed: &str, expected: &str, shown: &str) -> bool {
+    let reader = OneByOne::new(typed.as_bytes());
+    let mut prompt = Prompt::new(reader, VecSink::new(alloc));
+    let password = get_password(alloc, &mut prompt, "?");
+    is_text(&password, expected) && prompt.writer.as_slice() == shown.as_bytes()
 }
 
 #[test]
-fn line_ends_are_no_part_of_a_password(rt: HostRuntime) -> Result<(), Fail> {
+fn line_ends_are_no_part_of_a_password(rt: HostRuntime) {
     for (typed, expected, shown) in [
         ("password\n", "password", "?"),
         ("password", "password", "?"),
@@ -117,13 +134,8 @@ fn line_ends_are_no_part_of_a_password(rt: HostRuntime) -> Result<(), Fail> {
         ("\r\n", "", "?<empty>\n"),
         ("\npassword\n", "", "?<empty>\n"),
     ] {
-        let reader = OneByOne::new(typed.as_bytes());
-        let mut prompt = Prompt::new(reader, VecSink::new(rt.alloc()));
-        let password = get_password(rt.alloc(), &mut prompt, "?")?;
-        assert_eq!(rt; password.as_str(), expected, "at {typed:?}");
-        assert_eq!(rt; prompt.writer.as_slice(), shown.as_bytes(), "at {typed:?}");
+        assert!(rt; gives(rt.alloc(), typed, expected, shown), "at {typed:?}");
     }
-    Ok(())
 }
 
 #[test]
@@ -133,43 +145,53 @@ fn failing_readers_are_named(rt: HostRuntime) {
         (3, "Io: reading failed"),
         (4, "accepted"),
     ] {
-        let reader = FailsAfter::new(b"abc\n", reads);
-        let mut prompt = Prompt::new(reader, VecSink::new(rt.alloc()));
-        let answer = get_password(rt.alloc(), &mut prompt, "Password: ");
-        assert_eq!(rt;
-            outcome(rt.alloc(), &answer).as_str(),
-            expected,
-            "at {reads}"
-        );
-        assert_eq!(rt; prompt.writer.as_slice(), b"Password: ".as_slice());
+        assert!(rt; fails_so(rt.alloc(), reads, expected), "at {reads}");
     }
+}
+
+// Whether asking comes to this where the reader fails behind so many reads.
+fn fails_so(alloc: Global, reads: u64, expected: &str) -> bool {
+    let reader = FailsAfter::new(b"abc\n", reads);
+    let mut prompt = Prompt::new(reader, VecSink::new(alloc));
+    let answer = get_password(alloc, &mut prompt, "Password: ");
+    comes_to(alloc, &answer, expected) && prompt.writer.as_slice() == b"Password: ".as_slice()
 }
 
 #[test]
 fn failing_writers_are_named_before_anything_is_read(rt: HostRuntime) {
     for (room, taken) in [(0usize, ""), (3, "Pas"), (10, "Password: ")] {
-        let writer = LimitedSink::new(rt.alloc(), room).flushed(0);
-        let mut prompt = Prompt::new(SliceSource::new(b"\n"), writer);
-        let answer = get_password(rt.alloc(), &mut prompt, "Password: ");
-        assert_eq!(rt; outcome(rt.alloc(), &answer).as_str(), "Io: writing failed");
-        assert_eq!(rt; prompt.writer.as_slice(), taken.as_bytes());
-        let mut rest = [0u8; 2];
-        assert_eq!(rt; prompt.reader.read(&mut rest), Ok(1));
+        assert!(rt; is_unread(rt.alloc(), room, taken), "at {room}");
     }
 }
 
+// Whether asking fails where the writer takes so many bytes, and these are what it took, and
+// nothing is read.
+fn is_unread(alloc: Global, room: usize, taken: &str) -> bool {
+    let writer = LimitedSink::new(alloc, room).flushed(0);
+    let mut prompt = Prompt::new(SliceSource::new(b"\n"), writer);
+    let answer = get_password(alloc, &mut prompt, "Password: ");
+    let told = comes_to(alloc, &answer, "Io: writing failed");
+    let left = prompt.reader.read(&mut [0; 2]);
+    told && prompt.writer.as_slice() == taken.as_bytes() && left == Ok(1)
+}
+
 #[test]
-fn each_text_is_flushed(rt: HostRuntime) -> Result<(), Fail> {
+fn each_text_is_flushed(rt: HostRuntime) {
     for (typed, flushes) in [("password\n", 1u8), ("\n", 2)] {
         let mut screen = Screen {
             waiting: 0,
             flushes: 0,
         };
-        let reader = ReaderSource::new(typed.as_bytes());
-        let mut prompt = Prompt::new(reader, WriterSink::new(&mut screen));
-        get_password(rt.alloc(), &mut prompt, "Password: ")?;
-        assert_eq!(rt; screen.waiting, 0);
-        assert_eq!(rt; screen.flushes, flushes);
+        assert!(rt; is_accepted(rt.alloc(), typed, &mut screen));
+        assert!(rt; screen.waiting == 0);
+        assert!(rt; screen.flushes == flushes);
     }
-    Ok(())
+}
+
+// Whether a password is accepted where so much is typed.
+fn is_accepted(alloc: Global, typed: &str, screen: &mut Screen) -> bool {
+    let reader = ReaderSource::new(typed.as_bytes());
+    let mut prompt = Prompt::new(reader, WriterSink::new(screen));
+    let password = get_password(alloc, &mut prompt, "Password: ");
+    password.is_ok()
 }

@@ -1,6 +1,7 @@
 //! A source that marks its place and goes back by seeking.
 
-use minisign_base::devices::sources::{FileSource, Rereader, Source};
+use super::reading::reads;
+use minisign_base::devices::sources::{FileSource, Rereader};
 use std::io;
 use std::io::{Cursor, Read, Seek, SeekFrom};
 
@@ -32,15 +33,12 @@ fn files_are_read_again_from_the_mark(rt: HostRuntime) {
     let mut source = FileSource::new(Cursor::new(bytes));
     let mut buf = [0u8; 2];
     assert!(rt; source.back().is_err());
-    assert_eq!(rt; source.read(&mut buf), Ok(2));
-    assert_eq!(rt; buf, *b"ab");
+    assert!(rt; reads(&mut source, &mut buf, 2, b"ab"));
     assert!(rt; source.mark().is_ok());
     for _ in 0..2 {
-        assert_eq!(rt; source.read(&mut buf), Ok(2));
-        assert_eq!(rt; buf, *b"cd");
-        assert_eq!(rt; source.read(&mut buf), Ok(1));
-        assert_eq!(rt; buf, *b"ed");
-        assert_eq!(rt; source.read(&mut buf), Ok(0));
+        assert!(rt; reads(&mut source, &mut buf, 2, b"cd"));
+        assert!(rt; reads(&mut source, &mut buf, 1, b"ed"));
+        assert!(rt; reads(&mut source, &mut buf, 0, b"ed"));
         assert!(rt; source.back().is_ok());
     }
 }

@@ -11,8 +11,10 @@ use std::test::Fail;
 // Bytes of each value, in turn, of this number.
 fn bytes(alloc: Global, size: usize) -> Result<Vec<u8>, Fail> {
     let mut bytes = vec![in alloc; 0u8; size]?;
-    for (i, byte) in bytes.iter_mut().enumerate() {
-        *byte = (i % 256) as u8;
+    let mut next = 0u8;
+    for byte in bytes.iter_mut() {
+        *byte = next;
+        next = next.wrapping_add(1);
     }
     Ok(bytes)
 }

@@ -20,17 +20,18 @@ const PUBLISHED: Triple<'static> = Triple {
     ],
 };
 
+const TABLE: [Triple<'static>; 2] = [
+    Triple {
+        message: b"another",
+        public_key: [1; 32],
+        signature: [2; 64],
+    },
+    PUBLISHED,
+];
+
 #[test]
 fn a_table_accepts_its_triples_alone(rt: HostRuntime) {
-    let table = [
-        Triple {
-            message: b"another",
-            public_key: [1; 32],
-            signature: [2; 64],
-        },
-        PUBLISHED,
-    ];
-    let toy = ToyScheme::with_table(&table);
+    let toy = ToyScheme::with_table(&TABLE);
     let Triple {
         message,
         public_key,
@@ -44,7 +45,11 @@ fn a_table_accepts_its_triples_alone(rt: HostRuntime) {
     assert!(rt; !toy.verify(message, &public_key, &[2; 64]));
     assert!(rt; !toy.verify(b"another", &public_key, &signature));
     assert!(rt; toy.verify(b"another", &[1; 32], &[2; 64]));
+}
 
+#[test]
+fn a_table_leaves_other_signatures(rt: HostRuntime) {
+    let toy = ToyScheme::with_table(&TABLE);
     let (secret, public) = toy.keypair(&[7; 32]);
     let own = toy.signature(b"abc", &secret, None);
     assert!(rt; toy.verify(b"abc", &public, &own));

@@ -6,7 +6,7 @@
 
 ghost use Rattle.std.specs.Prelude.{◌≡◌, ◌*◌, ◌^◌, ◌<◌, ◌≤◌, IfOk, length, vec_len};
 
-use minisign_fixtures::outcomes::hexadecimal;
+use crate::shown::shows;
 use minisign_fixtures::plain::scrypt::{plain_rom_mix, plain_scrypt};
 use minisign_kdf::{KdfError, Params, Rows, mix_kept, scrypt_keeping};
 use std::alloc::{AllocError, Global};
@@ -54,6 +54,31 @@ fn bytes_of(row: &[u32]) -> [u8; 128]
     bytes
 }
 
+// RFC 7914, 12, the smallest vector and that of several parts.
+const OF_NOTHING: &str =
+    "77d6576238657b203b19ca42c18a0497f16b4844e3074ae8dfdffa3fede21442fcd0069ded0948f8326a753a0fc81f17e8d3e0fb2e0d3628cf35e20c38d18906";
+
+const OF_PASSWORD: &str =
+    "fdbabe1c9d3472007856e7190d01e9fe7c6ad7cbc8237830e77376634b3731622eaf30d92e22a3886ff109279d9830dac727afb94a83ee6d8360cbdfa2cc0640";
+
+// The key of no password at the usual cost.
+const OF_USUAL_COST: &str =
+    "2c804bf5d0ccb28051f20fb0b99bf7e9a45a67496650536018dd8839d9370748f1ac548a44dde14ef07f306c5fc7fe091054c6374d73d1a4f917a0fbcd8b88b8";
+
+// Whether the key is this where every k-th row is kept, of so many.
+fn keeps(
+    alloc: Global,
+    (password, salt): (&str, &str),
+    params: &Params,
+    (k, count): (u64, u64),
+    expected: &str,
+) -> bool {
+    let mut key = [0u8; 64];
+    let (password, salt) = (password.as_bytes(), salt.as_bytes());
+    let kept = scrypt_keeping(alloc, password, salt, params, k.max(1), &mut key);
+    kept == Ok(count) && shows(alloc, &key, expected)
+}
+
 // The smallest vector, and how many rows are kept for it.
 #[test]
 fn keys_of_one_part(rt: HostRuntime) -> Result<(), Fail> {
@@ -69,16 +94,8 @@ fn keys_of_one_part(rt: HostRuntime) -> Result<(), Fail> {
         (17, 1),
         (18446744073709551615, 1),
     ] {
-        let mut key = [0u8; 64];
-        assert_eq!(rt;
-            scrypt_keeping(rt.alloc(), b"", b"", &params, k.max(1), &mut key)?,
-            count
-        );
-        assert_eq!(rt;
-            hexadecimal(rt.alloc(), &key)?.as_str(),
-            "77d6576238657b203b19ca42c18a0497f16b4844e3074ae8dfdffa3fede21442fcd0069ded0948f8326a753a0fc81f17e8d3e0fb2e0d3628cf35e20c38d18906",
-            "k {k}"
-        );
+        let right = keeps(rt.alloc(), ("", ""), &params, (k, count), OF_NOTHING);
+        assert!(rt; right, "k {k}");
     }
     Ok(())
 }
@@ -87,13 +104,8 @@ fn keys_of_one_part(rt: HostRuntime) -> Result<(), Fail> {
 #[test]
 fn key_of_several_parts(rt: HostRuntime) -> Result<(), Fail> {
     let params = Params::new(10, 8, 16)?;
-    let mut key = [0u8; 64];
-    let count = scrypt_keeping(rt.alloc(), b"password", b"NaCl", &params, 100, &mut key)?;
-    assert_eq!(rt; count, 11);
-    assert_eq!(rt;
-        hexadecimal(rt.alloc(), &key)?.as_str(),
-        "fdbabe1c9d3472007856e7190d01e9fe7c6ad7cbc8237830e77376634b3731622eaf30d92e22a3886ff109279d9830dac727afb94a83ee6d8360cbdfa2cc0640"
-    );
+    let of = ("password", "NaCl");
+    assert!(rt; keeps(rt.alloc(), of, &params, (100, 11), OF_PASSWORD));
     Ok(())
 }
 
@@ -102,16 +114,8 @@ fn key_of_several_parts(rt: HostRuntime) -> Result<(), Fail> {
 fn keys_of_the_usual_cost(rt: HostRuntime) -> Result<(), Fail> {
     let params = Params::new(15, 8, 1)?;
     for (k, count) in [(3u64, 10923u64), (7, 4682)] {
-        let mut key = [0u8; 64];
-        assert_eq!(rt;
-            scrypt_keeping(rt.alloc(), b"", b"", &params, k.max(1), &mut key)?,
-            count
-        );
-        assert_eq!(rt;
-            hexadecimal(rt.alloc(), &key)?.as_str(),
-            "2c804bf5d0ccb28051f20fb0b99bf7e9a45a67496650536018dd8839d9370748f1ac548a44dde14ef07f306c5fc7fe091054c6374d73d1a4f917a0fbcd8b88b8",
-            "k {k}"
-        );
+        let right = keeps(rt.alloc(), ("", ""), &params, (k, count), OF_USUAL_COST);
+        assert!(rt; right, "k {k}");
     }
     Ok(())
 }
@@ -129,12 +133,18 @@ fn mixed_over_rows(alloc: Global, n_log2: u8, k: u64) -> Result<([u8; 128], u64)
     Ok((out, rows.len()))
 }
 
+// Whether mixing over every k-th row gives what is published, over so many rows.
+fn mixes(alloc: Global, k: u64) -> Result<bool, Fail>
+    requires { 1 ≤ k }
+{
+    let (out, count) = mixed_over_rows(alloc, 4, k)?;
+    Ok(shows(alloc, &out, ROM_MIXED) && count == 16u64.div_ceil(k))
+}
+
 #[test]
 fn rows_of_rfc_7914(rt: HostRuntime) -> Result<(), Fail> {
     for k in 1..18u64 {
-        let (out, count) = mixed_over_rows(rt.alloc(), 4, k)?;
-        assert_eq!(rt; hexadecimal(rt.alloc(), &out)?.as_str(), ROM_MIXED, "k {k}");
-        assert_eq!(rt; count, 16u64.div_ceil(k));
+        assert!(rt; mixes(rt.alloc(), k)?, "k {k}");
     }
     Ok(())
 }
@@ -143,31 +153,37 @@ fn rows_of_rfc_7914(rt: HostRuntime) -> Result<(), Fail> {
 #[test]
 fn words_stand_in_diagonal_order(rt: HostRuntime) -> Result<(), Fail> {
     let rows = Rows::fill(rt.alloc(), &BLOCK, 1, 1)?;
-    assert_eq!(rt; rows.len(), 2);
+    assert!(rt; rows.len() == 2);
     let (first, second) = rows.words().split_at(32);
-    assert_eq!(rt; bytes_of(first), BLOCK);
-    assert_eq!(rt; hexadecimal(rt.alloc(), &bytes_of(second))?.as_str(), MIXED);
-    let rows = Rows::fill(rt.alloc(), &BLOCK, 1, 3)?;
-    assert_eq!(rt; rows.len(), 1);
-    assert_eq!(rt; rows.words(), first);
+    assert!(rt; bytes_of(first) == BLOCK);
+    assert!(rt; shows(rt.alloc(), &bytes_of(second), MIXED));
+    Ok(())
+}
+
+// Whether one row is kept, which is the block.
+fn keeps_the_block(alloc: Global, n_log2: u8, k: u64) -> Result<bool, KdfError>
+    requires even { 1 ≤ n_log2 }
+    requires cost { n_log2 < 64 }
+    requires kept { 1 ≤ k }
+{
+    let rows = Rows::fill(alloc, &BLOCK, n_log2, k)?;
+    let words = rows.words();
+    Ok(rows.len() == 1 && words.len() == 32 && bytes_of(words) == BLOCK)
+}
+
+#[test]
+fn one_row_is_the_block(rt: HostRuntime) -> Result<(), Fail> {
+    assert!(rt; keeps_the_block(rt.alloc(), 1, 3)?);
     Ok(())
 }
 
 // Rows that no memory can hold are refused before any mixing, and where one is kept, none is mixed.
 #[test]
 fn rows_of_the_greatest_cost(rt: HostRuntime) -> Result<(), Fail> {
-    assert!(rt;
-        matches!(
-            Rows::fill(rt.alloc(), &BLOCK, 63, 1),
-            Err(KdfError::OutOfMemory)
-        )
-    );
+    let refused = Rows::fill(rt.alloc(), &BLOCK, 63, 1);
+    assert!(rt; matches!(refused, Err(KdfError::OutOfMemory)));
     for k in [9223372036854775808u64, 18446744073709551615] {
-        let rows = Rows::fill(rt.alloc(), &BLOCK, 63, k.max(1))?;
-        assert_eq!(rt; rows.len(), 1);
-        let words = rows.words();
-        assert_eq!(rt; words.len(), 32);
-        assert_eq!(rt; bytes_of(words), BLOCK);
+        assert!(rt; keeps_the_block(rt.alloc(), 63, k.max(1))?, "k {k}");
     }
     Ok(())
 }
@@ -217,13 +233,24 @@ fn agrees(alloc: Global, n_log2: u8, r: u32, p: u32) -> Result<bool, Fail>
 #[test]
 fn rows_of_every_number_are_mixed_as_the_plain_ones(rt: HostRuntime) -> Result<(), Fail> {
     for n_log2 in 1..7u8 {
-        let plain = plain_rom_mix(rt.alloc(), n_log2, &BLOCK)?;
-        for k in 1..(1u64 << n_log2) + 2 {
-            let (out, _) = mixed_over_rows(rt.alloc(), n_log2, k)?;
-            assert_eq!(rt; out, plain, "at {n_log2}, k {k}");
-        }
+        assert!(rt; is_mixed_plainly(rt.alloc(), n_log2)?, "at {n_log2}");
     }
     Ok(())
+}
+
+// Whether mixing over every k-th row is the plain one for every k from 1 to N + 1.
+fn is_mixed_plainly(alloc: Global, n_log2: u8) -> Result<bool, Fail>
+    requires even { 1 ≤ n_log2 }
+    requires cost { n_log2 < 8 }
+{
+    let plain = plain_rom_mix(alloc, n_log2, &BLOCK)?;
+    for k in 1..(1u64 << n_log2) + 2 {
+        let (out, _) = mixed_over_rows(alloc, n_log2, k)?;
+        if out != plain {
+            return Ok(false);
+        }
+    }
+    Ok(true)
 }
 
 // An output that no key can have is refused whatever is kept, and a refusal leaves it.
@@ -235,10 +262,14 @@ fn refusals_do_not_depend_on_the_number(rt: HostRuntime) -> Result<(), Fail> {
         assert!(rt; refused == Err(KdfError::InvalidOutputLen), "k {k}");
     }
     for k in [1u64, 1000] {
-        let mut key = [7u8; 32];
-        let refused = scrypt_keeping(rt.alloc(), b"pw", b"salt", &params, k.max(1), &mut key);
-        assert!(rt; refused == Err(KdfError::OutOfMemory), "k {k}");
-        assert!(rt; key.iter().all(|b| *b == 7), "k {k}");
+        assert!(rt; wants_memory(rt.alloc(), &params, k), "k {k}");
     }
     Ok(())
+}
+
+// Whether the rows are more than any memory holds, and the output stays.
+fn wants_memory(alloc: Global, params: &Params, k: u64) -> bool {
+    let mut key = [7u8; 32];
+    let refused = scrypt_keeping(alloc, b"pw", b"salt", params, k.max(1), &mut key);
+    refused == Err(KdfError::OutOfMemory) && key == [7; 32]
 }

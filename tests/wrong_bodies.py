@@ -1,0 +1,215 @@
+#!/usr/bin/env python3
+"""Tries the wrong bodies of crates/*/wrong-bodies/*.edit: the prover has to refuse each.
+
+A wrong body is written as a must-fail edit is. Its line `fn:` names the function that has to be refused, as a check
+prints it. `rt ci` gives each edit of must-fail/ a check of its own, which reads and states the whole crate again; here
+edits of the bodies of different functions share one, and an edit that reaches beyond a body is tried alone. First the
+crate is checked as it stands, over a new folder: each of these functions has to be proved. Then come the edits, a group
+at a time, over what that check kept: the function of each has to be refused for its own goals. An edit that is not
+refused so beside others is tried once more alone.
+
+usage: wrong_bodies.py [--as-built] [CRATE[/NAME]..]
+  --as-built  takes the libraries as `rt ci` has just left them; else those that have changed are built
+"""
+
+import importlib.machinery
+import importlib.util
+import os
+import re
+import shutil
+import sys
+import tempfile
+from collections import Counter
+from concurrent.futures import ThreadPoolExecutor
+
+ROOT = os.path.dirname(os.path.dirname(os.path.abspath(__file__)))
+# What a check of one of these crates takes at the most, in bytes.
+MEMORY = 3_000_000_000
+# How many wrong bodies share a check, about.
+GROUP = 24
+# A goal of the function itself that stays open.
+OPEN_GOAL = re.compile(r"^not proved|did not prove `")
+# Where a function and its body begin.
+HEADER = re.compile(r'(?m)^( *)(?:pub(?:\(\w+\))? )?(?:const )?(?:unsafe )?(?:extern "C" )?fn \w+')
+BODY = re.compile(r"(?m)\{$")
+# An error in a proof file that only misses what an edit took away says little of the contract.
+MISSING = re.compile(r"has no field|is not in scope|has no `|was not admitted")
+
+
+def kit():
+    """Returns the kit's rt as a module: a group is checked as rt checks a must-fail edit."""
+    loader = importlib.machinery.SourceFileLoader("kit_rt", os.path.realpath(shutil.which("rt")))
+    made = importlib.util.module_from_spec(importlib.util.spec_from_loader("kit_rt", loader))
+    sys.modules["kit_rt"] = made
+    loader.exec_module(made)
+    return made
+
+
+class WrongBody:
+    """A wrong body: its name, its file, the function to be refused, and what stands in place of what."""
+
+    def __init__(self, crate, file):
+        self.label = f"{crate.name}/{os.path.basename(file)[: -len('.edit')]}"
+        self.path = self.function = self.fault = ""
+        self.changes, self.is_alone, old = [], False, ""
+        with open(file, encoding="utf-8") as it:
+            lines = it.read().splitlines()
+        for line in lines:
+            key, _, value = line.partition(": ") if ": " in line else line.partition(":")
+            if key == "file":
+                self.path = value
+            elif key == "fn":
+                self.function = value
+            elif key == "old":
+                old = value
+            elif key == "new":
+                self.changes.append((old, value))
+        if not (file.endswith(".edit") and self.path and self.function and self.changes):
+            self.fault = "it is no file .edit with the lines `file:`, `fn:`, `old:` and `new:`"
+
+    def places(self, text):
+        """Returns where in the text of its file each change begins and ends, with the new text."""
+        found = []
+        for old, new in self.changes:
+            if text.count(old) != 1:
+                self.fault = f"its old text stands in {self.path} {text.count(old)} times, and not once"
+            at = text.find(old)
+            self.is_alone |= not is_in_body(text, at)
+            found.append((at, at + len(old), new))
+        return found
+
+    def failed(self, why):
+        return False, f"{self.label}: {why}"
+
+
+class Trial:
+    """The trial of a crate's wrong bodies over one folder, which holds what the check of the crate as it stands proved."""
+
+    def __init__(self, rt, crate, bodies, folder):
+        self.rt, self.crate, self.kept = rt, crate, os.path.join(folder, crate.name)
+        self.texts, self.said = {}, []
+        for it in bodies:
+            if it.path not in self.texts:
+                with open(f"{crate.folder}/{it.path}", encoding="utf-8") as file:
+                    self.texts[it.path] = file.read()
+            it.places(self.texts[it.path])
+            if it.fault:
+                self.said.append(it.failed(f"BAD EDIT: {it.fault}"))
+        self.bodies = [it for it in bodies if not it.fault]
+
+    def check(self, texts, bodies, kept):
+        """Checks the functions that these bodies change, in a copy of the crate with these texts, and returns what is said."""
+        words = [word for it in sorted({it.function for it in bodies}) for word in ("--only", it)]
+        return self.rt.checked(self.crate, texts, ["--jobs", "1", *words], kept).stdout
+
+    def begin(self, pool):
+        """Checks the crate as it stands, and hands the groups to the pool. Returns what there is to say, as calls."""
+        said = self.check({}, self.bodies, self.kept)
+        if not re.search(r"(?m)^only=(\d+) proved=\1$", said):
+            why = f"NOT TRIED: the crate as it stands is not proved: {first_of(said)}"
+            return [lambda: [*self.said, *(it.failed(why) for it in self.bodies)]]
+        tried = [pool.submit(self.try_group, group) for group in groups_of(self.bodies)]
+        return [lambda: self.said, *(it.result for it in tried)]
+
+    def try_group(self, group):
+        """Tries a group over a copy of what is kept, and returns what there is to say of each body."""
+        texts = self.changed(group)
+        with tempfile.TemporaryDirectory(dir=os.path.dirname(self.kept)) as kept:
+            shutil.copytree(self.kept, kept, dirs_exist_ok=True)
+            said = self.check(texts, group, kept)
+        judged = [self.judged(it, said, texts) for it in group]
+        return [was if was[0] or len(group) == 1 else self.try_group([it])[0] for it, was in zip(group, judged)]
+
+    def changed(self, group):
+        """Returns the texts of the files with the changes of a group in place."""
+        texts = {}
+        for path in {it.path for it in group}:
+            text = self.texts[path]
+            places = [place for it in group if it.path == path for place in it.places(text)]
+            for begin, end, new in sorted(places, reverse=True):
+                text = text[:begin] + new + text[end:]
+            texts[path] = text
+        return texts
+
+    def judged(self, body, said, texts):
+        """Judges a body by the line of its function in what a check of these texts said."""
+        unread = next((it for it in said.split("\n") if self.rt.unread(it, texts)), "")
+        if unread or self.rt.rtlib.STALE.search(said):
+            return body.failed(f"BAD EDIT: the prover cannot read the edited text, or what is kept: {unread[:200]}")
+        line = re.search(rf"(?m)^fn {self.crate.name}::{re.escape(body.function)}: (.*)$", said)
+        if not line or not re.search(r"(?m)^only=", said):
+            return body.failed(f"BAD EDIT: it did not reach the prover: {first_of(said)}")
+        if not OPEN_GOAL.search(line[1]):
+            return body.failed(f"NOT REFUSED: the function is {line[1]}")
+        at = f"./proofs/{body.function.replace('::', '/')}/"
+        errors = [it for it in said.split("\n") if it.startswith(at) and ": error: " in it]
+        if errors and all(MISSING.search(it) for it in errors):
+            return body.failed(f"SAYS LITTLE: a proof file names what the edit took away: {errors[0][:200]}")
+        return True, f"{body.label}: refused, as it must be: {(errors or [line[1]])[0][:200]}"
+
+
+def is_in_body(text, at):
+    """Returns whether a place of a source file lies in the body of a function."""
+    headers = [*HEADER.finditer(text, 0, max(at, 0))]
+    body = BODY.search(text, headers[-1].start()) if headers else None
+    end = re.compile(rf"(?m)^{headers[-1][1]}\}}").search(text, body.end()) if body else None
+    return bool(end) and body.start() < at < end.start()
+
+
+def first_of(said):
+    """Returns the first error of what a check said, or its last line."""
+    lines = said.rstrip("\n").split("\n")
+    return next((it for it in lines if "error" in it), lines[-1])[:300]
+
+
+def groups_of(bodies):
+    """Returns the bodies in groups of about one size in which no function is changed twice, and alone what others see."""
+    alone = [[it] for it in bodies if it.is_alone]
+    in_order = sorted((it for it in bodies if not it.is_alone), key=lambda it: it.function)
+    most = max(Counter(it.function for it in in_order).values(), default=0)
+    number = max(most, -(-len(in_order) // GROUP))
+    return [*alone, *(in_order[at::number] for at in range(number))]
+
+
+def bodies_of(crate, names):
+    """Returns the wrong bodies of a crate, or those of them that are named."""
+    folder = f"{crate.folder}/wrong-bodies"
+    files = sorted(os.listdir(folder)) if os.path.isdir(folder) else []
+    found = [WrongBody(crate, f"{folder}/{it}") for it in files]
+    return [it for it in found if not names or crate.name in names or it.label in names]
+
+
+def main(words):
+    os.chdir(ROOT)
+    rt = kit()
+    rt.rtlib.guarded()
+    as_built, names = "--as-built" in words, [it for it in words if it != "--as-built"]
+    rt.Crate.cuts_libraries = as_built
+    tasks = [(it, bodies_of(it, names)) for it in rt.rtlib.crates_below(ROOT)]
+    tasks = [(crate, bodies) for crate, bodies in tasks if bodies]
+    found = {name for crate, bodies in tasks for name in (crate.name, *(it.label for it in bodies))}
+    missing = [it for it in names if it not in found]
+    if missing or not tasks:
+        print(f"no wrong body is named {missing}\n0 passed, 1 failed")
+        return 1
+    if not as_built:
+        for crate, _ in tasks:
+            for below in crate.below():
+                if below.build_rlib(["--jobs", "1"], anew=False):
+                    print(f"{below.name} is not proved\n0 passed, 1 failed")
+                    return 1
+    tasks.sort(key=lambda it: -it[0].count(rb"\n") * len(it[1]))
+    lanes = max(1, min(rt.processors(), rt.free() // MEMORY))
+    passed = failed = 0
+    with tempfile.TemporaryDirectory(prefix="wrong-bodies-") as folder, ThreadPoolExecutor(lanes) as pool:
+        begun = [pool.submit(Trial(rt, *it, folder).begin, pool) for it in tasks]
+        for call in [call for it in begun for call in it.result()]:
+            for well, text in call():
+                print(f"wrong body {text}", flush=True)
+                passed, failed = passed + well, failed + (not well)
+    print(f"{passed} passed, {failed} failed")
+    return 1 if failed else 0
+
+
+if __name__ == "__main__":
+    sys.exit(main(sys.argv[1:]))
