@@ -8,8 +8,10 @@ crate is checked as it stands, over a new folder: each of these functions has to
 at a time, over what that check kept: the function of each has to be refused for its own goals. An edit that is not
 refused so beside others is tried once more alone.
 
-usage: wrong_bodies.py [--as-built] [CRATE[/NAME]..]
-  --as-built  takes the libraries as `rt ci` has just left them; else those that have changed are built
+usage: wrong_bodies.py [--beside FILE] [CRATE[/NAME]..]
+  --beside FILE  runs beside `rt ci`, or after it, over the libraries that it builds. FILE is what it says, with the line
+                 ENDED behind it. The edits of a crate are tried once `rt ci` has proved the crate, and of the crate as
+                 it stands one function is checked again. Otherwise the libraries that have changed are built first
 """
 
 import importlib.machinery
@@ -19,18 +21,25 @@ import re
 import shutil
 import sys
 import tempfile
+import threading
+import time
 from collections import Counter
 from concurrent.futures import ThreadPoolExecutor
+from contextlib import contextmanager
 
 ROOT = os.path.dirname(os.path.dirname(os.path.abspath(__file__)))
 # What a check of one of these crates takes at the most, in bytes.
 MEMORY = 3_000_000_000
+# How many checks run beside `rt ci`, and what has to be free for them then, in bytes.
+BESIDE, FREE = 2, 8_000_000_000
+# The line behind what `rt ci` has said, once it has ended.
+ENDED = "rt ci has ended"
 # How many wrong bodies share a check, about.
 GROUP = 24
 # A goal of the function itself that stays open.
 OPEN_GOAL = re.compile(r"^not proved|did not prove `")
 # Where a function and its body begin.
-HEADER = re.compile(r'(?m)^( *)(?:pub(?:\(\w+\))? )?(?:const )?(?:unsafe )?(?:extern "C" )?fn \w+')
+HEADER = re.compile(r'(?m)^( *)(?:pub(?:\(\w+\))? )?(?:const )?(?:unsafe )?(?:extern "C" )?fn (\w+)')
 BODY = re.compile(r"(?m)\{$")
 # An error in a proof file that only misses what an edit took away says little of the contract.
 MISSING = re.compile(r"has no field|is not in scope|has no `|was not admitted")
@@ -69,12 +78,13 @@ class WrongBody:
 
     def places(self, text):
         """Returns where in the text of its file each change begins and ends, with the new text."""
-        found = []
+        found, left = [], text
         for old, new in self.changes:
-            if text.count(old) != 1:
-                self.fault = f"its old text stands in {self.path} {text.count(old)} times, and not once"
-            at = text.find(old)
-            self.is_alone |= not is_in_body(text, at)
+            if left.count(old) != 1:
+                self.fault = f"its old text stands in {self.path} {left.count(old)} times, and not once"
+            at = left.find(old)
+            left = left.replace(old, "\0" * len(old))
+            self.is_alone |= function_at(text, at) != self.function.rpartition("::")[2]
             found.append((at, at + len(old), new))
         return found
 
@@ -82,11 +92,50 @@ class WrongBody:
         return False, f"{self.label}: {why}"
 
 
+class Proofs:
+    """The run of `rt ci` that proves the crates, by the file of what it says; with no file, they stand proved."""
+
+    def __init__(self, rt, file):
+        self.rt, self.file, self.checks, self.lock = rt, file, 0, threading.Lock()
+
+    def said(self):
+        with open(self.file, encoding="utf-8", errors="replace") as it:
+            return it.read()
+
+    def is_under_way(self):
+        return bool(self.file) and not self.said().endswith(f"{ENDED}\n")
+
+    def are_told(self, crate):
+        """Returns whether it is known if the crate is proved."""
+        return not self.is_under_way() or bool(re.search(rf"(?m)^rt: {crate.name} (NOT )?proved\b", self.said(), re.I))
+
+    def has(self, crate):
+        return not self.file or bool(re.search(rf"(?m)^rt: {crate.name} proved$", self.said()))
+
+    @contextmanager
+    def place(self):
+        """Waits until a check may begin: few run beside `rt ci`, and where they leave it its memory."""
+        while not self.is_taken():
+            time.sleep(1)
+        try:
+            yield
+        finally:
+            with self.lock:
+                self.checks -= 1
+
+    def is_taken(self):
+        """Takes a place for a check, where there is one."""
+        with self.lock:
+            is_one = not self.is_under_way() or self.checks < BESIDE and self.rt.free() >= FREE
+            self.checks += is_one
+        return is_one
+
+
 class Trial:
     """The trial of a crate's wrong bodies over one folder, which holds what the check of the crate as it stands proved."""
 
-    def __init__(self, rt, crate, bodies, folder):
-        self.rt, self.crate, self.kept = rt, crate, os.path.join(folder, crate.name)
+    def __init__(self, rt, crate, bodies, proofs, folder):
+        self.rt, self.crate, self.proofs, self.kept = rt, crate, proofs, os.path.join(folder, crate.name)
         self.texts, self.said = {}, []
         for it in bodies:
             if it.path not in self.texts:
@@ -100,11 +149,14 @@ class Trial:
     def check(self, texts, bodies, kept):
         """Checks the functions that these bodies change, in a copy of the crate with these texts, and returns what is said."""
         words = [word for it in sorted({it.function for it in bodies}) for word in ("--only", it)]
-        return self.rt.checked(self.crate, texts, ["--jobs", "1", *words], kept).stdout
+        with self.proofs.place():
+            return self.rt.checked(self.crate, texts, ["--jobs", "1", *words], kept).stdout
 
     def begin(self, pool):
         """Checks the crate as it stands, and hands the groups to the pool. Returns what there is to say, as calls."""
-        said = self.check({}, self.bodies, self.kept)
+        if not self.proofs.has(self.crate):
+            return [lambda: [*self.said, *(it.failed("NOT TRIED: `rt ci` did not prove the crate") for it in self.bodies)]]
+        said = self.check({}, self.bodies[:1] if self.proofs.file else self.bodies, self.kept)
         if not re.search(r"(?m)^only=(\d+) proved=\1$", said):
             why = f"NOT TRIED: the crate as it stands is not proved: {first_of(said)}"
             return [lambda: [*self.said, *(it.failed(why) for it in self.bodies)]]
@@ -148,12 +200,12 @@ class Trial:
         return True, f"{body.label}: refused, as it must be: {(errors or [line[1]])[0][:200]}"
 
 
-def is_in_body(text, at):
-    """Returns whether a place of a source file lies in the body of a function."""
+def function_at(text, at):
+    """Returns the name of the function in whose body a place of a source file lies, if it lies in one."""
     headers = [*HEADER.finditer(text, 0, max(at, 0))]
     body = BODY.search(text, headers[-1].start()) if headers else None
     end = re.compile(rf"(?m)^{headers[-1][1]}\}}").search(text, body.end()) if body else None
-    return bool(end) and body.start() < at < end.start()
+    return headers[-1][2] if end and body.start() < at < end.start() else None
 
 
 def first_of(said):
@@ -183,8 +235,9 @@ def main(words):
     os.chdir(ROOT)
     rt = kit()
     rt.rtlib.guarded()
-    as_built, names = "--as-built" in words, [it for it in words if it != "--as-built"]
-    rt.Crate.cuts_libraries = as_built
+    at = words.index("--beside") if "--beside" in words else len(words)
+    proofs, names = Proofs(rt, next(iter(words[at + 1 : at + 2]), None)), words[:at] + words[at + 2 :]
+    rt.Crate.cuts_libraries = bool(proofs.file)
     tasks = [(it, bodies_of(it, names)) for it in rt.rtlib.crates_below(ROOT)]
     tasks = [(crate, bodies) for crate, bodies in tasks if bodies]
     found = {name for crate, bodies in tasks for name in (crate.name, *(it.label for it in bodies))}
@@ -192,23 +245,34 @@ def main(words):
     if missing or not tasks:
         print(f"no wrong body is named {missing}\n0 passed, 1 failed")
         return 1
-    if not as_built:
+    if not proofs.file:
         for crate, _ in tasks:
             for below in crate.below():
                 if below.build_rlib(["--jobs", "1"], anew=False):
                     print(f"{below.name} is not proved\n0 passed, 1 failed")
                     return 1
     tasks.sort(key=lambda it: -it[0].count(rb"\n") * len(it[1]))
-    lanes = max(1, min(rt.processors(), rt.free() // MEMORY))
     passed = failed = 0
-    with tempfile.TemporaryDirectory(prefix="wrong-bodies-") as folder, ThreadPoolExecutor(lanes) as pool:
-        begun = [pool.submit(Trial(rt, *it, folder).begin, pool) for it in tasks]
-        for call in [call for it in begun for call in it.result()]:
-            for well, text in call():
-                print(f"wrong body {text}", flush=True)
-                passed, failed = passed + well, failed + (not well)
+    with tempfile.TemporaryDirectory(prefix="wrong-bodies-") as folder:
+        for well, text in try_all(rt, tasks, proofs, folder):
+            print(f"wrong body {text}", flush=True)
+            passed, failed = passed + well, failed + (not well)
     print(f"{passed} passed, {failed} failed")
     return 1 if failed else 0
+
+
+def try_all(rt, tasks, proofs, folder):
+    """Tries the wrong bodies of each crate once the crate is proved, and yields what there is to say of each."""
+    lanes, begun = max(1, min(rt.processors(), rt.free() // MEMORY)), []
+    with ThreadPoolExecutor(lanes) as pool:
+        while tasks:
+            ready = [it for it in tasks if proofs.are_told(it[0])]
+            begun += [pool.submit(Trial(rt, *it, proofs, folder).begin, pool) for it in ready]
+            tasks = [it for it in tasks if it not in ready]
+            time.sleep(1)
+        for it in begun:
+            for call in it.result():
+                yield from call()
 
 
 if __name__ == "__main__":
