@@ -1,7 +1,7 @@
 #!/usr/bin/env python3
 """Compares what the documents name with what is there: functions, clauses, definitions and fields of
 docs/PROMISES.md, the faults of docs/FORMATS.md and docs/INSTALLING.md, blocks of code, links, paths, names, and the
-old texts of the must-fail edits and wrong bodies. It also looks for crates that name the proofs of another one.
+old texts of the must-fail edits. It also looks for crates that name the proofs of another one.
 
 It prints a line for each name that is not there; the last line is `N passed, M failed`. Needs Python 3.9 or later.
 """
@@ -267,20 +267,20 @@ def check_layers(report, index):
 
 
 def check_edits(report):
-    """Each old text of a must-fail edit or a wrong body stands exactly once in its file."""
+    """Each old text of a must-fail edit stands exactly once in its file."""
     for crate in sorted(os.listdir(os.path.join(ROOT, "crates"))):
-        for kind in ("must-fail", "wrong-bodies"):
-            for edit in sources.files_below(os.path.join(ROOT, "crates", crate, kind), ".edit"):
-                check_edit(report, os.path.join(ROOT, "crates", crate), edit, kind == "wrong-bodies")
+        folder = os.path.join(ROOT, "crates", crate)
+        for edit in sources.files_below(os.path.join(folder, "wrong-bodies"), ".edit"):
+            check_edit(report, folder, edit)
 
 
-def check_edit(report, crate, edit, names_function):
+def check_edit(report, crate, edit):
     shown = os.path.relpath(edit, ROOT)
     with open(edit, encoding="utf-8") as opened:
         lines = opened.read().split("\n")
     path, old, texts, pairs = None, None, {}, 0
     functions = [line for line in lines if line.startswith("fn: ")]
-    report.check(len(functions) == names_function, shown, "a line fn: stands once in wrong-bodies/, and not in must-fail/")
+    report.check(len(functions) == 1, shown, f"{len(functions)} lines fn:, and not one")
     for number, line in enumerate(lines, 1):
         where = f"{shown}:{number}"
         if line.startswith("file: "):

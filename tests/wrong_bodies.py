@@ -1,12 +1,12 @@
 #!/usr/bin/env python3
-"""Tries the wrong bodies of crates/*/wrong-bodies/*.edit: the prover has to refuse each.
+"""Tries the must-fail edits of crates/*/wrong-bodies/*.edit: the prover has to refuse each.
 
-A wrong body is written as a must-fail edit is. Its line `fn:` names the function that has to be refused, as a check
-prints it. `rt ci` gives each edit of must-fail/ a check of its own, which reads and states the whole crate again; here
-edits of the bodies of different functions share one, and an edit that reaches beyond a body is tried alone. First the
-crate is checked as it stands, over a new folder: each of these functions has to be proved. Then come the edits, a group
-at a time, over what that check kept: the function of each has to be refused for its own goals. An edit that is not
-refused so beside others is tried once more alone.
+An edit has the form of the kit's, and a line `fn:` with the function that has to be refused, as a check prints it.
+`rt ci` would give each a check of its own, which reads and states the whole crate again; here edits of the bodies of
+different functions share one, and an edit that reaches beyond the body of its function is tried alone. First the crate
+is checked as it stands, over a new folder: each of these functions has to be proved. Then come the edits, a group at a
+time, over what that check kept: the function of each has to be refused for its own goals. An edit that is not refused
+so beside others is tried once more alone.
 
 usage: wrong_bodies.py [--beside FILE] [CRATE[/NAME]..]
   --beside FILE  runs beside `rt ci`, or after it, over the libraries that it builds. FILE is what it says, with the line
@@ -17,6 +17,7 @@ usage: wrong_bodies.py [--beside FILE] [CRATE[/NAME]..]
 import importlib.machinery
 import importlib.util
 import os
+import queue
 import re
 import shutil
 import sys
@@ -25,7 +26,7 @@ import threading
 import time
 from collections import Counter
 from concurrent.futures import ThreadPoolExecutor
-from contextlib import contextmanager
+from contextlib import contextmanager, suppress
 
 ROOT = os.path.dirname(os.path.dirname(os.path.abspath(__file__)))
 # What a check of one of these crates takes at the most, in bytes.
@@ -134,43 +135,51 @@ class Proofs:
 class Trial:
     """The trial of a crate's wrong bodies over one folder, which holds what the check of the crate as it stands proved."""
 
-    def __init__(self, rt, crate, bodies, proofs, folder):
-        self.rt, self.crate, self.proofs, self.kept = rt, crate, proofs, os.path.join(folder, crate.name)
-        self.texts, self.said = {}, []
+    def __init__(self, rt, crate, proofs, folder, tell):
+        self.rt, self.crate, self.proofs, self.kept, self.tell = rt, crate, proofs, f"{folder}/{crate.name}", tell
+        self.texts = {}
+
+    def begin(self, bodies, submit):
+        """Checks the crate as it stands, and submits the groups. It tells of each body once, here or there."""
         for it in bodies:
             if it.path not in self.texts:
-                with open(f"{crate.folder}/{it.path}", encoding="utf-8") as file:
+                with open(f"{self.crate.folder}/{it.path}", encoding="utf-8") as file:
                     self.texts[it.path] = file.read()
             it.places(self.texts[it.path])
-            if it.fault:
-                self.said.append(it.failed(f"BAD EDIT: {it.fault}"))
-        self.bodies = [it for it in bodies if not it.fault]
+        whole = [it for it in bodies if not it.fault]
+        why = self.lacks_proof(whole[:1] if self.proofs.file else whole)
+        for it in bodies:
+            if it.fault or why:
+                self.tell(it.failed(f"BAD EDIT: {it.fault}" if it.fault else f"NOT TRIED: {why}"))
+        for group in [] if why else groups_of(whole):
+            submit(self.try_group, group)
+
+    def lacks_proof(self, bodies):
+        """Checks the functions that these bodies change as they stand, and returns why they are not proved."""
+        if not self.proofs.has(self.crate):
+            return "`rt ci` did not prove the crate"
+        said = self.check({}, bodies, self.kept)
+        is_proved = re.search(r"(?m)^only=(\d+) proved=\1$", said)
+        return "" if is_proved else f"the crate as it stands is not proved: {first_of(said)}"
+
+    def try_group(self, group):
+        """Tries a group, and alone once more each of it that was not refused, and tells of each."""
+        for it, was in zip(group, self.tried(group)):
+            self.tell(was if was[0] or len(group) == 1 else self.tried([it])[0])
+
+    def tried(self, group):
+        """Tries a group over a copy of what is kept, and returns what there is to say of each body."""
+        texts = self.changed(group)
+        with tempfile.TemporaryDirectory(dir=os.path.dirname(self.kept)) as kept:
+            shutil.copytree(self.kept, kept, dirs_exist_ok=True)
+            said = self.check(texts, group, kept)
+        return [self.judged(it, said, texts) for it in group]
 
     def check(self, texts, bodies, kept):
         """Checks the functions that these bodies change, in a copy of the crate with these texts, and returns what is said."""
         words = [word for it in sorted({it.function for it in bodies}) for word in ("--only", it)]
         with self.proofs.place():
             return self.rt.checked(self.crate, texts, ["--jobs", "1", *words], kept).stdout
-
-    def begin(self, pool):
-        """Checks the crate as it stands, and hands the groups to the pool. Returns what there is to say, as calls."""
-        if not self.proofs.has(self.crate):
-            return [lambda: [*self.said, *(it.failed("NOT TRIED: `rt ci` did not prove the crate") for it in self.bodies)]]
-        said = self.check({}, self.bodies[:1] if self.proofs.file else self.bodies, self.kept)
-        if not re.search(r"(?m)^only=(\d+) proved=\1$", said):
-            why = f"NOT TRIED: the crate as it stands is not proved: {first_of(said)}"
-            return [lambda: [*self.said, *(it.failed(why) for it in self.bodies)]]
-        tried = [pool.submit(self.try_group, group) for group in groups_of(self.bodies)]
-        return [lambda: self.said, *(it.result for it in tried)]
-
-    def try_group(self, group):
-        """Tries a group over a copy of what is kept, and returns what there is to say of each body."""
-        texts = self.changed(group)
-        with tempfile.TemporaryDirectory(dir=os.path.dirname(self.kept)) as kept:
-            shutil.copytree(self.kept, kept, dirs_exist_ok=True)
-            said = self.check(texts, group, kept)
-        judged = [self.judged(it, said, texts) for it in group]
-        return [was if was[0] or len(group) == 1 else self.try_group([it])[0] for it, was in zip(group, judged)]
 
     def changed(self, group):
         """Returns the texts of the files with the changes of a group in place."""
@@ -262,17 +271,21 @@ def main(words):
 
 
 def try_all(rt, tasks, proofs, folder):
-    """Tries the wrong bodies of each crate once the crate is proved, and yields what there is to say of each."""
-    lanes, begun = max(1, min(rt.processors(), rt.free() // MEMORY)), []
-    with ThreadPoolExecutor(lanes) as pool:
-        while tasks:
-            ready = [it for it in tasks if proofs.are_told(it[0])]
-            begun += [pool.submit(Trial(rt, *it, proofs, folder).begin, pool) for it in ready]
-            tasks = [it for it in tasks if it not in ready]
-            time.sleep(1)
-        for it in begun:
-            for call in it.result():
-                yield from call()
+    """Tries the wrong bodies of each crate once it is known if the crate is proved, and yields what there is to say of each."""
+    told, left, works = queue.SimpleQueue(), sum(len(bodies) for _, bodies in tasks), []
+    with ThreadPoolExecutor(max(1, min(rt.processors(), rt.free() // MEMORY))) as pool:
+        submit = lambda call, *given: works.append(pool.submit(call, *given))
+        while left:
+            for crate, bodies in [it for it in tasks if proofs.are_told(it[0])]:
+                submit(Trial(rt, crate, proofs, folder, told.put).begin, bodies, submit)
+                tasks = [it for it in tasks if it[0] is not crate]
+            with suppress(queue.Empty):
+                yield told.get(timeout=1)
+                left -= 1
+            for it in [it for it in works if it.done()]:
+                # (a call that ended by an exception ends this run so)
+                it.result()
+                works.remove(it)
 
 
 if __name__ == "__main__":

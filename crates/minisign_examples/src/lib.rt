@@ -1,7 +1,7 @@
 //! Callers of the library, each proved: one that checks an update, one that reads the comment that
 //! was signed, one that learns a new key from an old one, one that makes keys and releases, one
 //! that opens a key on a small device, and one that signs and verifies with raw keys. The tests of
-//! `minisign_signature_vectors` run them.
+//! `minisign_caller_vectors` and `minisign_signature_vectors` run them.
 
 #![tactic(auto)]
 

@@ -1,5 +1,5 @@
 //! Signatures, run as tests: their texts, signing and verifying, over devices that fail and with
-//! memory refused, with a scheme that stands outside, and installing over a folder in memory.
+//! memory refused.
 //!
 //! Each expected value comes from outside: from a standard, from Python's hashlib, from the
 //! upstream tool, or worked out by hand from a definition. None is what a crate of this repository
@@ -11,10 +11,6 @@
 mod calls;
 #[cfg(test)]
 mod devices;
-#[cfg(test)]
-mod installing;
-#[cfg(test)]
-mod questions;
 #[cfg(test)]
 mod signing;
 #[cfg(test)]

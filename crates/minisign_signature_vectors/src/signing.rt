@@ -1,6 +1,4 @@
 //! Signing with keys and with their texts.
 
-mod callers;
 mod keys;
-mod releases;
 mod texts;

@@ -1,8 +1,7 @@
 //! The signing tool in small, run: the texts of a pair sealed under a password, and what its key
 //! signed.
 
-use crate::calls::read_box;
-use minisign::Result;
+use minisign::{Result, SignatureBox};
 use minisign_base::devices::random_sources::FixedRandom;
 use minisign_base::toy::ToyScheme;
 use minisign_examples::releasing::{Release, sign_release};
@@ -21,6 +20,11 @@ fn released(alloc: Global, random: &[u8]) -> Result<Release> {
         &mut FixedRandom::new(random),
         0,
     )
+}
+
+// The box that a text holds.
+fn read_box(alloc: Global, text: &str) -> Result<SignatureBox> {
+    SignatureBox::from_string(alloc, text)
 }
 
 // Whether the text of the signature has the comments by default.

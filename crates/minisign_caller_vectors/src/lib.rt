@@ -1,0 +1,17 @@
+//! What callers do with the library, run as tests: the calls for callers and the examples over
+//! them, a scheme that stands outside, and installing over a folder in memory.
+//!
+//! Each expected value comes from outside: from a standard, from Python's hashlib, from the
+//! upstream tool, or worked out by hand from a definition. None is what a crate of this repository
+//! answered.
+
+#![tactic(auto)]
+
+#[cfg(test)]
+mod calls;
+#[cfg(test)]
+mod installing;
+#[cfg(test)]
+mod questions;
+#[cfg(test)]
+mod releases;
