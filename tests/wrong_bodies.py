@@ -10,8 +10,8 @@ so beside others is tried once more alone.
 
 usage: wrong_bodies.py [--beside FILE] [CRATE[/NAME]..]
   --beside FILE  runs beside `rt ci`, or after it, over the libraries that it builds. FILE is what it says, with the line
-                 ENDED behind it. The edits of a crate are tried once `rt ci` has proved the crate, and of the crate as
-                 it stands one function is checked again. Otherwise the libraries that have changed are built first
+                 ENDED behind it. The edits of a crate are tried once `rt ci` has proved the crates that it depends on.
+                 Otherwise the libraries that have changed are built first
 """
 
 import importlib.machinery
@@ -106,12 +106,12 @@ class Proofs:
     def is_under_way(self):
         return bool(self.file) and not self.said().endswith(f"{ENDED}\n")
 
-    def are_told(self, crate):
-        """Returns whether it is known if the crate is proved."""
-        return not self.is_under_way() or bool(re.search(rf"(?m)^rt: {crate.name} (NOT )?proved\b", self.said(), re.I))
+    def has(self, crates):
+        return not self.file or all(re.search(rf"(?m)^rt: {it.name} proved$", self.said()) for it in crates)
 
-    def has(self, crate):
-        return not self.file or bool(re.search(rf"(?m)^rt: {crate.name} proved$", self.said()))
+    def are_told(self, crates):
+        """Returns whether it is known if all of the crates are proved."""
+        return self.has(crates) or not self.is_under_way()
 
     @contextmanager
     def place(self):
@@ -147,7 +147,7 @@ class Trial:
                     self.texts[it.path] = file.read()
             it.places(self.texts[it.path])
         whole = [it for it in bodies if not it.fault]
-        why = self.lacks_proof(whole[:1] if self.proofs.file else whole)
+        why = self.lacks_proof(whole)
         for it in bodies:
             if it.fault or why:
                 self.tell(it.failed(f"BAD EDIT: {it.fault}" if it.fault else f"NOT TRIED: {why}"))
@@ -156,8 +156,8 @@ class Trial:
 
     def lacks_proof(self, bodies):
         """Checks the functions that these bodies change as they stand, and returns why they are not proved."""
-        if not self.proofs.has(self.crate):
-            return "`rt ci` did not prove the crate"
+        if not self.proofs.has(self.crate.below()):
+            return "`rt ci` did not prove what the crate depends on"
         said = self.check({}, bodies, self.kept)
         is_proved = re.search(r"(?m)^only=(\d+) proved=\1$", said)
         return "" if is_proved else f"the crate as it stands is not proved: {first_of(said)}"
@@ -271,12 +271,12 @@ def main(words):
 
 
 def try_all(rt, tasks, proofs, folder):
-    """Tries the wrong bodies of each crate once it is known if the crate is proved, and yields what there is to say of each."""
+    """Tries the wrong bodies of each crate once what it depends on is proved, and yields what there is to say of each."""
     told, left, works = queue.SimpleQueue(), sum(len(bodies) for _, bodies in tasks), []
     with ThreadPoolExecutor(max(1, min(rt.processors(), rt.free() // MEMORY))) as pool:
         submit = lambda call, *given: works.append(pool.submit(call, *given))
         while left:
-            for crate, bodies in [it for it in tasks if proofs.are_told(it[0])]:
+            for crate, bodies in [it for it in tasks if proofs.are_told(it[0].below())]:
                 submit(Trial(rt, crate, proofs, folder, told.put).begin, bodies, submit)
                 tasks = [it for it in tasks if it[0] is not crate]
             with suppress(queue.Empty):
