@@ -8,7 +8,7 @@
 #![tactic(auto)]
 
 #[cfg(test)]
-mod calls;
+mod callers;
 #[cfg(test)]
 mod installing;
 #[cfg(test)]
