@@ -1,12 +1,28 @@
-//! The fields of a record, taken off the front of bytes one by one.
+//! The fields of a record, taken off the front of bytes and put behind them.
 
-ghost use Rattle.std.specs.Prelude.{◌≡◌, ◌<◌, ◌++◌, length, IfOk, IfErr};
-ghost use Rattle.minisign_base.specs.Faults.{record_too_short};
+ghost use Rattle.std.specs.Prelude.{◌≡◌, ◌+◌, ◌<◌, ◌++◌, length, IfOk, IfErr, MatchResult};
+ghost use Rattle.minisign_base.specs.Faults.{out_of_memory, record_too_short};
 
 use minisign_base::{Result, faults};
 
+// The first `A` bytes, the next `B` and the next `C`, and the bytes behind them.
+pub(crate) fn split_three<const A: usize, const B: usize, const C: usize>(
+    bytes: &[u8],
+) -> Result<([u8; A], [u8; B], [u8; C], &[u8])>
+    ensures cut { IfOk result (λ fields. bytes.now ≡ fields.0 ++ fields.1 ++ fields.2 ++ fields.3.now) }
+    ensures first { IfOk result (λ fields. length fields.0 ≡ A) }
+    ensures second { IfOk result (λ fields. length fields.1 ≡ B) }
+    ensures third { IfOk result (λ fields. length fields.2 ≡ C) }
+    ensures short { IfErr result (λ e. (e ≡ record_too_short) × (length bytes.now < A + B + C)) }
+{
+    let (first, rest) = split_field(bytes)?;
+    let (second, rest) = split_field(rest)?;
+    let (third, rest) = split_field(rest)?;
+    Ok((first, second, third, rest))
+}
+
 // The first `N` bytes, and the bytes behind them.
-pub(crate) fn split_field<const N: usize>(bytes: &[u8]) -> Result<([u8; N], &[u8])>
+fn split_field<const N: usize>(bytes: &[u8]) -> Result<([u8; N], &[u8])>
     ensures cut { IfOk result (λ field. bytes.now ≡ field.0 ++ field.1.now) }
     ensures len { IfOk result (λ field. length field.0 ≡ N) }
     ensures short { IfErr result (λ e. (e ≡ record_too_short) × (length bytes.now < N)) }
@@ -18,4 +34,21 @@ pub(crate) fn split_field<const N: usize>(bytes: &[u8]) -> Result<([u8; N], &[u8
     let mut field = [0u8; N];
     field.copy_from_slice(front);
     Ok((field, rest))
+}
+
+// Puts three fields behind the bytes.
+pub(crate) fn push_three(
+    bytes: &mut Vec<u8>,
+    first: &[u8],
+    second: &[u8],
+    third: &[u8],
+) -> Result<()>
+    ensures { MatchResult result
+        (λ _. bytes.new.items ≡ bytes.old.items ++ (first.now ++ second.now ++ third.now))
+        (λ e. e ≡ out_of_memory) }
+{
+    bytes.extend_from_slice(first)?;
+    bytes.extend_from_slice(second)?;
+    bytes.extend_from_slice(third)?;
+    Ok(())
 }

@@ -11,7 +11,7 @@ ghost use Rattle.minisign.specs.PublicKeyText.{EncodesPublicKey, PublicKeyText, 
 ghost use Rattle.minisign.specs.TextFiles.{IsTextFileFault};
 ghost use Rattle.minisign.specs.Texts.{HasSecondLine};
 
-use crate::fields::split_field;
+use crate::fields::{push_three, split_three};
 use crate::keynum::KeynumPK;
 use crate::public_key_box::PublicKeyBox;
 use crate::reading::read_text_file;
@@ -58,9 +58,7 @@ impl PublicKey {
         ensures { MatchResult result (ReadsPublicKey bytes.now)
             (λ e. (e ≡ record_too_short) × (length bytes.now < 42)) }
     {
-        let (sig_alg, rest) = split_field(bytes)?;
-        let (keynum, rest) = split_field(rest)?;
-        let (pk, _) = split_field(rest)?;
+        let (sig_alg, keynum, pk, _) = split_three(bytes)?;
         Ok(PublicKey {
             sig_alg,
             keynum_pk: KeynumPK { keynum, pk },
@@ -170,9 +168,8 @@ impl PublicKey {
         ensures refused { IfErr result (λ e. e ≡ out_of_memory) }
     {
         let mut bytes = Vec::with_capacity(alloc, 42)?;
-        bytes.extend_from_slice(&self.sig_alg)?;
-        bytes.extend_from_slice(&self.keynum_pk.keynum)?;
-        bytes.extend_from_slice(&self.keynum_pk.pk)?;
+        let KeynumPK { keynum, pk } = &self.keynum_pk;
+        push_three(&mut bytes, &self.sig_alg, keynum, pk)?;
         Ok(bytes)
     }
 }

@@ -6,7 +6,7 @@ ghost use Rattle.std.specs.Cmp.Lexicographic.{nat_list_eq_equiv};
 ghost use Rattle.minisign_base.specs.Faults.{out_of_memory, record_too_short};
 
 use crate::constants::KDF_NONE;
-use crate::fields::split_field;
+use crate::fields::{push_three, split_three};
 use crate::keynum::KeynumSK;
 use minisign_base::Result;
 use minisign_hash::blake2b::Blake2b;
@@ -93,15 +93,9 @@ impl SecretKey {
         ensures { MatchResult result (ReadsSecretKey bytes.now)
             (λ e. (e ≡ record_too_short) × (length bytes.now < 158)) }
     {
-        let (sig_alg, rest) = split_field(bytes)?;
-        let (kdf_alg, rest) = split_field(rest)?;
-        let (chk_alg, rest) = split_field(rest)?;
-        let (kdf_salt, rest) = split_field(rest)?;
-        let (kdf_opslimit_le, rest) = split_field(rest)?;
-        let (kdf_memlimit_le, rest) = split_field(rest)?;
-        let (keynum, rest) = split_field(rest)?;
-        let (sk, rest) = split_field(rest)?;
-        let (chk, _) = split_field(rest)?;
+        let (sig_alg, kdf_alg, chk_alg, rest) = split_three(bytes)?;
+        let (kdf_salt, kdf_opslimit_le, kdf_memlimit_le, rest) = split_three(rest)?;
+        let (keynum, sk, chk, _) = split_three(rest)?;
         Ok(SecretKey {
             sig_alg,
             kdf_alg,
@@ -122,15 +116,15 @@ impl SecretKey {
         ensures refused { IfErr result (λ e. e ≡ out_of_memory) }
     {
         let mut bytes = Vec::with_capacity(alloc, 158)?;
-        bytes.extend_from_slice(&self.sig_alg)?;
-        bytes.extend_from_slice(&self.kdf_alg)?;
-        bytes.extend_from_slice(&self.chk_alg)?;
-        bytes.extend_from_slice(&self.kdf_salt)?;
-        bytes.extend_from_slice(&self.kdf_opslimit_le)?;
-        bytes.extend_from_slice(&self.kdf_memlimit_le)?;
-        bytes.extend_from_slice(&self.keynum_sk.keynum)?;
-        bytes.extend_from_slice(&self.keynum_sk.sk)?;
-        bytes.extend_from_slice(&self.keynum_sk.chk)?;
+        push_three(&mut bytes, &self.sig_alg, &self.kdf_alg, &self.chk_alg)?;
+        push_three(
+            &mut bytes,
+            &self.kdf_salt,
+            &self.kdf_opslimit_le,
+            &self.kdf_memlimit_le,
+        )?;
+        let KeynumSK { keynum, sk, chk } = &self.keynum_sk;
+        push_three(&mut bytes, keynum, sk, chk)?;
         Ok(bytes)
     }
 }

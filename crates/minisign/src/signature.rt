@@ -5,7 +5,7 @@ ghost use Rattle.minisign_base.specs.Scheme.{IsBytes};
 ghost use Rattle.minisign_base.specs.Faults.{out_of_memory, record_too_short};
 ghost use Rattle.minisign.specs.Records.{signature_bytes};
 
-use crate::fields::split_field;
+use crate::fields::{push_three, split_three};
 use base64::display::Base64Display;
 use base64::engine::general_purpose::STANDARD;
 use minisign_base::Result;
@@ -49,9 +49,7 @@ impl Signature {
         ensures refused { IfErr result (λ e. e ≡ out_of_memory) }
     {
         let mut bytes = Vec::with_capacity(alloc, Self::BYTES)?;
-        bytes.extend_from_slice(&self.sig_alg)?;
-        bytes.extend_from_slice(&self.keynum)?;
-        bytes.extend_from_slice(&self.sig)?;
+        push_three(&mut bytes, &self.sig_alg, &self.keynum, &self.sig)?;
         Ok(bytes)
     }
 
@@ -61,9 +59,7 @@ impl Signature {
         ensures { MatchResult result (ReadsSignature bytes.now)
             (λ e. (e ≡ record_too_short) × (length bytes.now < 74)) }
     {
-        let (sig_alg, rest) = split_field(bytes)?;
-        let (keynum, rest) = split_field(rest)?;
-        let (sig, _) = split_field(rest)?;
+        let (sig_alg, keynum, sig, _) = split_three(bytes)?;
         Ok(Signature {
             sig_alg,
             keynum,

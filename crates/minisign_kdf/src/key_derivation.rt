@@ -170,7 +170,8 @@ fn mix_parts(
 {
     let len = 128 * r;
     'parts: for i in 0..p {
-        rom_mix(n_log2, k, &mut parts[len * i..len * i + len], rows, work);
+        let at = len * i;
+        rom_mix(n_log2, k, &mut parts[at..at + len], rows, work);
     }
 }
 

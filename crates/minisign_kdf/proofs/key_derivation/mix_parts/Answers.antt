@@ -9,6 +9,18 @@ use Rattle.minisign_kdf.proofs.key_derivation.mix_parts.Goals as goal
 pub parts-init : goal.parts-init
 parts-init c = (changed_none _ _ _, omega arith, λ some. absurd (omega arith))
 
+pub overflow_mul-at : goal.overflow_mul-at
+overflow_mul-at c =
+    let len : ℕ = 128 * c.args.r in
+    let room : len * c.parts.i + len ≤ len * c.args.p = row_before len c.args.p c.parts.i c.parts-test.true in
+    omega arith
+
+pub overflow_add-at : goal.overflow_add-at
+overflow_add-at c =
+    let len : ℕ = 128 * c.args.r in
+    let room : len * c.parts.i + len ≤ len * c.args.p = row_before len c.args.p c.parts.i c.parts-test.true in
+    omega arith
+
 pub parts-preserved : goal.parts-preserved
 parts-preserved c =
     let r : ℕ = c.args.r in

@@ -13,4 +13,4 @@ returns-clause-reads_back c = record {
 
 pub returns-clause-one_reading : goal.returns-clause-one_reading
 returns-clause-one_reading c = λ other read.
-    one_public_key c.extend_from_slice-3.new.self.items other c.args.self.now read (returns-clause-reads_back c)
+    one_public_key c.push_three.new.bytes.items other c.args.self.now read (returns-clause-reads_back c)

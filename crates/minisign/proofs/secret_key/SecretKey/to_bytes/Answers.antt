@@ -19,4 +19,4 @@ returns-clause-reads_back c = record {
 
 pub returns-clause-one_reading : goal.returns-clause-one_reading
 returns-clause-one_reading c = λ other read.
-    one_secret_key c.extend_from_slice-9.new.self.items other c.args.self.now read (returns-clause-reads_back c)
+    one_secret_key c.push_three-3.new.bytes.items other c.args.self.now read (returns-clause-reads_back c)
