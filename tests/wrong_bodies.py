@@ -31,8 +31,9 @@ from contextlib import contextmanager, suppress
 ROOT = os.path.dirname(os.path.dirname(os.path.abspath(__file__)))
 # What a check of one of these crates takes at the most, in bytes.
 MEMORY = 3_000_000_000
-# How many checks run beside `rt ci`, and what has to be free for them then, in bytes.
-BESIDE, FREE = 2, 8_000_000_000
+# How many checks run beside `rt ci`, and what has to be free for the first of them, in bytes: for each further one it
+# is so much more as a check takes.
+BESIDE, FREE = 3, 5_000_000_000
 # The line behind what `rt ci` has said, once it has ended.
 ENDED = "rt ci has ended"
 # How many wrong bodies share a check, about.
@@ -127,7 +128,8 @@ class Proofs:
     def is_taken(self):
         """Takes a place for a check, where there is one."""
         with self.lock:
-            is_one = not self.is_under_way() or self.checks < BESIDE and self.rt.free() >= FREE
+            is_room = self.checks < BESIDE and self.rt.free() >= FREE + MEMORY * self.checks
+            is_one = is_room or not self.is_under_way()
             self.checks += is_one
         return is_one
 
