@@ -1,6 +1,6 @@
 use Rattle.std.proofs.Common.{◌<◌, arith}
 use Rattle.minisign_kdf.proofs.ParamsFacts.{n_log2_small}
-use Rattle.minisign_kdf.proofs.key_derivation.scrypt_keeping.Goals as goal
+use Rattle.minisign_kdf.proofs.key_derivation.Buffers.new.Goals as goal
 
 pub room_for_rows-requires-clause-cost : goal.room_for_rows-requires-clause-cost
 room_for_rows-requires-clause-cost c =
