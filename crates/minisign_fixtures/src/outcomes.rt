@@ -1,6 +1,6 @@
 //! How outcomes and bytes are shown and compared, and beginnings of texts and bytes.
 
-use minisign_base::errors::Result;
+use minisign_base::errors::{ErrorKind, Result};
 use std::alloc::Global;
 use std::fmt;
 use std::fmt::Write;
@@ -28,6 +28,19 @@ pub fn holds(answer: &Result<bool>) -> bool {
         Ok(right) => *right,
         Err(_) => false,
     }
+}
+
+/// Whether it was found out and holds, or memory was wanting.
+pub fn is_right_or_wanting(answer: &Result<bool>) -> bool {
+    match answer {
+        Ok(right) => *right,
+        Err(fault) => *fault.kind() == ErrorKind::OutOfMemory,
+    }
+}
+
+/// The same, or a sink could not grow, so that writing failed.
+pub fn is_right_or_unwritten(alloc: Global, answer: &Result<bool>) -> bool {
+    is_right_or_wanting(answer) || comes_to(alloc, answer, "Io: writing failed")
 }
 
 /// Whether these are the bytes of the record.

@@ -1,10 +1,10 @@
 //! Calls on keys whose result is right or is out of memory, whichever growth is refused: with ample
 //! memory each test sees its call succeed, and `tests/refused_memory.py` runs it with each of its
 //! requests refused in turn. A buffer that cannot grow is a sink that fails, so that a call with
-//! one may return a failed write too.
+//! one may fail to write too.
 
 use crate::sealed::in_parts::sealed_in_parts;
-use minisign::{ErrorKind, KeyPair, PublicKey, Result, SecretKey, SecretKeyBox};
+use minisign::{KeyPair, PublicKey, Result, SecretKey, SecretKeyBox};
 use minisign_base::devices::random_sources::FixedRandom;
 use minisign_base::devices::sinks::VecSink;
 use minisign_base::devices::sources::SliceSource;
@@ -12,7 +12,7 @@ use minisign_base::prompt::Prompt;
 use minisign_base::toy::ToyScheme;
 use minisign_fixtures::devices::sinks::Counting;
 use minisign_fixtures::keys::{CHECKSUM, secret_record};
-use minisign_fixtures::outcomes::counted;
+use minisign_fixtures::outcomes::{counted, is_right_or_unwritten, is_right_or_wanting};
 use minisign_fixtures::texts::{
     COUNTED_PUBLIC_TEXT, COUNTED_SEALED_UNDER_NOTHING, KEY_TEXT, SEALED, SECRET_TEXT,
 };
@@ -21,22 +21,6 @@ use std::alloc::Global;
 // A prompt into which these bytes are typed, that asks for no memory.
 fn typed<'a>(bytes: &'a [u8]) -> Prompt<SliceSource<'a>, Counting> {
     Prompt::new(SliceSource::new(bytes), Counting { bytes: 0 })
-}
-
-// Whether the result is right, or is out of memory.
-fn is_right_or_wanting(answer: &Result<bool>) -> bool {
-    match answer {
-        Ok(right) => *right,
-        Err(fault) => *fault.kind() == ErrorKind::OutOfMemory,
-    }
-}
-
-// The same, or a write that failed.
-fn is_right_or_unwritten(answer: &Result<bool>) -> bool {
-    match answer {
-        Err(fault) => *fault.kind() == ErrorKind::OutOfMemory || *fault.kind() == ErrorKind::Io,
-        Ok(right) => *right,
-    }
 }
 
 // Whether a pair that is not sealed is made as it should be, and its secret key can be copied.
@@ -151,7 +135,7 @@ fn making_a_raw_pair(rt: HostRuntime) {
 
 #[test]
 fn writing_a_raw_pair(rt: HostRuntime) {
-    assert!(rt; is_right_or_unwritten(&wrote_raw(rt.alloc())));
+    assert!(rt; is_right_or_unwritten(rt.alloc(), &wrote_raw(rt.alloc())));
 }
 
 #[test]
@@ -161,7 +145,7 @@ fn making_a_sealed_pair(rt: HostRuntime) {
 
 #[test]
 fn writing_a_sealed_pair(rt: HostRuntime) {
-    assert!(rt; is_right_or_unwritten(&wrote_sealed(rt.alloc())));
+    assert!(rt; is_right_or_unwritten(rt.alloc(), &wrote_sealed(rt.alloc())));
 }
 
 #[test]

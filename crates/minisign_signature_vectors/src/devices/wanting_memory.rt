@@ -1,12 +1,12 @@
 //! Calls whose result is right or is out of memory, whichever growth is refused: with ample memory
 //! each test sees its call succeed, and `tests/refused_memory.py` runs it with each of its requests
 //! refused in turn. A buffer that cannot grow is a sink that fails, so that a call with one may
-//! return a failed write too.
+//! fail to write too.
 
 use crate::calls::{
     COPYING, Said, key_a, public_a, read_box, signed_from, signed_text, verified_texts,
 };
-use minisign::{ErrorKind, PublicKey, Result, SignatureBones, SignatureBox};
+use minisign::{PublicKey, Result, SignatureBones, SignatureBox};
 use minisign_base::devices::random_sources::FixedRandom;
 use minisign_base::devices::sinks::{Sink, VecSink};
 use minisign_base::devices::sources::SliceSource;
@@ -15,6 +15,7 @@ use minisign_base::toy::ToyScheme;
 use minisign_examples::example::sign_and_verify;
 use minisign_fixtures::devices::sinks::Counting;
 use minisign_fixtures::keys::{IDENTIFIER, TIED_TO_ABC, signature_record};
+use minisign_fixtures::outcomes::{is_right_or_unwritten, is_right_or_wanting};
 use minisign_fixtures::texts::{KEY_TEXT, LEGACY_TEXT, SAID, SEALED, SECRET_TEXT, SIGNATURE_TEXT};
 use std::alloc::Global;
 
@@ -24,22 +25,6 @@ const ZEROS: [u8; 128] = [0; 128];
 // A prompt into which these bytes are typed.
 fn typed<'a>(bytes: &'a [u8]) -> Prompt<SliceSource<'a>, Counting> {
     Prompt::new(SliceSource::new(bytes), Counting { bytes: 0 })
-}
-
-// Whether the result is right, or is out of memory.
-fn is_right_or_wanting(answer: &Result<bool>) -> bool {
-    match answer {
-        Ok(right) => *right,
-        Err(fault) => *fault.kind() == ErrorKind::OutOfMemory,
-    }
-}
-
-// The same, or a write that failed.
-fn is_right_or_unwritten(answer: &Result<bool>) -> bool {
-    match answer {
-        Err(fault) => *fault.kind() == ErrorKind::OutOfMemory || *fault.kind() == ErrorKind::Io,
-        Ok(right) => *right,
-    }
 }
 
 // Verifies `abc` with the text under key A, with output and legacy signatures accepted.
@@ -225,10 +210,10 @@ fn signing_and_verifying_with_raw_keys(rt: HostRuntime) {
 // The buffers that grow are sinks that fail where they cannot.
 #[test]
 fn signing_with_a_prompt_that_grows(rt: HostRuntime) {
-    assert!(rt; is_right_or_unwritten(&signed_and_told(rt.alloc())));
+    assert!(rt; is_right_or_unwritten(rt.alloc(), &signed_and_told(rt.alloc())));
 }
 
 #[test]
 fn verifying_into_buffers_that_grow(rt: HostRuntime) {
-    assert!(rt; is_right_or_unwritten(&copied_and_kept(rt.alloc())));
+    assert!(rt; is_right_or_unwritten(rt.alloc(), &copied_and_kept(rt.alloc())));
 }
