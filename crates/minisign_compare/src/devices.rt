@@ -7,10 +7,11 @@ use crate::refusals::Refusal;
 use crate::words::{bytes_of, number_of};
 use minisign::base::devices::DeviceFault;
 use minisign::base::devices::random_sources::{FixedRandom, RandomSource};
-use minisign::base::devices::sinks::{Sink, VecSink};
+use minisign::base::devices::sinks::VecSink;
 use minisign::base::devices::sources::{Rereader, SliceSource, Source};
 use minisign::base::prompt::Prompt;
 use minisign::reading::read_to_end;
+use minisign_fixtures::devices::sinks::LimitedSink;
 use std::alloc::Global;
 
 // How many bytes of a counter are made: more than any call draws.
@@ -183,64 +184,20 @@ fn from_place(bytes: &[u8], place: usize) -> &[u8] {
     }
 }
 
-/// A buffer that takes so many bytes and then fails, and whose flush may fail.
-#[derive(Drop)]
-pub struct BoundedSink {
-    taken: VecSink,
-    room: usize,
-    flush_fails: bool,
-    faults: u64,
-}
-
-impl BoundedSink {
-    /// Reads `-` (takes all), `N` (takes so many bytes), `f` or `fN` (as these, and its flush
-    /// fails).
-    pub fn read(alloc: Global, word: &str) -> Result<BoundedSink, Refusal> {
-        let (flush_fails, room) = match word.strip_prefix("f") {
-            Some(room) => (true, room),
-            None => (false, word),
-        };
-        Ok(BoundedSink {
-            taken: VecSink::new(alloc),
-            room: match room {
-                "" | "-" => usize::MAX,
-                room => number_of(room)?,
-            },
-            flush_fails,
-            faults: 0,
-        })
-    }
-
-    /// The bytes taken so far.
-    pub fn as_slice(&self) -> &[u8] {
-        self.taken.as_slice()
+/// Reads a sink: `-` (takes all), `N` (takes so many bytes), `f` or `fN` (as these, and its flush
+/// fails).
+pub fn sink_of(alloc: Global, word: &str) -> Result<LimitedSink, Refusal> {
+    match word.strip_prefix("f") {
+        Some(room) => Ok(LimitedSink::new(alloc, room_of(room)?).flushed(0)),
+        None => Ok(LimitedSink::new(alloc, room_of(word)?)),
     }
 }
 
-impl Sink for BoundedSink {
-    ghost taken = { λ s. ⟦<VecSink as Sink>⟧.taken s.taken };
-
-    ghost sink_faults = { λ s. s.faults };
-
-    fn write(&mut self, bytes: &[u8]) -> Result<usize, DeviceFault> {
-        let n = bytes.len().min(self.room);
-        if n > 0 || bytes.is_empty() {
-            let (front, _) = bytes.split_at(n);
-            if let Ok(taken) = self.taken.write(front) {
-                self.room -= taken;
-                return Ok(taken);
-            }
-        }
-        self.faults = self.faults.saturating_add(1);
-        Err(DeviceFault)
-    }
-
-    fn flush(&mut self) -> Result<(), DeviceFault> {
-        if self.flush_fails {
-            self.faults = self.faults.saturating_add(1);
-            return Err(DeviceFault);
-        }
-        Ok(())
+// How many bytes a sink takes.
+fn room_of(word: &str) -> Result<usize, Refusal> {
+    match word {
+        "" | "-" => Ok(usize::MAX),
+        room => number_of(room),
     }
 }
 

@@ -1,11 +1,12 @@
 //! Requests for pairs of keys.
 
-use crate::devices::{BoundedSink, CountedRandom, after_prompt, random_bytes, typed_prompt};
+use crate::devices::{CountedRandom, after_prompt, random_bytes, sink_of, typed_prompt};
 use crate::refusals::Refusal;
 use crate::replies::{Fields, Reply};
 use crate::words::Words;
 use minisign::KeyPair;
 use minisign::base::toy::ToyScheme;
+use minisign_fixtures::devices::sinks::LimitedSink;
 use std::alloc::Global;
 
 /// Answers a request whose name begins with `gen_`.
@@ -54,8 +55,8 @@ fn sealed(alloc: Global, words: &mut Words, reply: &mut Reply) -> Result<(), Ref
 
 fn write_plain(alloc: Global, words: &mut Words, reply: &mut Reply) -> Result<(), Refusal> {
     let bytes = random_bytes(alloc, words.next()?)?;
-    let mut pk_sink = BoundedSink::read(alloc, words.next()?)?;
-    let mut sk_sink = BoundedSink::read(alloc, words.next()?)?;
+    let mut pk_sink = sink_of(alloc, words.next()?)?;
+    let mut sk_sink = sink_of(alloc, words.next()?)?;
     words.end()?;
     let mut random = CountedRandom::new(&bytes);
     let pair = KeyPair::generate_and_write_unencrypted_keypair(
@@ -71,8 +72,8 @@ fn write_plain(alloc: Global, words: &mut Words, reply: &mut Reply) -> Result<()
 
 fn write_sealed(alloc: Global, words: &mut Words, reply: &mut Reply) -> Result<(), Refusal> {
     let bytes = random_bytes(alloc, words.next()?)?;
-    let mut pk_sink = BoundedSink::read(alloc, words.next()?)?;
-    let mut sk_sink = BoundedSink::read(alloc, words.next()?)?;
+    let mut pk_sink = sink_of(alloc, words.next()?)?;
+    let mut sk_sink = sink_of(alloc, words.next()?)?;
     let comment = words.text_or_none(alloc)?;
     let password = words.text_or_none(alloc)?;
     let typed = words.typed_lines(alloc)?;
@@ -97,8 +98,8 @@ fn write_sealed(alloc: Global, words: &mut Words, reply: &mut Reply) -> Result<(
 // What was drawn, and what the two sinks took.
 fn show_tail(
     random: &CountedRandom<'_>,
-    pk_sink: &BoundedSink,
-    sk_sink: &BoundedSink,
+    pk_sink: &LimitedSink,
+    sk_sink: &LimitedSink,
     tail: &mut Fields,
 ) -> Result<(), Refusal> {
     tail.number("drawn", random.drawn())?;

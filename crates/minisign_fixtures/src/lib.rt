@@ -1,5 +1,6 @@
-//! What the tests share: key A and texts of it, devices that fail, a scheme that shows signatures,
-//! and plain bodies of Blake2b and scrypt. It has no tests of its own.
+//! What the tests share, and the program of the comparison: key A and texts of it, devices that
+//! fail, a scheme that shows signatures, and plain bodies of Blake2b and scrypt. It has no tests of
+//! its own.
 
 #![tactic(auto)]
 
