@@ -16,6 +16,35 @@ use std::alloc::{AllocError, Global};
 // The greatest length of a derived key: 2^32 - 1 blocks of 32 bytes.
 const LONGEST_KEY: usize = 137438953440;
 
+// What a derivation works in: room for the kept rows, what they are mixed in, and the parts.
+#[derive(Drop)]
+struct Buffers {
+    rows: Vec<u32>,
+    work: Vec<u32>,
+    parts: Vec<u8>,
+}
+
+impl Buffers {
+    // Asks for the memory of all three, first for that of the rows.
+    fn new(alloc: Global, params: &Params, k: u64) -> Result<Buffers, KdfError>
+        requires kept { 1 ≤ k }
+        ensures room { IfOk result
+            (λ b. vec_capacity b.rows ≡ 32 * params.now.r * div_ceil (2 ^ params.now.n_log2) k) }
+        ensures work { IfOk result (λ b. vec_len b.work ≡ 96 * params.now.r) }
+        ensures parts { IfOk result (λ b. vec_len b.parts ≡ 128 * params.now.r * params.now.p) }
+        ensures fits { OnOk result
+            (128 * params.now.r * div_ceil (2 ^ params.now.n_log2) k < 2 ^ 63) }
+        ensures refused { IfErr result (λ e. e ≡ KdfError.OutOfMemory) }
+    {
+        let r = params.r() as usize;
+        let p = params.p() as usize;
+        let rows = room_for_rows(alloc, r, params.n_log2(), k)?;
+        let work = zeros(alloc, 96 * r)?;
+        let parts = bytes(alloc, 128 * r * p)?;
+        Ok(Buffers { rows, work, parts })
+    }
+}
+
 /// Derives a key that fills `out` from a password and a salt, by scrypt (RFC 7914, section 6):
 /// `scrypt_keeping` with every row kept, which is the fastest.
 ///
@@ -98,35 +127,6 @@ pub fn scrypt_keeping(
         password, salt, params, k, &mut parts, &mut rows, &mut work, out,
     );
     Ok(rows_in(&rows, params.r() as usize))
-}
-
-// What a derivation works in: room for the kept rows, what they are mixed in, and the parts.
-#[derive(Drop)]
-struct Buffers {
-    rows: Vec<u32>,
-    work: Vec<u32>,
-    parts: Vec<u8>,
-}
-
-impl Buffers {
-    // Asks for the memory of all three, first for that of the rows.
-    fn new(alloc: Global, params: &Params, k: u64) -> Result<Buffers, KdfError>
-        requires kept { 1 ≤ k }
-        ensures room { IfOk result
-            (λ b. vec_capacity b.rows ≡ 32 * params.now.r * div_ceil (2 ^ params.now.n_log2) k) }
-        ensures work { IfOk result (λ b. vec_len b.work ≡ 96 * params.now.r) }
-        ensures parts { IfOk result (λ b. vec_len b.parts ≡ 128 * params.now.r * params.now.p) }
-        ensures fits { OnOk result
-            (128 * params.now.r * div_ceil (2 ^ params.now.n_log2) k < 2 ^ 63) }
-        ensures refused { IfErr result (λ e. e ≡ KdfError.OutOfMemory) }
-    {
-        let r = params.r() as usize;
-        let p = params.p() as usize;
-        let rows = room_for_rows(alloc, r, params.n_log2(), k)?;
-        let work = zeros(alloc, 96 * r)?;
-        let parts = bytes(alloc, 128 * r * p)?;
-        Ok(Buffers { rows, work, parts })
-    }
 }
 
 // Refuses a length that no derived key has.
