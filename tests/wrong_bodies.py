@@ -31,8 +31,8 @@ from contextlib import contextmanager, suppress
 ROOT = os.path.dirname(os.path.dirname(os.path.abspath(__file__)))
 # What a check of one of these crates takes at the most, in bytes.
 MEMORY = 3_000_000_000
-# How many checks run beside `rt ci`, and what has to be free for the first of them, in bytes: for each further one it
-# is so much more as a check takes.
+# How many checks run beside `rt ci`, and what has to be free for the first of them, in bytes; each further one needs
+# MEMORY more.
 BESIDE, FREE = 3, 5_000_000_000
 # The line behind what `rt ci` has said, once it has ended.
 ENDED = "rt ci has ended"
