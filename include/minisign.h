@@ -64,69 +64,87 @@ extern "C" {
  * verdict before.
  */
 
-/* Numbers of errors. The greater ones are the library's faults, in the order in which verifying tests. */
+/* Numbers of errors: up to 15 of wrong use, of memory and of bytes that are no text, from 16 on of what the texts
+ * say. */
+/* Numbers, made by tools/header.py. */
 enum minisign_error {
     MINISIGN_OK = 0,
-
-    /* Wrong use. */
-    MINISIGN_NOT_BEGUN = 1,     /* the state was never begun, or was ended by a verdict */
-    MINISIGN_ALREADY_ASKED = 2, /* updated or asked once more after the questions were asked */
-    MINISIGN_NOT_ASKED = 3,     /* a verdict without questions */
-    MINISIGN_NO_ANSWER = 4,     /* an answer that is neither MINISIGN_REFUSED nor MINISIGN_ACCEPTED */
-    MINISIGN_NO_ROOM = 5,       /* a buffer is too short */
-    MINISIGN_NO_LEGACY = 6,     /* allow_legacy is neither 0 nor 1 */
-
-    /* Of the calls that take memory. */
+    /* The state was never begun, or was ended by a verdict. */
+    MINISIGN_NOT_BEGUN = 1,
+    /* The questions were asked before. */
+    MINISIGN_ALREADY_ASKED = 2,
+    /* The questions were not asked. */
+    MINISIGN_NOT_ASKED = 3,
+    /* An answer is neither 0 nor 1. */
+    MINISIGN_NO_ANSWER = 4,
+    /* A buffer is too short. */
+    MINISIGN_NO_ROOM = 5,
+    /* allow_legacy is neither 0 nor 1. */
+    MINISIGN_NO_LEGACY = 6,
+    /* A growth was refused, or a size that no allocation can have was asked for. */
     MINISIGN_OUT_OF_MEMORY = 7,
-
-    /* A text, a password or a comment is not UTF-8. */
+    /* A text, a typed line, a password or a comment is not UTF-8. */
     MINISIGN_NOT_UTF8 = 8,
-
-    /* Wrong use of the calls for signing. */
-    MINISIGN_NO_COMMENT = 9,    /* a comment that would not be read back as it is */
-    MINISIGN_NO_PASSWORD = 10,  /* with_password is neither 0 nor 1 */
-
-    /* The text of the public key. */
-    MINISIGN_MISSING_PUBLIC_KEY_COMMENT = 16, /* no first line */
-    MINISIGN_MISSING_PUBLIC_KEY = 17,         /* no second line */
-    MINISIGN_PUBLIC_KEY_LENGTH = 18,          /* the second line has not 56 bytes */
+    /* A comment of a signature would not be read back as it is. */
+    MINISIGN_NO_COMMENT = 9,
+    /* with_password is neither 0 nor 1. */
+    MINISIGN_NO_PASSWORD = 10,
+    /* A public key text has no first line. */
+    MINISIGN_MISSING_PUBLIC_KEY_COMMENT = 16,
+    /* A public key text has no second line. */
+    MINISIGN_MISSING_PUBLIC_KEY = 17,
+    /* The second line of a public key text has not 56 bytes. */
+    MINISIGN_PUBLIC_KEY_LENGTH = 18,
+    /* The second line of a public key text is not base64. */
     MINISIGN_PUBLIC_KEY_NOT_BASE64 = 19,
-
-    /* The text of a key or of the signature. */
-    MINISIGN_RECORD_TOO_SHORT = 20,           /* the base64 of too few bytes */
-
-    /* The text of the signature. */
-    MINISIGN_MISSING_UNTRUSTED_COMMENT = 21,  /* no first line */
-    MINISIGN_MISSING_SIGNATURE = 22,          /* no second line */
-    MINISIGN_MISSING_TRUSTED_COMMENT = 23,    /* no third line */
-    MINISIGN_MISSING_COMMENT_SIGNATURE = 24,  /* no fourth line */
-    MINISIGN_UNTRUSTED_COMMENT_PREFIX = 25,   /* the first line does not begin with "untrusted comment: " */
-    MINISIGN_SIGNATURE_NOT_BASE64 = 26,       /* the second line or the fourth */
-    MINISIGN_TRUSTED_COMMENT_PREFIX = 27,     /* the third line does not begin with "trusted comment: " */
-    MINISIGN_UNSUPPORTED_ALGORITHM = 28,      /* neither "ED" nor "Ed" */
-
-    /* The verdict. */
+    /* Fewer bytes than a record has. */
+    MINISIGN_RECORD_TOO_SHORT = 20,
+    /* A signature text has no first line. */
+    MINISIGN_MISSING_UNTRUSTED_COMMENT = 21,
+    /* A signature text has no second line. */
+    MINISIGN_MISSING_SIGNATURE = 22,
+    /* A signature text has no third line. */
+    MINISIGN_MISSING_TRUSTED_COMMENT = 23,
+    /* A signature text has no fourth line. */
+    MINISIGN_MISSING_COMMENT_SIGNATURE = 24,
+    /* The first line of a signature text does not begin with untrusted comment: . */
+    MINISIGN_UNTRUSTED_COMMENT_PREFIX = 25,
+    /* A line of a signature text is not base64. */
+    MINISIGN_SIGNATURE_NOT_BASE64 = 26,
+    /* The third line of a signature text does not begin with trusted comment: . */
+    MINISIGN_TRUSTED_COMMENT_PREFIX = 27,
+    /* The algorithm of a signature is neither Ed nor ED. */
+    MINISIGN_UNSUPPORTED_ALGORITHM = 28,
+    /* The identifier of a signature is not that of the public key. */
     MINISIGN_DIFFERENT_KEY_IDS = 29,
+    /* A legacy signature where only prehashed ones are allowed. */
     MINISIGN_LEGACY_NOT_ACCEPTED = 30,
+    /* The signature of the data is not accepted. */
     MINISIGN_SIGNATURE_REFUSED = 31,
-    MINISIGN_COMMENT_SIGNATURE_REFUSED = 32,  /* also where it has fewer than 64 bytes */
-
-    /* The text of the secret key; MINISIGN_RECORD_TOO_SHORT is one of them. */
-    MINISIGN_MISSING_SECRET_KEY_COMMENT = 33, /* no first line */
-    MINISIGN_MISSING_SECRET_KEY = 34,         /* no second line */
+    /* The comment signature is too short or is not accepted. */
+    MINISIGN_COMMENT_SIGNATURE_REFUSED = 32,
+    /* A secret key text has no first line. */
+    MINISIGN_MISSING_SECRET_KEY_COMMENT = 33,
+    /* A secret key text has no second line. */
+    MINISIGN_MISSING_SECRET_KEY = 34,
+    /* The second line of a secret key text is not base64. */
     MINISIGN_SECRET_KEY_NOT_BASE64 = 35,
-
-    /* Without a password. */
-    MINISIGN_KEY_SEALED = 36,                 /* the key names a key derivation: it wants a password */
-    MINISIGN_KEY_CORRUPTED = 37,              /* its checksum is neither right nor 32 zeros, as Minisign has it */
-
-    /* With a password. */
-    MINISIGN_KEY_NOT_SEALED = 38,             /* the key was never sealed: it wants none */
-    MINISIGN_UNSUPPORTED_KEY_DERIVATION = 39, /* not scrypt */
-    MINISIGN_PARAMETERS_TOO_HIGH = 40,        /* its limits ask for more than 1 GiB, or a cost above 2^20 */
-    MINISIGN_INVALID_PARAMETERS = 41,         /* its limits lead to parameters that scrypt does not take */
+    /* A key that is asked for as unsealed names a key derivation. */
+    MINISIGN_KEY_SEALED = 36,
+    /* The checksum of an unsealed key does not match. */
+    MINISIGN_KEY_CORRUPTED = 37,
+    /* A key that is asked for as sealed names no key derivation. */
+    MINISIGN_KEY_NOT_SEALED = 38,
+    /* A sealed key names a key derivation other than Sc. */
+    MINISIGN_UNSUPPORTED_KEY_DERIVATION = 39,
+    /* The limits of a sealed key ask for more than is allowed. */
+    MINISIGN_PARAMETERS_TOO_HIGH = 40,
+    /* The limits lead to parameters that scrypt does not take. */
+    MINISIGN_INVALID_PARAMETERS = 41,
+    /* The checksum of an opened key does not match. */
     MINISIGN_WRONG_PASSWORD = 42
 };
+/* The end of the numbers. */
 
 /*
  * What an error number means, in English, ended by a 0 byte and cut where there is no room for more: to be

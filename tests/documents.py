@@ -25,50 +25,43 @@ FOLDERS = ("tests/", "crates/", "bench/", ".ci/", "docs/", "tools/", "examples/"
 PATH_NAME = re.compile(r"[A-Za-z_]\w*(?:::(?:[A-Za-z_]\w*|\.\.))*$")
 
 
+ROW = re.compile(r'^fault_row \(?(\w+).*? = record \{ number = (\d+); kind = (?:kind\.)?(\w+); summary = codes "([^"]*)" \}', re.M)
+
+
 def faults_of_specs(index):
-    """The named faults: their names, kinds and texts, with A and B for identifiers."""
-    base = index.library.crates["minisign_base"]
-    texts = sources.read_module(os.path.join(base, "specs", "Fault.antt")).definitions
-    for name, definition in sources.read_module(os.path.join(base, "specs", "Faults.antt")).definitions.items():
-        found = re.search(r"record \{ kind = (\w+); text = (?:codes \"((?:[^\"\\]|\\.)*)\"|(\w+))", definition.text)
-        if found is None:
-            continue
-        text = found[2]
-        if found[3]:
-            letters = iter("AB")
-            body = texts[found[3]].text.partition("=")[2]
-            text = "".join(piece if piece else next(letters) for piece, _ in
-                           re.findall(r'codes "([^"]*)"|(identifier_text)', body))
-        yield name, found[1], text
+    """The named faults in their order: their names, numbers, kinds and texts, with A and B for identifiers."""
+    file = os.path.join(index.library.crates["minisign_base"], "specs", "Faults.antt")
+    longer = {}
+    for name, body in re.findall(r"^named_text \(?(\w+)[^=]*=\s*(.*(?:\n    .*)*)", read(file), re.M):
+        letters = iter("AB")
+        longer[name] = "".join(piece or next(letters) for piece, _ in re.findall(r'codes "([^"]*)"|(identifier_text)', body))
+    for name, number, kind, summary in ROW.findall(read(file)):
+        yield name, number, kind, longer.get(name, summary)
 
 
 def check_faults(report, index):
-    """Each fault stands in the table with its kind and its text, and no others; and in the source."""
-    text = read(FORMATS)
-    table = re.search(r"^\| Kind \| Text \|.*?(?=\n\n|\Z)", text, re.M | re.S)
+    """The table of faults is that of the definitions: names, numbers, kinds and texts, in one order."""
+    table = re.search(r"^\| Name \| Number \| Kind \| Text \|.*?(?=\n\n|\Z)", read(FORMATS), re.M | re.S)
     report.check(table, FORMATS, "no table of faults")
-    rows = re.findall(r"^\| (\w+) \| `([^`]+)`", table[0] if table else "", re.M)
+    rows = re.findall(r"^\| `(\w+)` \| (\d+) \| (\w+) \| `([^`]+)`", table[0] if table else "", re.M)
     faults = list(faults_of_specs(index))
     report.check(faults, "specs/Faults.antt", "no fault is read")
-    for name, kind, said in faults:
-        report.check((kind, said) in rows, FORMATS, f"no row for {name}: {kind}, {said!r}")
-        function = next((item for item in index.functions.get(name, []) if item.file.endswith("faults.rt")), None)
-        report.check(function and function.public, "crates/minisign_base/src/faults.rt", f"no function {name}")
-    for kind, said in rows:
-        report.check((kind, said) in [fault[1:] for fault in faults], FORMATS, f"no such fault: {kind}, {said!r}")
+    for fault in faults:
+        report.check(fault in rows, FORMATS, f"no row for {fault}")
+    for row in rows:
+        report.check(row in faults, FORMATS, f"no such fault: {row}")
+    report.check(rows == faults, FORMATS, "the faults stand in another order than in specs/Faults.antt")
 
 
 def check_installing(report, index):
-    """Each fault that installing adds stands in its table with its text, and in the source."""
+    """Each fault that installing adds stands in its table with its name and its text."""
     rows = [row.split("|")[2] for row in read(INSTALLING).split("\n") if row.count("|") == 4]
     crate = index.library.crates["minisign_install"]
-    faults = sources.read_module(os.path.join(crate, "specs", "Faults.antt")).definitions
+    table = sources.read_module(os.path.join(crate, "specs", "Faults.antt")).definitions["install_row"].text
+    faults = re.findall(r'^install_row (\w+) = record \{ kind = \w+; text = codes "([^"]*)"', table, re.M)
     report.check(faults, "specs/Faults.antt", "no fault is read")
-    for name, definition in faults.items():
-        said = re.search(r'text = codes "([^"]*)"', definition.text)
-        report.check(said and any(f"`{said[1]}`" in row for row in rows), INSTALLING, f"no row for {name}")
-        report.check(any(item.file.endswith("minisign_install/src/faults.rt") and item.public for item in index.functions.get(name, [])),
-                     "crates/minisign_install/src/faults.rt", f"no function {name}")
+    for name, said in faults:
+        report.check(any(f"`{name}`: `{said}`" in row for row in rows), INSTALLING, f"no row for {name}")
 
 
 def squeezed(text):
@@ -225,7 +218,7 @@ def check_texts(report, index):
     for usage in set(re.findall(r"usage: minisign_tool ([^\\\n]+)", said)):
         for form in usage.split(" | "):
             report.check(f"`{form}`" in read(FORMATS), FORMATS, f"it does not name the form {form}")
-    table = re.compile(r"^\| Kind \|.*?(?=\n\n|\Z)", re.M | re.S)
+    table = re.compile(r"^\| Name \| Number \|.*?(?=\n\n|\Z)", re.M | re.S)
     text = read(FORMATS)
     text = table.sub(lambda found: "\n" * found[0].count("\n"), text)
     for number, line in enumerate(text.split("\n"), 1):
@@ -297,8 +290,8 @@ def check_edit(report, crate, edit):
             # The texts behind it are looked for in the text that it leaves.
             texts[path] = texts.get(path, "").replace(old, line[len("new:"):].removeprefix(" "))
             old, pairs = None, pairs + 1
-        elif line and line not in functions:
-            report.check(False, where, f"neither file:, nor old: and then new: but {line!r}")
+        elif line and line not in functions and not line.startswith("why: "):
+            report.check(False, where, f"neither why:, nor file:, nor old: and then new: but {line!r}")
     report.check(pairs and old is None, shown, "no pair of old: and new:")
 
 

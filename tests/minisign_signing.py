@@ -89,10 +89,10 @@ def damaged_keys(text):
     record = base64.b64decode(encoded)
     yield "nothing", b"", b"Missing comment in secret key"
     yield "one line", head + b"\n", b"Missing encoded key in secret key"
-    yield "no base64", joined([head, encoded[:-2] + b"!="]), b"Base64 conversion failed"
-    yield "white space", joined([head, b" " + encoded]), b"Base64 conversion failed"
+    yield "no base64", joined([head, encoded[:-2] + b"!="]), b"invalid base64"
+    yield "white space", joined([head, b" " + encoded]), b"invalid base64"
     yield "a byte less", joined([head, base64.b64encode(record[:-1])]), b"failed to fill whole buffer"
-    yield "no UTF-8", b"\xff" + text, b"not UTF-8"
+    yield "no UTF-8", b"\xff" + text, b"stream did not contain valid UTF-8"
     for at in (0, 1, 54, 61, 62, 93, 94, 125, 126, 157):
         changed = record[:at] + bytes([record[at] ^ 1]) + record[at + 1:]
         yield f"bit of byte {at}", joined([head, base64.b64encode(changed)]), b"Corrupted key"
@@ -153,4 +153,4 @@ def sealed(signing):
         signing.case(f"sealed key, {end!r}", f"{ran}, refused by {refusing}" if ran.status != 0 or refusing else "")
     signing.refuses("wrong password", "sealed.key", typed=b"wrong\n", said=b"Wrong password for that key")
     signing.refuses("no password", "sealed.key", typed=b"")
-    signing.refuses("a password that is no UTF-8", "sealed.key", typed=b"\xff\n", said=b"not UTF-8")
+    signing.refuses("a password that is no UTF-8", "sealed.key", typed=b"\xff\n", said=b"stream did not contain valid UTF-8")

@@ -85,6 +85,11 @@ def c_compiler():
     return need(lambda: compiler_of("#include <dlfcn.h>\n" + HELLO, "-ldl"), "a C compiler", "gcc", "libc6-dev")
 
 
+def cpp_compiler():
+    """The path of a C++ compiler."""
+    return need(lambda: shutil.which("g++") or shutil.which("c++") or shutil.which("clang++"), "a C++ compiler", "g++")
+
+
 def libsodium():
     """The path of a C compiler that finds libsodium's header and links with `-lsodium`."""
     c_compiler()

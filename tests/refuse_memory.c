@@ -2,6 +2,7 @@
    set each one behind it too. Says so by one byte on the descriptor REFUSE_SAYS. */
 #define _GNU_SOURCE
 #include <dlfcn.h>
+#include <errno.h>
 #include <stddef.h>
 #include <stdlib.h>
 #include <unistd.h>
@@ -17,7 +18,10 @@ static int is_refused(void)
     requests += 1;
     if (number == 0 || requests < number || (requests > number && !getenv("REFUSE_REST")))
         return 0;
-    return says && write(atoi(says), "x", 1) == 1;
+    if (!says || write(atoi(says), "x", 1) != 1)
+        return 0;
+    errno = ENOMEM;
+    return 1;
 }
 
 void *malloc(size_t size)

@@ -277,23 +277,6 @@ static void texts_of_signatures(void)
     CHECK(memcmp(text, message, MESSAGE_LEN) == 0);
 }
 
-static void error_texts(void)
-{
-    uint8_t whole[MINISIGN_ERROR_TEXT_BYTES], cut[MINISIGN_ERROR_TEXT_BYTES];
-
-    for (uint32_t error = 0; error < 64; error++) {
-        size_t len = minisign_error_text(error, whole, sizeof whole);
-        CHECK(len > 0 && len < sizeof whole && strlen((char *) whole) == len);
-        for (size_t room = 0; room <= len; room++) {
-            memset(cut, 0xaa, sizeof cut);
-            CHECK(minisign_error_text(error, cut, room) == len);
-            CHECK(room == 0 ? cut[0] == 0xaa
-                            : memcmp(cut, whole, room - 1) == 0 && cut[room - 1] == 0 && cut[room] == 0xaa);
-        }
-    }
-    CHECK(minisign_error_text(UINT32_MAX, whole, sizeof whole) > 0);
-}
-
 int main(void)
 {
     never_begun();
@@ -303,7 +286,6 @@ int main(void)
     copies();
     before_signing();
     texts_of_signatures();
-    error_texts();
     printf("%u passed, %u failed\n", passed, failed);
     return failed != 0;
 }

@@ -4,11 +4,11 @@ use Rattle.std.proofs.KnownBytes.{Appends-trans}
 use Rattle.minisign_base.specs.declared.prompt.Prompt.{Prompt}
 use Rattle.minisign_base.specs.Passages.{PromptPassage, source_passage}
 use Rattle.minisign_base.specs.Devices.{Rose}
-use Rattle.minisign_base.specs.Fault.{Fault}
-use Rattle.minisign_base.specs.Prompts.{HasAsked, HasNotSaid, HasSaid, HasReadLine, IsAskingFault}
+use Rattle.minisign_base.specs.Fault.{Fault, Named}
+use Rattle.minisign_base.specs.Prompts.{HasAsked, HasNotSaid, HasSaid, HasReadLine}
 use Rattle.minisign_base.specs.SinkLaws.{AppendsFront-after}
 use Rattle.minisign.specs.Records.{SecretKeyRecord}
-use Rattle.minisign_base.specs.Faults.{out_of_memory, writing_failed, wrong_password}
+use Rattle.minisign_base.specs.declared.faults.NamedFault.TheVariants.{OutOfMemory, WritingFailed, WrongPassword}
 use Rattle.minisign.specs.Sealing.{checksum_refusal, kdf_refusal, password_refusal, work_refusal, xored_key}
 use Rattle.minisign.specs.SecretKeyText.{SecretKeyText, secret_key_refusal}
 use Rattle.minisign.specs.Opening.{HasAskedAndSaid, HasAskedAndNotSaid, IsAskedRefusal, IsOpenedAsking, IsOpening, RefusesKey, IsToldRefusal, RefusesAsking, asking_text, deriving_text, done_text}
@@ -64,7 +64,7 @@ said_one p mid first second said failed = record {
 
 -- what the derivation refused
 pub derivation_told : (Said NotSaid : List ℕ → Type 0) (k : SecretKeyRecord) (password : List ℕ) (bound : Option ℕ) (e : Fault)
-    → ((e ≡ out_of_memory) × (work_refusal k bound ≡ None)) ⊎ (work_refusal k bound ≡ Some e) → Said deriving_text → IsToldRefusal Said NotSaid k password bound e
+    → ((e ≡ Named OutOfMemory) × (work_refusal k bound ≡ None)) ⊎ (work_refusal k bound ≡ Some e) → Said deriving_text → IsToldRefusal Said NotSaid k password bound e
 derivation_told Said NotSaid k password bound e (inl (is, work)) said = inr (inl (is, work, said))
 derivation_told Said NotSaid k password bound e (inr refused) said = inr (inr (inl (refused, said)))
 
@@ -98,7 +98,7 @@ asked_refused p mid k bound bytes password (Err e) asked refused = inr (
 
 -- a text that no password opens: nothing was asked
 pub nothing_asked : {R W : Type 0} (p : PromptPassage R W)
-    (text : List ℕ) (bound : Option ℕ) (e : Fault) → p.new ≡ p.old → (e ≡ out_of_memory) ⊎ RefusesKey text kdf_refusal e
+    (text : List ℕ) (bound : Option ℕ) (e : Fault) → p.new ≡ p.old → (e ≡ Named OutOfMemory) ⊎ RefusesKey text kdf_refusal e
     → RefusesAsking p text bound e
 nothing_asked p text bound e same (inl memory) = inl (memory, same)
 nothing_asked p text bound e same (inr refused) = inr (inl (refused, same))
@@ -123,8 +123,8 @@ asking_refused p text bound k (Err e) read kdf refused = inr (inr (k, read, kdf_
 -- what was refused behind the derivation
 pub end_told : {R W : Type 0} (p : PromptPassage R W) (mid : Prompt R W) (k : SecretKeyRecord) (password : List ℕ) (bound : Option ℕ) (e : Fault)
     → work_refusal k bound ≡ None → HasSaid (record p { new = mid }) deriving_text
-    → ((e ≡ writing_failed) × HasNotSaid (record p { old = mid }) done_text)
-    ⊎ ((checksum_refusal (xored_key k password) wrong_password ≡ Some e) × HasSaid (record p { old = mid }) done_text)
+    → ((e ≡ Named WritingFailed) × HasNotSaid (record p { old = mid }) done_text)
+    ⊎ ((checksum_refusal (xored_key k password) (Named WrongPassword) ≡ Some e) × HasSaid (record p { old = mid }) done_text)
     → IsToldRefusal (HasSaid p) (HasNotSaid p) k password bound e
 end_told p mid k password bound e work said (inl (is, failed)) =
     inr (inr (inr (inl (is, work, said_one p mid deriving_text done_text said failed))))
@@ -138,13 +138,13 @@ match_of (Err e) P Q ok err = err
 
 -- a text that no password opens is refused with the prompt as it was, whether a password is handed in or not
 pub closed_opening : {R W : Type 0} (p : PromptPassage R W) (given : Option (List ℕ)) (text : List ℕ) (bound : Option ℕ) (e : Fault)
-    → p.new ≡ p.old → (e ≡ out_of_memory) ⊎ RefusesKey text kdf_refusal e → IsOpening p given text bound (Err e)
+    → p.new ≡ p.old → (e ≡ Named OutOfMemory) ⊎ RefusesKey text kdf_refusal e → IsOpening p given text bound (Err e)
 closed_opening p (Some password) text bound e same refused = (same, any_password text password bound e refused)
 closed_opening p None text bound e same refused = nothing_asked p text bound e same refused
 
 -- so is one that reads as no key
 pub unread_opening : {R W : Type 0} (p : PromptPassage R W) (given : Option (List ℕ)) (text : List ℕ) (bound : Option ℕ) (e : Fault)
-    → p.new ≡ p.old → (e ≡ out_of_memory) ⊎ IsRefused (SecretKeyText text) (secret_key_refusal text) e → IsOpening p given text bound (Err e)
+    → p.new ≡ p.old → (e ≡ Named OutOfMemory) ⊎ IsRefused (SecretKeyText text) (secret_key_refusal text) e → IsOpening p given text bound (Err e)
 unread_opening p given text bound e same (inl memory) = closed_opening p given text bound e same (inl memory)
 unread_opening p given text bound e same (inr unread) = closed_opening p given text bound e same (inr (inl unread))
 
@@ -162,6 +162,6 @@ asked_opening p text bound k r read kdf opened refused =
 pub given_opening : {R W : Type 0} (p : PromptPassage R W) (password text : List ℕ) (bound : Option ℕ) (k : SecretKeyRecord) (r : Result SecretKeyRecord Fault)
     → p.new ≡ p.old → SecretKeyText text k → kdf_refusal k ≡ None
     → IfOk r (λ v. (v ≡ xored_key k password) × (password_refusal k password bound ≡ None))
-    → IfErr r (λ e. ((e ≡ out_of_memory) × (work_refusal k bound ≡ None)) ⊎ (password_refusal k password bound ≡ Some e))
+    → IfErr r (λ e. ((e ≡ Named OutOfMemory) × (work_refusal k bound ≡ None)) ⊎ (password_refusal k password bound ≡ Some e))
     → IsOpening p (Some password) text bound r
 given_opening p password text bound k r same read kdf opened refused = (same, opening_outcome text password bound k r read kdf opened refused)

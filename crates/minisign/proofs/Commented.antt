@@ -1,17 +1,15 @@
 -- The comment that was signed, beside the verdict of verifying with texts.
 use Rattle.std.proofs.Common.{◌≡◌, ◌≢◌, ◌⊎◌, ℕ, Bool, List, ap, inl, inr, ⊎_elim, subst, sym, true, false, ◌∙◌, refl, [], Option, None, Some, IfOk, IfErr, IfSome, OnOk}
-use Rattle.std.proofs.lemmas.Bool.{cases_Bool, true≢false}
+use Rattle.std.proofs.lemmas.Bool.{true≢false}
 use Rattle.std.proofs.lemmas.Slice.Eq.{bytes_eq-Decides}
-use Rattle.std.specs.Prelude.{◌&&◌, ⊤, IsSome, bytes_eq, codes}
+use Rattle.std.specs.Prelude.{◌&&◌, ⊤, IsSome}
 use Rattle.std.specs.declared.result.Result.{Result}
 use Rattle.std.specs.declared.result.Result.TheVariants.{Ok, Err}
-use Rattle.minisign_base.specs.Fault.{Fault}
-use Rattle.minisign_base.specs.Faults.{out_of_memory, reading_failed}
-use Rattle.minisign_base.specs.declared.errors.ErrorKind.{ErrorKind}
-use Rattle.minisign_base.specs.declared.errors.ErrorKind.TheVariants.{Encoding, EncryptedKey, Generate, Hash, Io, KDF, Misc, OutOfMemory, RNG, Sign, Verify}
+use Rattle.minisign_base.specs.Fault.{Fault, Named}
+use Rattle.minisign_base.specs.declared.faults.NamedFault.TheVariants.{OutOfMemory, ReadingFailed}
 use Rattle.minisign_base.specs.Passages.{RereaderPassage, SinkPassage}
 use Rattle.minisign.specs.Acceptance.{Flags, Refuses, Verifier, Vouches}
-use Rattle.minisign.specs.Calls.{CopyIsVouchedWith, CopyingFails, CopyingBreaksOff, IsCommentOf, IsCommentVerdict, IsFileVerdict, NothingIsCopied, TextsVouchWith}
+use Rattle.minisign.specs.Calls.{CopyIsVouchedWith, CopyingFails, IsCommentOf, IsCommentVerdict, IsFileVerdict, TextsVouchWith}
 use Rattle.minisign.specs.Headline.{IsVerdict, TextsRefuse, TextsVouchFor}
 use Rattle.minisign.specs.Reading.{IsAhead, ReadingFails}
 use Rattle.minisign.specs.Records.{PublicKeyRecord, SignatureBoxRecord, is_prehashed, prehashed_algorithm}
@@ -21,44 +19,14 @@ use Rattle.minisign.proofs.PublicKeyTexts.{one_public_key_text}
 use Rattle.minisign.proofs.SignatureTexts.{one_signature_text}
 use Rattle.minisign.proofs.VouchedTexts.{text_verdict}
 
-abbrev is_memory_kind : ErrorKind → Bool
-is_memory_kind OutOfMemory = true
-is_memory_kind Generate = false
-is_memory_kind Sign = false
-is_memory_kind Verify = false
-is_memory_kind Io = false
-is_memory_kind Misc = false
-is_memory_kind Hash = false
-is_memory_kind KDF = false
-is_memory_kind RNG = false
-is_memory_kind Encoding = false
-is_memory_kind EncryptedKey = false
-
-memory_kind : (k : ErrorKind) → is_memory_kind k ≡ true → k ≡ OutOfMemory
-memory_kind OutOfMemory is = refl
-memory_kind Generate is = absurd (true≢false (sym is))
-memory_kind Sign is = absurd (true≢false (sym is))
-memory_kind Verify is = absurd (true≢false (sym is))
-memory_kind Io is = absurd (true≢false (sym is))
-memory_kind Misc is = absurd (true≢false (sym is))
-memory_kind Hash is = absurd (true≢false (sym is))
-memory_kind KDF is = absurd (true≢false (sym is))
-memory_kind RNG is = absurd (true≢false (sym is))
-memory_kind Encoding is = absurd (true≢false (sym is))
-memory_kind EncryptedKey is = absurd (true≢false (sym is))
+abbrev is_memory : Fault → Bool
+is_memory (Named OutOfMemory) = true
+is_memory _ = false
 
 -- a fault is want of memory or another
-pub memory_or_other : (e : Fault) → (e ≡ out_of_memory) ⊎ (e ≢ out_of_memory)
-unfolding out_of_memory
-memory_or_other e =
-    let tested = bytes_eq-Decides e.text (codes "out of memory") in
-    ⊎_elim
-    (λ kind. ⊎_elim
-    (λ same. inl (λ i. record { kind = memory_kind e.kind kind i; text = tested.0 same i }))
-    (λ other. inr (λ is. true≢false (sym (tested.1 (ap (λ (f : Fault). f.text) is)) ∙ other)))
-    (cases_Bool (bytes_eq e.text (codes "out of memory"))))
-    (λ other. inr (λ is. true≢false (sym (ap (λ (f : Fault). is_memory_kind f.kind) is) ∙ other)))
-    (cases_Bool (is_memory_kind e.kind))
+pub memory_or_other : (e : Fault) → (e ≡ Named OutOfMemory) ⊎ (e ≢ Named OutOfMemory)
+memory_or_other (Named OutOfMemory) = inl refl
+memory_or_other _ = inr (λ same. true≢false (sym (ap is_memory same)))
 
 -- the comment of the text is the one that was signed, where the texts vouch for the message
 pub signed_comment : (accepts : Verifier) (pk sig message : List ℕ) (legacy : Bool) (comment : List ℕ)
@@ -72,14 +40,14 @@ signed_comment accepts pk sig message legacy comment vouched said = record {
 
 -- the verdict, and the comment where it is a good one
 pub comment_verdict : {T : Type 0} (bytes : T → List ℕ) (accepts : Verifier) (pk sig message : List ℕ) (legacy : Bool) (r : Result T Fault)
-    → (IfErr r (λ e. e ≢ out_of_memory) → IsVerdict accepts pk sig message legacy r) → IfOk r (λ t. IsCommentOf sig (bytes t))
+    → (IfErr r (λ e. e ≢ Named OutOfMemory) → IsVerdict accepts pk sig message legacy r) → IfOk r (λ t. IsCommentOf sig (bytes t))
     → IsCommentVerdict bytes accepts pk sig message legacy r
 comment_verdict bytes accepts pk sig message legacy (Ok t) verdict said = signed_comment accepts pk sig message legacy (bytes t) (verdict tt) said
 comment_verdict bytes accepts pk sig message legacy (Err e) verdict said = ⊎_elim inl (λ other. inr (verdict other)) (memory_or_other e)
 
 -- a text is refused, whatever the message
 text_refusal : (accepts : Verifier) (pk sig message : List ℕ) (legacy : Bool) (e : Fault) → TextsFail pk sig e
-    → (e ≡ out_of_memory) ⊎ TextsRefuse accepts pk sig message legacy e
+    → (e ≡ Named OutOfMemory) ⊎ TextsRefuse accepts pk sig message legacy e
 text_refusal accepts pk sig message legacy e fails =
     ⊎_elim inl (λ other. inr (text_verdict {T = ⊤} accepts pk sig message legacy (Err e) e refl fails other)) (memory_or_other e)
 
@@ -107,7 +75,7 @@ both_wanted false b h = absurd (true≢false (sym h))
 abbrev StopsBefore : {R O : Type 0} → Verifier → List ℕ → List ℕ → Bool → RereaderPassage R → SinkPassage O → Fault → Type 0
 StopsBefore accepts pk sig output reader out e =
     (out.new ≡ out.old)
-    × ((e ≡ out_of_memory) ⊎ ((output ≡ true) × MarkFails true reader e) ⊎ ReadingFails reader.source reader.old reader.new e
+    × ((e ≡ Named OutOfMemory) ⊎ ((output ≡ true) × MarkFails true reader e) ⊎ ReadingFails reader.source reader.old reader.new e
     ⊎ ((message : List ℕ) × IsAhead (reader.source.ahead reader.old) message × TextsRefuse accepts pk sig message false e))
 
 abbrev silently : Bool → Flags
@@ -150,7 +118,7 @@ ahead_vouched bytes accepts pk sig reader status out (Err e) ok said = tt
 -- why it is refused
 pub ahead_refused : {T R W O : Type 0} (accepts : Verifier) (pk sig : List ℕ) (reader : RereaderPassage R) (status : SinkPassage W) (out : SinkPassage O) (r : Result T Fault)
     → IfErr r (VerifyingTextsFails accepts pk sig (silently false) reader status out)
-    → IfErr r (λ e. (e ≡ out_of_memory) ⊎ (e ≡ reading_failed)
+    → IfErr r (λ e. (e ≡ Named OutOfMemory) ⊎ (e ≡ Named ReadingFailed)
     ⊎ ((message : List ℕ) × IsAhead (reader.source.ahead reader.old) message × TextsRefuse accepts pk sig message false e))
 ahead_refused accepts pk sig reader status out (Ok t) err = tt
 ahead_refused accepts pk sig reader status out (Err e) err =
@@ -164,7 +132,7 @@ ahead_refused accepts pk sig reader status out (Err e) err =
 -- the verdict on a file's data
 pub file_verdict : {T : Type 0} (bytes : T → List ℕ) (accepts : Verifier) (pk sig : List ℕ) (ahead : Option (List ℕ)) (r : Result T Fault)
     → IfOk r (λ t. (message : List ℕ) × IsAhead ahead message × TextsVouchWith accepts pk sig message false (bytes t))
-    → IfErr r (λ e. (e ≡ out_of_memory) ⊎ (e ≡ reading_failed) ⊎ ((message : List ℕ) × IsAhead ahead message × TextsRefuse accepts pk sig message false e))
+    → IfErr r (λ e. (e ≡ Named OutOfMemory) ⊎ (e ≡ Named ReadingFailed) ⊎ ((message : List ℕ) × IsAhead ahead message × TextsRefuse accepts pk sig message false e))
     → IsFileVerdict bytes accepts pk r
 file_verdict bytes accepts pk sig ahead (Ok t) (message, given, vouched) refused = (sig, message, vouched)
 file_verdict bytes accepts pk sig ahead (Err e) vouched refused =

@@ -4,7 +4,8 @@
 use Rattle.std.proofs.Common.{◌≡◌, ℕ, false, List, [], ◌∷◌, ◌++◌, None, Some, codes, replicate, refl}
 use Rattle.minisign_hash.specs.Blake2b.{blake2b_digest, block, compress, first_state, iv, last_state, mix, mixed_words, round, rounds, sigma, state_after, work_vector}
 use Rattle.minisign_hash.specs.Words.{bytes_of_words64, word_at, words64_of}
-use Rattle.minisign_base.specs.Faults.{signature_refused}
+use Rattle.minisign_base.specs.Fault.{Named}
+use Rattle.minisign_base.specs.declared.faults.NamedFault.TheVariants.{SignatureRefused}
 use Rattle.minisign_base.specs.Toy.{fold_of, toy_accepts}
 use Rattle.minisign.specs.Records.{PublicKeyRecord, SignatureRecord, SignatureBoxRecord, ReadsPublicKey, ReadsSignature}
 use Rattle.minisign.specs.Acceptance.{first_refusal}
@@ -37,6 +38,6 @@ pub accepted : first_refusal toy_accepts key box (codes "abc") false ≡ None
 unfolding blake2b_digest last_state state_after block first_state compress work_vector rounds round mix mixed_words iv sigma words64_of word_at bytes_of_words64 fold_of
 accepted = refl
 
-pub refused : first_refusal toy_accepts key box [] false ≡ Some signature_refused
+pub refused : first_refusal toy_accepts key box [] false ≡ Some (Named SignatureRefused)
 unfolding blake2b_digest last_state state_after block first_state compress work_vector rounds round mix mixed_words iv sigma words64_of word_at bytes_of_words64 fold_of
 refused = refl

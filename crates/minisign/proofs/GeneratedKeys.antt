@@ -3,9 +3,9 @@ use Rattle.std.proofs.Common.{◌≡◌, ◌⊎◌, ℕ, true, false, not, List,
 use Rattle.std.specs.Int.{w64, to_le_bytes}
 use Rattle.std.specs.Str.{bytes_eq}
 use Rattle.std.proofs.lemmas.Slice.Eq.{bytes_eq-Decides}
-use Rattle.minisign_base.specs.Fault.{Fault}
+use Rattle.minisign_base.specs.Fault.{Fault, Named}
 use Rattle.minisign_base.specs.Passages.{RandomPassage}
-use Rattle.minisign_base.specs.Faults.{out_of_memory}
+use Rattle.minisign_base.specs.declared.faults.NamedFault.TheVariants.{OutOfMemory}
 use Rattle.minisign_kdf.specs.Params.{Numbers}
 use Rattle.minisign_base.specs.Limits.{cost_log2, limits}
 use Rattle.minisign.specs.Records.{PublicKeyRecord, SecretKeyRecord}
@@ -52,7 +52,7 @@ default_work k bound operations memory one = within_bound k _ bound (default_lim
 
 -- where these limits stand, only memory is wanting
 pub only_memory : (k : SecretKeyRecord) (bound : Option ℕ) (e : Fault) → k.operations_limit ≡ to_le_bytes w64 sealing_operations → k.memory_limit ≡ to_le_bytes w64 sealing_memory
-    → IsWithin bound 1 → ((e ≡ out_of_memory) × (work_refusal k bound ≡ None)) ⊎ (work_refusal k bound ≡ Some e) → e ≡ out_of_memory
+    → IsWithin bound 1 → ((e ≡ Named OutOfMemory) × (work_refusal k bound ≡ None)) ⊎ (work_refusal k bound ≡ Some e) → e ≡ Named OutOfMemory
 only_memory k bound e operations memory one (inl (is, allowed)) = is
 only_memory k bound e operations memory one (inr refused) = let allowed = default_work k bound operations memory one in absurd (cc)
 

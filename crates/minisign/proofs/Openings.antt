@@ -3,8 +3,8 @@ use Rattle.std.proofs.Common.{◌≡◌, ◌⊎◌, ℕ, ◌≤◌, Bool, true, 
 use Rattle.std.specs.Option.{option_or}
 use Rattle.std.proofs.lemmas.Bool.{ltb-false}
 use Rattle.std.proofs.lemmas.Slice.Eq.{bytes_eq-Decides}
-use Rattle.minisign_base.specs.Fault.{Fault}
-use Rattle.minisign_base.specs.Faults.{out_of_memory, key_might_be_encrypted, corrupted_key, wrong_password, key_not_encrypted, unsupported_encryption_algorithm, work_too_high}
+use Rattle.minisign_base.specs.Fault.{Fault, Named}
+use Rattle.minisign_base.specs.declared.faults.NamedFault.TheVariants.{OutOfMemory, KeyMightBeEncrypted, CorruptedKey, WrongPassword, KeyNotEncrypted, UnsupportedEncryptionAlgorithm, WorkTooHigh}
 use Rattle.minisign_kdf.specs.Params.{Numbers}
 use Rattle.minisign_base.specs.Passages.{PromptPassage}
 use Rattle.minisign.specs.Records.{SecretKeyRecord}
@@ -34,13 +34,13 @@ checksum_none k e h = let same : bytes_eq k.checksum (checksum_of k) ≡ true = 
 -- nothing is refused exactly of a key that was never sealed
 unencrypted_held : (k : SecretKeyRecord) → unencrypted_refusal k ≡ None → IsUnencrypted k
 unencrypted_held k h =
-    let (kdf, checksum) = both_none (if bytes_eq k.kdf no_kdf then None else Some key_might_be_encrypted) (checksum_refusal k corrupted_key) h in
-    record { kdf = (bytes_eq-Decides k.kdf no_kdf).0 (held _ key_might_be_encrypted kdf); checksum = checksum_held k corrupted_key checksum }
+    let (kdf, checksum) = both_none (if bytes_eq k.kdf no_kdf then None else Some (Named KeyMightBeEncrypted)) (checksum_refusal k (Named CorruptedKey)) h in
+    record { kdf = (bytes_eq-Decides k.kdf no_kdf).0 (held _ (Named KeyMightBeEncrypted) kdf); checksum = checksum_held k (Named CorruptedKey) checksum }
 
 unencrypted_none : (k : SecretKeyRecord) → IsUnencrypted k → unencrypted_refusal k ≡ None
 unencrypted_none k h =
     let same : bytes_eq k.kdf no_kdf ≡ true = (bytes_eq-Decides k.kdf no_kdf).1 h.kdf in
-    rw same (checksum_none k corrupted_key h.checksum)
+    rw same (checksum_none k (Named CorruptedKey) h.checksum)
 
 -- a key that is refused is not one that is not
 not_refused : (text : List ℕ) (refusal : SecretKeyRecord → Option Fault) (e : Fault) (k : SecretKeyRecord)
@@ -53,15 +53,15 @@ not_refused text refusal e k (inr (l, other, refused)) read none =
 
 -- what the tests of a key that was never sealed say of its text
 pub unencrypted_outcome : (text : List ℕ) (r : Result SecretKeyRecord Fault)
-    → IfOk r (λ k. SecretKeyText text k × (unencrypted_refusal k ≡ None)) → IfErr r (λ e. (e ≡ out_of_memory) ⊎ RefusesKey text unencrypted_refusal e)
-    → MatchResult r (IsUnencryptedText text) (λ e. (e ≡ out_of_memory) ⊎ RefusesUnencrypted text e)
+    → IfOk r (λ k. SecretKeyText text k × (unencrypted_refusal k ≡ None)) → IfErr r (λ e. (e ≡ Named OutOfMemory) ⊎ RefusesKey text unencrypted_refusal e)
+    → MatchResult r (IsUnencryptedText text) (λ e. (e ≡ Named OutOfMemory) ⊎ RefusesUnencrypted text e)
 unencrypted_outcome text (Ok k) (read, none) refused = record { read = read; unencrypted = unencrypted_held k none }
 unencrypted_outcome text (Err e) ok (inl memory) = inl memory
 unencrypted_outcome text (Err e) ok (inr refused) =
     inr (record { first = refused; none = λ k read h. not_refused text unencrypted_refusal e k refused read (unencrypted_none k h) })
 
 -- the key derivation is scrypt exactly where nothing is refused of it
-kdf_tests : (none scrypt : Bool) → (if none then Some key_not_encrypted else (if scrypt then None else Some unsupported_encryption_algorithm)) ≡ None → scrypt ≡ true
+kdf_tests : (none scrypt : Bool) → (if none then Some (Named KeyNotEncrypted) else (if scrypt then None else Some (Named UnsupportedEncryptionAlgorithm))) ≡ None → scrypt ≡ true
 kdf_tests true scrypt h = absurd (cc)
 kdf_tests false true h = refl
 kdf_tests false false h = absurd (cc)
@@ -78,7 +78,7 @@ first_refused : (text : List ℕ) (later : SecretKeyRecord → Option Fault) (e 
 first_refused text later e (inl unread) = inl unread
 first_refused text later e (inr (k, read, refused)) = inr (k, read, ap (λ (o : Option Fault). option_or o (later k)) refused)
 
-not_above : (b : Bool) → (if b then Some work_too_high else None) ≡ None → b ≡ false
+not_above : (b : Bool) → (if b then Some (Named WorkTooHigh) else None) ≡ None → b ≡ false
 not_above true h = absurd (cc)
 not_above false h = refl
 
@@ -96,19 +96,19 @@ bound_held k (Some max_p) (Ok v) same h =
 opening_held : (k : SecretKeyRecord) (password : List ℕ) (bound : Option ℕ) → opening_refusal k password bound ≡ None → Opens k password bound
 opening_held k password bound h =
     let (kdf, rest) = both_none (kdf_refusal k) (password_refusal k password bound) h in
-    let (work, checksum) = both_none (work_refusal k bound) (checksum_refusal (xored_key k password) wrong_password) rest in
+    let (work, checksum) = both_none (work_refusal k bound) (checksum_refusal (xored_key k password) (Named WrongPassword)) rest in
     let (allowed, bounded) = bound_held k bound (key_limits k) refl work in
     record {
       kdf = kdf_held k kdf;
       allowed = allowed;
       bounded = bounded;
-      restored = checksum_held (xored_key k password) wrong_password checksum;
+      restored = checksum_held (xored_key k password) (Named WrongPassword) checksum;
     }
 
 opening_none : (k : SecretKeyRecord) (password : List ℕ) (bound : Option ℕ) → Opens k password bound → opening_refusal k password bound ≡ None
 opening_none k password bound h =
     let work : work_refusal k bound ≡ None = within_bound k (key_numbers k) bound h.allowed h.bounded in
-    let checksum : checksum_refusal (xored_key k password) wrong_password ≡ None = checksum_none (xored_key k password) wrong_password h.restored in
+    let checksum : checksum_refusal (xored_key k password) (Named WrongPassword) ≡ None = checksum_none (xored_key k password) (Named WrongPassword) h.restored in
     (λ i. option_or (kdf_none k h.kdf i) (option_or (work i) (checksum i)))
 
 -- a key that opened is not encrypted any more
@@ -119,12 +119,12 @@ neither false b h = refl
 pub opened_key_is_open : (k v : SecretKeyRecord) (password : List ℕ) (bound : Option ℕ) → v ≡ xored_key k password → password_refusal k password bound ≡ None
     → is_encrypted v ≡ false
 opened_key_is_open k v password bound is h =
-    let (work, checksum) = both_none (work_refusal k bound) (checksum_refusal (xored_key k password) wrong_password) h in
-    ap is_encrypted is ∙ neither _ _ ((bytes_eq-Decides (xored_key k password).checksum (checksum_of (xored_key k password))).1 (checksum_held (xored_key k password) wrong_password checksum))
+    let (work, checksum) = both_none (work_refusal k bound) (checksum_refusal (xored_key k password) (Named WrongPassword)) h in
+    ap is_encrypted is ∙ neither _ _ ((bytes_eq-Decides (xored_key k password).checksum (checksum_of (xored_key k password))).1 (checksum_held (xored_key k password) (Named WrongPassword) checksum))
 
 -- a text that no password opens
-pub any_password : (text password : List ℕ) (bound : Option ℕ) (e : Fault) → (e ≡ out_of_memory) ⊎ RefusesKey text kdf_refusal e
-    → (e ≡ out_of_memory) ⊎ RefusesOpening text password bound e
+pub any_password : (text password : List ℕ) (bound : Option ℕ) (e : Fault) → (e ≡ Named OutOfMemory) ⊎ RefusesKey text kdf_refusal e
+    → (e ≡ Named OutOfMemory) ⊎ RefusesOpening text password bound e
 any_password text password bound e (inl memory) = inl memory
 any_password text password bound e (inr refused) = inr (record {
   first = first_refused text (λ k. password_refusal k password bound) e refused;
@@ -145,8 +145,8 @@ opened_text text password bound sealed k read kdf is none = record {
 pub opening_outcome : (text password : List ℕ) (bound : Option ℕ) (sealed : SecretKeyRecord) (r : Result SecretKeyRecord Fault)
     → SecretKeyText text sealed → kdf_refusal sealed ≡ None
     → IfOk r (λ k. (k ≡ xored_key sealed password) × (password_refusal sealed password bound ≡ None))
-    → IfErr r (λ e. ((e ≡ out_of_memory) × (work_refusal sealed bound ≡ None)) ⊎ (password_refusal sealed password bound ≡ Some e))
-    → MatchResult r (IsOpened text password bound) (λ e. (e ≡ out_of_memory) ⊎ RefusesOpening text password bound e)
+    → IfErr r (λ e. ((e ≡ Named OutOfMemory) × (work_refusal sealed bound ≡ None)) ⊎ (password_refusal sealed password bound ≡ Some e))
+    → MatchResult r (IsOpened text password bound) (λ e. (e ≡ Named OutOfMemory) ⊎ RefusesOpening text password bound e)
 opening_outcome text password bound sealed (Ok k) read kdf (is, none) refused = opened_text text password bound sealed k read kdf is none
 opening_outcome text password bound sealed (Err e) read kdf ok (inl (memory, work)) = inl memory
 opening_outcome text password bound sealed (Err e) read kdf ok (inr refused) =
@@ -164,10 +164,10 @@ refused_key text password bound e k (inr (l, other, refused)) read kdf =
 
 -- a key that is read opens exactly where its own conditions hold
 pub opening_headline : (text password : List ℕ) (bound : Option ℕ) (r : Result SecretKeyRecord Fault)
-    → MatchResult r (IsOpened text password bound) (λ e. (e ≡ out_of_memory) ⊎ RefusesOpening text password bound e)
+    → MatchResult r (IsOpened text password bound) (λ e. (e ≡ Named OutOfMemory) ⊎ RefusesOpening text password bound e)
     → (k : SecretKeyRecord) → SecretKeyText text k → k.kdf ≡ scrypt_kdf
     → MatchResult r (λ v. Opens k password bound × (v ≡ xored_key k password))
-    (λ e. (e ≡ out_of_memory) ⊎ (¬ (Opens k password bound) × (password_refusal k password bound ≡ Some e)))
+    (λ e. (e ≡ Named OutOfMemory) ⊎ (¬ (Opens k password bound) × (password_refusal k password bound ≡ Some e)))
 opening_headline text password bound (Ok v) opened k read kdf =
     let same : opened.sealed ≡ k = one_key_text text k opened.sealed read opened.read in
     (rw same at opened.opens, opened.key ∙ ap (λ (l : SecretKeyRecord). xored_key l password) same)

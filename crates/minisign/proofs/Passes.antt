@@ -1,5 +1,5 @@
 -- The passes over data, as a caller of the whole sees them.
-use Rattle.std.proofs.Common.{◌≡◌, ◌≢◌, ◌⊎◌, ℕ, Bool, true, false, List, Option, None, Some, IfSome, IsSome, OnOk, IfErr, IsTrue, inl, inr, ⊎_elim, refl, sym, ap, subst, ◌∙◌, length, arith}
+use Rattle.std.proofs.Common.{◌≡◌, ◌≢◌, ◌⊎◌, ℕ, Bool, true, false, List, Option, None, Some, IfSome, IsSome, OnOk, IfErr, IsTrue, inl, inr, ⊎_elim, refl, sym, ap, subst, ◌∙◌}
 use Rattle.std.proofs.lemmas.Bool.{true≢false}
 use Rattle.std.proofs.lemmas.Slice.Eq.{bytes_eq-Decides}
 use Rattle.std.specs.Io.KnownBytes.{IsAtEnd}
@@ -7,8 +7,8 @@ use Rattle.std.specs.declared.result.Result.{Result}
 use Rattle.std.specs.declared.result.Result.TheVariants.{Ok, Err}
 use Rattle.minisign_hash.specs.Blake2b.{blake2b_digest}
 use Rattle.minisign_base.specs.Devices.{Rose, HasGiven}
-use Rattle.minisign_base.specs.Fault.{Fault}
-use Rattle.minisign_base.specs.Faults.{going_back_failed, out_of_memory, reading_failed}
+use Rattle.minisign_base.specs.Fault.{Fault, Named}
+use Rattle.minisign_base.specs.declared.faults.NamedFault.TheVariants.{GoingBackFailed, OutOfMemory, ReadingFailed}
 use Rattle.minisign_base.specs.Members.{SourceOf}
 use Rattle.minisign_base.specs.Passages.{RereaderPassage, SinkIsCalm, SinkPassage, SourceGives, Takes, TakesFront, rereader_passage}
 use Rattle.minisign.specs.declared.signed_data.SignedData.{SignedData}
@@ -53,21 +53,24 @@ pub judged_signed : (bytes : List ℕ) (signed : SignedData) (x : SignatureBoxRe
     → HoldsSigned signed x legacy message → AreSigned bytes x legacy message
 judged_signed bytes signed x legacy message is holds allowed = is ∙ held_signed signed x legacy message holds allowed
 
+abbrev goes_back : Fault → Bool
+goes_back (Named GoingBackFailed) = true
+goes_back _ = false
+
 -- a failing mark is not told as a failing read
-unlike_reading : going_back_failed ≢ reading_failed
-unfolding going_back_failed reading_failed
-unlike_reading same = let lengths : 17 ≡ 14 = ap (λ f. length f.text) same in omega (arith, lengths)
+unlike_reading : Named GoingBackFailed ≢ Named ReadingFailed
+unlike_reading same = true≢false (ap goes_back same)
 
 -- where a mark fails nothing is told as a failing read
 pub mark_is_no_read : {R : Type 0} (again other : Bool) (reader : RereaderPassage R) (e : Fault) → MarkFails again reader e
-    → other ≡ true → e ≡ reading_failed → reader.source.is_marked reader.new ≡ true
+    → other ≡ true → e ≡ Named ReadingFailed → reader.source.is_marked reader.new ≡ true
 mark_is_no_read again other reader e fails wanted fault = absurd (unlike_reading (sym fails.fault ∙ fault))
 
 -- the first pass was made, and then memory was wanting or the box is refused
 pub judging_fails : {R W O : Type 0} (accepts : Verifier) (pk : PublicKeyRecord) (x : SignatureBoxRecord) (flags : Flags)
     (reader : RereaderPassage R) (status : SinkPassage W) (out : SinkPassage O) (message : List ℕ) (e : Fault)
     → out.new ≡ out.old → status.new ≡ status.old → SourceGives reader → FirstPass (is_reread flags.output x) reader message
-    → ((e ≡ out_of_memory) ⊎ Refuses accepts pk x message flags.legacy e) → VerifyingFails accepts pk x flags reader status out e
+    → ((e ≡ Named OutOfMemory) ⊎ Refuses accepts pk x message flags.legacy e) → VerifyingFails accepts pk x flags reader status out e
 judging_fails accepts pk x flags reader status out message e uncopied unsaid given pass (inl memory) =
     inl (uncopied, given, inl (record { failed = inr (inl memory); marked = λ again fault. pass.stays_marked again; unsaid = unsaid }))
 judging_fails accepts pk x flags reader status out message e uncopied unsaid given pass (inr refuses) =

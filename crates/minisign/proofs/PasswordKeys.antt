@@ -3,8 +3,8 @@ use Rattle.std.proofs.Common.{◌≡◌, ◌≢◌, ◌⊎◌, ◌∙◌, ℕ, B
 use Rattle.std.proofs.lemmas.Bool.{false_from_ne_true, true≢false}
 use Rattle.std.proofs.lemmas.Slice.Eq.{bytes_eq-Decides}
 use Rattle.std.specs.Prelude.{IsErrAnd, if◌then◌else◌, slice_index}
-use Rattle.minisign_base.specs.Fault.{Fault}
-use Rattle.minisign_base.specs.Faults.{out_of_memory}
+use Rattle.minisign_base.specs.Fault.{Fault, Named}
+use Rattle.minisign_base.specs.declared.faults.NamedFault.TheVariants.{OutOfMemory}
 use Rattle.minisign.specs.Calls.{GivesKeyWith, GivesNoKeyWith}
 use Rattle.minisign.specs.Opening.{IsOpened, IsUnencryptedText, RefusesOpening, RefusesUnencrypted}
 use Rattle.minisign.specs.Records.{SecretKeyRecord}
@@ -39,8 +39,8 @@ other_names same = let first : 83 ≡ 0 = ap (λ (l : List ℕ). slice_index l 0
 
 -- the text reads as a key that was never sealed
 pub unsealed_key : (text password : List ℕ) (k : SecretKeyRecord) (r : Result SecretKeyRecord Fault) → SecretKeyText text k → k.kdf ≡ no_kdf
-    → MatchResult r (IsUnencryptedText text) (λ e. (e ≡ out_of_memory) ⊎ RefusesUnencrypted text e)
-    → MatchResult r (GivesKeyWith text password) (λ e. (e ≡ out_of_memory) ⊎ GivesNoKeyWith text password e)
+    → MatchResult r (IsUnencryptedText text) (λ e. (e ≡ Named OutOfMemory) ⊎ RefusesUnencrypted text e)
+    → MatchResult r (GivesKeyWith text password) (λ e. (e ≡ Named OutOfMemory) ⊎ GivesNoKeyWith text password e)
 unsealed_key text password k (Ok v) read kdf h = inl h
 unsealed_key text password k (Err e) read kdf (inl memory) = inl memory
 unsealed_key text password k (Err e) read kdf (inr refused) =
@@ -52,8 +52,8 @@ unsealed_key text password k (Err e) read kdf (inr refused) =
 
 -- the text reads as another key
 pub sealed_key : (text password : List ℕ) (k : SecretKeyRecord) (r : Result SecretKeyRecord Fault) → SecretKeyText text k → k.kdf ≢ no_kdf
-    → MatchResult r (IsOpened text password None) (λ e. (e ≡ out_of_memory) ⊎ RefusesOpening text password None e)
-    → MatchResult r (GivesKeyWith text password) (λ e. (e ≡ out_of_memory) ⊎ GivesNoKeyWith text password e)
+    → MatchResult r (IsOpened text password None) (λ e. (e ≡ Named OutOfMemory) ⊎ RefusesOpening text password None e)
+    → MatchResult r (GivesKeyWith text password) (λ e. (e ≡ Named OutOfMemory) ⊎ GivesNoKeyWith text password e)
 sealed_key text password k (Ok v) read differs h = inr h
 sealed_key text password k (Err e) read differs (inl memory) = inl memory
 sealed_key text password k (Err e) read differs (inr refused) =

@@ -11,9 +11,9 @@ use Rattle.std.proofs.lemmas.Bool.{eq-eqb, eqb-true, ne_eqb, le-leb, leb-true, l
 use Rattle.std.proofs.lemmas.List.{append_assoc, length-append, length-take-le, length-drop, take-append-drop}
 use Rattle.base64.specs.GeneralPurpose.{IsBytes}
 use Rattle.base64.proofs.EngineFacts.{front_bytes}
-use Rattle.minisign_base.specs.Fault.{Fault}
+use Rattle.minisign_base.specs.Fault.{Fault, Named}
 use Rattle.minisign_base.specs.Identifiers.{identifier_text}
-use Rattle.minisign_base.specs.Faults.{missing_public_key_comment, missing_encoded_public_key, public_key_line_length, public_key_line_not_base64, bare_public_key_length, bare_public_key_not_base64, record_too_short}
+use Rattle.minisign_base.specs.declared.faults.NamedFault.TheVariants.{MissingPublicKeyComment, MissingEncodedPublicKey, PublicKeyLineLength, PublicKeyLineNotBase64, BarePublicKeyLength, BarePublicKeyNotBase64, RecordTooShort}
 use Rattle.minisign.specs.Records.{PublicKeyRecord, ReadsPublicKey, public_key_bytes}
 use Rattle.minisign.specs.Texts.{IsBase64Of, IsDecided, HasSecondLine, base64_of, base64_bytes, is_base64, untrusted_comment_label}
 use Rattle.minisign.specs.PublicKeyText.{EncodesPublicKey, PublicKeyText, BarePublicKey, public_key_refusal, bare_public_key_refusal, public_key_label, public_key_text}
@@ -124,24 +124,24 @@ bare_decided text = record {
 }
 
 -- the case that fails at each line
-pub no_comment_line : (text : List ℕ) → lines text ≡ [] → public_key_refusal text ≡ Some missing_public_key_comment
+pub no_comment_line : (text : List ℕ) → lines text ≡ [] → public_key_refusal text ≡ Some (Named MissingPublicKeyComment)
 unfolding public_key_refusal
 no_comment_line text e = rw e refl
 
-pub no_key_line : (text a : List ℕ) → lines text ≡ a ∷ [] → public_key_refusal text ≡ Some missing_encoded_public_key
+pub no_key_line : (text a : List ℕ) → lines text ≡ a ∷ [] → public_key_refusal text ≡ Some (Named MissingEncodedPublicKey)
 unfolding public_key_refusal
 no_key_line text a e = rw e refl
 
 module _ (text b : List ℕ) (second : HasSecondLine text b) where
-  pub other_length : length b ≢ 56 → public_key_refusal text ≡ Some public_key_line_length
+  pub other_length : length b ≢ 56 → public_key_refusal text ≡ Some (Named PublicKeyLineLength)
   unfolding public_key_refusal
   other_length differs = rw (second.cut, ne_eqb _ 56 differs) refl
 
-  pub no_base64 : length b ≡ 56 → is_base64 (trim b) ≡ false → public_key_refusal text ≡ Some public_key_line_not_base64
+  pub no_base64 : length b ≡ 56 → is_base64 (trim b) ≡ false → public_key_refusal text ≡ Some (Named PublicKeyLineNotBase64)
   unfolding public_key_refusal
   no_base64 same other = rw (second.cut, eq-eqb _ 56 same, other) refl
 
-  pub too_short : length b ≡ 56 → is_base64 (trim b) ≡ true → length (base64_bytes (trim b)) < 42 → public_key_refusal text ≡ Some record_too_short
+  pub too_short : length b ≡ 56 → is_base64 (trim b) ≡ true → length (base64_bytes (trim b)) < 42 → public_key_refusal text ≡ Some (Named RecordTooShort)
   unfolding public_key_refusal
   too_short same base64 short = rw (second.cut, eq-eqb _ 56 same, base64, lt-leb 42 _ short) refl
 
@@ -181,15 +181,15 @@ module _ (k : PublicKeyRecord) (bare : BarePublicKey (base64_of (public_key_byte
     key = subst (λ (t : List ℕ). EncodesPublicKey t k) (sym stays) bare.key;
   }
 
-pub other_bare_length : (text : List ℕ) → length (trim text) ≢ 56 → bare_public_key_refusal text ≡ Some bare_public_key_length
+pub other_bare_length : (text : List ℕ) → length (trim text) ≢ 56 → bare_public_key_refusal text ≡ Some (Named BarePublicKeyLength)
 unfolding bare_public_key_refusal
 other_bare_length text differs = rw (ne_eqb _ 56 differs) refl
 
-pub no_bare_base64 : (text : List ℕ) → length (trim text) ≡ 56 → is_base64 text ≡ false → bare_public_key_refusal text ≡ Some bare_public_key_not_base64
+pub no_bare_base64 : (text : List ℕ) → length (trim text) ≡ 56 → is_base64 text ≡ false → bare_public_key_refusal text ≡ Some (Named BarePublicKeyNotBase64)
 unfolding bare_public_key_refusal
 no_bare_base64 text same other = rw (eq-eqb _ 56 same, other) refl
 
-pub bare_too_short : (text : List ℕ) → length (trim text) ≡ 56 → is_base64 text ≡ true → length (base64_bytes text) < 42 → bare_public_key_refusal text ≡ Some record_too_short
+pub bare_too_short : (text : List ℕ) → length (trim text) ≡ 56 → is_base64 text ≡ true → length (base64_bytes text) < 42 → bare_public_key_refusal text ≡ Some (Named RecordTooShort)
 unfolding bare_public_key_refusal
 bare_too_short text same base64 short = rw (eq-eqb _ 56 same, base64, lt-leb 42 _ short) refl
 

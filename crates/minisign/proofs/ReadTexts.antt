@@ -6,8 +6,8 @@ use Rattle.std.specs.declared.option.Option.{Option}
 use Rattle.std.specs.declared.option.Option.TheVariants.{None, Some}
 use Rattle.std.specs.declared.result.Result.{Result}
 use Rattle.std.specs.declared.result.Result.TheVariants.{Ok, Err}
-use Rattle.minisign_base.specs.Fault.{Fault}
-use Rattle.minisign_base.specs.Faults.{out_of_memory}
+use Rattle.minisign_base.specs.Fault.{Fault, Named}
+use Rattle.minisign_base.specs.declared.faults.NamedFault.TheVariants.{OutOfMemory}
 use Rattle.minisign.specs.Texts.{IsRefused, IsDecided, Test, first_failing}
 
 -- all tests hold where no case fails
@@ -29,15 +29,15 @@ refused_at reads first e decided fails = record {
 
 module _ {V : Type 0} (reads : List ℕ → V → Type 0) (first : List ℕ → Option Fault) (decided : (t : List ℕ) → IsDecided (reads t) (first t)) where
   -- what comes beside want of memory is the first case that fails
-  pub refused_for : (s t : List ℕ) (r : Result V Fault) → s ≡ t → IfErr r (λ e. (e ≡ out_of_memory) ⊎ (first s ≡ Some e))
-      → IfErr r (λ e. (e ≡ out_of_memory) ⊎ IsRefused (reads t) (first t) e)
+  pub refused_for : (s t : List ℕ) (r : Result V Fault) → s ≡ t → IfErr r (λ e. (e ≡ Named OutOfMemory) ⊎ (first s ≡ Some e))
+      → IfErr r (λ e. (e ≡ Named OutOfMemory) ⊎ IsRefused (reads t) (first t) e)
   refused_for s t (Ok w) same h = tt
   refused_for s t (Err e) same (inl e_is) = inl e_is
   refused_for s t (Err e) same (inr fails) = inr (refused_at (reads t) (first t) e (decided t) (ap first (sym same) ∙ fails))
 
   -- the value that is read is the one that is answered
-  pub exact_for : (s t : List ℕ) (r : Result V Fault) → s ≡ t → IfOk r (reads s) → IfErr r (λ e. (e ≡ out_of_memory) ⊎ (first s ≡ Some e))
-      → (v : V) → reads t v → MatchResult r (λ w. w ≡ v) (λ e. e ≡ out_of_memory)
+  pub exact_for : (s t : List ℕ) (r : Result V Fault) → s ≡ t → IfOk r (reads s) → IfErr r (λ e. (e ≡ Named OutOfMemory) ⊎ (first s ≡ Some e))
+      → (v : V) → reads t v → MatchResult r (λ w. w ≡ v) (λ e. e ≡ Named OutOfMemory)
   exact_for s t (Ok w) same ok err v read = (decided t).one_value w v (subst (λ (x : List ℕ). reads x w) same ok) read
   exact_for s t (Err e) same ok (inl e_is) v read = e_is
   exact_for s t (Err e) same ok (inr fails) v read =

@@ -4,8 +4,8 @@ use Rattle.std.specs.declared.option.Option.TheVariants.{None}
 use Rattle.std.proofs.lemmas.Bool.{lt-leb, le-leb, leb-true}
 use Rattle.std.proofs.lemmas.List.{length-append, length-take-le, length-drop, take-append-drop}
 use Rattle.std.specs.Str.Lines.{lines}
-use Rattle.minisign_base.specs.Fault.{Fault}
-use Rattle.minisign_base.specs.Faults.{out_of_memory, secret_key_not_base64, record_too_short}
+use Rattle.minisign_base.specs.Fault.{Fault, Named}
+use Rattle.minisign_base.specs.declared.faults.NamedFault.TheVariants.{OutOfMemory, SecretKeyNotBase64, RecordTooShort}
 use Rattle.minisign.specs.Records.{SecretKeyRecord, ReadsSecretKey}
 use Rattle.minisign.specs.SecretKeyText.{SecretKeyText, secret_key_refusal}
 use Rattle.minisign.specs.Texts.{IsBase64Of, IsDecided, IsRefused, base64_bytes, has_line, is_base64, line_at}
@@ -36,7 +36,7 @@ read_text text x y bytes rest k cut encoded stored =
     record { bytes = bytes; second_line = second.more; encoded = rw second.at encoded; stored = stored }
 
 -- a text whose second line is no base64
-pub not_base64_text : (text x y : List ℕ) (rest : List (List ℕ)) → lines text ≡ x ∷ y ∷ rest → is_base64 y ≡ false → IsRefused (SecretKeyText text) (secret_key_refusal text) secret_key_not_base64
+pub not_base64_text : (text x y : List ℕ) (rest : List (List ℕ)) → lines text ≡ x ∷ y ∷ rest → is_base64 y ≡ false → IsRefused (SecretKeyText text) (secret_key_refusal text) (Named SecretKeyNotBase64)
 not_base64_text text x y rest cut failed =
     let second = second_line text x y rest cut in
     let no : is_base64 (line_at 1 text) ≡ false = ap is_base64 second.at ∙ failed in
@@ -47,7 +47,7 @@ not_base64_text text x y rest cut failed =
 
 -- a text whose second line is the base64 of too few bytes
 short_text : (text x y bytes : List ℕ) (rest : List (List ℕ)) → lines text ≡ x ∷ y ∷ rest → IsBase64Of y bytes → length bytes < 158
-    → IsRefused (SecretKeyText text) (secret_key_refusal text) record_too_short
+    → IsRefused (SecretKeyText text) (secret_key_refusal text) (Named RecordTooShort)
 short_text text x y bytes rest cut encoded short =
     let second = second_line text x y rest cut in
     let read : is_base64 (line_at 1 text) ≡ true = ap is_base64 second.at ∙ is_read y bytes encoded in
@@ -61,8 +61,8 @@ short_text text x y bytes rest cut encoded short =
 
 -- what reading the record says of the text
 pub text_outcome : (text x y bytes : List ℕ) (rest : List (List ℕ)) (r : Result SecretKeyRecord Fault) → lines text ≡ x ∷ y ∷ rest → IsBase64Of y bytes
-    → MatchResult r (ReadsSecretKey bytes) (λ e. (e ≡ record_too_short) × (length bytes < 158))
-    → MatchResult r (SecretKeyText text) (λ e. (e ≡ out_of_memory) ⊎ IsRefused (SecretKeyText text) (secret_key_refusal text) e)
+    → MatchResult r (ReadsSecretKey bytes) (λ e. (e ≡ Named RecordTooShort) × (length bytes < 158))
+    → MatchResult r (SecretKeyText text) (λ e. (e ≡ Named OutOfMemory) ⊎ IsRefused (SecretKeyText text) (secret_key_refusal text) e)
 text_outcome text x y bytes rest (Ok k) cut encoded stored = read_text text x y bytes rest k cut encoded stored
 text_outcome text x y bytes rest (Err e) cut encoded (is, short) = inr (rw is (short_text text x y bytes rest cut encoded short))
 

@@ -10,7 +10,8 @@ use Rattle.std.proofs.lemmas.Bool.{le-leb, leb-true, lt-leb}
 use Rattle.std.proofs.lemmas.Bool.Decides.{Decides-eqb}
 use Rattle.std.proofs.lemmas.List.{append_assoc, append_cancel_left, length-take-le, length-drop, take-append-drop}
 use Rattle.std.proofs.lemmas.Slice.Eq.{starts_is, bytes_eq-Decides}
-use Rattle.minisign_base.specs.Faults.{missing_untrusted_comment, missing_signature, missing_trusted_comment, missing_global_signature, untrusted_comment_prefix, signature_not_base64, record_too_short, trusted_comment_prefix, unsupported_signature_algorithm}
+use Rattle.minisign_base.specs.Fault.{Named}
+use Rattle.minisign_base.specs.declared.faults.NamedFault.TheVariants.{MissingUntrustedComment, MissingSignature, MissingTrustedComment, MissingGlobalSignature, UntrustedCommentPrefix, SignatureNotBase64, RecordTooShort, TrustedCommentPrefix, UnsupportedSignatureAlgorithm}
 use Rattle.minisign.specs.Records.{CommentsRecord, SignatureRecord, SignatureBoxRecord, ReadsSignature, IsKnownAlgorithm, signature_bytes, legacy_algorithm, prehashed_algorithm}
 use Rattle.minisign.specs.Texts.{IsBase64Of, IsDecided, base64_of, base64_bytes, is_base64, line_at, untrusted_comment_label}
 use Rattle.minisign.specs.SignatureText.{AreOneLine, EncodesSignature, SignatureText, HasFourLines, KeepsComments, comments_read_back, signature_text, is_known_algorithm, signature_tests, signature_refusal, trusted_comment_label}
@@ -158,52 +159,52 @@ decided text = record {
 }
 
 -- the case that fails where lines are missing
-pub no_first_line : (text : List ℕ) → lines text ≡ [] → signature_refusal text ≡ Some missing_untrusted_comment
+pub no_first_line : (text : List ℕ) → lines text ≡ [] → signature_refusal text ≡ Some (Named MissingUntrustedComment)
 unfolding signature_refusal
 no_first_line text e = rw e refl
 
-pub no_second_line : (text a : List ℕ) → lines text ≡ a ∷ [] → signature_refusal text ≡ Some missing_signature
+pub no_second_line : (text a : List ℕ) → lines text ≡ a ∷ [] → signature_refusal text ≡ Some (Named MissingSignature)
 unfolding signature_refusal
 no_second_line text a e = rw e refl
 
-pub no_third_line : (text a b : List ℕ) → lines text ≡ a ∷ b ∷ [] → signature_refusal text ≡ Some missing_trusted_comment
+pub no_third_line : (text a b : List ℕ) → lines text ≡ a ∷ b ∷ [] → signature_refusal text ≡ Some (Named MissingTrustedComment)
 unfolding signature_refusal
 no_third_line text a b e = rw e refl
 
-pub no_fourth_line : (text a b c : List ℕ) → lines text ≡ a ∷ b ∷ c ∷ [] → signature_refusal text ≡ Some missing_global_signature
+pub no_fourth_line : (text a b c : List ℕ) → lines text ≡ a ∷ b ∷ c ∷ [] → signature_refusal text ≡ Some (Named MissingGlobalSignature)
 unfolding signature_refusal
 no_fourth_line text a b c e = rw e refl
 
 -- the case that fails in one of four lines
 module _ (text a b c d : List ℕ) (four : HasFourLines text a b c d) where
-  pub other_label : starts_with eqb a untrusted_comment_label ≡ false → signature_refusal text ≡ Some untrusted_comment_prefix
+  pub other_label : starts_with eqb a untrusted_comment_label ≡ false → signature_refusal text ≡ Some (Named UntrustedCommentPrefix)
   unfolding signature_refusal
   other_label label = rw (four.cut, label) refl
 
   module _ (label : starts_with eqb a untrusted_comment_label ≡ true) where
-    pub no_base64 : is_base64 (trim b) ≡ false → signature_refusal text ≡ Some signature_not_base64
+    pub no_base64 : is_base64 (trim b) ≡ false → signature_refusal text ≡ Some (Named SignatureNotBase64)
     unfolding signature_refusal
     no_base64 other = rw (four.cut, label, other) refl
 
-    pub too_short : is_base64 (trim b) ≡ true → length (base64_bytes (trim b)) < 74 → signature_refusal text ≡ Some record_too_short
+    pub too_short : is_base64 (trim b) ≡ true → length (base64_bytes (trim b)) < 74 → signature_refusal text ≡ Some (Named RecordTooShort)
     unfolding signature_refusal
     too_short base64 short = rw (four.cut, label, base64, lt-leb 74 _ short) refl
 
     module _ (s : SignatureRecord) (encodes : EncodesSignature (trim b) s) where
-      pub other_trusted_label : starts_with eqb c trusted_comment_label ≡ false → signature_refusal text ≡ Some trusted_comment_prefix
+      pub other_trusted_label : starts_with eqb c trusted_comment_label ≡ false → signature_refusal text ≡ Some (Named TrustedCommentPrefix)
       unfolding signature_refusal
       other_trusted_label trusted =
           let signature = encodes_tests (trim b) s encodes in
           rw (four.cut, label, signature.0, signature.1, trusted) refl
 
       module _ (trusted : starts_with eqb c trusted_comment_label ≡ true) where
-        pub unknown : is_known_algorithm s.algorithm ≡ false → signature_refusal text ≡ Some unsupported_signature_algorithm
+        pub unknown : is_known_algorithm s.algorithm ≡ false → signature_refusal text ≡ Some (Named UnsupportedSignatureAlgorithm)
         unfolding signature_refusal
         unknown other =
             let signature = encodes_tests (trim b) s encodes in
             rw (four.cut, label, signature.0, signature.1, trusted, signature.2, other) refl
 
-        pub no_comment_base64 : is_known_algorithm s.algorithm ≡ true → is_base64 (trim d) ≡ false → signature_refusal text ≡ Some signature_not_base64
+        pub no_comment_base64 : is_known_algorithm s.algorithm ≡ true → is_base64 (trim d) ≡ false → signature_refusal text ≡ Some (Named SignatureNotBase64)
         unfolding signature_refusal
         no_comment_base64 algorithm other =
             let signature = encodes_tests (trim b) s encodes in

@@ -1,7 +1,7 @@
 -- The text of a box that signing made: it is written, and read back as a box that vouches for the same.
 use Rattle.std.proofs.Common.{◌≡◌, ℕ, Bool, List, Option, Some, Result, Ok, Err, IfOk, IfSome, MatchOption, MatchResult, sym, subst}
-use Rattle.minisign_base.specs.Fault.{Fault}
-use Rattle.minisign_base.specs.Faults.{out_of_memory, signature_box_incomplete}
+use Rattle.minisign_base.specs.Fault.{Fault, Named}
+use Rattle.minisign_base.specs.declared.faults.NamedFault.TheVariants.{OutOfMemory, SignatureBoxIncomplete}
 use Rattle.minisign.specs.Records.{CommentsRecord, PublicKeyRecord, SignatureBoxRecord}
 use Rattle.minisign.specs.SignatureText.{AreOneLine, SignatureText, box_read_back, signature_text}
 use Rattle.minisign.specs.Acceptance.{Verifier, Vouches, VouchesUnderEachKey}
@@ -22,12 +22,12 @@ lines_with chosen global one = record {
 -- what writing answers of a box with comments
 pub written_text : {T : Type 0} (bytes : T → List ℕ) (r : Result T Fault) (x : SignatureBoxRecord) (chosen : ChosenComments) (global : List ℕ)
     → x.comments ≡ Some (with_signature chosen global)
-    → MatchOption x.comments (r ≡ Err signature_box_incomplete) (λ c. MatchResult r (λ t. bytes t ≡ signature_text x.signature c) (λ e. e ≡ out_of_memory))
+    → MatchOption x.comments (r ≡ Err (Named SignatureBoxIncomplete)) (λ c. MatchResult r (λ t. bytes t ≡ signature_text x.signature c) (λ e. e ≡ Named OutOfMemory))
     → (IfSome x.comments AreOneLine → IfOk r (λ t. SignatureText (bytes t) (box_read_back x)))
     → IfOk r (λ t. (bytes t ≡ signature_text x.signature (with_signature chosen global)) × (AreLines chosen → SignatureText (bytes t) (box_read_back x)))
 written_text bytes (Err e) x chosen global both written back = tt
 written_text bytes (Ok t) x chosen global both written back = (
-  subst (λ (o : Option CommentsRecord). MatchOption o (Ok t ≡ Err signature_box_incomplete) (λ c. bytes t ≡ signature_text x.signature c)) both written,
+  subst (λ (o : Option CommentsRecord). MatchOption o (Ok t ≡ Err (Named SignatureBoxIncomplete)) (λ c. bytes t ≡ signature_text x.signature c)) both written,
   λ one. back (subst (λ (o : Option CommentsRecord). IfSome o AreOneLine) (sym both) (lines_with chosen global one)),
 )
 

@@ -5,8 +5,8 @@ use Rattle.std.specs.declared.result.Result.{Result}
 use Rattle.std.specs.declared.result.Result.TheVariants.{Ok, Err}
 use Rattle.minisign_hash.specs.Blake2b.{blake2b_digest}
 use Rattle.minisign_base.specs.Passages.{IsSteady, RereaderPassage, SinkFails, SinkPassage, SourceFails}
-use Rattle.minisign_base.specs.Fault.{Fault}
-use Rattle.minisign_base.specs.Faults.{out_of_memory}
+use Rattle.minisign_base.specs.Fault.{Fault, Named}
+use Rattle.minisign_base.specs.declared.faults.NamedFault.TheVariants.{OutOfMemory}
 use Rattle.minisign.specs.Records.{PublicKeyRecord, SignatureBoxRecord, is_prehashed}
 use Rattle.minisign.specs.Acceptance.{Flags, Verifier, Vouches, Refuses, first_refusal}
 use Rattle.minisign.specs.Reading.{IsAhead, IsReadFault}
@@ -18,7 +18,7 @@ use Rattle.minisign.proofs.PublicKeyTexts as key_texts
 use Rattle.minisign.proofs.SignatureTexts as signature_texts
 
 -- a text is refused
-refused_text : (accepts : Verifier) (pk sig message : List ℕ) (legacy : Bool) (e : Fault) → e ≢ out_of_memory → TextsFail pk sig e
+refused_text : (accepts : Verifier) (pk sig message : List ℕ) (legacy : Bool) (e : Fault) → e ≢ Named OutOfMemory → TextsFail pk sig e
     → TextsRefuse accepts pk sig message legacy e
 refused_text accepts pk sig message legacy e memory (inl e_is) = absurd (memory e_is)
 refused_text accepts pk sig message legacy e memory (inr (inl refused)) = record {
@@ -31,10 +31,10 @@ refused_text accepts pk sig message legacy e memory (inr (inr (read, refused))) 
 }
 
 pub text_verdict : {T : Type 0} (accepts : Verifier) (pk sig message : List ℕ) (legacy : Bool) (r : Result T Fault) (e : Fault) → r ≡ Err e → TextsFail pk sig e
-    → IfErr r (λ e. e ≢ out_of_memory) → IsVerdict accepts pk sig message legacy r
+    → IfErr r (λ e. e ≢ Named OutOfMemory) → IsVerdict accepts pk sig message legacy r
 text_verdict accepts pk sig message legacy r e is fails memory =
     subst (IsVerdict accepts pk sig message legacy) (sym is)
-    (refused_text accepts pk sig message legacy e (subst (λ r. IfErr r (λ e. e ≢ out_of_memory)) is memory) fails)
+    (refused_text accepts pk sig message legacy e (subst (λ r. IfErr r (λ e. e ≢ Named OutOfMemory)) is memory) fails)
 
 -- what the output took is vouched for by the texts
 pub copy_vouched : {R W O T : Type 0} (accepts : Verifier) (pk sig : List ℕ) (flags : Flags) (reader : RereaderPassage R) (status : SinkPassage W) (out : SinkPassage O)
@@ -69,7 +69,7 @@ module _ {R W O : Type 0} (accepts : Verifier) (pk sig : List ℕ) (flags : Flag
     the_message : (m : List ℕ) → IsAhead (reader.source.ahead reader.old) m → m ≡ message
     the_message m given = let same : message ≡ m = subst (λ o. IfSome o (λ xs. xs ≡ m)) told given in sym same
 
-    no_read_fault : (e : Fault) → e ≢ out_of_memory → IsReadFault reader.source reader.old reader.new e → ⊥
+    no_read_fault : (e : Fault) → e ≢ Named OutOfMemory → IsReadFault reader.source reader.old reader.new e → ⊥
     no_read_fault e memory (inl e_is) = memory e_is
     no_read_fault e memory (inr fails) = calm fails.rose
 
@@ -86,12 +86,12 @@ module _ {R W O : Type 0} (accepts : Verifier) (pk sig : List ℕ) (flags : Flag
               );
         }
 
-    unsaid : (e : Fault) → e ≢ out_of_memory → SayingFails accepts key box flags reader status e → TextsRefuse accepts pk sig message flags.legacy e
+    unsaid : (e : Fault) → e ≢ Named OutOfMemory → SayingFails accepts key box flags reader status e → TextsRefuse accepts pk sig message flags.legacy e
     unsaid e memory (inl broken) = absurd (⊎_elim (λ mark. calm mark.rose) (no_read_fault e memory) broken.failed)
     unsaid e memory (inr (m, pass, inl down)) = refuses e m pass.given down.refuses
     unsaid e memory (inr (m, pass, inr failed)) = absurd (status_calm failed.rose)
 
-    uncopied : (e : Fault) (m : List ℕ) → e ≢ out_of_memory → flags.output ≡ true → IsAhead (reader.source.ahead reader.old) m
+    uncopied : (e : Fault) (m : List ℕ) → e ≢ Named OutOfMemory → flags.output ≡ true → IsAhead (reader.source.ahead reader.old) m
         → SecondPassFails (SecondPass reader) reader out (blake2b_digest 64 m) e → ⊥
     uncopied e m memory wanted given (inl failed) = calm failed.rose
     uncopied e m memory wanted given (inr (second, pass, inl broken)) = ⊎_elim (no_read_fault e memory) (λ failed. out_calm failed.rose) broken.failed
@@ -100,19 +100,19 @@ module _ {R W O : Type 0} (accepts : Verifier) (pk sig : List ℕ) (flags : Flag
         changed.changed (ap (blake2b_digest 64) (same ∙ sym (the_message m given)))
     uncopied e m memory wanted given (inr (second, pass, inr (inr failed))) = out_calm failed.failed.rose
 
-    refused_output : (e : Fault) (hashed : Bool) → is_prehashed box.signature ≡ hashed → e ≢ out_of_memory
+    refused_output : (e : Fault) (hashed : Bool) → is_prehashed box.signature ≡ hashed → e ≢ Named OutOfMemory
         → OutputRefused accepts key box flags reader status out e → ⊥
     refused_output e true is memory h = uncopied e h.message memory h.wanted h.given (h.again is)
     refused_output e false is memory h = out_calm (h.kept is).failed.rose
 
-    fails : (e : Fault) → e ≢ out_of_memory → VerifyingFails accepts key box flags reader status out e → TextsRefuse accepts pk sig message flags.legacy e
+    fails : (e : Fault) → e ≢ Named OutOfMemory → VerifyingFails accepts key box flags reader status out e → TextsRefuse accepts pk sig message flags.legacy e
     fails e memory (inl (same, given, saying)) = unsaid e memory saying
     fails e memory (inr h) = absurd (refused_output e (is_prehashed box.signature) refl memory h)
 
     -- the verdict where both texts are read
     pub read_verdict : {T : Type 0} (r : Result T Fault) → OnOk r (VerifyingSucceeds accepts key box flags reader status out)
         → IfErr r (VerifyingFails accepts key box flags reader status out)
-        → IfErr r (λ e. e ≢ out_of_memory) → IsVerdict accepts pk sig message flags.legacy r
+        → IfErr r (λ e. e ≢ Named OutOfMemory) → IsVerdict accepts pk sig message flags.legacy r
     read_verdict (Ok x) ok err memory = record {
       key = key;
       box = box;

@@ -3,8 +3,8 @@
 use Rattle.std.specs.Prelude.{◌≡◌, ⊤, ℕ, ◌≤◌, Bool, true, IsTrue, ◌⊎◌, ◌||◌, ◌&&◌, if◌then◌else◌, nat_le, List, [], ◌++◌, length, take, Option, None, Some, IfSome, codes, bytes_eq}
 use Rattle.std.specs.Option.{option_map_or}
 use Rattle.minisign_hash.specs.Blake2b.{blake2b_digest}
-use Rattle.minisign_base.specs.Fault.{Fault}
-use Rattle.minisign_base.specs.Faults.{different_key_ids, legacy_not_accepted, signature_refused, comment_signature_refused}
+use Rattle.minisign_base.specs.Fault.{Fault, Named}
+use Rattle.minisign_base.specs.declared.faults.NamedFault.TheVariants.{DifferentKeyIds, LegacyNotAccepted, SignatureRefused, CommentSignatureRefused}
 use Rattle.minisign.specs.Lines.{line}
 use Rattle.minisign.specs.Records.{PublicKeyRecord, SignatureRecord, CommentsRecord, SignatureBoxRecord, is_prehashed, prehashed_algorithm}
 
@@ -57,10 +57,10 @@ first_refusal accepts pk x message legacy =
     (if is_prehashed x.signature || legacy then
     (if accepts (signed_bytes x message) pk.key x.signature.signature then
     (if accepts_comments accepts pk x then None
-    else Some comment_signature_refused)
-    else Some signature_refused)
-    else Some legacy_not_accepted)
-    else Some (different_key_ids x.signature.keynum pk.keynum)
+    else Some (Named CommentSignatureRefused))
+    else Some (Named SignatureRefused))
+    else Some (Named LegacyNotAccepted))
+    else Some (Named (DifferentKeyIds x.signature.keynum pk.keynum))
 
 -- comments with the same trusted comment and the same first 64 bytes of the comment signature, or none
 abbrev pub SameComments : Option CommentsRecord → Option CommentsRecord → Type 0

@@ -2,9 +2,9 @@
 -- first reason why it is not; a text gives a key under a password, or the first reason why it gives none.
 use Rattle.std.specs.Prelude.{◌≡◌, ℕ, Bool, true, false, ◌⊎◌, if◌then◌else◌, bytes_eq, List, Option, None, Some, IfSome, MatchResult}
 use Rattle.std.specs.declared.result.Result.{Result}
-use Rattle.minisign_base.specs.Fault.{Fault}
+use Rattle.minisign_base.specs.Fault.{Fault, Named}
 use Rattle.minisign_hash.specs.Blake2b.{blake2b_digest}
-use Rattle.minisign_base.specs.Faults.{encrypted_key_refused, out_of_memory}
+use Rattle.minisign_base.specs.declared.faults.NamedFault.TheVariants.{EncryptedKeyRefused, OutOfMemory}
 use Rattle.minisign_base.specs.Passages.{IsSteady, RandomPassage, RereaderPassage, SinkFails, SinkPassage, SourceFails, Takes}
 use Rattle.minisign.specs.Records.{CommentsRecord, SecretKeyRecord, SignatureBoxRecord}
 use Rattle.minisign.specs.Acceptance.{Verifier}
@@ -40,7 +40,7 @@ pub record TextsVouchWith (accepts : Verifier) (pk_text sig_text message : List 
 abbrev pub IsCommentVerdict : {T : Type 0} → (T → List ℕ) → Verifier → List ℕ → List ℕ → List ℕ → Bool → Result T Fault → Type 0
 IsCommentVerdict bytes accepts pk_text sig_text message legacy r =
     MatchResult r (λ t. TextsVouchWith accepts pk_text sig_text message legacy (bytes t))
-    (λ e. (e ≡ out_of_memory) ⊎ TextsRefuse accepts pk_text sig_text message legacy e)
+    (λ e. (e ≡ Named OutOfMemory) ⊎ TextsRefuse accepts pk_text sig_text message legacy e)
 
 -- the same of some signature text and some data, or a fault of reading files: std's files tell no bytes, so that
 -- these are those of the named files is not said
@@ -66,7 +66,7 @@ pub record CopyIsVouchedWith {R O : Type 0} (accepts : Verifier) (pk_text sig_te
 -- nothing was copied: memory ran out, the source failed, or the texts do not vouch for what it gave
 pub record NothingIsCopied {R O : Type 0} (accepts : Verifier) (pk_text sig_text : List ℕ) (reader : RereaderPassage R) (out : SinkPassage O) (e : Fault) : Type 0 where
   pub uncopied : out.new ≡ out.old
-  pub why : (e ≡ out_of_memory) ⊎ MarkFails true reader e ⊎ ReadingFails reader.source reader.old reader.new e
+  pub why : (e ≡ Named OutOfMemory) ⊎ MarkFails true reader e ⊎ ReadingFails reader.source reader.old reader.new e
       ⊎ ((message : List ℕ) × IsAhead (reader.source.ahead reader.old) message × TextsRefuse accepts pk_text sig_text message false e)
 
 -- the texts vouch for what was read, and the copying failed: going back, memory, the second reading or the output
@@ -101,5 +101,5 @@ pub record GivesNoKeyWith (text password : List ℕ) (e : Fault) : Type 0 where
 -- the random source fails
 abbrev pub BytesSigningFails : {Z : Type 0} → SecretKeyRecord → RandomPassage Z → Fault → Type 0
 BytesSigningFails sk z e =
-    ((e ≡ encrypted_key_refused) × (is_encrypted sk ≡ true) × (z.new ≡ z.old))
-    ⊎ ((is_encrypted sk ≡ false) × ((e ≡ out_of_memory) ⊎ DrawFails z e))
+    ((e ≡ Named EncryptedKeyRefused) × (is_encrypted sk ≡ true) × (z.new ≡ z.old))
+    ⊎ ((is_encrypted sk ≡ false) × ((e ≡ Named OutOfMemory) ⊎ DrawFails z e))

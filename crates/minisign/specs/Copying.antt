@@ -2,8 +2,9 @@
 use Rattle.std.specs.Prelude.{◌≡◌, ◌≢◌, ℕ, Bool, true, false, ◌⊎◌, List}
 use Rattle.std.specs.Io.KnownBytes.{IsAtEnd}
 use Rattle.minisign_hash.specs.Blake2b.{blake2b_digest}
-use Rattle.minisign_base.specs.Fault.{Fault}
-use Rattle.minisign_base.specs.Faults.{writing_failed, going_back_failed, data_changed}
+use Rattle.minisign_base.specs.Fault.{Fault, Named}
+use Rattle.minisign_base.specs.declared.faults.NamedFault.TheVariants.{WritingFailed, GoingBackFailed}
+use Rattle.minisign_base.specs.declared.faults.NamedFault.TheVariants as named
 use Rattle.minisign_base.specs.Passages.{RereaderPassage, SinkFails, SinkPassage, SourceFails, Takes, TakesFront}
 use Rattle.minisign.specs.declared.signed_data.SignedData.{SignedData}
 use Rattle.minisign.specs.declared.signed_data.SignedData.TheVariants.{Digest, Kept, Unkept}
@@ -11,12 +12,12 @@ use Rattle.minisign.specs.Reading.{IsReadFault, IsReturned, WereGiven}
 
 -- the output failed
 pub record OutputFails {O : Type 0} (out : SinkPassage O) (e : Fault) : Type 0 where
-  pub fault : e ≡ writing_failed
+  pub fault : e ≡ Named WritingFailed
   pub rose : SinkFails out
 
 -- going back failed, so that no place is marked; nothing was copied
 pub record ReturnFails {R O : Type 0} (reader : RereaderPassage R) (out : SinkPassage O) (e : Fault) : Type 0 where
-  pub fault : e ≡ going_back_failed
+  pub fault : e ≡ Named GoingBackFailed
   pub rose : SourceFails reader
   pub unmarked : reader.source.is_marked reader.new ≡ false
   pub uncopied : out.new ≡ out.old
@@ -35,7 +36,7 @@ pub record CopyBreaksOff {R O : Type 0} (reader : RereaderPassage R) (out : Sink
 pub record DataChanged {R O : Type 0} (reader : RereaderPassage R) (out : SinkPassage O) (digest second : List ℕ) (e : Fault) : Type 0 where
   pub given : WereGiven (reader.source.since reader.new) second
   pub all : Takes out second
-  pub fault : e ≡ data_changed
+  pub fault : e ≡ Named named.DataChanged
   pub changed : blake2b_digest 64 second ≢ digest
 
 -- what the second pass gave was copied whole, and the output failed at its flush

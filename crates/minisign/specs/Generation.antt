@@ -4,8 +4,8 @@ use Rattle.std.specs.Int.{w64, to_le_bytes}
 use Rattle.std.specs.Io.KnownBytes.{Appends}
 use Rattle.minisign_base.specs.Devices.{AppendsFront, Rose}
 use Rattle.minisign_base.specs.Passages.{PromptPassage, RandomPassage, SinkPassage}
-use Rattle.minisign_base.specs.Fault.{Fault}
-use Rattle.minisign_base.specs.Faults.{out_of_memory, writing_failed}
+use Rattle.minisign_base.specs.Fault.{Fault, Named}
+use Rattle.minisign_base.specs.declared.faults.NamedFault.TheVariants.{OutOfMemory, WritingFailed}
 use Rattle.minisign_base.specs.Scheme.{IsBytes}
 use Rattle.minisign.specs.NewPassword.{IsPassword, IsSealingFault}
 use Rattle.minisign.specs.PublicKeyText.{public_key_text}
@@ -136,7 +136,7 @@ pub record FailsAtPart {W : Type 0} (w : SinkPassage W) (part : List ℕ) : Type
 -- the two parts could not be written: the public sink failed at the public part, with the secret sink as it
 -- was, or took it, and the secret sink failed at the secret part
 pub record WritingFails {P K : Type 0} (pk_sink : SinkPassage P) (sk_sink : SinkPassage K) (public secret : List ℕ) (e : Fault) : Type 0 where
-  pub fault : e ≡ writing_failed
+  pub fault : e ≡ Named WritingFailed
   pub part : (FailsAtPart pk_sink public × (sk_sink.new ≡ sk_sink.old)) ⊎ (TakesPart pk_sink public × FailsAtPart sk_sink secret)
 
 -- both sinks are as they were
@@ -147,7 +147,7 @@ AreUnwritten pk_sink sk_sink = (pk_sink.new ≡ pk_sink.old) × (sk_sink.new ≡
 -- failed
 abbrev pub PartsFail : {P K : Type 0} → SinkPassage P → SinkPassage K → List ℕ → List ℕ → Fault → Type 0
 PartsFail pk_sink sk_sink public secret e =
-    ((e ≡ out_of_memory) × AreUnwritten pk_sink sk_sink) ⊎ WritingFails pk_sink sk_sink public secret e
+    ((e ≡ Named OutOfMemory) × AreUnwritten pk_sink sk_sink) ⊎ WritingFails pk_sink sk_sink public secret e
 
 -- a pair that is not sealed is not written as raw bytes: the random source failed, and both sinks are as they
 -- were, or a pair was made whose parts were not written

@@ -4,8 +4,8 @@
 -- notation, such as x.now, and that a key or a box of the code stands here for its record or its text.
 use Rattle.std.specs.Prelude.{◌≡◌, ◌≢◌, ℕ, Bool, true, ◌⊎◌, List, Option, None, Some, IfSome, IfErr, MatchResult}
 use Rattle.std.specs.declared.result.Result.{Result}
-use Rattle.minisign_base.specs.Fault.{Fault}
-use Rattle.minisign_base.specs.Faults.{out_of_memory}
+use Rattle.minisign_base.specs.Fault.{Fault, Named}
+use Rattle.minisign_base.specs.declared.faults.NamedFault.TheVariants.{OutOfMemory}
 use Rattle.minisign_base.specs.Passages.{IsSteady, RereaderPassage, SinkFails, SinkPassage, SourceFails, Takes}
 use Rattle.minisign.specs.Records.{PublicKeyRecord, SecretKeyRecord, SignatureBoxRecord}
 use Rattle.minisign.specs.Acceptance.{Flags, Verifier, Vouches, VouchesUnderEachKey, first_refusal}
@@ -50,7 +50,7 @@ IsVerdict accepts pk_text sig_text message legacy r =
 abbrev pub VerifiesExactly : {R W O T : Type 0} → Verifier → List ℕ → List ℕ → Flags
     → RereaderPassage R → SinkPassage W → SinkPassage O → Result T Fault → Type 0
 VerifiesExactly accepts pk_text sig_text flags reader status out answer =
-    (message : List ℕ) → reader.source.ahead reader.old ≡ Some message → IfErr answer (λ e. e ≢ out_of_memory)
+    (message : List ℕ) → reader.source.ahead reader.old ≡ Some message → IfErr answer (λ e. e ≢ Named OutOfMemory)
     → ¬ (SourceFails reader) → ¬ (SinkFails status) → ¬ (SinkFails out) → (flags.output ≡ true → IsSteady reader)
     → IsVerdict accepts pk_text sig_text message flags.legacy answer
 
@@ -67,7 +67,7 @@ abbrev pub OpeningHeadline : Option (List ℕ) → List ℕ → Option ℕ → R
 OpeningHeadline password text bound answer =
     IfSome password (λ p. (k : SecretKeyRecord) → SecretKeyText text k → k.kdf ≡ scrypt_kdf
     → MatchResult answer (λ v. Opens k p bound × (v ≡ xored_key k p))
-    (λ e. (e ≡ out_of_memory) ⊎ (¬ (Opens k p bound) × (password_refusal k p bound ≡ Some e))))
+    (λ e. (e ≡ Named OutOfMemory) ⊎ (¬ (Opens k p bound) × (password_refusal k p bound ≡ Some e))))
 
 -- signing: where the key is a genuine one, and neither comment has a line feed and the trusted one is trimmed,
 -- the text reads as a box that every public key of its seed and identifier vouches for the message with

@@ -2,9 +2,9 @@
 -- twice, and tells of the derivation.
 use Rattle.std.specs.Prelude.{◌≡◌, ◌≢◌, ◌⊎◌, ℕ, List, Option, None, Some, Ok, codes}
 use Rattle.minisign_base.specs.declared.prompt.Prompt.{Prompt}
-use Rattle.minisign_base.specs.Fault.{Fault}
+use Rattle.minisign_base.specs.Fault.{Fault, Named}
 use Rattle.minisign_base.specs.Passages.{PromptPassage}
-use Rattle.minisign_base.specs.Faults.{out_of_memory, passwords_differ, writing_failed}
+use Rattle.minisign_base.specs.declared.faults.NamedFault.TheVariants.{OutOfMemory, PasswordsDiffer, WritingFailed}
 use Rattle.minisign_base.specs.Prompts.{HasAsked, HasNotSaid, HasSaid, IsAskingFault}
 use Rattle.minisign.specs.Lines.{line}
 use Rattle.minisign.specs.Opening.{asking_text, done_text}
@@ -50,12 +50,12 @@ pub record HasTwo {R W : Type 0} (p : PromptPassage R W) (e : Fault) : Type 0 wh
   pub again : List ℕ
   pub asked : HasAskedTwice p password again
   pub differ : password ≢ again
-  pub fault : e ≡ passwords_differ
+  pub fault : e ≡ Named PasswordsDiffer
 
 -- why no password was chosen
 abbrev pub IsChoosingFault : {R W : Type 0} → PromptPassage R W → Fault → Type 0
 IsChoosingFault p e =
-    ((e ≡ writing_failed) × HasNotSaid p purpose_line) ⊎ HasNoFirst p e ⊎ HasNoSecond p e ⊎ HasTwo p e
+    ((e ≡ Named WritingFailed) × HasNotSaid p purpose_line) ⊎ HasNoFirst p e ⊎ HasNoSecond p e ⊎ HasTwo p e
 
 -- the derivation was told of, before it and after it
 pub record HasTold {R W : Type 0} (p : PromptPassage R W) : Type 0 where
@@ -67,12 +67,12 @@ pub record HasTold {R W : Type 0} (p : PromptPassage R W) : Type 0 where
 pub record HasNotDone {R W : Type 0} (p : PromptPassage R W) (e : Fault) : Type 0 where
   pub between : Prompt R W
   pub before : HasSaid (record p { new = between }) sealing_text
-  pub failed : ((e ≡ out_of_memory) × (p.new ≡ between))
-      ⊎ ((e ≡ writing_failed) × HasNotSaid (record p { old = between }) done_text)
+  pub failed : ((e ≡ Named OutOfMemory) × (p.new ≡ between))
+      ⊎ ((e ≡ Named WritingFailed) × HasNotSaid (record p { old = between }) done_text)
 
 -- why no key was sealed once the password was chosen
 abbrev pub IsTellingFault : {R W : Type 0} → PromptPassage R W → Fault → Type 0
-IsTellingFault p e = ((e ≡ writing_failed) × HasNotSaid p sealing_text) ⊎ HasNotDone p e
+IsTellingFault p e = ((e ≡ Named WritingFailed) × HasNotSaid p sealing_text) ⊎ HasNotDone p e
 
 -- a password was typed twice, and the derivation was told of
 pub record HasTyped {R W : Type 0} (p : PromptPassage R W) (password : List ℕ) : Type 0 where
@@ -95,5 +95,5 @@ pub record HasNotSealed {R W : Type 0} (p : PromptPassage R W) (e : Fault) : Typ
 
 -- why no key was sealed: with a password that is passed in only memory can run out
 abbrev pub IsSealingFault : {R W : Type 0} → PromptPassage R W → Option (List ℕ) → Fault → Type 0
-IsSealingFault p (Some given) e = (e ≡ out_of_memory) × (p.new ≡ p.old)
+IsSealingFault p (Some given) e = (e ≡ Named OutOfMemory) × (p.new ≡ p.old)
 IsSealingFault p None e = IsChoosingFault p e ⊎ HasNotSealed p e

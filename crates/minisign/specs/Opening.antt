@@ -3,9 +3,9 @@
 use Rattle.std.specs.Prelude.{◌≡◌, ◌⊎◌, ℕ, List, [], ◌∷◌, ◌++◌, Option, None, Some, Result, Ok, IsErrAnd, MatchResult, codes}
 use Rattle.std.specs.Io.KnownBytes.{Appends}
 use Rattle.minisign_base.specs.Devices.{AppendsFront, Rose}
-use Rattle.minisign_base.specs.Fault.{Fault}
+use Rattle.minisign_base.specs.Fault.{Fault, Named}
 use Rattle.minisign_base.specs.Passages.{PromptPassage}
-use Rattle.minisign_base.specs.Faults.{out_of_memory, writing_failed, wrong_password}
+use Rattle.minisign_base.specs.declared.faults.NamedFault.TheVariants.{OutOfMemory, WritingFailed, WrongPassword}
 use Rattle.minisign_base.specs.Prompts.{HasReadLine, IsAskingFault, password_of, reader_passage, written_after}
 use Rattle.minisign.specs.Records.{SecretKeyRecord}
 use Rattle.minisign.specs.SecretKeyText.{SecretKeyText, secret_key_refusal}
@@ -68,11 +68,11 @@ pub record HasAskedAndNotSaid {R W : Type 0} (p : PromptPassage R W) (bytes pass
 -- writer that failed at the line behind the derivation; a checksum that was not restored
 abbrev pub IsToldRefusal : (List ℕ → Type 0) → (List ℕ → Type 0) → SecretKeyRecord → List ℕ → Option ℕ → Fault → Type 0
 IsToldRefusal Said NotSaid k password bound e =
-    ((e ≡ writing_failed) × NotSaid deriving_text)
-    ⊎ (((e ≡ out_of_memory) × (work_refusal k bound ≡ None) × Said deriving_text)
+    ((e ≡ Named WritingFailed) × NotSaid deriving_text)
+    ⊎ (((e ≡ Named OutOfMemory) × (work_refusal k bound ≡ None) × Said deriving_text)
     ⊎ (((work_refusal k bound ≡ Some e) × Said deriving_text)
-    ⊎ (((e ≡ writing_failed) × (work_refusal k bound ≡ None) × NotSaid (deriving_text ++ done_text))
-    ⊎ ((work_refusal k bound ≡ None) × (checksum_refusal (xored_key k password) wrong_password ≡ Some e)
+    ⊎ (((e ≡ Named WritingFailed) × (work_refusal k bound ≡ None) × NotSaid (deriving_text ++ done_text))
+    ⊎ ((work_refusal k bound ≡ None) × (checksum_refusal (xored_key k password) (Named WrongPassword) ≡ Some e)
     × Said (deriving_text ++ done_text)))))
 
 -- why a sealed key was not opened where a password is asked for: no password, or what refuses the key with it
@@ -92,7 +92,7 @@ IsOpenedAsking p text bound opened =
 -- password opens, with the prompt untouched; or what refuses the key then
 abbrev pub RefusesAsking : {R W : Type 0} → PromptPassage R W → List ℕ → Option ℕ → Fault → Type 0
 RefusesAsking p text bound e =
-    ((e ≡ out_of_memory) × (p.new ≡ p.old))
+    ((e ≡ Named OutOfMemory) × (p.new ≡ p.old))
     ⊎ ((RefusesKey text kdf_refusal e × (p.new ≡ p.old))
     ⊎ ((k : SecretKeyRecord) × SecretKeyText text k × (k.kdf ≡ scrypt_kdf)
     × IsAskedRefusal p k bound e))
@@ -102,7 +102,7 @@ RefusesAsking p text bound e =
 abbrev pub IsOpening : {R W : Type 0} → PromptPassage R W → Option (List ℕ) → List ℕ → Option ℕ → Result SecretKeyRecord Fault → Type 0
 IsOpening p (Some password) text bound answer =
     (p.new ≡ p.old)
-    × MatchResult answer (IsOpened text password bound) (λ e. (e ≡ out_of_memory) ⊎ RefusesOpening text password bound e)
+    × MatchResult answer (IsOpened text password bound) (λ e. (e ≡ Named OutOfMemory) ⊎ RefusesOpening text password bound e)
 IsOpening p None text bound answer = MatchResult answer (IsOpenedAsking p text bound) (RefusesAsking p text bound)
 
 -- how opening the key of a file ends: the file gave no text, with the prompt untouched, or it gave one, and

@@ -2,8 +2,8 @@
 -- the text that is written for a key.
 use Rattle.std.specs.Prelude.{◌≡◌, ◌==◌, ℕ, List, [], ◌∷◌, ◌++◌, length, nat_le, Option, codes}
 use Rattle.std.specs.Str.{trim}
-use Rattle.minisign_base.specs.Fault.{Fault}
-use Rattle.minisign_base.specs.Faults.{missing_public_key_comment, missing_encoded_public_key, public_key_line_length, public_key_line_not_base64, bare_public_key_length, bare_public_key_not_base64, record_too_short}
+use Rattle.minisign_base.specs.Fault.{Fault, Named}
+use Rattle.minisign_base.specs.declared.faults.NamedFault.TheVariants.{MissingPublicKeyComment, MissingEncodedPublicKey, PublicKeyLineLength, PublicKeyLineNotBase64, BarePublicKeyLength, BarePublicKeyNotBase64, RecordTooShort}
 use Rattle.minisign_base.specs.Identifiers.{identifier_text}
 use Rattle.minisign.specs.Lines.{line}
 use Rattle.minisign.specs.Records.{PublicKeyRecord, ReadsPublicKey, public_key_bytes}
@@ -27,11 +27,11 @@ pub record PublicKeyText (text : List ℕ) (k : PublicKeyRecord) : Type 0 where
 unfoldable pub public_key_refusal : List ℕ → Option Fault
 public_key_refusal text =
     first_failing (
-    record { holds = has_line 0 text; fault = missing_public_key_comment }
-    ∷ record { holds = has_line 1 text; fault = missing_encoded_public_key }
-    ∷ record { holds = length (line_at 1 text) == 56; fault = public_key_line_length }
-    ∷ record { holds = is_base64 (trim (line_at 1 text)); fault = public_key_line_not_base64 }
-    ∷ record { holds = nat_le 42 (length (base64_bytes (trim (line_at 1 text)))); fault = record_too_short }
+    record { holds = has_line 0 text; fault = Named MissingPublicKeyComment }
+    ∷ record { holds = has_line 1 text; fault = Named MissingEncodedPublicKey }
+    ∷ record { holds = length (line_at 1 text) == 56; fault = Named PublicKeyLineLength }
+    ∷ record { holds = is_base64 (trim (line_at 1 text)); fault = Named PublicKeyLineNotBase64 }
+    ∷ record { holds = nat_le 42 (length (base64_bytes (trim (line_at 1 text)))); fault = Named RecordTooShort }
     ∷ []
     )
 
@@ -44,9 +44,9 @@ pub record BarePublicKey (text : List ℕ) (k : PublicKeyRecord) : Type 0 where
 unfoldable pub bare_public_key_refusal : List ℕ → Option Fault
 bare_public_key_refusal text =
     first_failing (
-    record { holds = length (trim text) == 56; fault = bare_public_key_length }
-    ∷ record { holds = is_base64 text; fault = bare_public_key_not_base64 }
-    ∷ record { holds = nat_le 42 (length (base64_bytes text)); fault = record_too_short }
+    record { holds = length (trim text) == 56; fault = Named BarePublicKeyLength }
+    ∷ record { holds = is_base64 text; fault = Named BarePublicKeyNotBase64 }
+    ∷ record { holds = nat_le 42 (length (base64_bytes text)); fault = Named RecordTooShort }
     ∷ []
     )
 

@@ -2,8 +2,8 @@
 use Rattle.std.specs.Prelude.{◌≡◌, ℕ, ◌⊎◌, List, Option, Some, IfSome}
 use Rattle.std.specs.Io.KnownBytes.{IsAtEnd}
 use Rattle.minisign_base.specs.Devices.{Rose, HasGiven}
-use Rattle.minisign_base.specs.Fault.{Fault}
-use Rattle.minisign_base.specs.Faults.{out_of_memory, reading_failed}
+use Rattle.minisign_base.specs.Fault.{Fault, Named}
+use Rattle.minisign_base.specs.declared.faults.NamedFault.TheVariants.{OutOfMemory, ReadingFailed}
 use Rattle.minisign_base.specs.Members.{SourceOf}
 
 -- these were the bytes ahead; where a source does not tell its bytes, nothing is said of them
@@ -24,12 +24,12 @@ pub record ReadsWhole {R : Type 0} (source : SourceOf R) (old new : R) (message 
 
 -- the source failed: its count of faults rose
 pub record ReadingFails {R : Type 0} (source : SourceOf R) (old new : R) (e : Fault) : Type 0 where
-  pub fault : e ≡ reading_failed
+  pub fault : e ≡ Named ReadingFailed
   pub rose : Rose (source.faults old) (source.faults new)
 
 -- memory ran out, or the source failed
 abbrev pub IsReadFault : {R : Type 0} → SourceOf R → R → R → Fault → Type 0
-IsReadFault source old new e = (e ≡ out_of_memory) ⊎ ReadingFails source old new e
+IsReadFault source old new e = (e ≡ Named OutOfMemory) ⊎ ReadingFails source old new e
 
 -- the mark was gone back to, and this was ahead then: what the mark promised, where that is known; some bytes
 -- at its front were given since

@@ -2,8 +2,8 @@
 use Rattle.std.specs.Prelude.{◌≡◌, ℕ, Bool, ◌<◌, ◌≤◌, List, ◌++◌, length, take, drop, Option, ◌⊎◌, codes, bytes_eq, false}
 use Rattle.std.specs.Fmt.{digits}
 use Rattle.std.specs.List.{flat_map}
-use Rattle.minisign_base.specs.Fault.{Fault}
-use Rattle.minisign_base.specs.Faults.{record_too_short, unsupported_signature_algorithm}
+use Rattle.minisign_base.specs.Fault.{Fault, Named}
+use Rattle.minisign_base.specs.declared.faults.NamedFault.TheVariants.{RecordTooShort, UnsupportedSignatureAlgorithm}
 
 -- a public key: 2 bytes of algorithm, 8 of identifier, 32 of key
 pub record PublicKeyRecord : Type 0 where
@@ -54,8 +54,8 @@ IsKnownAlgorithm a = (a ≡ legacy_algorithm) ⊎ (a ≡ prehashed_algorithm)
 -- a bare signature is refused: the bytes are too few, or else the algorithm is not known
 abbrev pub IsBonesFault : List ℕ → Fault → Type 0
 IsBonesFault bytes e =
-    ((e ≡ record_too_short) × (length bytes < 74))
-    ⊎ ((e ≡ unsupported_signature_algorithm) × (74 ≤ length bytes) × ¬ (IsKnownAlgorithm (take 2 bytes)))
+    ((e ≡ Named RecordTooShort) × (length bytes < 74))
+    ⊎ ((e ≡ Named UnsupportedSignatureAlgorithm) × (74 ≤ length bytes) × ¬ (IsKnownAlgorithm (take 2 bytes)))
 
 -- the signature is over the digest of the data
 abbrev pub is_prehashed : SignatureRecord → Bool

@@ -8,8 +8,8 @@ use Rattle.minisign_hash.specs.Blake2b.{blake2b_digest}
 use Rattle.minisign_kdf.specs.Scrypt.{scrypt}
 use Rattle.minisign_kdf.specs.Params.{Numbers}
 use Rattle.minisign_base.specs.Limits.{numbers, sealing_limits}
-use Rattle.minisign_base.specs.Fault.{Fault}
-use Rattle.minisign_base.specs.Faults.{work_too_high, key_not_encrypted, unsupported_encryption_algorithm, key_might_be_encrypted, wrong_password, corrupted_key}
+use Rattle.minisign_base.specs.Fault.{Fault, Named}
+use Rattle.minisign_base.specs.declared.faults.NamedFault.TheVariants.{WorkTooHigh, KeyNotEncrypted, UnsupportedEncryptionAlgorithm, KeyMightBeEncrypted, WrongPassword, CorruptedKey}
 use Rattle.minisign.specs.Records.{SecretKeyRecord}
 
 -- no key derivation: the key was never sealed
@@ -73,14 +73,14 @@ pub record Opens (k : SecretKeyRecord) (password : List ℕ) (bound : Option ℕ
 -- a key that is not sealed, or not by scrypt, is not opened
 abbrev pub kdf_refusal : SecretKeyRecord → Option Fault
 kdf_refusal k =
-    if bytes_eq k.kdf no_kdf then Some key_not_encrypted
-    else (if bytes_eq k.kdf scrypt_kdf then None else Some unsupported_encryption_algorithm)
+    if bytes_eq k.kdf no_kdf then Some (Named KeyNotEncrypted)
+    else (if bytes_eq k.kdf scrypt_kdf then None else Some (Named UnsupportedEncryptionAlgorithm))
 
 -- parameters that are allowed, but for a parallelization above a bound
 abbrev pub bound_refusal : Result Numbers Fault → Option ℕ → Option Fault
 bound_refusal (Err e) bound = Some e
 bound_refusal (Ok v) None = None
-bound_refusal (Ok v) (Some max_p) = if nat_lt max_p v.p then Some work_too_high else None
+bound_refusal (Ok v) (Some max_p) = if nat_lt max_p v.p then Some (Named WorkTooHigh) else None
 
 -- limits that are not allowed, and then a parallelization above the bound
 abbrev pub work_refusal : SecretKeyRecord → Option ℕ → Option Fault
@@ -94,7 +94,7 @@ checksum_refusal k e = if bytes_eq k.checksum (checksum_of k) then None else Som
 -- checksum that the stream does not restore
 abbrev pub password_refusal : SecretKeyRecord → List ℕ → Option ℕ → Option Fault
 password_refusal k password bound =
-    option_or (work_refusal k bound) (checksum_refusal (xored_key k password) wrong_password)
+    option_or (work_refusal k bound) (checksum_refusal (xored_key k password) (Named WrongPassword))
 
 -- the first reason for which a key does not open under a password within a bound
 abbrev pub opening_refusal : SecretKeyRecord → List ℕ → Option ℕ → Option Fault
@@ -108,4 +108,4 @@ pub record IsUnencrypted (k : SecretKeyRecord) : Type 0 where
 -- the first reason for which it is not such a key
 abbrev pub unencrypted_refusal : SecretKeyRecord → Option Fault
 unencrypted_refusal k =
-    option_or (if bytes_eq k.kdf no_kdf then None else Some key_might_be_encrypted) (checksum_refusal k corrupted_key)
+    option_or (if bytes_eq k.kdf no_kdf then None else Some (Named KeyMightBeEncrypted)) (checksum_refusal k (Named CorruptedKey))

@@ -2,8 +2,8 @@
 -- nothing before or behind it. What follows these two lines does not matter.
 use Rattle.std.specs.Prelude.{ℕ, IsTrue, nat_le, List, [], ◌∷◌, ◌++◌, length, Option, codes}
 use Rattle.std.specs.Option.{unwrap_or}
-use Rattle.minisign_base.specs.Fault.{Fault}
-use Rattle.minisign_base.specs.Faults.{missing_secret_key_comment, missing_encoded_secret_key, secret_key_not_base64, record_too_short}
+use Rattle.minisign_base.specs.Fault.{Fault, Named}
+use Rattle.minisign_base.specs.declared.faults.NamedFault.TheVariants.{MissingSecretKeyComment, MissingEncodedSecretKey, SecretKeyNotBase64, RecordTooShort}
 use Rattle.minisign.specs.Lines.{line}
 use Rattle.minisign.specs.Records.{SecretKeyRecord, ReadsSecretKey, secret_key_bytes}
 use Rattle.minisign.specs.Texts.{IsBase64Of, Test, base64_bytes, base64_of, first_failing, has_line, is_base64, line_at, untrusted_comment_label}
@@ -18,10 +18,10 @@ pub record SecretKeyText (text : List ℕ) (k : SecretKeyRecord) : Type 0 where
 -- the tests of a text, in their order
 abbrev pub secret_key_text_tests : List ℕ → List Test
 secret_key_text_tests text =
-    record { holds = has_line 0 text; fault = missing_secret_key_comment }
-    ∷ record { holds = has_line 1 text; fault = missing_encoded_secret_key }
-    ∷ record { holds = is_base64 (line_at 1 text); fault = secret_key_not_base64 }
-    ∷ record { holds = nat_le 158 (length (base64_bytes (line_at 1 text))); fault = record_too_short }
+    record { holds = has_line 0 text; fault = Named MissingSecretKeyComment }
+    ∷ record { holds = has_line 1 text; fault = Named MissingEncodedSecretKey }
+    ∷ record { holds = is_base64 (line_at 1 text); fault = Named SecretKeyNotBase64 }
+    ∷ record { holds = nat_le 158 (length (base64_bytes (line_at 1 text))); fault = Named RecordTooShort }
     ∷ []
 
 -- the first case that fails

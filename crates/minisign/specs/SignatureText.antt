@@ -6,8 +6,8 @@ use Rattle.std.specs.Option.{option_map}
 use Rattle.std.specs.Str.{trim}
 use Rattle.std.specs.Str.Iter.{LacksByte}
 use Rattle.std.specs.Str.Lines.{lines, strip_carriage_return}
-use Rattle.minisign_base.specs.Fault.{Fault}
-use Rattle.minisign_base.specs.Faults.{missing_untrusted_comment, missing_signature, missing_trusted_comment, missing_global_signature, untrusted_comment_prefix, signature_not_base64, record_too_short, trusted_comment_prefix, unsupported_signature_algorithm}
+use Rattle.minisign_base.specs.Fault.{Fault, Named}
+use Rattle.minisign_base.specs.declared.faults.NamedFault.TheVariants.{MissingUntrustedComment, MissingSignature, MissingTrustedComment, MissingGlobalSignature, UntrustedCommentPrefix, SignatureNotBase64, RecordTooShort, TrustedCommentPrefix, UnsupportedSignatureAlgorithm}
 use Rattle.minisign.specs.Lines.{line}
 use Rattle.minisign.specs.Records.{CommentsRecord, SignatureRecord, SignatureBoxRecord, ReadsSignature, IsKnownAlgorithm, signature_bytes, legacy_algorithm, prehashed_algorithm}
 use Rattle.minisign.specs.Texts.{IsBase64Of, base64_of, base64_bytes, is_base64, has_line, line_at, Test, first_failing, untrusted_comment_label}
@@ -40,16 +40,16 @@ is_known_algorithm a = bytes_eq a legacy_algorithm || bytes_eq a prehashed_algor
 -- the tests of a text, in their order
 abbrev pub signature_tests : List ℕ → List Test
 signature_tests text =
-    record { holds = has_line 0 text; fault = missing_untrusted_comment }
-    ∷ record { holds = has_line 1 text; fault = missing_signature }
-    ∷ record { holds = has_line 2 text; fault = missing_trusted_comment }
-    ∷ record { holds = has_line 3 text; fault = missing_global_signature }
-    ∷ record { holds = starts_with nat_eq (line_at 0 text) untrusted_comment_label; fault = untrusted_comment_prefix }
-    ∷ record { holds = is_base64 (trim (line_at 1 text)); fault = signature_not_base64 }
-    ∷ record { holds = nat_le 74 (length (base64_bytes (trim (line_at 1 text)))); fault = record_too_short }
-    ∷ record { holds = starts_with nat_eq (line_at 2 text) trusted_comment_label; fault = trusted_comment_prefix }
-    ∷ record { holds = is_known_algorithm (take 2 (base64_bytes (trim (line_at 1 text)))); fault = unsupported_signature_algorithm }
-    ∷ record { holds = is_base64 (trim (line_at 3 text)); fault = signature_not_base64 }
+    record { holds = has_line 0 text; fault = Named MissingUntrustedComment }
+    ∷ record { holds = has_line 1 text; fault = Named MissingSignature }
+    ∷ record { holds = has_line 2 text; fault = Named MissingTrustedComment }
+    ∷ record { holds = has_line 3 text; fault = Named MissingGlobalSignature }
+    ∷ record { holds = starts_with nat_eq (line_at 0 text) untrusted_comment_label; fault = Named UntrustedCommentPrefix }
+    ∷ record { holds = is_base64 (trim (line_at 1 text)); fault = Named SignatureNotBase64 }
+    ∷ record { holds = nat_le 74 (length (base64_bytes (trim (line_at 1 text)))); fault = Named RecordTooShort }
+    ∷ record { holds = starts_with nat_eq (line_at 2 text) trusted_comment_label; fault = Named TrustedCommentPrefix }
+    ∷ record { holds = is_known_algorithm (take 2 (base64_bytes (trim (line_at 1 text)))); fault = Named UnsupportedSignatureAlgorithm }
+    ∷ record { holds = is_base64 (trim (line_at 3 text)); fault = Named SignatureNotBase64 }
     ∷ []
 
 -- the first case that fails

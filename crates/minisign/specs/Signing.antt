@@ -9,8 +9,8 @@ use Rattle.std.specs.Str.Iter.{LacksByte}
 use Rattle.minisign_hash.specs.Blake2b.{blake2b_digest}
 use Rattle.minisign_base.specs.Devices.{Rose}
 use Rattle.minisign_base.specs.Passages.{RandomPassage, SourcePassage}
-use Rattle.minisign_base.specs.Fault.{Fault}
-use Rattle.minisign_base.specs.Faults.{out_of_memory, random_source_failed, encrypted_key_refused, refused_by_given_key}
+use Rattle.minisign_base.specs.Fault.{Fault, Named}
+use Rattle.minisign_base.specs.declared.faults.NamedFault.TheVariants.{OutOfMemory, RandomSourceFailed, EncryptedKeyRefused, RefusedByGivenKey}
 use Rattle.minisign_base.specs.Scheme.{IsBytes, IsNonce}
 use Rattle.minisign.specs.Records.{PublicKeyRecord, SecretKeyRecord, SignatureBoxRecord, prehashed_algorithm}
 use Rattle.minisign.specs.Acceptance.{Verifier, VouchesUnderEachKey, accepts_comments}
@@ -96,7 +96,7 @@ AreKept chosen = KeepsComments (record { untrusted = chosen.untrusted; trusted =
 
 -- the key is sealed; nothing was read or drawn
 pub record KeyIsSealed {R Z : Type 0} (sk : SecretKeyRecord) (r : SourcePassage R) (z : RandomPassage Z) (e : Fault) : Type 0 where
-  pub fault : e ≡ encrypted_key_refused
+  pub fault : e ≡ Named EncryptedKeyRefused
   pub sealed : is_encrypted sk ≡ true
   pub unread : r.new ≡ r.old
   pub undrawn : z.new ≡ z.old
@@ -108,12 +108,12 @@ pub record DataFails {R Z : Type 0} (r : SourcePassage R) (z : RandomPassage Z) 
 
 -- the random source failed
 pub record DrawFails {Z : Type 0} (z : RandomPassage Z) (e : Fault) : Type 0 where
-  pub fault : e ≡ random_source_failed
+  pub fault : e ≡ Named RandomSourceFailed
   pub rose : Rose (z.random.random_faults z.old) (z.random.random_faults z.new)
 
 -- the public key that was given does not accept the comment signature of the box that was made
 pub record GivenKeyRefuses {Z : Type 0} (accepts : Verifier) (sign : Signer) (pk : PublicKeyRecord) (sk : SecretKeyRecord) (message : List ℕ) (chosen : ChosenComments) (z : RandomPassage Z) (e : Fault) : Type 0 where
-  pub fault : e ≡ refused_by_given_key pk.keynum
+  pub fault : e ≡ Named (RefusedByGivenKey pk.keynum)
   pub made : SignatureBoxRecord
   pub signed : IsSigned sign sk message chosen z made
   pub refused : accepts_comments accepts pk made ≡ false
@@ -122,7 +122,7 @@ pub record GivenKeyRefuses {Z : Type 0} (accepts : Verifier) (sign : Signer) (pk
 -- source fails
 abbrev pub OpenedSigningFails : {R Z : Type 0} → SourcePassage R → RandomPassage Z → Fault → Type 0
 OpenedSigningFails r z e =
-    (e ≡ out_of_memory)
+    (e ≡ Named OutOfMemory)
     ⊎ DataFails r z e
     ⊎ ((message : List ℕ) × ReadsWhole r.source r.old r.new message × DrawFails z e)
 
@@ -133,7 +133,7 @@ abbrev pub SigningFails : {R Z : Type 0} → Verifier → Signer → Option Publ
 SigningFails accepts sign pk sk chosen r z e =
     KeyIsSealed sk r z e
     ⊎ ((is_encrypted sk ≡ false)
-    × ((e ≡ out_of_memory)
+    × ((e ≡ Named OutOfMemory)
     ⊎ DataFails r z e
     ⊎ ((message : List ℕ) × ReadsWhole r.source r.old r.new message
     × (DrawFails z e ⊎ IsSomeAnd pk (λ p. GivenKeyRefuses accepts sign p sk message chosen z e)))))

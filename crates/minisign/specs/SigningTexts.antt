@@ -1,7 +1,7 @@
 -- Signing with the text of a secret key: which key the text gives, and what is returned.
 use Rattle.std.specs.Prelude.{◌≡◌, ◌≢◌, ◌⊎◌, ℕ, List, Option, None, Some, Result, Ok, Err, MatchResult}
-use Rattle.minisign_base.specs.Fault.{Fault}
-use Rattle.minisign_base.specs.Faults.{out_of_memory, corrupted_key}
+use Rattle.minisign_base.specs.Fault.{Fault, Named}
+use Rattle.minisign_base.specs.declared.faults.NamedFault.TheVariants.{OutOfMemory, CorruptedKey}
 use Rattle.minisign_base.specs.Passages.{PromptPassage, RandomPassage, SourcePassage}
 use Rattle.minisign.specs.Records.{CommentsRecord, SecretKeyRecord, SignatureBoxRecord}
 use Rattle.minisign.specs.Texts.{IsRefused}
@@ -20,9 +20,9 @@ GivesKey p password text key =
 -- prompt is as it was; or as another that was not opened
 abbrev pub GivesNoKey : {R W : Type 0} → PromptPassage R W → Option (List ℕ) → List ℕ → Fault → Type 0
 GivesNoKey p password text e =
-    (((e ≡ out_of_memory) ⊎ IsRefused (SecretKeyText text) (secret_key_refusal text) e) × (p.new ≡ p.old))
+    (((e ≡ Named OutOfMemory) ⊎ IsRefused (SecretKeyText text) (secret_key_refusal text) e) × (p.new ≡ p.old))
     ⊎ ((k : SecretKeyRecord) × SecretKeyText text k
-    × (((k.kdf ≡ no_kdf) × (checksum_refusal k corrupted_key ≡ Some e) × (p.new ≡ p.old))
+    × (((k.kdf ≡ no_kdf) × (checksum_refusal k (Named CorruptedKey) ≡ Some e) × (p.new ≡ p.old))
     ⊎ ((k.kdf ≢ no_kdf) × IsOpening p password text None (Err e))))
 
 -- what comes of a text that a key is wanted of

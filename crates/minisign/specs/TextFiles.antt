@@ -1,7 +1,7 @@
 -- Why a text is not read from a source or from a file.
 use Rattle.std.specs.Prelude.{◌≡◌, ℕ, ◌⊎◌, List, IsUtf8}
-use Rattle.minisign_base.specs.Fault.{Fault}
-use Rattle.minisign_base.specs.Faults.{out_of_memory, reading_failed, not_utf8}
+use Rattle.minisign_base.specs.Fault.{Fault, Named}
+use Rattle.minisign_base.specs.declared.faults.NamedFault.TheVariants.{OutOfMemory, ReadingFailed, NotUtf8}
 use Rattle.minisign_base.specs.Members.{SourceOf}
 use Rattle.minisign.specs.Reading.{IsReadFault, ReadsWhole}
 
@@ -10,7 +10,7 @@ pub record GivesNoText {R : Type 0} (source : SourceOf R) (old new : R) (e : Fau
   pub bytes : List ℕ
   pub read : ReadsWhole source old new bytes
   pub unreadable : ¬ (IsUtf8 bytes)
-  pub fault : e ≡ not_utf8
+  pub fault : e ≡ Named NotUtf8
 
 -- why a source gave no text: memory ran out, or it failed, or what it gave is not UTF-8
 abbrev pub IsTextFault : {R : Type 0} → SourceOf R → R → R → Fault → Type 0
@@ -18,4 +18,4 @@ IsTextFault source old new e = IsReadFault source old new e ⊎ GivesNoText sour
 
 -- the faults of a file that gives no text: out of memory, reading failed, not UTF-8; when each comes is not said
 abbrev pub IsTextFileFault : Fault → Type 0
-IsTextFileFault e = (e ≡ out_of_memory) ⊎ (e ≡ reading_failed) ⊎ (e ≡ not_utf8)
+IsTextFileFault e = (e ≡ Named OutOfMemory) ⊎ (e ≡ Named ReadingFailed) ⊎ (e ≡ Named NotUtf8)

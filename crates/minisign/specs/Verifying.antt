@@ -3,8 +3,8 @@ use Rattle.std.specs.Prelude.{◌≡◌, ℕ, Bool, true, false, if◌then◌els
 use Rattle.std.specs.Io.KnownBytes.{IsAtEnd}
 use Rattle.minisign_hash.specs.Blake2b.{blake2b_digest}
 use Rattle.minisign_base.specs.Devices.{StaysOrHides}
-use Rattle.minisign_base.specs.Fault.{Fault}
-use Rattle.minisign_base.specs.Faults.{writing_failed, reading_failed, going_back_failed}
+use Rattle.minisign_base.specs.Fault.{Fault, Named}
+use Rattle.minisign_base.specs.declared.faults.NamedFault.TheVariants.{WritingFailed, ReadingFailed, GoingBackFailed}
 use Rattle.minisign_base.specs.Passages.{IsSteady, RereaderPassage, SinkFails, SinkIsCalm, SinkPassage, SourceFails, SourceGives, SourceIsCalm, Takes}
 use Rattle.minisign.specs.Records.{PublicKeyRecord, SignatureBoxRecord, is_prehashed}
 use Rattle.minisign.specs.Acceptance.{Flags, Refuses, Verifier, Vouches, signed_bytes, status_lines}
@@ -66,7 +66,7 @@ pub record VerifyingSucceeds {R W O : Type 0} (accepts : Verifier) (pk : PublicK
 -- the place could not be marked, so that none is; nothing was read
 pub record MarkFails {R : Type 0} (again : Bool) (reader : RereaderPassage R) (e : Fault) : Type 0 where
   pub wanted : again ≡ true
-  pub fault : e ≡ going_back_failed
+  pub fault : e ≡ Named GoingBackFailed
   pub rose : SourceFails reader
   pub unmarked : reader.source.is_marked reader.new ≡ false
   pub unread : StaysOrHides (reader.source.ahead reader.old) (reader.source.ahead reader.new)
@@ -75,7 +75,7 @@ pub record MarkFails {R : Type 0} (again : Bool) (reader : RereaderPassage R) (e
 -- it is to be read again; nothing was said
 pub record BreaksOff {R W : Type 0} (again : Bool) (reader : RereaderPassage R) (status : SinkPassage W) (e : Fault) : Type 0 where
   pub failed : MarkFails again reader e ⊎ IsReadFault reader.source reader.old reader.new e
-  pub marked : again ≡ true → e ≡ reading_failed → reader.source.is_marked reader.new ≡ true
+  pub marked : again ≡ true → e ≡ Named ReadingFailed → reader.source.is_marked reader.new ≡ true
   pub unsaid : status.new ≡ status.old
 
 -- the box does not vouch for the message, and this is why; nothing was said
@@ -88,7 +88,7 @@ pub record RefusesBox {W : Type 0} (accepts : Verifier) (pk : PublicKeyRecord) (
 pub record StatusFails {W : Type 0} (accepts : Verifier) (pk : PublicKeyRecord) (x : SignatureBoxRecord) (flags : Flags)
     (message : List ℕ) (status : SinkPassage W) (e : Fault) : Type 0 where
   pub vouches : Vouches accepts pk x message flags.legacy
-  pub fault : e ≡ writing_failed
+  pub fault : e ≡ Named WritingFailed
   pub wanted : flags.quiet ≡ false
   pub rose : SinkFails status
 

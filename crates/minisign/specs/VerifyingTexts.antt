@@ -1,7 +1,7 @@
 -- How verifying with two texts ends, stage by stage.
 use Rattle.std.specs.Prelude.{◌≡◌, ℕ, ◌⊎◌, List}
-use Rattle.minisign_base.specs.Fault.{Fault}
-use Rattle.minisign_base.specs.Faults.{out_of_memory}
+use Rattle.minisign_base.specs.Fault.{Fault, Named}
+use Rattle.minisign_base.specs.declared.faults.NamedFault.TheVariants.{OutOfMemory}
 use Rattle.minisign_base.specs.Passages.{RereaderPassage, SinkPassage}
 use Rattle.minisign.specs.Records.{PublicKeyRecord, SignatureBoxRecord}
 use Rattle.minisign.specs.Acceptance.{Flags, Verifier}
@@ -18,7 +18,7 @@ pub record ReadTexts (pk_text sig_text : List ℕ) (key : PublicKeyRecord) (box 
 -- a text is refused, the public key's before the signature's, or memory ran out
 abbrev pub TextsFail : List ℕ → List ℕ → Fault → Type 0
 TextsFail pk_text sig_text e =
-    (e ≡ out_of_memory)
+    (e ≡ Named OutOfMemory)
     ⊎ IsRefused (PublicKeyText pk_text) (public_key_refusal pk_text) e
     ⊎ (((key : PublicKeyRecord) × PublicKeyText pk_text key) × IsRefused (SignatureText sig_text) (signature_refusal sig_text) e)
 

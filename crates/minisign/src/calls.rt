@@ -1,7 +1,8 @@
 //! Calls for callers: verifying with texts, and the comment that was signed.
 
 ghost use Rattle.std.specs.Prelude.{◌≡◌, ◌⊎◌, ℕ, List, true, false, string_bytes, IfOk, IfErr, OnOk};
-ghost use Rattle.minisign_base.specs.Faults.{out_of_memory, reading_failed};
+ghost use Rattle.minisign_base.specs.Fault.{Named};
+ghost use Rattle.minisign_base.specs.declared.faults.NamedFault.TheVariants.{OutOfMemory, ReadingFailed};
 ghost use Rattle.minisign_base.specs.Passages.{rereader_passage, sink_passage};
 ghost use Rattle.minisign.specs.Calls.{CopiesExactly, CopyIsVouchedWith, CopyingFails, IsCommentOf, IsCommentVerdict, IsFileVerdict, TextsVouchWith};
 ghost use Rattle.minisign.specs.Headline.{TextsRefuse, VerifiesExactly};
@@ -18,7 +19,7 @@ use crate::verifying::verify;
 use minisign_base::devices::sinks::Sink;
 use minisign_base::devices::sources::{FileSource, Rereader};
 use minisign_base::scheme::Scheme;
-use minisign_base::{Result, faults};
+use minisign_base::{Result, NamedFault};
 use std::alloc::Global;
 use std::fs;
 use std::rt::Files;
@@ -162,7 +163,7 @@ pub fn verify_file<F: Files, S: Scheme>(
             sig_text.as_str(),
             &mut FileSource::new(file),
         ),
-        Err(_) => Err(faults::reading_failed()),
+        Err(_) => Err(NamedFault::ReadingFailed.into()),
     }
 }
 
@@ -189,7 +190,7 @@ pub fn verify_reader<S: Scheme, R: Rereader>(
         × TextsVouchWith (S.accepts scheme.now) pk_text.now sig_text.now message false (string_bytes t)) }
 
     // Why it was refused.
-    ensures refused { IfErr result (λ e. (e ≡ out_of_memory) ⊎ (e ≡ reading_failed)
+    ensures refused { IfErr result (λ e. (e ≡ Named OutOfMemory) ⊎ (e ≡ Named ReadingFailed)
         ⊎ ((message : List ℕ) × IsAhead (R.ahead data_reader.old) message
         × TextsRefuse (S.accepts scheme.now) pk_text.now sig_text.now message false e)) }
 {

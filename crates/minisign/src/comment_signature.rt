@@ -1,7 +1,8 @@
 //! Whether the comment signature of a box is accepted, which signing and verifying both ask.
 
 ghost use Rattle.std.specs.Prelude.{◌≡◌, IfOk, IfErr};
-ghost use Rattle.minisign_base.specs.Faults.{out_of_memory};
+ghost use Rattle.minisign_base.specs.Fault.{Named};
+ghost use Rattle.minisign_base.specs.declared.faults.NamedFault.TheVariants.{OutOfMemory};
 ghost use Rattle.minisign.specs.Acceptance.{accepts_comment, accepts_comments};
 
 use crate::public_key::PublicKey;
@@ -21,7 +22,7 @@ pub(crate) fn accepts_comments<S: Scheme>(
 ) -> Result<bool>
     ensures answer { IfOk result
         (λ b. b ≡ accepts_comments (S.accepts scheme.now) pk.now signature_box.now) }
-    ensures refused { IfErr result (λ e. e ≡ out_of_memory) }
+    ensures refused { IfErr result (λ e. e ≡ Named OutOfMemory) }
 {
     match &signature_box.comments {
         Some(comments) => accepts_comment(alloc, scheme, pk, &signature_box.signature, comments),
@@ -40,7 +41,7 @@ fn accepts_comment<S: Scheme>(
 ) -> Result<bool>
     ensures answer { IfOk result
         (λ b. b ≡ accepts_comment (S.accepts scheme.now) pk.now signature.now comments.now) }
-    ensures refused { IfErr result (λ e. e ≡ out_of_memory) }
+    ensures refused { IfErr result (λ e. e ≡ Named OutOfMemory) }
 {
     if comments.global_sig.len() < 64 {
         return Ok(false);

@@ -6,7 +6,8 @@ ghost use Rattle.std.specs.Io.KnownBytes.{Appends, IsAtEnd, Keeps};
 ghost use Rattle.minisign_hash.specs.Blake2b.{blake2b_digest};
 ghost use Rattle.minisign_hash.specs.Fed.{IsFed, has_finalized, output_length};
 ghost use Rattle.minisign_base.specs.Devices.{Rose, HasGiven, AppendsFront, BeginsAnew};
-ghost use Rattle.minisign_base.specs.Faults.{going_back_failed};
+ghost use Rattle.minisign_base.specs.Fault.{Named};
+ghost use Rattle.minisign_base.specs.declared.faults.NamedFault.TheVariants.{GoingBackFailed};
 ghost use Rattle.minisign_base.specs.Passages.{rereader_passage, sink_passage};
 ghost use Rattle.minisign.specs.Copying.{CopyingFails, CopyingSucceeds, KeptFails, OutputFails, SecondPassFails};
 ghost use Rattle.minisign.specs.Reading.{IsAhead, IsReadFault, IsReturned, ReadsWhole, WereGiven};
@@ -15,7 +16,7 @@ use crate::reading::piece_buffer;
 use crate::signed_data::SignedData;
 use minisign_base::devices::sinks::{Sink, put_all};
 use minisign_base::devices::sources::{Rereader, Source};
-use minisign_base::{Result, faults};
+use minisign_base::{Result, NamedFault};
 use minisign_hash::blake2b::Blake2b;
 use std::alloc::Global;
 
@@ -72,7 +73,7 @@ fn copy_again<R: Rereader, O: Sink>(
     go_back(data_reader)?;
     let second = copy_hashed(alloc, data_reader, out)?;
     if second != *digest {
-        return Err(faults::data_changed());
+        return Err(NamedFault::DataChanged.into());
     }
     flush(out)
 }
@@ -133,7 +134,7 @@ fn copy_pieces<S: Source, O: Sink>(
                 hasher.update(&buf[..n]);
                 put_bytes(out, &buf[..n])?;
             }
-            Err(_) => return Err(faults::reading_failed()),
+            Err(_) => return Err(NamedFault::ReadingFailed.into()),
         }
     }
 }
@@ -144,12 +145,12 @@ fn go_back<R: Rereader>(data_reader: &mut R) -> Result<()>
     ensures calm { OnOk result (R.faults data_reader.new ≡ R.faults data_reader.old) }
     ensures marked { OnOk result (R.is_marked data_reader.new ≡ true) }
     ensures anew { OnOk result (BeginsAnew (R.since data_reader.new)) }
-    ensures refused { IfErr result (λ e. (e ≡ going_back_failed) × Rose (R.faults data_reader.old) (R.faults data_reader.new)
+    ensures refused { IfErr result (λ e. (e ≡ Named GoingBackFailed) × Rose (R.faults data_reader.old) (R.faults data_reader.new)
         × (R.is_marked data_reader.new ≡ false)) }
 {
     match data_reader.back() {
         Ok(()) => Ok(()),
-        Err(_) => Err(faults::going_back_failed()),
+        Err(_) => Err(NamedFault::GoingBackFailed.into()),
     }
 }
 
@@ -162,7 +163,7 @@ fn put_bytes<O: Sink>(out: &mut O, bytes: &[u8]) -> Result<()>
 {
     match put_all(out, bytes) {
         Ok(()) => Ok(()),
-        Err(_) => Err(faults::writing_failed()),
+        Err(_) => Err(NamedFault::WritingFailed.into()),
     }
 }
 
@@ -174,6 +175,6 @@ fn flush<O: Sink>(out: &mut O) -> Result<()>
 {
     match out.flush() {
         Ok(()) => Ok(()),
-        Err(_) => Err(faults::writing_failed()),
+        Err(_) => Err(NamedFault::WritingFailed.into()),
     }
 }

@@ -6,7 +6,7 @@ ghost use Rattle.minisign_base.specs.Passages.{random_passage};
 ghost use Rattle.minisign.specs.Signing.{DrawFails, HasDrawn};
 
 use minisign_base::devices::random_sources::RandomSource;
-use minisign_base::{Result, faults};
+use minisign_base::{Result, NamedFault};
 
 // The next `N` random bytes.
 pub(crate) fn draw<const N: usize, Z: RandomSource>(random: &mut Z) -> Result<[u8; N]>
@@ -20,6 +20,6 @@ pub(crate) fn draw<const N: usize, Z: RandomSource>(random: &mut Z) -> Result<[u
     let mut bytes = [0u8; N];
     random
         .fill(&mut bytes)
-        .map_err(|_| faults::random_source_failed())?;
+        .map_err(|_| NamedFault::RandomSourceFailed)?;
     Ok(bytes)
 }

@@ -1,9 +1,10 @@
 //! The fields of a record, taken off the front of bytes and put behind them.
 
 ghost use Rattle.std.specs.Prelude.{◌≡◌, ◌+◌, ◌<◌, ◌++◌, length, IfOk, IfErr, MatchResult};
-ghost use Rattle.minisign_base.specs.Faults.{out_of_memory, record_too_short};
+ghost use Rattle.minisign_base.specs.Fault.{Named};
+ghost use Rattle.minisign_base.specs.declared.faults.NamedFault.TheVariants.{OutOfMemory, RecordTooShort};
 
-use minisign_base::{Result, faults};
+use minisign_base::{Result, NamedFault};
 
 // The first `A` bytes, the next `B` and the next `C`, and the bytes behind them.
 pub(crate) fn split_three<const A: usize, const B: usize, const C: usize>(
@@ -13,7 +14,7 @@ pub(crate) fn split_three<const A: usize, const B: usize, const C: usize>(
     ensures first { IfOk result (λ fields. length fields.0 ≡ A) }
     ensures second { IfOk result (λ fields. length fields.1 ≡ B) }
     ensures third { IfOk result (λ fields. length fields.2 ≡ C) }
-    ensures short { IfErr result (λ e. (e ≡ record_too_short) × (length bytes.now < A + B + C)) }
+    ensures short { IfErr result (λ e. (e ≡ Named RecordTooShort) × (length bytes.now < A + B + C)) }
 {
     let (first, rest) = split_field(bytes)?;
     let (second, rest) = split_field(rest)?;
@@ -25,10 +26,10 @@ pub(crate) fn split_three<const A: usize, const B: usize, const C: usize>(
 fn split_field<const N: usize>(bytes: &[u8]) -> Result<([u8; N], &[u8])>
     ensures cut { IfOk result (λ field. bytes.now ≡ field.0 ++ field.1.now) }
     ensures len { IfOk result (λ field. length field.0 ≡ N) }
-    ensures short { IfErr result (λ e. (e ≡ record_too_short) × (length bytes.now < N)) }
+    ensures short { IfErr result (λ e. (e ≡ Named RecordTooShort) × (length bytes.now < N)) }
 {
     if bytes.len() < N {
-        return Err(faults::record_too_short());
+        return Err(NamedFault::RecordTooShort.into());
     }
     let (front, rest) = bytes.split_at(N);
     let mut field = [0u8; N];
@@ -45,7 +46,7 @@ pub(crate) fn push_three(
 ) -> Result<()>
     ensures { MatchResult result
         (λ _. bytes.new.items ≡ bytes.old.items ++ (first.now ++ second.now ++ third.now))
-        (λ e. e ≡ out_of_memory) }
+        (λ e. e ≡ Named OutOfMemory) }
 {
     bytes.extend_from_slice(first)?;
     bytes.extend_from_slice(second)?;

@@ -3,7 +3,8 @@
 ghost use Rattle.std.specs.Prelude.{◌≡◌, ◌⊎◌, List, ℕ, false, None, Some, string_bytes, IfOk, IfErr, OnOk, MatchResult};
 ghost use Rattle.std.specs.Option.{option_map};
 ghost use Rattle.minisign_base.specs.Devices.{HasGiven};
-ghost use Rattle.minisign_base.specs.Faults.{out_of_memory};
+ghost use Rattle.minisign_base.specs.Fault.{Named};
+ghost use Rattle.minisign_base.specs.declared.faults.NamedFault.TheVariants.{OutOfMemory};
 ghost use Rattle.minisign_base.specs.Passages.{random_passage};
 ghost use Rattle.minisign.specs.Calls.{BytesSigningFails, GivesKeyWith, GivesNoKeyWith};
 ghost use Rattle.minisign.specs.Headline.{SigningHeadline};
@@ -37,7 +38,7 @@ use std::alloc::Global;
 /// ```
 pub fn open_with_password(alloc: Global, sk_text: &str, password: &str) -> Result<SecretKey>
     ensures opens { MatchResult result (GivesKeyWith sk_text.now password.now)
-        (λ e. (e ≡ out_of_memory) ⊎ GivesNoKeyWith sk_text.now password.now e) }
+        (λ e. (e ≡ Named OutOfMemory) ⊎ GivesNoKeyWith sk_text.now password.now e) }
 
     // The text gives one key at most under the password.
     ensures one_key { (k l : SecretKeyRecord) → GivesKeyWith sk_text.now password.now k → GivesKeyWith sk_text.now password.now l → k ≡ l }
@@ -54,7 +55,7 @@ pub fn open_with_password(alloc: Global, sk_text: &str, password: &str) -> Resul
 // The key, where it was never sealed and its checksum matches.
 fn unsealed(sk: SecretKey) -> Result<SecretKey>
     ensures { (text : List ℕ) → SecretKeyText text sk →
-        MatchResult result (IsUnencryptedText text) (λ e. (e ≡ out_of_memory) ⊎ RefusesUnencrypted text e) }
+        MatchResult result (IsUnencryptedText text) (λ e. (e ≡ Named OutOfMemory) ⊎ RefusesUnencrypted text e) }
 {
     sk.check_unencrypted()?;
     Ok(sk)

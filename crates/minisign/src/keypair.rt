@@ -5,7 +5,8 @@ ghost use Rattle.std.specs.Option.{option_copied, option_map};
 ghost use Rattle.std.specs.Str.Iter.{LacksByte};
 ghost use Rattle.minisign_base.specs.Devices.{HasGiven};
 ghost use Rattle.minisign_base.specs.Passages.{prompt_passage, random_passage, sink_passage};
-ghost use Rattle.minisign_base.specs.Faults.{out_of_memory, writing_failed};
+ghost use Rattle.minisign_base.specs.Fault.{Named};
+ghost use Rattle.minisign_base.specs.declared.faults.NamedFault.TheVariants.{OutOfMemory, WritingFailed};
 ghost use Rattle.minisign.specs.Records.{public_key_bytes, secret_key_bytes};
 ghost use Rattle.minisign.specs.Sealing.{IsUnencrypted, xored_key};
 ghost use Rattle.minisign.specs.Signing.{DrawFails, HasDrawn};
@@ -26,7 +27,7 @@ use minisign_base::devices::sources::Source;
 use minisign_base::helpers::get_password;
 use minisign_base::prompt::Prompt;
 use minisign_base::scheme::Scheme;
-use minisign_base::{Result, faults};
+use minisign_base::{Result, NamedFault};
 use std::alloc::Global;
 
 /// A public key and the secret key that belongs to it.
@@ -270,7 +271,7 @@ fn choose_password<R: Source, W: Sink>(alloc: Global, prompt: &mut Prompt<R, W>)
     let password = get_password(alloc, prompt, "Password: ")?;
     let again = get_password(alloc, prompt, "Password (one more time): ")?;
     if password != again {
-        return Err(faults::passwords_differ());
+        return Err(NamedFault::PasswordsDiffer.into());
     }
     Ok(password)
 }
@@ -318,9 +319,9 @@ fn write_parts<P: Sink, K: Sink>(
 fn write_part<W: Sink>(sink: &mut W, part: &[u8]) -> Result<()>
     ensures taken { OnOk result (TakesPart (sink_passage W.Sink sink.old sink.new) part.now) }
     ensures failed { OnErr result (FailsAtPart (sink_passage W.Sink sink.old sink.new) part.now) }
-    ensures refused { IfErr result (λ e. e ≡ writing_failed) }
+    ensures refused { IfErr result (λ e. e ≡ Named WritingFailed) }
 {
-    put_and_flush(sink, part).map_err(|_| faults::writing_failed())
+    put_and_flush(sink, part).map_err(|_| NamedFault::WritingFailed.into())
 }
 
 // The pair of a seed under an identifier, sealed with a salt under a password.
@@ -332,7 +333,7 @@ fn make_sealed_pair<S: Scheme>(
 ) -> Result<KeyPair>
     ensures sealed { IfOk result
         (λ pair. IsSealedOf (S.public_of scheme.now) drawn.now.seed drawn.now.keynum drawn.now.salt password.now pair.pk pair.sk) }
-    ensures refused { IfErr result (λ e. e ≡ out_of_memory) }
+    ensures refused { IfErr result (λ e. e ≡ Named OutOfMemory) }
 {
     let KeyPair { pk, sk } = make_pair(scheme, &drawn.seed, drawn.keynum);
     let sk = sk.seal(alloc, drawn.salt, password)?;

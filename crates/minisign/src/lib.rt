@@ -45,7 +45,7 @@ pub use keypair::KeyPair;
 pub use minisign_base;
 pub use minisign_base as base;
 pub use minisign_base::{
-    DeviceFault, ErrorKind, FileSource, FixedRandom, PError, Params, Prompt, RandomSource,
+    DeviceFault, ErrorKind, FileSource, FixedRandom, NamedFault, PError, Params, Prompt, RandomSource,
     ReaderSource, Rereader, Result, Scheme, Sink, SliceSource, Source, SourceRandom, ToyScheme,
     Triple, VecSink, WriterSink,
 };

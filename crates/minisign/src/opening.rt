@@ -2,7 +2,8 @@
 
 ghost use Rattle.std.specs.Prelude.{◌≡◌, ◌≤◌, ◌⊎◌, ℕ, List, ◌++◌, None, Some, Ok, false, string_bytes, MatchResult, IfOk, IfErr, OnOk};
 ghost use Rattle.std.specs.Option.{option_map};
-ghost use Rattle.minisign_base.specs.Faults.{out_of_memory, writing_failed, wrong_password};
+ghost use Rattle.minisign_base.specs.Fault.{Named};
+ghost use Rattle.minisign_base.specs.declared.faults.NamedFault.TheVariants.{OutOfMemory, WritingFailed, WrongPassword};
 ghost use Rattle.minisign.specs.Records.{SecretKeyRecord};
 ghost use Rattle.minisign.specs.SecretKeyText.{SecretKeyText, secret_key_refusal};
 ghost use Rattle.minisign.specs.Texts.{IsDecided};
@@ -20,7 +21,7 @@ use minisign_base::devices::sinks::Sink;
 use minisign_base::devices::sources::Source;
 use minisign_base::helpers::get_password;
 use minisign_base::prompt::Prompt;
-use minisign_base::{Result, faults};
+use minisign_base::{Result, NamedFault};
 use std::alloc::Global;
 use std::rt::Files;
 
@@ -43,7 +44,7 @@ impl SecretKeyBox {
     /// The key, where it was never sealed: `SecretKey::from_unencrypted_box`.
     pub fn into_unencrypted_secret_key(self, alloc: Global) -> Result<SecretKey>
         ensures outcome { MatchResult result (IsUnencryptedText self)
-            (λ e. (e ≡ out_of_memory) ⊎ RefusesUnencrypted self e) }
+            (λ e. (e ≡ Named OutOfMemory) ⊎ RefusesUnencrypted self e) }
         ensures one_reading { IfOk result
             (λ v. (other : SecretKeyRecord) → SecretKeyText self other → other ≡ v) }
     {
@@ -151,7 +152,7 @@ impl SecretKey {
     /// bytes; a checksum that does not match.
     pub fn from_unencrypted_box(alloc: Global, sk_box: SecretKeyBox) -> Result<SecretKey>
         ensures outcome { MatchResult result (IsUnencryptedText sk_box)
-            (λ e. (e ≡ out_of_memory) ⊎ RefusesUnencrypted sk_box e) }
+            (λ e. (e ≡ Named OutOfMemory) ⊎ RefusesUnencrypted sk_box e) }
         ensures one_reading { IfOk result
             (λ v. (other : SecretKeyRecord) → SecretKeyText sk_box other → other ≡ v) }
 
@@ -208,7 +209,7 @@ impl SecretKey {
         ensures unencrypted { IfOk result
             (λ v. SecretKeyText text.now v × (unencrypted_refusal v ≡ None)) }
         ensures refused { IfErr result
-            (λ e. (e ≡ out_of_memory) ⊎ RefusesKey text.now unencrypted_refusal e) }
+            (λ e. (e ≡ Named OutOfMemory) ⊎ RefusesKey text.now unencrypted_refusal e) }
         ensures one_reading { IfOk result
             (λ v. (other : SecretKeyRecord) → SecretKeyText text.now other → other ≡ v) }
     {
@@ -223,10 +224,10 @@ impl SecretKey {
             (λ e. unencrypted_refusal self.now ≡ Some e) }
     {
         if self.kdf_alg != KDF_NONE {
-            return Err(faults::key_might_be_encrypted());
+            return Err(NamedFault::KeyMightBeEncrypted.into());
         }
         if self.keynum_sk.chk != self.read_checksum() {
-            return Err(faults::corrupted_key());
+            return Err(NamedFault::CorruptedKey.into());
         }
         Ok(())
     }
@@ -237,10 +238,10 @@ impl SecretKey {
             (λ e. kdf_refusal self.now ≡ Some e) }
     {
         if self.kdf_alg == KDF_NONE {
-            return Err(faults::key_not_encrypted());
+            return Err(NamedFault::KeyNotEncrypted.into());
         }
         if self.kdf_alg != KDF_ALG {
-            return Err(faults::unsupported_encryption_algorithm());
+            return Err(NamedFault::UnsupportedEncryptionAlgorithm.into());
         }
         Ok(())
     }
@@ -296,11 +297,11 @@ impl SecretKey {
     fn finish_telling<R: Source, W: Sink>(&self, prompt: &mut Prompt<R, W>) -> Result<()>
         ensures said { OnOk result
             (HasSaid (prompt_passage R.Source W.Sink prompt.old prompt.new) done_text) }
-        ensures restored { OnOk result (checksum_refusal self.now wrong_password ≡ None) }
+        ensures restored { OnOk result (checksum_refusal self.now (Named WrongPassword) ≡ None) }
         ensures refused { IfErr result (λ e.
-            ((e ≡ writing_failed)
+            ((e ≡ Named WritingFailed)
             × HasNotSaid (prompt_passage R.Source W.Sink prompt.old prompt.new) done_text)
-            ⊎ ((checksum_refusal self.now wrong_password ≡ Some e)
+            ⊎ ((checksum_refusal self.now (Named WrongPassword) ≡ Some e)
             × HasSaid (prompt_passage R.Source W.Sink prompt.old prompt.new) done_text)) }
     {
         say_done(prompt)?;
@@ -320,7 +321,7 @@ impl SecretKey {
             (λ v. (v ≡ xored_key self password.now)
             × (password_refusal self password.now bound ≡ None)) }
         ensures refused { IfErr result
-            (λ e. ((e ≡ out_of_memory) × (work_refusal self bound ≡ None))
+            (λ e. ((e ≡ Named OutOfMemory) × (work_refusal self bound ≡ None))
             ⊎ (password_refusal self password.now bound ≡ Some e)) }
     {
         let mut sk = self;
@@ -331,11 +332,11 @@ impl SecretKey {
 
     // Tests that opening restored the checksum.
     fn check_restored(&self) -> Result<()>
-        ensures { MatchResult result (λ _. checksum_refusal self.now wrong_password ≡ None)
-            (λ e. checksum_refusal self.now wrong_password ≡ Some e) }
+        ensures { MatchResult result (λ _. checksum_refusal self.now (Named WrongPassword) ≡ None)
+            (λ e. checksum_refusal self.now (Named WrongPassword) ≡ Some e) }
     {
         if self.keynum_sk.chk != self.read_checksum() {
-            return Err(faults::wrong_password());
+            return Err(NamedFault::WrongPassword.into());
         }
         Ok(())
     }
@@ -359,7 +360,7 @@ fn say_deriving<R: Source, W: Sink>(prompt: &mut Prompt<R, W>) -> Result<()>
     ensures said { OnOk result
         (HasSaid (prompt_passage R.Source W.Sink prompt.old prompt.new) deriving_text) }
     ensures refused { IfErr result
-        (λ e. (e ≡ writing_failed)
+        (λ e. (e ≡ Named WritingFailed)
         × HasNotSaid (prompt_passage R.Source W.Sink prompt.old prompt.new) deriving_text) }
 {
     prompt.say("Deriving a key from the password and decrypting the secret key... ")
@@ -371,7 +372,7 @@ fn say_done<R: Source, W: Sink>(prompt: &mut Prompt<R, W>) -> Result<()>
     ensures said { OnOk result
         (HasSaid (prompt_passage R.Source W.Sink prompt.old prompt.new) done_text) }
     ensures refused { IfErr result
-        (λ e. (e ≡ writing_failed)
+        (λ e. (e ≡ Named WritingFailed)
         × HasNotSaid (prompt_passage R.Source W.Sink prompt.old prompt.new) done_text) }
 {
     prompt.say("done\n")

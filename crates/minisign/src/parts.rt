@@ -1,7 +1,8 @@
 //! The parts of keys and boxes that a caller needs whose signature scheme stands outside.
 
 ghost use Rattle.std.specs.Prelude.{◌≡◌, None, Some, IfOk, IfErr, MatchOption, IsSomeAnd};
-ghost use Rattle.minisign_base.specs.Faults.{out_of_memory};
+ghost use Rattle.minisign_base.specs.Fault.{Named};
+ghost use Rattle.minisign_base.specs.declared.faults.NamedFault.TheVariants.{OutOfMemory};
 ghost use Rattle.minisign.specs.Records.{prehashed_algorithm};
 
 use crate::constants::SIGALG_PREHASHED;
@@ -43,7 +44,7 @@ impl SignatureBox {
           signature = record { algorithm = prehashed_algorithm; keynum = key_id.now; signature = signature.now };
           comments = Some (record { untrusted = untrusted_comment.now; trusted = trusted_comment.now; signature = comment_signature.now });
         }) }
-        ensures refused { IfErr result (λ e. e ≡ out_of_memory) }
+        ensures refused { IfErr result (λ e. e ≡ Named OutOfMemory) }
     {
         let comments = Comments {
             untrusted_comment: String::from_str(alloc, untrusted_comment)?,

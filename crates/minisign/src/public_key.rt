@@ -3,7 +3,8 @@
 ghost use Rattle.std.specs.Prelude.{◌≡◌, ◌<◌, ◌⊎◌, List, ℕ, true, false, Some, length, string_bytes, MatchResult, IsOk, IfOk, IfErr, IfSome, IfNone, bytes_eq};
 ghost use Rattle.std.specs.Cmp.{on_per, on_equiv, partial_equiv_from_equiv};
 ghost use Rattle.std.specs.Cmp.Lexicographic.{nat_list_eq_equiv};
-ghost use Rattle.minisign_base.specs.Faults.{out_of_memory, record_too_short};
+ghost use Rattle.minisign_base.specs.Fault.{Named};
+ghost use Rattle.minisign_base.specs.declared.faults.NamedFault.TheVariants.{OutOfMemory, RecordTooShort};
 ghost use Rattle.minisign.specs.Texts.{IsRefused, IsDecided, base64_of, is_base64, base64_bytes};
 ghost use Rattle.std.specs.Str.{trim};
 ghost use Rattle.minisign.specs.Records.{own_public_key};
@@ -17,7 +18,7 @@ use crate::public_key_box::PublicKeyBox;
 use crate::reading::read_text_file;
 use crate::secret_key::SecretKey;
 use crate::texts::{decode, encode, next_line};
-use minisign_base::{Identifier, Result, faults};
+use minisign_base::{Identifier, Result, NamedFault};
 use minisign_hash::util::fixed_time_eq;
 use std::alloc::Global;
 use std::marker::Model;
@@ -56,7 +57,7 @@ impl PublicKey {
     /// later ones are ignored. Takes no memory.
     pub fn from_bytes(bytes: &[u8]) -> Result<PublicKey>
         ensures { MatchResult result (ReadsPublicKey bytes.now)
-            (λ e. (e ≡ record_too_short) × (length bytes.now < 42)) }
+            (λ e. (e ≡ Named RecordTooShort) × (length bytes.now < 42)) }
     {
         let (sig_alg, keynum, pk, _) = split_three(bytes)?;
         Ok(PublicKey {
@@ -74,8 +75,8 @@ impl PublicKey {
     pub fn from_box(alloc: Global, public_key_box: PublicKeyBox) -> Result<PublicKey>
         ensures read { IfOk result (PublicKeyText public_key_box) }
         ensures exact { (k : PublicKeyRecord) → PublicKeyText public_key_box k →
-            MatchResult result (λ v. v ≡ k) (λ e. e ≡ out_of_memory) }
-        ensures refused { IfErr result (λ e. (e ≡ out_of_memory)
+            MatchResult result (λ v. v ≡ k) (λ e. e ≡ Named OutOfMemory) }
+        ensures refused { IfErr result (λ e. (e ≡ Named OutOfMemory)
             ⊎ IsRefused (PublicKeyText public_key_box) (public_key_refusal public_key_box) e) }
         ensures decided { IsDecided (PublicKeyText public_key_box)
             (public_key_refusal public_key_box) }
@@ -105,8 +106,8 @@ impl PublicKey {
     pub fn from_base64(alloc: Global, text: &str) -> Result<PublicKey>
         ensures read { IfOk result (BarePublicKey text.now) }
         ensures exact { (k : PublicKeyRecord) → BarePublicKey text.now k →
-            MatchResult result (λ v. v ≡ k) (λ e. e ≡ out_of_memory) }
-        ensures refused { IfErr result (λ e. (e ≡ out_of_memory)
+            MatchResult result (λ v. v ≡ k) (λ e. e ≡ Named OutOfMemory) }
+        ensures refused { IfErr result (λ e. (e ≡ Named OutOfMemory)
             ⊎ IsRefused (BarePublicKey text.now) (bare_public_key_refusal text.now) e) }
         ensures decided { IsDecided (BarePublicKey text.now) (bare_public_key_refusal text.now) }
     {
@@ -137,7 +138,7 @@ impl PublicKey {
     pub fn to_box(&self, alloc: Global) -> Result<PublicKeyBox>
         ensures text { IfOk result (λ b. b ≡ public_key_text self.now) }
         ensures reads_back { IfOk result (λ b. PublicKeyText b self.now) }
-        ensures refused { IfErr result (λ e. e ≡ out_of_memory) }
+        ensures refused { IfErr result (λ e. e ≡ Named OutOfMemory) }
     {
         let encoded = self.to_base64(alloc)?;
         let text = format!(in alloc;
@@ -152,7 +153,7 @@ impl PublicKey {
     pub fn to_base64(&self, alloc: Global) -> Result<String>
         ensures text { IfOk result (λ t. string_bytes t ≡ base64_of (public_key_bytes self.now)) }
         ensures reads_back { IfOk result (λ t. BarePublicKey (string_bytes t) self.now) }
-        ensures refused { IfErr result (λ e. e ≡ out_of_memory) }
+        ensures refused { IfErr result (λ e. e ≡ Named OutOfMemory) }
     {
         let bytes = self.to_bytes(alloc)?;
         let text = encode(alloc, &bytes)?;
@@ -165,7 +166,7 @@ impl PublicKey {
         ensures reads_back { IfOk result (λ v. ReadsPublicKey v.items self.now) }
         ensures one_reading { IfOk result
             (λ v. (other : PublicKeyRecord) → ReadsPublicKey v.items other → other ≡ self.now) }
-        ensures refused { IfErr result (λ e. e ≡ out_of_memory) }
+        ensures refused { IfErr result (λ e. e ≡ Named OutOfMemory) }
     {
         let mut bytes = Vec::with_capacity(alloc, 42)?;
         let KeynumPK { keynum, pk } = &self.keynum_pk;
@@ -178,7 +179,7 @@ impl PublicKey {
 pub(crate) fn read_text(alloc: Global, text: &str) -> Result<PublicKey>
     ensures read { IfOk result (PublicKeyText text.now) }
     ensures refused { IfErr result
-        (λ e. (e ≡ out_of_memory) ⊎ (public_key_refusal text.now ≡ Some e)) }
+        (λ e. (e ≡ Named OutOfMemory) ⊎ (public_key_refusal text.now ≡ Some e)) }
 {
     let line = key_line(text)?;
     read_key_line(alloc, line)
@@ -188,14 +189,14 @@ pub(crate) fn read_text(alloc: Global, text: &str) -> Result<PublicKey>
 fn read_bare(alloc: Global, text: &str) -> Result<PublicKey>
     ensures read { IfOk result (BarePublicKey text.now) }
     ensures refused { IfErr result
-        (λ e. (e ≡ out_of_memory) ⊎ (bare_public_key_refusal text.now ≡ Some e)) }
+        (λ e. (e ≡ Named OutOfMemory) ⊎ (bare_public_key_refusal text.now ≡ Some e)) }
 {
     if text.trim().len() != ENCODED_BYTES {
-        return Err(faults::bare_public_key_length());
+        return Err(NamedFault::BarePublicKeyLength.into());
     }
     match decode_key(alloc, text)? {
         Some(key) => Ok(key),
-        None => Err(faults::bare_public_key_not_base64()),
+        None => Err(NamedFault::BarePublicKeyNotBase64.into()),
     }
 }
 
@@ -206,26 +207,26 @@ fn key_line(text: &str) -> Result<&str>
 {
     let mut lines = text.lines();
     let Some(_) = next_line(&mut lines) else {
-        return Err(faults::missing_public_key_comment());
+        return Err(NamedFault::MissingPublicKeyComment.into());
     };
     match next_line(&mut lines) {
         Some(line) => Ok(line),
-        None => Err(faults::missing_encoded_public_key()),
+        None => Err(NamedFault::MissingEncodedPublicKey.into()),
     }
 }
 
 // Reads the second line of a public key text.
 fn read_key_line(alloc: Global, line: &str) -> Result<PublicKey>
     ensures read { IfOk result (λ k. (length line.now ≡ 56) × EncodesPublicKey (trim line.now) k) }
-    ensures refused { IfErr result (λ e. (e ≡ out_of_memory)
+    ensures refused { IfErr result (λ e. (e ≡ Named OutOfMemory)
         ⊎ ((text : List ℕ) → HasSecondLine text line.now → public_key_refusal text ≡ Some e)) }
 {
     if line.len() != ENCODED_BYTES {
-        return Err(faults::public_key_line_length());
+        return Err(NamedFault::PublicKeyLineLength.into());
     }
     match decode_key(alloc, line.trim())? {
         Some(key) => Ok(key),
-        None => Err(faults::public_key_line_not_base64()),
+        None => Err(NamedFault::PublicKeyLineNotBase64.into()),
     }
 }
 
@@ -233,8 +234,8 @@ fn read_key_line(alloc: Global, line: &str) -> Result<PublicKey>
 fn decode_key(alloc: Global, text: &str) -> Result<Option<PublicKey>>
     ensures key { IfOk result (λ o. IfSome o (EncodesPublicKey text.now)) }
     ensures none { IfOk result (λ o. IfNone o (is_base64 text.now ≡ false)) }
-    ensures refused { IfErr result (λ e. (e ≡ out_of_memory)
-        ⊎ ((e ≡ record_too_short) × (is_base64 text.now ≡ true)
+    ensures refused { IfErr result (λ e. (e ≡ Named OutOfMemory)
+        ⊎ ((e ≡ Named RecordTooShort) × (is_base64 text.now ≡ true)
         × (length (base64_bytes text.now) < 42))) }
 {
     match decode(alloc, text)? {

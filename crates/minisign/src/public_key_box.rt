@@ -1,7 +1,8 @@
 //! A public key as a text.
 
 ghost use Rattle.std.specs.Prelude.{◌≡◌, ◌⊎◌, Some, MatchResult, IfOk, IfErr, string_bytes};
-ghost use Rattle.minisign_base.specs.Faults.{out_of_memory};
+ghost use Rattle.minisign_base.specs.Fault.{Named};
+ghost use Rattle.minisign_base.specs.declared.faults.NamedFault.TheVariants.{OutOfMemory};
 ghost use Rattle.minisign.specs.PublicKeyText.{PublicKeyText, public_key_refusal};
 ghost use Rattle.minisign.specs.Records.{PublicKeyRecord};
 ghost use Rattle.minisign.specs.Texts.{IsRefused};
@@ -29,7 +30,7 @@ impl PublicKeyBox {
     /// A box that holds a copy of the text. Only running out of memory is refused.
     pub fn from_string(alloc: Global, text: &str) -> Result<PublicKeyBox>
         ensures text { IfOk result (λ b. b ≡ text.now) }
-        ensures refused { IfErr result (λ e. e ≡ out_of_memory) }
+        ensures refused { IfErr result (λ e. e ≡ Named OutOfMemory) }
     {
         Ok(PublicKeyBox::from(String::from_str(alloc, text)?))
     }
@@ -45,7 +46,7 @@ impl PublicKeyBox {
     /// The bytes of the text. Only running out of memory is refused.
     pub fn to_bytes(&self, alloc: Global) -> Result<Vec<u8>>
         ensures bytes { IfOk result (λ v. v.items ≡ self.now) }
-        ensures refused { IfErr result (λ e. e ≡ out_of_memory) }
+        ensures refused { IfErr result (λ e. e ≡ Named OutOfMemory) }
     {
         Ok(Vec::from_slice(alloc, self.as_str().as_bytes())?)
     }
@@ -53,7 +54,7 @@ impl PublicKeyBox {
     /// A box with the same text. Only running out of memory is refused.
     pub fn try_clone(&self, alloc: Global) -> Result<PublicKeyBox>
         ensures text { IfOk result (λ b. b ≡ self.now) }
-        ensures refused { IfErr result (λ e. e ≡ out_of_memory) }
+        ensures refused { IfErr result (λ e. e ≡ Named OutOfMemory) }
     {
         PublicKeyBox::from_string(alloc, self.as_str())
     }
@@ -62,8 +63,8 @@ impl PublicKeyBox {
     pub fn into_public_key(self, alloc: Global) -> Result<PublicKey>
         ensures read { IfOk result (PublicKeyText self) }
         ensures exact { (k : PublicKeyRecord) → PublicKeyText self k →
-            MatchResult result (λ v. v ≡ k) (λ e. e ≡ out_of_memory) }
-        ensures refused { IfErr result (λ e. (e ≡ out_of_memory)
+            MatchResult result (λ v. v ≡ k) (λ e. e ≡ Named OutOfMemory) }
+        ensures refused { IfErr result (λ e. (e ≡ Named OutOfMemory)
             ⊎ IsRefused (PublicKeyText self) (public_key_refusal self) e) }
     {
         PublicKey::from_box(alloc, self)

@@ -4,13 +4,14 @@ ghost use Rattle.std.specs.Prelude.{◌≡◌, ℕ, ◌<◌, List, ◌++◌, fal
 ghost use Rattle.minisign_hash.specs.Blake2b.{blake2b_digest};
 ghost use Rattle.minisign_hash.specs.Fed.{IsFed, has_finalized, output_length};
 ghost use Rattle.minisign_base.specs.Devices.{Rose, HasGiven};
-ghost use Rattle.minisign_base.specs.Faults.{out_of_memory};
+ghost use Rattle.minisign_base.specs.Fault.{Named};
+ghost use Rattle.minisign_base.specs.declared.faults.NamedFault.TheVariants.{OutOfMemory};
 ghost use Rattle.minisign.specs.Reading.{IsReadFault, ReadsWhole};
 ghost use Rattle.minisign.specs.TextFiles.{IsTextFault, IsTextFileFault};
 
 use minisign_base::devices::DeviceFault;
 use minisign_base::devices::sources::{ReaderSource, Source};
-use minisign_base::{Result, faults};
+use minisign_base::{Result, NamedFault};
 use minisign_hash::blake2b::Blake2b;
 use std::alloc::Global;
 use std::fs;
@@ -26,7 +27,7 @@ pub(crate) fn read_text_file<F: Files>(files: &F, alloc: Global, path: &str) -> 
 {
     match fs::open(files, path) {
         Ok(file) => read_text(alloc, &mut ReaderSource::new(file)),
-        Err(_) => Err(faults::reading_failed()),
+        Err(_) => Err(NamedFault::ReadingFailed.into()),
     }
 }
 
@@ -40,7 +41,7 @@ pub fn read_text<S: Source>(alloc: Global, source: &mut S) -> Result<String>
     let bytes = read_to_end(alloc, source)?;
     match String::from_utf8(bytes) {
         Ok(text) => Ok(text),
-        Err(_) => Err(faults::not_utf8()),
+        Err(_) => Err(NamedFault::NotUtf8.into()),
     }
 }
 
@@ -76,7 +77,7 @@ pub(crate) fn prehash<S: Source>(alloc: Global, source: &mut S) -> Result<[u8; 6
             hasher.finalize(&mut digest);
             Ok(digest)
         }
-        Err(_) => Err(faults::reading_failed()),
+        Err(_) => Err(NamedFault::ReadingFailed.into()),
     }
 }
 
@@ -121,7 +122,7 @@ fn keep<S: Source>(source: &mut S, buf: &mut [u8], kept: &mut Vec<u8>) -> Result
                 }
                 kept.extend_from_slice(&buf[..n])?;
             }
-            Err(_) => return Err(faults::reading_failed()),
+            Err(_) => return Err(NamedFault::ReadingFailed.into()),
         }
     }
 }
@@ -129,7 +130,7 @@ fn keep<S: Source>(source: &mut S, buf: &mut [u8], kept: &mut Vec<u8>) -> Result
 // A buffer for pieces, of zeros.
 pub(crate) fn piece_buffer(alloc: Global) -> Result<Vec<u8>>
     ensures len { IfOk result (λ v. vec_len v ≡ PIECE_BYTES) }
-    ensures refused { IfErr result (λ e. e ≡ out_of_memory) }
+    ensures refused { IfErr result (λ e. e ≡ Named OutOfMemory) }
 {
     zeros(alloc, PIECE_BYTES)
 }
@@ -137,7 +138,7 @@ pub(crate) fn piece_buffer(alloc: Global) -> Result<Vec<u8>>
 // A buffer of zeros.
 fn zeros(alloc: Global, len: usize) -> Result<Vec<u8>>
     ensures len { IfOk result (λ v. vec_len v ≡ len) }
-    ensures refused { IfErr result (λ e. e ≡ out_of_memory) }
+    ensures refused { IfErr result (λ e. e ≡ Named OutOfMemory) }
 {
     Ok(vec![in alloc; 0u8; len]?)
 }

@@ -3,7 +3,8 @@
 ghost use Rattle.std.specs.Prelude.{◌≡◌, ◌≤◌, ◌⊎◌, ℕ, List, None, Some, Ok, Err, length, bit_xor, MatchResult, IfOk, IfErr, OnOk, OnErr};
 ghost use Rattle.std.specs.Int.{to_le_bytes, w64};
 ghost use Rattle.std.specs.Simd.Lanes.{zip2};
-ghost use Rattle.minisign_base.specs.Faults.{out_of_memory};
+ghost use Rattle.minisign_base.specs.Fault.{Named};
+ghost use Rattle.minisign_base.specs.declared.faults.NamedFault.TheVariants.{OutOfMemory};
 ghost use Rattle.minisign_base.specs.Limits.{sealing_limits};
 ghost use Rattle.minisign.specs.Generation.{opened_key, sealed_key, sealing_memory, sealing_operations, unsealed_key};
 ghost use Rattle.minisign.specs.Sealing.{bound_refusal, key_limits, key_numbers, key_xor, stream_of, work_refusal, xored_key};
@@ -11,7 +12,7 @@ ghost use Rattle.minisign.specs.Sealing.{bound_refusal, key_limits, key_numbers,
 use crate::constants::{KDF_ALG, MEMLIMIT, OPSLIMIT};
 use crate::secret_key::SecretKey;
 use minisign_base::helpers::{load_u64_le, raw_scrypt_params, store_u64_le};
-use minisign_base::{Params, Result, faults};
+use minisign_base::{Params, Result, NamedFault};
 use minisign_kdf::scrypt_keeping;
 use std::alloc::Global;
 
@@ -28,7 +29,7 @@ impl SecretKey {
             → IfOk result (λ k. k ≡ sealed_key keynum secret salt password.now) }
         ensures opened { (keynum secret : List ℕ) → self ≡ unsealed_key keynum secret
             → IfOk result (λ k. xored_key k password.now ≡ opened_key keynum secret salt) }
-        ensures refused { IfErr result (λ e. e ≡ out_of_memory) }
+        ensures refused { IfErr result (λ e. e ≡ Named OutOfMemory) }
     {
         let mut sk = self.with_limits(salt);
         sk.apply_stream(alloc, password, None, 1)?;
@@ -68,7 +69,7 @@ impl SecretKey {
         ensures restores { OnOk result (xored_key self.new password.now ≡ self.old) }
         ensures allowed { OnOk result (work_refusal self.old bound ≡ None) }
         ensures refused { IfErr result
-            (λ e. ((e ≡ out_of_memory) × (work_refusal self.old bound ≡ None))
+            (λ e. ((e ≡ Named OutOfMemory) × (work_refusal self.old bound ≡ None))
             ⊎ (work_refusal self.old bound ≡ Some e)) }
         ensures same { OnErr result (self.new ≡ self.old) }
     {
@@ -113,7 +114,7 @@ fn derive_stream(
     requires { 1 ≤ k }
     ensures stream { IfOk result (λ s. s ≡ stream_of sk.now password.now) }
     ensures allowed { OnOk result (work_refusal sk.now bound ≡ None) }
-    ensures refused { IfErr result (λ e. ((e ≡ out_of_memory) × (work_refusal sk.now bound ≡ None))
+    ensures refused { IfErr result (λ e. ((e ≡ Named OutOfMemory) × (work_refusal sk.now bound ≡ None))
         ⊎ (work_refusal sk.now bound ≡ Some e)) }
 {
     let params = bounded_params(sk, bound)?;
@@ -141,7 +142,7 @@ fn check_bound(params: &Params, bound: Option<u32>) -> Result<()>
 {
     if let Some(max_p) = bound {
         if params.p() > max_p {
-            return Err(faults::work_too_high());
+            return Err(NamedFault::WorkTooHigh.into());
         }
     }
     Ok(())
@@ -162,7 +163,7 @@ fn sealing_params(memlimit: u64, opslimit: u64) -> Result<Params>
     ensures { result ≡ sealing_limits memlimit opslimit }
 {
     if memlimit > MEMLIMIT_MAX {
-        return Err(faults::parameters_too_high());
+        return Err(NamedFault::ParametersTooHigh.into());
     }
     raw_scrypt_params(memlimit, opslimit, N_LOG2_MAX)
 }

@@ -3,7 +3,8 @@
 ghost use Rattle.std.specs.Prelude.{◌≡◌, ◌<◌, Some, length, MatchResult, IfOk, IfErr, bytes_eq};
 ghost use Rattle.std.specs.Cmp.{on_per, on_equiv, partial_equiv_from_equiv};
 ghost use Rattle.std.specs.Cmp.Lexicographic.{nat_list_eq_equiv};
-ghost use Rattle.minisign_base.specs.Faults.{out_of_memory, record_too_short};
+ghost use Rattle.minisign_base.specs.Fault.{Named};
+ghost use Rattle.minisign_base.specs.declared.faults.NamedFault.TheVariants.{OutOfMemory, RecordTooShort};
 
 use crate::constants::KDF_NONE;
 use crate::fields::{push_three, split_three};
@@ -91,7 +92,7 @@ impl SecretKey {
     /// bytes are kept as they stand: nothing is opened or tested. Takes no memory.
     pub fn from_bytes(bytes: &[u8]) -> Result<SecretKey>
         ensures { MatchResult result (ReadsSecretKey bytes.now)
-            (λ e. (e ≡ record_too_short) × (length bytes.now < 158)) }
+            (λ e. (e ≡ Named RecordTooShort) × (length bytes.now < 158)) }
     {
         let (sig_alg, kdf_alg, chk_alg, rest) = split_three(bytes)?;
         let (kdf_salt, kdf_opslimit_le, kdf_memlimit_le, rest) = split_three(rest)?;
@@ -113,7 +114,7 @@ impl SecretKey {
         ensures reads_back { IfOk result (λ v. ReadsSecretKey v.items self.now) }
         ensures one_reading { IfOk result
             (λ v. (other : SecretKeyRecord) → ReadsSecretKey v.items other → other ≡ self.now) }
-        ensures refused { IfErr result (λ e. e ≡ out_of_memory) }
+        ensures refused { IfErr result (λ e. e ≡ Named OutOfMemory) }
     {
         let mut bytes = Vec::with_capacity(alloc, 158)?;
         push_three(&mut bytes, &self.sig_alg, &self.kdf_alg, &self.chk_alg)?;

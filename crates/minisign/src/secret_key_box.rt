@@ -1,7 +1,8 @@
 //! The text of a secret key, held as it is.
 
 ghost use Rattle.std.specs.Prelude.{◌≡◌, Some, string_bytes, IfOk, IfErr};
-ghost use Rattle.minisign_base.specs.Faults.{out_of_memory};
+ghost use Rattle.minisign_base.specs.Fault.{Named};
+ghost use Rattle.minisign_base.specs.declared.faults.NamedFault.TheVariants.{OutOfMemory};
 
 use minisign_base::Result;
 use std::alloc::Global;
@@ -26,7 +27,7 @@ impl SecretKeyBox {
     /// A box of this text. Only running out of memory is refused.
     pub fn from_string(alloc: Global, s: &str) -> Result<SecretKeyBox>
         ensures text { IfOk result (λ b. b ≡ s.now) }
-        ensures refused { IfErr result (λ e. e ≡ out_of_memory) }
+        ensures refused { IfErr result (λ e. e ≡ Named OutOfMemory) }
     {
         Ok(SecretKeyBox::from(String::from_str(alloc, s)?))
     }
@@ -42,7 +43,7 @@ impl SecretKeyBox {
     /// The bytes of the text. Only running out of memory is refused.
     pub fn to_bytes(&self, alloc: Global) -> Result<Vec<u8>>
         ensures bytes { IfOk result (λ v. v.items ≡ self.now) }
-        ensures refused { IfErr result (λ e. e ≡ out_of_memory) }
+        ensures refused { IfErr result (λ e. e ≡ Named OutOfMemory) }
     {
         Ok(Vec::from_slice(alloc, self.as_str().as_bytes())?)
     }
@@ -50,7 +51,7 @@ impl SecretKeyBox {
     /// Another box of the same text. Only running out of memory is refused.
     pub fn try_clone(&self, alloc: Global) -> Result<SecretKeyBox>
         ensures same { IfOk result (λ b. b ≡ self.now) }
-        ensures refused { IfErr result (λ e. e ≡ out_of_memory) }
+        ensures refused { IfErr result (λ e. e ≡ Named OutOfMemory) }
     {
         SecretKeyBox::from_string(alloc, self.as_str())
     }

@@ -3,7 +3,8 @@
 ghost use Rattle.std.specs.Prelude.{◌≡◌, ◌⊎◌, Some, MatchResult, IfOk, IfErr, IfSome};
 ghost use Rattle.std.specs.Str.Iter.{LacksByte};
 ghost use Rattle.std.specs.Option.{option_copied};
-ghost use Rattle.minisign_base.specs.Faults.{out_of_memory};
+ghost use Rattle.minisign_base.specs.Fault.{Named};
+ghost use Rattle.minisign_base.specs.declared.faults.NamedFault.TheVariants.{OutOfMemory};
 ghost use Rattle.minisign.specs.Records.{SecretKeyRecord};
 ghost use Rattle.minisign.specs.SecretKeyText.{SecretKeyText, secret_key_refusal, secret_key_text};
 ghost use Rattle.minisign.specs.Texts.{IsRefused};
@@ -12,7 +13,7 @@ use crate::constants::{COMMENT_PREFIX, SECRETKEY_DEFAULT_COMMENT};
 use crate::secret_key::SecretKey;
 use crate::secret_key_box::SecretKeyBox;
 use crate::texts::{decode, encode, next_line, push_line};
-use minisign_base::{Result, faults};
+use minisign_base::{Result, NamedFault};
 use std::alloc::Global;
 
 impl SecretKey {
@@ -24,20 +25,20 @@ impl SecretKey {
     /// line that is not base64, or of fewer than 158 bytes. It may run out of memory at any time.
     pub fn from_text(alloc: Global, text: &str) -> Result<SecretKey>
         ensures outcome { MatchResult result (SecretKeyText text.now)
-            (λ e. (e ≡ out_of_memory)
+            (λ e. (e ≡ Named OutOfMemory)
             ⊎ IsRefused (SecretKeyText text.now) (secret_key_refusal text.now) e) }
         ensures one_reading { IfOk result
             (λ v. (other : SecretKeyRecord) → SecretKeyText text.now other → other ≡ v) }
     {
         let mut lines = text.lines();
         let Some(_comment) = next_line(&mut lines) else {
-            return Err(faults::missing_secret_key_comment());
+            return Err(NamedFault::MissingSecretKeyComment.into());
         };
         let Some(encoded) = next_line(&mut lines) else {
-            return Err(faults::missing_encoded_secret_key());
+            return Err(NamedFault::MissingEncodedSecretKey.into());
         };
         let Some(bytes) = decode(alloc, encoded)? else {
-            return Err(faults::secret_key_not_base64());
+            return Err(NamedFault::SecretKeyNotBase64.into());
         };
         SecretKey::from_bytes(&bytes)
     }
@@ -54,7 +55,7 @@ impl SecretKey {
             (λ b. b ≡ secret_key_text (option_copied comment.entry) self.now) }
         ensures reads_back { IfSome comment.entry (λ s. LacksByte 10 s.now)
             → IfOk result (λ b. SecretKeyText b self.now) }
-        ensures refused { IfErr result (λ e. e ≡ out_of_memory) }
+        ensures refused { IfErr result (λ e. e ≡ Named OutOfMemory) }
     {
         match comment {
             Some(comment) => self.write_box(alloc, comment),
@@ -68,7 +69,7 @@ impl SecretKey {
         ensures text { IfOk result (λ b. b ≡ secret_key_text (Some comment.now) self.now) }
         ensures reads_back { LacksByte 10 comment.now
             → IfOk result (λ b. SecretKeyText b self.now) }
-        ensures refused { IfErr result (λ e. e ≡ out_of_memory) }
+        ensures refused { IfErr result (λ e. e ≡ Named OutOfMemory) }
     {
         let bytes = self.to_bytes(alloc)?;
         let encoded = encode(alloc, &bytes)?;

@@ -2,7 +2,8 @@
 
 ghost use Rattle.std.specs.Prelude.{◌≡◌, Some, ◌<◌, ◌++◌, length, vec_len, replicate, MatchResult, IfOk, IfErr};
 ghost use Rattle.minisign_base.specs.Scheme.{IsBytes};
-ghost use Rattle.minisign_base.specs.Faults.{out_of_memory, record_too_short};
+ghost use Rattle.minisign_base.specs.Fault.{Named};
+ghost use Rattle.minisign_base.specs.declared.faults.NamedFault.TheVariants.{OutOfMemory, RecordTooShort};
 ghost use Rattle.minisign.specs.Records.{signature_bytes};
 
 use crate::fields::{push_three, split_three};
@@ -46,7 +47,7 @@ impl Signature {
         ensures one_reading { IfOk result
             (λ v. (other : SignatureRecord) → ReadsSignature v.items other → other ≡ self.now) }
         ensures len { IfOk result (λ v. vec_len v ≡ Self.BYTES) }
-        ensures refused { IfErr result (λ e. e ≡ out_of_memory) }
+        ensures refused { IfErr result (λ e. e ≡ Named OutOfMemory) }
     {
         let mut bytes = Vec::with_capacity(alloc, Self::BYTES)?;
         push_three(&mut bytes, &self.sig_alg, &self.keynum, &self.sig)?;
@@ -57,7 +58,7 @@ impl Signature {
     /// and later ones are ignored. Takes no memory.
     pub fn from_bytes(bytes: &[u8]) -> Result<Signature>
         ensures { MatchResult result (ReadsSignature bytes.now)
-            (λ e. (e ≡ record_too_short) × (length bytes.now < 74)) }
+            (λ e. (e ≡ Named RecordTooShort) × (length bytes.now < 74)) }
     {
         let (sig_alg, keynum, sig, _) = split_three(bytes)?;
         Ok(Signature {
@@ -86,7 +87,7 @@ impl Signature {
     pub(crate) fn with_comment(&self, alloc: Global, trusted_comment: &str) -> Result<Vec<u8>>
         ensures bytes { IfOk result (λ v. v.items ≡ self.now.signature ++ trusted_comment.now) }
         ensures each { IfOk result (λ v. IsBytes v.items) }
-        ensures refused { IfErr result (λ e. e ≡ out_of_memory) }
+        ensures refused { IfErr result (λ e. e ≡ Named OutOfMemory) }
     {
         joined(alloc, &self.sig, trusted_comment.as_bytes())
     }
@@ -96,7 +97,7 @@ impl Signature {
 fn joined(alloc: Global, front: &[u8], back: &[u8]) -> Result<Vec<u8>>
     ensures bytes { IfOk result (λ v. v.items ≡ front.now ++ back.now) }
     ensures each { IfOk result (λ v. IsBytes v.items) }
-    ensures refused { IfErr result (λ e. e ≡ out_of_memory) }
+    ensures refused { IfErr result (λ e. e ≡ Named OutOfMemory) }
 {
     let mut bytes = Vec::new(alloc);
     bytes.extend_from_slice(front)?;

@@ -1,12 +1,13 @@
 //! A signature with no comments.
 
 ghost use Rattle.std.specs.Prelude.{◌≡◌, ◌<◌, length, vec_len, IfOk, IfErr};
-ghost use Rattle.minisign_base.specs.Faults.{out_of_memory, unsupported_signature_algorithm};
+ghost use Rattle.minisign_base.specs.Fault.{Named};
+ghost use Rattle.minisign_base.specs.declared.faults.NamedFault.TheVariants.{OutOfMemory, UnsupportedSignatureAlgorithm};
 
 use crate::constants::{SIGALG, SIGALG_PREHASHED};
 use crate::signature::Signature;
 use crate::signature_box::SignatureBox;
-use minisign_base::{Result, faults};
+use minisign_base::{Result, NamedFault};
 use std::alloc::Global;
 use std::marker::Model;
 
@@ -48,7 +49,7 @@ impl SignatureBones {
     {
         let signature = Signature::from_bytes(bytes)?;
         if signature.sig_alg != SIGALG && signature.sig_alg != SIGALG_PREHASHED {
-            return Err(faults::unsupported_signature_algorithm());
+            return Err(NamedFault::UnsupportedSignatureAlgorithm.into());
         }
         Ok(SignatureBones { signature })
     }
@@ -61,7 +62,7 @@ impl SignatureBones {
         ensures one_reading { IfOk result
             (λ v. (other : SignatureRecord) → ReadsSignature v.items other → other ≡ self.now) }
         ensures len { IfOk result (λ v. vec_len v ≡ Self.BYTES) }
-        ensures refused { IfErr result (λ e. e ≡ out_of_memory) }
+        ensures refused { IfErr result (λ e. e ≡ Named OutOfMemory) }
     {
         self.signature.to_bytes(alloc)
     }

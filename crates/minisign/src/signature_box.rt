@@ -2,7 +2,8 @@
 
 ghost use Rattle.std.specs.Prelude.{◌≡◌, ◌≢◌, ◌⊎◌, ◌<◌, ◌++◌, List, ℕ, true, false, None, Some, Err, length, string_bytes, MatchOption, MatchResult, IfOk, IfErr, IfSome};
 ghost use Rattle.std.specs.Str.{trim};
-ghost use Rattle.minisign_base.specs.Faults.{out_of_memory, record_too_short, signature_box_incomplete, signature_not_base64, trusted_comment_absent, trusted_comment_prefix, unsupported_signature_algorithm, untrusted_comment_prefix};
+ghost use Rattle.minisign_base.specs.Fault.{Named};
+ghost use Rattle.minisign_base.specs.declared.faults.NamedFault.TheVariants.{OutOfMemory, RecordTooShort, SignatureBoxIncomplete, SignatureNotBase64, TrustedCommentAbsent, TrustedCommentPrefix, UnsupportedSignatureAlgorithm, UntrustedCommentPrefix};
 ghost use Rattle.minisign.specs.Records.{CommentsRecord, SignatureBoxRecord, IsKnownAlgorithm};
 ghost use Rattle.minisign.specs.SignatureText.{AreOneLine, EncodesSignature, HasFourLines, SignatureText, KeepsComments, box_read_back, comments_read_back, is_known_algorithm, signature_refusal, signature_text, trusted_comment_label};
 ghost use Rattle.minisign.specs.TextFiles.{IsTextFileFault};
@@ -13,7 +14,7 @@ use crate::reading::read_text_file;
 use crate::signature::Signature;
 use crate::signature_bones::SignatureBones;
 use crate::texts::{decode, encode, next_line};
-use minisign_base::{Result, faults};
+use minisign_base::{Result, NamedFault};
 use std::alloc::Global;
 use std::marker::Model;
 use std::rt::Files;
@@ -85,8 +86,8 @@ impl SignatureBox {
     pub fn from_string(alloc: Global, text: &str) -> Result<SignatureBox>
         ensures read { IfOk result (SignatureText text.now) }
         ensures exact { (x : SignatureBoxRecord) → SignatureText text.now x →
-            MatchResult result (λ y. y ≡ x) (λ e. e ≡ out_of_memory) }
-        ensures refused { IfErr result (λ e. (e ≡ out_of_memory)
+            MatchResult result (λ y. y ≡ x) (λ e. e ≡ Named OutOfMemory) }
+        ensures refused { IfErr result (λ e. (e ≡ Named OutOfMemory)
             ⊎ IsRefused (SignatureText text.now) (signature_refusal text.now) e) }
         ensures decided { IsDecided (SignatureText text.now) (signature_refusal text.now) }
     {
@@ -97,8 +98,8 @@ impl SignatureBox {
     pub fn try_from_string(alloc: Global, text: String) -> Result<SignatureBox>
         ensures read { IfOk result (SignatureText (string_bytes text)) }
         ensures exact { (x : SignatureBoxRecord) → SignatureText (string_bytes text) x →
-            MatchResult result (λ y. y ≡ x) (λ e. e ≡ out_of_memory) }
-        ensures refused { IfErr result (λ e. (e ≡ out_of_memory)
+            MatchResult result (λ y. y ≡ x) (λ e. e ≡ Named OutOfMemory) }
+        ensures refused { IfErr result (λ e. (e ≡ Named OutOfMemory)
             ⊎ IsRefused (SignatureText (string_bytes text))
             (signature_refusal (string_bytes text)) e) }
     {
@@ -128,9 +129,9 @@ impl SignatureBox {
     /// at its ends. Where the untrusted one ends in a carriage return, it is read back without that
     /// one.
     pub fn to_string(&self, alloc: Global) -> Result<String>
-        ensures text { MatchOption self.now.comments (result ≡ Err signature_box_incomplete)
+        ensures text { MatchOption self.now.comments (result ≡ Err (Named SignatureBoxIncomplete))
             (λ c. MatchResult result (λ t. string_bytes t ≡ signature_text self.now.signature c)
-            (λ e. e ≡ out_of_memory)) }
+            (λ e. e ≡ Named OutOfMemory)) }
         ensures reads_back { IfSome self.now.comments KeepsComments
             → IfOk result (λ t. SignatureText (string_bytes t) self.now) }
         ensures reads { IfSome self.now.comments AreOneLine
@@ -138,15 +139,15 @@ impl SignatureBox {
     {
         match &self.comments {
             Some(comments) => written(alloc, &self.signature, comments),
-            None => Err(faults::signature_box_incomplete()),
+            None => Err(NamedFault::SignatureBoxIncomplete.into()),
         }
     }
 
     /// As `to_string`, of a box that is handed over.
     pub fn into_string(self, alloc: Global) -> Result<String>
-        ensures text { MatchOption self.comments (result ≡ Err signature_box_incomplete)
+        ensures text { MatchOption self.comments (result ≡ Err (Named SignatureBoxIncomplete))
             (λ c. MatchResult result (λ t. string_bytes t ≡ signature_text self.signature c)
-            (λ e. e ≡ out_of_memory)) }
+            (λ e. e ≡ Named OutOfMemory)) }
         ensures reads_back { IfSome self.comments KeepsComments
             → IfOk result (λ t. SignatureText (string_bytes t) self) }
         ensures reads { IfSome self.comments AreOneLine
@@ -157,9 +158,9 @@ impl SignatureBox {
 
     /// The bytes of the text of the box, refused as `to_string`.
     pub fn to_bytes(&self, alloc: Global) -> Result<Vec<u8>>
-        ensures { MatchOption self.now.comments (result ≡ Err signature_box_incomplete)
+        ensures { MatchOption self.now.comments (result ≡ Err (Named SignatureBoxIncomplete))
             (λ c. MatchResult result (λ v. v.items ≡ signature_text self.now.signature c)
-            (λ e. e ≡ out_of_memory)) }
+            (λ e. e ≡ Named OutOfMemory)) }
     {
         Ok(self.to_string(alloc)?.into_bytes())
     }
@@ -167,7 +168,7 @@ impl SignatureBox {
     /// A box that holds the same. Only running out of memory is refused.
     pub fn try_clone(&self, alloc: Global) -> Result<SignatureBox>
         ensures same { IfOk result (λ b. b ≡ self.now) }
-        ensures refused { IfErr result (λ e. e ≡ out_of_memory) }
+        ensures refused { IfErr result (λ e. e ≡ Named OutOfMemory) }
     {
         match &self.comments {
             Some(comments) => Ok(SignatureBox {
@@ -192,7 +193,7 @@ impl SignatureBox {
     /// memory is refused.
     pub fn untrusted_comment(&self, alloc: Global) -> Result<String>
         ensures comment { IfOk result (λ t. string_bytes t ≡ untrusted_comment_of self.now) }
-        ensures refused { IfErr result (λ e. e ≡ out_of_memory) }
+        ensures refused { IfErr result (λ e. e ≡ Named OutOfMemory) }
     {
         match &self.comments {
             Some(comments) => Ok(String::from_str(alloc, comments.untrusted_comment.as_str())?),
@@ -203,12 +204,12 @@ impl SignatureBox {
     /// The comment that the comment signature vouches for. A bare signature, which has none, is
     /// refused, and running out of memory.
     pub fn trusted_comment(&self, alloc: Global) -> Result<String>
-        ensures { MatchOption self.now.comments (result ≡ Err trusted_comment_absent)
-            (λ c. MatchResult result (λ t. string_bytes t ≡ c.trusted) (λ e. e ≡ out_of_memory)) }
+        ensures { MatchOption self.now.comments (result ≡ Err (Named TrustedCommentAbsent))
+            (λ c. MatchResult result (λ t. string_bytes t ≡ c.trusted) (λ e. e ≡ Named OutOfMemory)) }
     {
         match &self.comments {
             Some(comments) => Ok(String::from_str(alloc, comments.trusted_comment.as_str())?),
-            None => Err(faults::trusted_comment_absent()),
+            None => Err(NamedFault::TrustedCommentAbsent.into()),
         }
     }
 
@@ -223,7 +224,7 @@ impl SignatureBox {
 impl Comments {
     fn try_clone(&self, alloc: Global) -> Result<Comments>
         ensures same { IfOk result (λ c. c ≡ self.now) }
-        ensures refused { IfErr result (λ e. e ≡ out_of_memory) }
+        ensures refused { IfErr result (λ e. e ≡ Named OutOfMemory) }
     {
         Ok(Comments {
             untrusted_comment: String::from_str(alloc, self.untrusted_comment.as_str())?,
@@ -240,7 +241,7 @@ fn written(alloc: Global, signature: &Signature, comments: &Comments) -> Result<
         IfOk result (λ t. SignatureText (string_bytes t) (record { signature = signature.now; comments = Some comments.now })) }
     ensures reads { AreOneLine comments.now → IsKnownAlgorithm signature.now.algorithm →
         IfOk result (λ t. SignatureText (string_bytes t) (record { signature = signature.now; comments = Some (comments_read_back comments.now) })) }
-    ensures refused { IfErr result (λ e. e ≡ out_of_memory) }
+    ensures refused { IfErr result (λ e. e ≡ Named OutOfMemory) }
 {
     let bytes = signature.to_bytes(alloc)?;
     let encoded = encode(alloc, &bytes)?;
@@ -265,7 +266,7 @@ struct TextLines<'a> {
 fn read_text(alloc: Global, text: &str) -> Result<SignatureBox>
     ensures read { IfOk result (SignatureText text.now) }
     ensures refused { IfErr result
-        (λ e. (e ≡ out_of_memory) ⊎ (signature_refusal text.now ≡ Some e)) }
+        (λ e. (e ≡ Named OutOfMemory) ⊎ (signature_refusal text.now ≡ Some e)) }
 {
     let lines = four_lines(text)?;
     read_lines(alloc, lines)
@@ -278,16 +279,16 @@ fn four_lines(text: &str) -> Result<TextLines<'_>>
 {
     let mut lines = text.lines();
     let Some(untrusted_comment) = next_line(&mut lines) else {
-        return Err(faults::missing_untrusted_comment());
+        return Err(NamedFault::MissingUntrustedComment.into());
     };
     let Some(signature) = next_line(&mut lines) else {
-        return Err(faults::missing_signature());
+        return Err(NamedFault::MissingSignature.into());
     };
     let Some(trusted_comment) = next_line(&mut lines) else {
-        return Err(faults::missing_trusted_comment());
+        return Err(NamedFault::MissingTrustedComment.into());
     };
     let Some(global_sig) = next_line(&mut lines) else {
-        return Err(faults::missing_global_signature());
+        return Err(NamedFault::MissingGlobalSignature.into());
     };
     Ok(TextLines {
         untrusted_comment,
@@ -303,7 +304,7 @@ fn read_lines(alloc: Global, lines: TextLines) -> Result<SignatureBox>
         (λ x. (text : List ℕ) → HasFourLines text lines.entry.untrusted_comment.now
         lines.entry.signature.now lines.entry.trusted_comment.now lines.entry.global_sig.now
         → SignatureText text x) }
-    ensures refused { IfErr result (λ e. (e ≡ out_of_memory) ⊎ ((text : List ℕ) → HasFourLines text
+    ensures refused { IfErr result (λ e. (e ≡ Named OutOfMemory) ⊎ ((text : List ℕ) → HasFourLines text
         lines.entry.untrusted_comment.now lines.entry.signature.now lines.entry.trusted_comment.now
         lines.entry.global_sig.now → signature_refusal text ≡ Some e)) }
 {
@@ -327,12 +328,12 @@ fn read_lines(alloc: Global, lines: TextLines) -> Result<SignatureBox>
 #[tactic(auto, unfolding(crate::specs::Texts::untrusted_comment_label))]
 fn untrusted_comment_in(line: &str) -> Result<&str>
     ensures comment { IfOk result (λ c. line.now ≡ untrusted_comment_label ++ c.now) }
-    ensures refused { IfErr result (λ e. (e ≡ untrusted_comment_prefix)
+    ensures refused { IfErr result (λ e. (e ≡ Named UntrustedCommentPrefix)
         × ((comment : List ℕ) → line.now ≢ untrusted_comment_label ++ comment)) }
 {
     match line.strip_prefix("untrusted comment: ") {
         Some(comment) => Ok(comment),
-        None => Err(faults::untrusted_comment_prefix()),
+        None => Err(NamedFault::UntrustedCommentPrefix.into()),
     }
 }
 
@@ -340,37 +341,37 @@ fn untrusted_comment_in(line: &str) -> Result<&str>
 #[tactic(auto, unfolding(crate::specs::SignatureText::trusted_comment_label))]
 fn trusted_comment_in(line: &str) -> Result<&str>
     ensures comment { IfOk result (λ c. line.now ≡ trusted_comment_label ++ c.now) }
-    ensures refused { IfErr result (λ e. (e ≡ trusted_comment_prefix)
+    ensures refused { IfErr result (λ e. (e ≡ Named TrustedCommentPrefix)
         × ((comment : List ℕ) → line.now ≢ trusted_comment_label ++ comment)) }
 {
     match line.strip_prefix("trusted comment: ") {
         Some(comment) => Ok(comment),
-        None => Err(faults::trusted_comment_prefix()),
+        None => Err(NamedFault::TrustedCommentPrefix.into()),
     }
 }
 
 // The signature that a text is the base64 of.
 fn decode_signature(alloc: Global, text: &str) -> Result<Signature>
     ensures signature { IfOk result (EncodesSignature text.now) }
-    ensures refused { IfErr result (λ e. (e ≡ out_of_memory)
-        ⊎ ((e ≡ signature_not_base64) × (is_base64 text.now ≡ false))
-        ⊎ ((e ≡ record_too_short) × (is_base64 text.now ≡ true)
+    ensures refused { IfErr result (λ e. (e ≡ Named OutOfMemory)
+        ⊎ ((e ≡ Named SignatureNotBase64) × (is_base64 text.now ≡ false))
+        ⊎ ((e ≡ Named RecordTooShort) × (is_base64 text.now ≡ true)
         × (length (base64_bytes text.now) < 74))) }
 {
     match decode(alloc, text)? {
         Some(bytes) => Ok(Signature::from_bytes(&bytes)?),
-        None => Err(faults::signature_not_base64()),
+        None => Err(NamedFault::SignatureNotBase64.into()),
     }
 }
 
 // A signature of an algorithm that is known.
 fn known(signature: Signature) -> Result<Signature>
     ensures same { IfOk result (λ s. (s ≡ signature) × IsKnownAlgorithm s.algorithm) }
-    ensures refused { IfErr result (λ e. (e ≡ unsupported_signature_algorithm)
+    ensures refused { IfErr result (λ e. (e ≡ Named UnsupportedSignatureAlgorithm)
         × (is_known_algorithm signature.algorithm ≡ false)) }
 {
     if signature.sig_alg != SIGALG && signature.sig_alg != SIGALG_PREHASHED {
-        return Err(faults::unsupported_signature_algorithm());
+        return Err(NamedFault::UnsupportedSignatureAlgorithm.into());
     }
     Ok(signature)
 }
@@ -378,11 +379,11 @@ fn known(signature: Signature) -> Result<Signature>
 // The comment signature that a text is the base64 of.
 fn decode_comment_signature(alloc: Global, text: &str) -> Result<Vec<u8>>
     ensures bytes { IfOk result (λ v. IsBase64Of text.now v.items) }
-    ensures refused { IfErr result (λ e. (e ≡ out_of_memory)
-        ⊎ ((e ≡ signature_not_base64) × (is_base64 text.now ≡ false))) }
+    ensures refused { IfErr result (λ e. (e ≡ Named OutOfMemory)
+        ⊎ ((e ≡ Named SignatureNotBase64) × (is_base64 text.now ≡ false))) }
 {
     match decode(alloc, text)? {
         Some(bytes) => Ok(bytes),
-        None => Err(faults::signature_not_base64()),
+        None => Err(NamedFault::SignatureNotBase64.into()),
     }
 }

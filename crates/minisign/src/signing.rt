@@ -6,7 +6,8 @@ ghost use Rattle.minisign_hash.specs.Blake2b.{blake2b_digest};
 ghost use Rattle.minisign_base.specs.Devices.{HasGiven};
 ghost use Rattle.minisign_base.specs.Passages.{random_passage, source_passage};
 ghost use Rattle.minisign_base.specs.Scheme.{IsNonce};
-ghost use Rattle.minisign_base.specs.Faults.{out_of_memory};
+ghost use Rattle.minisign_base.specs.Fault.{Named};
+ghost use Rattle.minisign_base.specs.declared.faults.NamedFault.TheVariants.{OutOfMemory};
 ghost use Rattle.minisign.specs.Reading.{ReadsWhole};
 ghost use Rattle.minisign.specs.Sealing.{is_encrypted};
 ghost use Rattle.minisign.specs.Acceptance.{accepts_comments};
@@ -23,7 +24,7 @@ use crate::signature_box::{Comments, SignatureBox};
 use minisign_base::devices::random_sources::RandomSource;
 use minisign_base::devices::sources::Source;
 use minisign_base::scheme::Scheme;
-use minisign_base::{Result, faults};
+use minisign_base::{Result, NamedFault};
 use std::alloc::Global;
 
 /// Signs all the data ahead of `data_reader` with `sk`, and returns a box with both comments.
@@ -75,7 +76,7 @@ pub fn sign<S: Scheme, R: Source, Z: RandomSource>(
     ensures drawn { HasGiven (Z.random_ahead random.old) (Z.random_ahead random.new) }
 {
     if sk.is_encrypted() {
-        return Err(faults::encrypted_key_refused());
+        return Err(NamedFault::EncryptedKeyRefused.into());
     }
     let digest = prehash(alloc, data_reader)?;
     let trusted = trusted_or_default(alloc, trusted_comment, moment)?;
@@ -83,7 +84,10 @@ pub fn sign<S: Scheme, R: Source, Z: RandomSource>(
     let signature_box = make_box(alloc, scheme, sk, &digest, trusted, untrusted, random)?;
     if let Some(pk) = pk {
         if !accepts_comments(alloc, scheme, pk, &signature_box)? {
-            return Err(faults::refused_by_given_key(pk.keynum_pk.keynum));
+            return Err(NamedFault::RefusedByGivenKey {
+                key: pk.keynum_pk.keynum,
+            }
+            .into());
         }
     }
     Ok(signature_box)
@@ -106,7 +110,7 @@ fn make_box<S: Scheme, Z: RandomSource>(
         × VouchesWhereGenuine (S.accepts scheme.now) (S.public_of scheme.now) sk.now message x) }
     ensures calm { OnOk result (Z.random_faults random.new ≡ Z.random_faults random.old) }
     ensures refused { IfErr result
-        (λ e. (e ≡ out_of_memory)
+        (λ e. (e ≡ Named OutOfMemory)
         ⊎ DrawFails (random_passage Z.RandomSource random.old random.new) e) }
     ensures given { HasGiven (Z.random_ahead random.old) (Z.random_ahead random.new) }
 {
@@ -154,7 +158,7 @@ fn trusted_or_default(alloc: Global, comment: Option<&str>, moment: u64) -> Resu
     ensures comment { IfOk result
         (λ t. string_bytes t ≡ unwrap_or (option_copied comment.entry)
         (default_trusted_comment moment)) }
-    ensures refused { IfErr result (λ e. e ≡ out_of_memory) }
+    ensures refused { IfErr result (λ e. e ≡ Named OutOfMemory) }
 {
     match comment {
         Some(trusted) => Ok(String::from_str(alloc, trusted)?),
@@ -168,7 +172,7 @@ fn untrusted_or_default(alloc: Global, comment: Option<&str>) -> Result<String>
     ensures comment { IfOk result
         (λ t. string_bytes t
         ≡ unwrap_or (option_copied comment.entry) default_untrusted_comment) }
-    ensures refused { IfErr result (λ e. e ≡ out_of_memory) }
+    ensures refused { IfErr result (λ e. e ≡ Named OutOfMemory) }
 {
     match comment {
         Some(untrusted) => Ok(String::from_str(alloc, untrusted)?),

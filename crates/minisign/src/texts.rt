@@ -3,13 +3,14 @@
 ghost use Rattle.std.specs.Prelude.{◌≡◌, [], ◌∷◌, ◌++◌, false, string_bytes, IfOk, IfErr, OnOk, IfSome, IfNone};
 ghost use Rattle.std.specs.Str.Lines.{lines};
 ghost use Rattle.std.specs.Str.Iter.{lines_rest};
-ghost use Rattle.minisign_base.specs.Faults.{out_of_memory};
+ghost use Rattle.minisign_base.specs.Fault.{Named};
+ghost use Rattle.minisign_base.specs.declared.faults.NamedFault.TheVariants.{OutOfMemory};
 ghost use Rattle.minisign.specs.Lines.{line};
 ghost use Rattle.minisign.specs.Texts.{IsBase64Of, base64_of, is_base64};
 
 use base64::DecodeAllocError;
 use base64::engine::general_purpose::STANDARD;
-use minisign_base::{Result, faults};
+use minisign_base::{Result, NamedFault};
 use std::alloc::Global;
 use std::str::Lines;
 
@@ -30,11 +31,11 @@ pub(crate) fn next_line<'a>(rest: &mut Lines<'a>) -> Option<&'a str>
 pub(crate) fn decode(alloc: Global, text: &str) -> Result<Option<Vec<u8>>>
     ensures bytes { IfOk result (λ o. IfSome o (λ v. IsBase64Of text.now v.items)) }
     ensures none { IfOk result (λ o. IfNone o (is_base64 text.now ≡ false)) }
-    ensures refused { IfErr result (λ e. e ≡ out_of_memory) }
+    ensures refused { IfErr result (λ e. e ≡ Named OutOfMemory) }
 {
     match STANDARD.decode(alloc, text.as_bytes()) {
         Ok(bytes) => Ok(Some(bytes)),
-        Err(DecodeAllocError::OutOfMemory) => Err(faults::out_of_memory()),
+        Err(DecodeAllocError::OutOfMemory) => Err(NamedFault::OutOfMemory.into()),
         Err(DecodeAllocError::DecodeError(_)) => Ok(None),
     }
 }
@@ -44,7 +45,7 @@ pub(crate) fn decode(alloc: Global, text: &str) -> Result<Option<Vec<u8>>>
 pub(crate) fn encode(alloc: Global, bytes: &[u8]) -> Result<String>
     ensures text { IfOk result (λ t. string_bytes t ≡ base64_of bytes.now) }
     ensures base64 { IfOk result (λ t. IsBase64Of (string_bytes t) bytes.now) }
-    ensures refused { IfErr result (λ e. e ≡ out_of_memory) }
+    ensures refused { IfErr result (λ e. e ≡ Named OutOfMemory) }
 {
     Ok(STANDARD.encode(alloc, bytes)?)
 }
@@ -53,7 +54,7 @@ pub(crate) fn encode(alloc: Global, bytes: &[u8]) -> Result<String>
 pub(crate) fn push_line(lines: &mut String, label: &str, text: &str) -> Result<()>
     ensures line { OnOk result
         (string_bytes lines.new ≡ string_bytes lines.old ++ line (label.now ++ text.now)) }
-    ensures refused { IfErr result (λ e. e ≡ out_of_memory) }
+    ensures refused { IfErr result (λ e. e ≡ Named OutOfMemory) }
 {
     lines.push_str(label)?;
     lines.push_str(text)?;

@@ -2,7 +2,8 @@
 
 ghost use Rattle.std.specs.Prelude.{◌≡◌, ℕ, List, true, false, ◌⊎◌, IfOk, IfErr, OnOk, OnErr};
 ghost use Rattle.minisign_base.specs.Devices.{Rose, HasGiven};
-ghost use Rattle.minisign_base.specs.Faults.{out_of_memory, reading_failed, writing_failed};
+ghost use Rattle.minisign_base.specs.Fault.{Named};
+ghost use Rattle.minisign_base.specs.declared.faults.NamedFault.TheVariants.{OutOfMemory, ReadingFailed, WritingFailed};
 ghost use Rattle.minisign_base.specs.Passages.{Takes, TakesFront, rereader_passage, sink_passage};
 ghost use Rattle.minisign.specs.Reading.{IsReadFault};
 ghost use Rattle.minisign.specs.Records.{PublicKeyRecord, SignatureBoxRecord};
@@ -18,7 +19,7 @@ use crate::signed_data::{SignedData, read_signed_data};
 use minisign_base::devices::sinks::{Sink, put_line};
 use minisign_base::devices::sources::Rereader;
 use minisign_base::scheme::Scheme;
-use minisign_base::{Result, faults};
+use minisign_base::{Result, NamedFault};
 use std::alloc::Global;
 
 /// Verifies that `signature_box` vouches for all the data ahead of `data_reader` under `pk`, and
@@ -104,7 +105,7 @@ fn read_data<R: Rereader>(
     ensures refused { IfErr result (λ e.
         MarkFails (is_reread output signature_box.now) (rereader_passage R.Source R.steady data_reader.old data_reader.new) e
         ⊎ IsReadFault R.Source data_reader.old data_reader.new e) }
-    ensures read_marked { IfErr result (λ e. is_reread output signature_box.now ≡ true → e ≡ reading_failed → R.is_marked data_reader.new ≡ true) }
+    ensures read_marked { IfErr result (λ e. is_reread output signature_box.now ≡ true → e ≡ Named ReadingFailed → R.is_marked data_reader.new ≡ true) }
     ensures given { HasGiven (R.ahead data_reader.old) (R.ahead data_reader.new) }
 {
     mark_place(data_reader, output && signature_box.is_prehashed())?;
@@ -125,7 +126,7 @@ fn mark_place<R: Rereader>(data_reader: &mut R, again: bool) -> Result<()>
     }
     match data_reader.mark() {
         Ok(()) => Ok(()),
-        Err(_) => Err(faults::going_back_failed()),
+        Err(_) => Err(NamedFault::GoingBackFailed.into()),
     }
 }
 
@@ -140,23 +141,27 @@ fn judge<S: Scheme>(
 ) -> Result<()>
     ensures accepted { OnOk result ((message : List ℕ) → AreSigned signed.now signature_box.now allow_legacy message →
         Vouches (S.accepts scheme.now) pk.now signature_box.now message allow_legacy) }
-    ensures refused { IfErr result (λ e. (e ≡ out_of_memory)
+    ensures refused { IfErr result (λ e. (e ≡ Named OutOfMemory)
         ⊎ ((message : List ℕ) → AreSigned signed.now signature_box.now allow_legacy message →
         Refuses (S.accepts scheme.now) pk.now signature_box.now message allow_legacy e)) }
 {
     let signature = &signature_box.signature;
     let keynum_pk = &pk.keynum_pk;
     if signature.keynum != keynum_pk.keynum {
-        return Err(faults::different_key_ids(signature.keynum, keynum_pk.keynum));
+        return Err(NamedFault::DifferentKeyIds {
+            signature: signature.keynum,
+            key: keynum_pk.keynum,
+        }
+        .into());
     }
     if !signature_box.is_prehashed() && !allow_legacy {
-        return Err(faults::legacy_not_accepted());
+        return Err(NamedFault::LegacyNotAccepted.into());
     }
     if !scheme.verify(signed, &keynum_pk.pk, &signature.sig) {
-        return Err(faults::signature_refused());
+        return Err(NamedFault::SignatureRefused.into());
     }
     if !accepts_comments(alloc, scheme, pk, signature_box)? {
-        return Err(faults::comment_signature_refused());
+        return Err(NamedFault::CommentSignatureRefused.into());
     }
     Ok(())
 }
@@ -171,8 +176,8 @@ fn say<W: Sink>(
     ensures said { OnOk result (Takes (sink_passage W.Sink status.old status.new) (wanted_status quiet signature_box.now)) }
     ensures calm { OnOk result (W.sink_faults status.new ≡ W.sink_faults status.old) }
     ensures quiet { quiet ≡ true → status.new ≡ status.old }
-    ensures refused { IfErr result (λ e. ((e ≡ out_of_memory) × (status.new ≡ status.old))
-        ⊎ ((e ≡ writing_failed) × (quiet ≡ false) × Rose (W.sink_faults status.old) (W.sink_faults status.new))) }
+    ensures refused { IfErr result (λ e. ((e ≡ Named OutOfMemory) × (status.new ≡ status.old))
+        ⊎ ((e ≡ Named WritingFailed) × (quiet ≡ false) × Rose (W.sink_faults status.old) (W.sink_faults status.new))) }
     ensures front { OnErr result (TakesFront (sink_passage W.Sink status.old status.new) (wanted_status quiet signature_box.now)) }
 {
     if quiet {
@@ -186,8 +191,8 @@ fn say<W: Sink>(
 fn say_lines<W: Sink>(alloc: Global, status: &mut W, signature_box: &SignatureBox) -> Result<()>
     ensures said { OnOk result (Takes (sink_passage W.Sink status.old status.new) (status_lines signature_box.now)) }
     ensures calm { OnOk result (W.sink_faults status.new ≡ W.sink_faults status.old) }
-    ensures refused { IfErr result (λ e. ((e ≡ out_of_memory) × (status.new ≡ status.old))
-        ⊎ ((e ≡ writing_failed) × Rose (W.sink_faults status.old) (W.sink_faults status.new))) }
+    ensures refused { IfErr result (λ e. ((e ≡ Named OutOfMemory) × (status.new ≡ status.old))
+        ⊎ ((e ≡ Named WritingFailed) × Rose (W.sink_faults status.old) (W.sink_faults status.new))) }
     ensures front { OnErr result (TakesFront (sink_passage W.Sink status.old status.new) (status_lines signature_box.now)) }
 {
     match &signature_box.comments {

@@ -4,7 +4,8 @@ use Rattle.std.specs.Fmt.{char_count, digits, padded_integral}
 use Rattle.std.specs.Str.{chars, is_utf8}
 use lib.Utf8.{encode}
 use Rattle.minisign_base.specs.Identifiers.{identifier_text}
-use Rattle.minisign_base.specs.Faults.{end_of_input, invalid_parameters, not_utf8, parameters_too_high, password_too_long}
+use Rattle.minisign_base.specs.Fault.{Named}
+use Rattle.minisign_base.specs.declared.faults.NamedFault.TheVariants.{EndOfInput, InvalidParameters, NotUtf8, ParametersTooHigh, PasswordTooLong}
 use Rattle.minisign_base.specs.Limits.{cost_log2, limits, sealing_limits}
 use Rattle.minisign_base.specs.Prompts.{accepted_line, first_line, password_of, read_count}
 
@@ -34,17 +35,17 @@ unfolding limits cost_log2
 limits_of_few_operations = refl
 
 -- that memory limit is refused where a key is opened
-pub limits_above_sealing : sealing_limits 2147483648 0 ≡ Err parameters_too_high
+pub limits_above_sealing : sealing_limits 2147483648 0 ≡ Err (Named ParametersTooHigh)
 unfolding limits cost_log2
 limits_above_sealing = refl
 
 -- the cost is bounded by the third number
-pub limits_above_the_bound : limits 33554432 1048576 14 ≡ Err parameters_too_high
+pub limits_above_the_bound : limits 33554432 1048576 14 ≡ Err (Named ParametersTooHigh)
 unfolding limits cost_log2
 limits_above_the_bound = refl
 
 -- the cut to 32 bits leaves no parallelization
-pub limits_without_parallelization : limits 0 1099511627776 20 ≡ Err invalid_parameters
+pub limits_without_parallelization : limits 0 1099511627776 20 ≡ Err (Named InvalidParameters)
 unfolding limits cost_log2
 limits_without_parallelization = refl
 
@@ -65,11 +66,11 @@ pub password_of_empty_lines : (password_of (10 ∷ []) ≡ Ok []) × (password_o
 unfolding password_of first_line accepted_line is_utf8 chars encode
 password_of_empty_lines = (refl, refl)
 
-pub password_of_no_byte : password_of [] ≡ Err end_of_input
+pub password_of_no_byte : password_of [] ≡ Err (Named EndOfInput)
 unfolding password_of
 password_of_no_byte = refl
 
-pub password_of_no_text : password_of (255 ∷ 10 ∷ []) ≡ Err not_utf8
+pub password_of_no_text : password_of (255 ∷ 10 ∷ []) ≡ Err (Named NotUtf8)
 unfolding password_of first_line accepted_line is_utf8 chars encode
 password_of_no_text = refl
 
@@ -79,17 +80,17 @@ unfolding password_of first_line accepted_line is_utf8 chars encode
 password_of_1024_letters = refl
 
 -- 1024 letters and a carriage return at the end are too many
-pub password_of_1025_bytes : password_of (replicate 1024 97 ++ 13 ∷ []) ≡ Err password_too_long
+pub password_of_1025_bytes : password_of (replicate 1024 97 ++ 13 ∷ []) ≡ Err (Named PasswordTooLong)
 unfolding password_of first_line accepted_line is_utf8 chars encode
 password_of_1025_bytes = refl
 
 -- 1025 letters, a carriage return and a line feed: the line feed is not read
-pub password_of_1026_bytes : (password_of (replicate 1025 97 ++ 13 ∷ 10 ∷ []) ≡ Err password_too_long)
+pub password_of_1026_bytes : (password_of (replicate 1025 97 ++ 13 ∷ 10 ∷ []) ≡ Err (Named PasswordTooLong))
     × (drop {A = ℕ} (read_count (replicate 1025 97 ++ 13 ∷ 10 ∷ [])) (replicate 1025 97 ++ 13 ∷ 10 ∷ []) ≡ 10 ∷ [])
 unfolding password_of
 password_of_1026_bytes = (refl, refl)
 
 -- 1026 bytes without a line feed are too many before they are no text, 1025 bytes are no text first
-pub password_of_bytes_that_are_no_text : (password_of (replicate 1026 255) ≡ Err password_too_long) × (password_of (replicate 1025 255) ≡ Err not_utf8)
+pub password_of_bytes_that_are_no_text : (password_of (replicate 1026 255) ≡ Err (Named PasswordTooLong)) × (password_of (replicate 1025 255) ≡ Err (Named NotUtf8))
 unfolding password_of first_line accepted_line is_utf8 chars encode
 password_of_bytes_that_are_no_text = (refl, refl)

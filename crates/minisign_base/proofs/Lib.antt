@@ -1,3 +1,4 @@
+mod Digits
 mod Filled
 mod Folding
 mod GivenParts

@@ -7,7 +7,8 @@ use Rattle.std.proofs.lemmas.Str.{IsUtf8-from_is_utf8, is_utf8-from_IsUtf8}
 use Rattle.std.specs.Io.KnownBytes.{Consumes, IsAtEnd}
 use Rattle.std.specs.Str.{is_utf8}
 use Rattle.std.specs.Str.Lines.{strip_carriage_return}
-use Rattle.minisign_base.specs.Faults.{end_of_input, not_utf8, password_too_long}
+use Rattle.minisign_base.specs.Fault.{Named}
+use Rattle.minisign_base.specs.declared.faults.NamedFault.TheVariants.{EndOfInput, NotUtf8, PasswordTooLong}
 use Rattle.minisign_base.specs.Passages.{SourcePassage}
 use Rattle.minisign_base.specs.Prompts.{HasReadLine, accepted_line, first_line, line_length, password_of, read_count}
 
@@ -57,7 +58,7 @@ password_of-end done e some short =
     rw (e, ne_eqb (length done) 0 (λ z. omega arith), le-ltb 1025 (length done) (omega (arith, short)), le-ltb (length done) (length done) (omega arith), take_all (length done) done (omega arith)) refl
 
 pub password_of-long : (done rest : List ℕ) → line_length done ≡ length done → length done ≡ 1026
-    → password_of (done ++ rest) ≡ Err password_too_long
+    → password_of (done ++ rest) ≡ Err (Named PasswordTooLong)
 unfolding password_of
 password_of-long done rest e long =
     let bytes : List ℕ = done ++ rest in
@@ -89,20 +90,20 @@ read_whole r done ahead unread count left calm = record {
   calm = calm;
 }
 
-pub password_of-nothing : password_of [] ≡ Err end_of_input
+pub password_of-nothing : password_of [] ≡ Err (Named EndOfInput)
 unfolding password_of
 password_of-nothing = refl
 
 -- a line that is no UTF-8
-pub accepted_line-other : (line : List ℕ) → (IsUtf8 line → false ≡ true) → accepted_line line ≡ Err not_utf8
+pub accepted_line-other : (line : List ℕ) → (IsUtf8 line → false ≡ true) → accepted_line line ≡ Err (Named NotUtf8)
 unfolding accepted_line
 accepted_line-other line other =
-    elim (is_utf8 line) as (λ b. is_utf8 line ≡ b → (if not b then Err not_utf8 else (if nat_lt 1024 (length line) then Err password_too_long else Ok line)) ≡ Err not_utf8) [
+    elim (is_utf8 line) as (λ b. is_utf8 line ≡ b → (if not b then Err (Named NotUtf8) else (if nat_lt 1024 (length line) then Err (Named PasswordTooLong) else Ok line)) ≡ Err (Named NotUtf8)) [
       | true ↦ λ e. absurd (true≢false (sym (other (IsUtf8-from_is_utf8 line e))))
       | false ↦ λ e. refl
     ] refl
 
-pub accepted_line-long : (line : List ℕ) → IsUtf8 line → 1024 < length line → accepted_line line ≡ Err password_too_long
+pub accepted_line-long : (line : List ℕ) → IsUtf8 line → 1024 < length line → accepted_line line ≡ Err (Named PasswordTooLong)
 unfolding accepted_line
 accepted_line-long line text long = rw (is_utf8-from_IsUtf8 line text, lt-ltb 1024 (length line) long) refl
 

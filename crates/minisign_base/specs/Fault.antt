@@ -1,25 +1,30 @@
--- What a fault is: a kind and a text.
-use Rattle.std.specs.Prelude.{ℕ, List, ◌++◌, codes, string_bytes}
-use Rattle.minisign_base.specs.Identifiers.{identifier_text}
+-- What a fault is: a named one, or a kind and a text of the caller's own.
+use Rattle.std.specs.Prelude.{ℕ, List, Option, Some, None, string_bytes}
+use Rattle.minisign_base.specs.Faults.{fault_row, named_text}
 use Rattle.minisign_base.specs.declared.errors.ErrorKind.{ErrorKind}
-use Rattle.minisign_base.specs.declared.errors.Text.{Text}
-use Rattle.minisign_base.specs.declared.errors.Text.TheVariants.{Fixed, Made, DifferentKeyIds, RefusedByGivenKey}
+use Rattle.minisign_base.specs.declared.errors.Meaning.{Meaning}
+use Rattle.minisign_base.specs.declared.errors.Meaning.TheVariants as kept
+use Rattle.minisign_base.specs.declared.faults.NamedFault.{NamedFault}
 
--- a kind, and the bytes of a text
-pub record Fault : Type 0 where
-  pub kind : ErrorKind
-  pub text : List ℕ
+pub data Fault : Type 0 where
+  Named : NamedFault → Fault
+  Worded : ErrorKind → List ℕ → Fault
 
-abbrev pub different_key_ids_text : List ℕ → List ℕ → List ℕ
-different_key_ids_text signature key =
-    codes "Signature key id: " ++ (identifier_text signature ++ (codes " is different from public key: " ++ identifier_text key))
+-- the name, if it has one
+abbrev pub name_of : Fault → Option NamedFault
+name_of (Named f) = Some f
+name_of (Worded kind text) = None
 
-abbrev pub refused_by_given_key_text : List ℕ → List ℕ
-refused_by_given_key_text key = codes "Could not verify signature with the provided public key ID: " ++ identifier_text key
+abbrev pub kind_of : Fault → ErrorKind
+kind_of (Named f) = (fault_row f).kind
+kind_of (Worded kind text) = kind
 
--- the bytes of a text as it is kept
-abbrev pub text_bytes : Text → List ℕ
-text_bytes (Fixed s) = s.now
-text_bytes (Made s) = string_bytes s
-text_bytes (DifferentKeyIds signature key) = different_key_ids_text signature.0 key.0
-text_bytes (RefusedByGivenKey key) = refused_by_given_key_text key.0
+abbrev pub text_of : Fault → List ℕ
+text_of (Named f) = named_text f
+text_of (Worded kind text) = text
+
+-- the fault as it is kept
+abbrev pub fault_of : Meaning → Fault
+fault_of (kept.Named f) = Named f
+fault_of (kept.Fixed kind text) = Worded kind text.now
+fault_of (kept.Made kind text) = Worded kind (string_bytes text)

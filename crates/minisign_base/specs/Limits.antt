@@ -4,8 +4,8 @@ use Rattle.std.specs.Prelude.{◌≡◌, ◌⊎◌, ℕ, ◌/◌, ◌%◌, ◌^�
 use Rattle.std.specs.List.{find, range_with_len}
 use Rattle.std.specs.Option.{unwrap_or}
 use Rattle.minisign_kdf.specs.Params.{Numbers, is_accepted}
-use Rattle.minisign_base.specs.Fault.{Fault}
-use Rattle.minisign_base.specs.Faults.{parameters_too_high, invalid_parameters}
+use Rattle.minisign_base.specs.Fault.{Fault, Named}
+use Rattle.minisign_base.specs.declared.faults.NamedFault.TheVariants.{ParametersTooHigh, InvalidParameters}
 
 -- the operations that count: at least 32768
 abbrev pub operations : ℕ → ℕ
@@ -42,8 +42,8 @@ numbers memlimit opslimit =
 -- a cost above the allowed one is refused, and then what scrypt does not take
 abbrev pub checked_numbers : Numbers → ℕ → Result Numbers Fault
 checked_numbers v n_log2_max =
-    if nat_lt n_log2_max v.n_log2 then Err parameters_too_high
-    else (if is_accepted v then Ok v else Err invalid_parameters)
+    if nat_lt n_log2_max v.n_log2 then Err (Named ParametersTooHigh)
+    else (if is_accepted v then Ok v else Err (Named InvalidParameters))
 
 -- the parameters that two limits lead to, or the fault
 unfoldable pub limits : ℕ → ℕ → ℕ → Result Numbers Fault
@@ -52,4 +52,4 @@ limits memlimit opslimit n_log2_max = checked_numbers (numbers memlimit opslimit
 -- the limits of sealing and opening: at most 1073741824 bytes, and N at most 2 ^ 20
 abbrev pub sealing_limits : ℕ → ℕ → Result Numbers Fault
 sealing_limits memlimit opslimit =
-    if nat_lt 1073741824 memlimit then Err parameters_too_high else limits memlimit opslimit 20
+    if nat_lt 1073741824 memlimit then Err (Named ParametersTooHigh) else limits memlimit opslimit 20

@@ -7,8 +7,8 @@ use Rattle.std.specs.Str.{is_utf8}
 use Rattle.std.specs.Str.Lines.{strip_carriage_return}
 use Rattle.minisign_base.specs.Devices.{AppendsFront, Rose}
 use Rattle.minisign_base.specs.Passages.{PromptPassage, SourcePassage}
-use Rattle.minisign_base.specs.Fault.{Fault}
-use Rattle.minisign_base.specs.Faults.{end_of_input, not_utf8, out_of_memory, password_too_long, reading_failed, writing_failed}
+use Rattle.minisign_base.specs.Fault.{Fault, Named}
+use Rattle.minisign_base.specs.declared.faults.NamedFault.TheVariants.{EndOfInput, NotUtf8, OutOfMemory, PasswordTooLong, ReadingFailed, WritingFailed}
 
 -- how many bytes stand before the first line feed, or in all where there is none
 abbrev pub line_length : List ℕ → ℕ
@@ -27,15 +27,15 @@ read_count bytes = min 1026 (line_length bytes + 1)
 -- a line as a password: UTF-8 of at most 1024 bytes
 unfoldable pub accepted_line : List ℕ → Result (List ℕ) Fault
 accepted_line line =
-    if not (is_utf8 line) then Err not_utf8
-    else (if nat_lt 1024 (length line) then Err password_too_long
+    if not (is_utf8 line) then Err (Named NotUtf8)
+    else (if nat_lt 1024 (length line) then Err (Named PasswordTooLong)
     else Ok line)
 
 -- the password, or the first fault: no byte at all, no line feed in 1026 bytes, a line that is none
 unfoldable pub password_of : List ℕ → Result (List ℕ) Fault
 password_of bytes =
-    if length bytes == 0 then Err end_of_input
-    else (if nat_lt 1025 (line_length bytes) then Err password_too_long
+    if length bytes == 0 then Err (Named EndOfInput)
+    else (if nat_lt 1025 (line_length bytes) then Err (Named PasswordTooLong)
     else accepted_line (first_line bytes))
 
 -- what is written where the password is empty
@@ -102,8 +102,8 @@ pub record HasNotMarked {R W : Type 0} (p : PromptPassage R W) (text bytes : Lis
 -- first fault of the line
 abbrev pub IsAskingFault : {R W : Type 0} → PromptPassage R W → List ℕ → Fault → Type 0
 IsAskingFault p text e =
-    ((e ≡ out_of_memory) × (p.new ≡ p.old))
-    ⊎ (((e ≡ writing_failed) × HasNotSaid p text)
-    ⊎ (((e ≡ reading_failed) × HasNotRead p text)
+    ((e ≡ Named OutOfMemory) × (p.new ≡ p.old))
+    ⊎ (((e ≡ Named WritingFailed) × HasNotSaid p text)
+    ⊎ (((e ≡ Named ReadingFailed) × HasNotRead p text)
     ⊎ (((bytes : List ℕ) × HasAsked p text bytes (Err e))
-    ⊎ ((e ≡ writing_failed) × ((bytes : List ℕ) × HasNotMarked p text bytes)))))
+    ⊎ ((e ≡ Named WritingFailed) × ((bytes : List ℕ) × HasNotMarked p text bytes)))))

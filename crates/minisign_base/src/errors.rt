@@ -2,14 +2,12 @@
 //! base64 become.
 
 ghost use Rattle.std.specs.Prelude.{◌≡◌, Some, string_bytes};
-ghost use Rattle.minisign_base.specs.Fault.{different_key_ids_text, refused_by_given_key_text};
-ghost use Rattle.minisign_base.specs.Faults.{out_of_memory, input_or_output_failed, formatting_failed, invalid_utf8, invalid_parameters, invalid_output_length};
+ghost use Rattle.minisign_base.specs.Fault.{Named, Worded, kind_of, name_of, text_of};
+ghost use Rattle.minisign_base.specs.declared.faults.NamedFault.TheVariants.{OutOfMemory, InputOrOutputFailed, FormattingFailed, InvalidUtf8, InvalidParameters, InvalidOutputLength};
 ghost use Rattle.minisign_base.specs.Derivation.{derivation_fault};
 ghost use Rattle.minisign_base.specs.Decoding.{decoding_fault};
-ghost use Rattle.minisign_base.specs.declared.errors.ErrorKind.TheVariants.{Verify};
 
-use crate::faults;
-use crate::identifiers::Identifier;
+use crate::faults::{NamedFault, TEXT_ROOM};
 use base64::DecodeAllocError;
 use minisign_kdf::{InvalidOutputLen, InvalidParams, KdfError};
 use std::alloc::{AllocError, AllocFailed};
@@ -44,165 +42,160 @@ pub enum ErrorKind {
     OutOfMemory,
 }
 
-/// A fault: a kind and a text. `Display` writes the text.
+/// A fault: a named one, or a kind and a text of the caller's own. `Display` writes the text.
 #[derive(Debug, Drop)]
 pub struct PError {
-    kind: ErrorKind,
-    text: Text,
+    meaning: Meaning,
 }
 
 /// A value, or a fault.
 pub type Result<T> = std::result::Result<T, PError>;
 
-// A text as it is kept: the last two are put together when they are shown, so that no fault but
-// one with a text of the caller's own takes memory.
+// A fault as it is kept.
 #[derive(Debug, Drop)]
-enum Text {
-    Fixed(&'static str),
-    Made(String),
-    DifferentKeyIds(Identifier, Identifier),
-    RefusedByGivenKey(Identifier),
+enum Meaning {
+    Named(NamedFault),
+    Fixed(ErrorKind, &'static str),
+    Made(ErrorKind, String),
 }
 
 impl Model for PError {
-    ghost use Rattle.minisign_base.specs.Fault.{Fault, text_bytes};
+    ghost use Rattle.minisign_base.specs.Fault.{Fault, fault_of};
 
     ghost Value = { Fault };
 
-    ghost view = { λ e. record { kind = e.kind; text = text_bytes e.text } };
+    ghost view = { λ e. fault_of e.meaning };
 }
 
 impl PError {
     /// A fault with a text of its own.
     pub fn new(kind: ErrorKind, text: String) -> PError
-        ensures { result ≡ record { kind = kind; text = string_bytes text } }
+        ensures { result ≡ Worded kind (string_bytes text) }
     {
         PError {
-            kind,
-            text: Text::Made(text),
+            meaning: Meaning::Made(kind, text),
         }
     }
 
     /// A fault with a text that stands in the program. Takes no memory.
     pub fn fixed(kind: ErrorKind, text: &'static str) -> PError
-        ensures { result ≡ record { kind = kind; text = text.now } }
+        ensures { result ≡ Worded kind text.now }
     {
         PError {
-            kind,
-            text: Text::Fixed(text),
+            meaning: Meaning::Fixed(kind, text),
+        }
+    }
+
+    /// The named fault, if it is one: one with a kind and a text of its caller's is none, whatever
+    /// its text says. Takes no memory.
+    pub fn named(&self) -> Option<NamedFault>
+        ensures { result ≡ name_of self.now }
+    {
+        match &self.meaning {
+            Meaning::Named(fault) => Some(*fault),
+            _ => None,
+        }
+    }
+
+    /// The text, which `Display` writes. One with identifiers is put together in `room`. Takes no
+    /// memory.
+    pub fn text<'a>(&'a self, room: &'a mut [u8; TEXT_ROOM]) -> &'a [u8]
+        ensures { result.now ≡ text_of self.now }
+    {
+        match &self.meaning {
+            Meaning::Named(fault) => fault.text(room),
+            Meaning::Fixed(_, text) => text.as_bytes(),
+            Meaning::Made(_, text) => text.as_bytes(),
         }
     }
 
     /// What the fault concerns.
     pub fn kind(&self) -> &ErrorKind
-        ensures { result.now ≡ self.now.kind }
+        ensures { result.now ≡ kind_of self.now }
     {
-        &self.kind
-    }
-
-    // A signature and a public key with different identifiers.
-    pub(crate) fn of_different_key_ids(signature: [u8; 8], key: [u8; 8]) -> PError
-        ensures { result ≡ record { kind = Verify; text = different_key_ids_text signature key } }
-    {
-        PError {
-            kind: ErrorKind::Verify,
-            text: Text::DifferentKeyIds(Identifier(signature), Identifier(key)),
-        }
-    }
-
-    // A public key that does not accept a comment signature.
-    pub(crate) fn of_given_key(key: [u8; 8]) -> PError
-        ensures { result ≡ record { kind = Verify; text = refused_by_given_key_text key } }
-    {
-        PError {
-            kind: ErrorKind::Verify,
-            text: Text::RefusedByGivenKey(Identifier(key)),
+        match &self.meaning {
+            Meaning::Named(fault) => fault.kind(),
+            Meaning::Fixed(kind, _) => kind,
+            Meaning::Made(kind, _) => kind,
         }
     }
 }
 
 impl fmt::Display for PError {
-    ghost output = { λ e. Some e.text };
+    ghost output = { λ e. Some (text_of e) };
 
     fn fmt<W: fmt::Write>(&self, f: &mut fmt::Formatter<W>) -> fmt::Result {
-        self.text.fmt(f)
+        match &self.meaning {
+            Meaning::Named(fault) => fault.fmt(f),
+            Meaning::Fixed(_, text) => f.write_str(text),
+            Meaning::Made(_, text) => f.write_str(text.as_str()),
+        }
     }
 }
 
-impl fmt::Display for Text {
-    ghost use Rattle.minisign_base.specs.Fault.{text_bytes};
+impl From<NamedFault> for PError {
+    ghost from_gives = { λ f e. e ≡ Named f };
 
-    ghost output = { λ t. Some (text_bytes t) };
-
-    fn fmt<W: fmt::Write>(&self, f: &mut fmt::Formatter<W>) -> fmt::Result {
-        match self {
-            Text::Fixed(text) => f.write_str(text),
-            Text::Made(text) => f.write_str(text.as_str()),
-            Text::DifferentKeyIds(signature, key) => write!(
-                f,
-                "Signature key id: {signature} is different from public key: {key}"
-            ),
-            Text::RefusedByGivenKey(key) => write!(
-                f,
-                "Could not verify signature with the provided public key ID: {key}"
-            ),
+    fn from(fault: NamedFault) -> PError {
+        PError {
+            meaning: Meaning::Named(fault),
         }
     }
 }
 
 impl From<AllocError> for PError {
-    ghost from_gives = { λ _ e. e ≡ out_of_memory };
+    ghost from_gives = { λ _ e. e ≡ Named OutOfMemory };
 
     fn from(_error: AllocError) -> PError {
-        faults::out_of_memory()
+        NamedFault::OutOfMemory.into()
     }
 }
 
 impl<T: Drop> From<AllocFailed<T>> for PError {
-    ghost from_gives = { λ _ e. e ≡ out_of_memory };
+    ghost from_gives = { λ _ e. e ≡ Named OutOfMemory };
 
     fn from(_error: AllocFailed<T>) -> PError {
-        faults::out_of_memory()
+        NamedFault::OutOfMemory.into()
     }
 }
 
 impl From<io::Error> for PError {
-    ghost from_gives = { λ _ e. e ≡ input_or_output_failed };
+    ghost from_gives = { λ _ e. e ≡ Named InputOrOutputFailed };
 
     fn from(_error: io::Error) -> PError {
-        faults::input_or_output_failed()
+        NamedFault::InputOrOutputFailed.into()
     }
 }
 
 impl From<fmt::Error> for PError {
-    ghost from_gives = { λ _ e. e ≡ formatting_failed };
+    ghost from_gives = { λ _ e. e ≡ Named FormattingFailed };
 
     fn from(_error: fmt::Error) -> PError {
-        faults::formatting_failed()
+        NamedFault::FormattingFailed.into()
     }
 }
 
 impl From<FromUtf8Error> for PError {
-    ghost from_gives = { λ _ e. e ≡ invalid_utf8 };
+    ghost from_gives = { λ _ e. e ≡ Named InvalidUtf8 };
 
     fn from(_error: FromUtf8Error) -> PError {
-        faults::invalid_utf8()
+        NamedFault::InvalidUtf8.into()
     }
 }
 
 impl From<InvalidParams> for PError {
-    ghost from_gives = { λ _ e. e ≡ invalid_parameters };
+    ghost from_gives = { λ _ e. e ≡ Named InvalidParameters };
 
     fn from(_error: InvalidParams) -> PError {
-        faults::invalid_parameters()
+        NamedFault::InvalidParameters.into()
     }
 }
 
 impl From<InvalidOutputLen> for PError {
-    ghost from_gives = { λ _ e. e ≡ invalid_output_length };
+    ghost from_gives = { λ _ e. e ≡ Named InvalidOutputLength };
 
     fn from(_error: InvalidOutputLen) -> PError {
-        faults::invalid_output_length()
+        NamedFault::InvalidOutputLength.into()
     }
 }
 
@@ -211,8 +204,8 @@ impl From<KdfError> for PError {
 
     fn from(error: KdfError) -> PError {
         match error {
-            KdfError::OutOfMemory => faults::out_of_memory(),
-            KdfError::InvalidOutputLen => faults::invalid_output_length(),
+            KdfError::OutOfMemory => NamedFault::OutOfMemory.into(),
+            KdfError::InvalidOutputLen => NamedFault::InvalidOutputLength.into(),
         }
     }
 }
@@ -222,8 +215,8 @@ impl From<DecodeAllocError> for PError {
 
     fn from(error: DecodeAllocError) -> PError {
         match error {
-            DecodeAllocError::DecodeError(_) => faults::secret_key_not_base64(),
-            DecodeAllocError::OutOfMemory => faults::out_of_memory(),
+            DecodeAllocError::DecodeError(_) => NamedFault::SecretKeyNotBase64.into(),
+            DecodeAllocError::OutOfMemory => NamedFault::OutOfMemory.into(),
         }
     }
 }

@@ -1,430 +1,334 @@
-//! One function for each fault that a call of Minisign returns, word for word. None takes memory.
+//! The faults that calls of Minisign return, one enum of them all: of each the number, the kind and the text. None
+//! takes memory.
 
-ghost use Rattle.std.specs.Prelude.{◌≡◌};
-ghost use Rattle.minisign_base.specs.Faults as named;
+ghost use Rattle.std.specs.Prelude.{◌≡◌, Some};
+ghost use Rattle.minisign_base.specs.Faults.{fault_row, named_text};
 
-use crate::errors::{ErrorKind, PError};
+use crate::errors::ErrorKind::{
+    self, Encoding, EncryptedKey, Generate, Io, KDF, Misc, RNG, Verify,
+};
+use crate::helpers::joined;
+use crate::identifiers::Identifier;
+use std::{fmt, str};
 
-/// A growth was refused, or a size that no allocation can have was asked for.
-#[tactic(auto, unfolding(crate::specs::Faults::out_of_memory))]
-pub fn out_of_memory() -> PError
-    ensures { result ≡ named.out_of_memory }
-{
-    PError::fixed(ErrorKind::OutOfMemory, "out of memory")
+/// How many bytes a text with identifiers takes at most.
+pub const TEXT_ROOM: usize = 96;
+
+/// A fault that a call of Minisign returns. `Display` writes its text.
+#[derive(Clone, Copy, Debug, PartialEq, Eq)]
+pub enum NamedFault {
+    /// A growth was refused, or a size that no allocation can have was asked for.
+    OutOfMemory,
+    /// A source, a file or a prompt's reader failed at a read.
+    ReadingFailed,
+    /// A sink or a prompt's writer failed at a write or a flush.
+    WritingFailed,
+    /// A source failed at marking its place or at going back to it.
+    GoingBackFailed,
+    /// A random source failed or had too few bytes.
+    RandomSourceFailed,
+    /// Fewer bytes than a record has.
+    RecordTooShort,
+    /// A text, a typed line, a password or a comment is not UTF-8.
+    NotUtf8,
+    /// The input ended where a line was asked for.
+    EndOfInput,
+    /// A typed password has more than 1024 bytes.
+    PasswordTooLong,
+    /// The two passwords typed at generation differ.
+    PasswordsDiffer,
+    /// The limits of a sealed key ask for more than is allowed.
+    ParametersTooHigh,
+    /// The limits lead to parameters that scrypt does not take.
+    InvalidParameters,
+    /// The limits lead to more parallel work than the caller allows.
+    WorkTooHigh,
+    /// A signature text has no first line.
+    MissingUntrustedComment,
+    /// A signature text has no second line.
+    MissingSignature,
+    /// A signature text has no third line.
+    MissingTrustedComment,
+    /// A signature text has no fourth line.
+    MissingGlobalSignature,
+    /// The first line of a signature text does not begin with `untrusted comment: `.
+    UntrustedCommentPrefix,
+    /// A line of a signature text is not base64.
+    SignatureNotBase64,
+    /// The third line of a signature text does not begin with `trusted comment: `.
+    TrustedCommentPrefix,
+    /// The algorithm of a signature is neither `Ed` nor `ED`.
+    UnsupportedSignatureAlgorithm,
+    /// A public key text has no first line.
+    MissingPublicKeyComment,
+    /// A public key text has no second line.
+    MissingEncodedPublicKey,
+    /// The second line of a public key text has not 56 bytes.
+    PublicKeyLineLength,
+    /// The second line of a public key text is not base64.
+    PublicKeyLineNotBase64,
+    /// A public key given as base64 alone has not 56 bytes.
+    BarePublicKeyLength,
+    /// A public key given as base64 alone is not base64.
+    BarePublicKeyNotBase64,
+    /// A secret key text has no first line.
+    MissingSecretKeyComment,
+    /// A secret key text has no second line.
+    MissingEncodedSecretKey,
+    /// The second line of a secret key text is not base64.
+    SecretKeyNotBase64,
+    /// A key that is asked for as unsealed names a key derivation.
+    KeyMightBeEncrypted,
+    /// A key that is asked for as sealed names no key derivation.
+    KeyNotEncrypted,
+    /// A sealed key names a key derivation other than `Sc`.
+    UnsupportedEncryptionAlgorithm,
+    /// The checksum of an opened key does not match.
+    WrongPassword,
+    /// The checksum of an unsealed key does not match.
+    CorruptedKey,
+    /// A sealed key was handed to `sign`.
+    EncryptedKeyRefused,
+    /// The public key that was passed in does not accept the comment signature.
+    RefusedByGivenKey { key: [u8; 8] },
+    /// The identifier of a signature is not that of the public key.
+    DifferentKeyIds { signature: [u8; 8], key: [u8; 8] },
+    /// A legacy signature where only prehashed ones are allowed.
+    LegacyNotAccepted,
+    /// The signature of the data is not accepted.
+    SignatureRefused,
+    /// The comment signature is too short or is not accepted.
+    CommentSignatureRefused,
+    /// The trusted comment of a box made from bones was asked for.
+    TrustedCommentAbsent,
+    /// The text of a box made from bones was asked for.
+    SignatureBoxIncomplete,
+    /// The system clock shows a moment before 1970, or cannot be read.
+    ClockIncorrect,
+    /// The second pass over the data gave other bytes than the first.
+    DataChanged,
+    /// An output of no bytes, or of more than the key derivation can give.
+    InvalidOutputLength,
+    /// What a fault of std's input and output becomes.
+    InputOrOutputFailed,
+    /// What a fault of std's formatting becomes.
+    FormattingFailed,
+    /// What std's fault of bytes that are not UTF-8 becomes.
+    InvalidUtf8,
 }
 
-/// A source, a file or a prompt's reader failed at a read.
-#[tactic(auto, unfolding(crate::specs::Faults::reading_failed))]
-pub fn reading_failed() -> PError
-    ensures { result ≡ named.reading_failed }
-{
-    PError::fixed(ErrorKind::Io, "reading failed")
+impl NamedFault {
+    /// All named faults, with identifiers of zeros.
+    pub const ALL: [NamedFault; 49] = [
+        NamedFault::OutOfMemory,
+        NamedFault::ReadingFailed,
+        NamedFault::WritingFailed,
+        NamedFault::GoingBackFailed,
+        NamedFault::RandomSourceFailed,
+        NamedFault::RecordTooShort,
+        NamedFault::NotUtf8,
+        NamedFault::EndOfInput,
+        NamedFault::PasswordTooLong,
+        NamedFault::PasswordsDiffer,
+        NamedFault::ParametersTooHigh,
+        NamedFault::InvalidParameters,
+        NamedFault::WorkTooHigh,
+        NamedFault::MissingUntrustedComment,
+        NamedFault::MissingSignature,
+        NamedFault::MissingTrustedComment,
+        NamedFault::MissingGlobalSignature,
+        NamedFault::UntrustedCommentPrefix,
+        NamedFault::SignatureNotBase64,
+        NamedFault::TrustedCommentPrefix,
+        NamedFault::UnsupportedSignatureAlgorithm,
+        NamedFault::MissingPublicKeyComment,
+        NamedFault::MissingEncodedPublicKey,
+        NamedFault::PublicKeyLineLength,
+        NamedFault::PublicKeyLineNotBase64,
+        NamedFault::BarePublicKeyLength,
+        NamedFault::BarePublicKeyNotBase64,
+        NamedFault::MissingSecretKeyComment,
+        NamedFault::MissingEncodedSecretKey,
+        NamedFault::SecretKeyNotBase64,
+        NamedFault::KeyMightBeEncrypted,
+        NamedFault::KeyNotEncrypted,
+        NamedFault::UnsupportedEncryptionAlgorithm,
+        NamedFault::WrongPassword,
+        NamedFault::CorruptedKey,
+        NamedFault::EncryptedKeyRefused,
+        NamedFault::RefusedByGivenKey { key: [0; 8] },
+        NamedFault::DifferentKeyIds {
+            signature: [0; 8],
+            key: [0; 8],
+        },
+        NamedFault::LegacyNotAccepted,
+        NamedFault::SignatureRefused,
+        NamedFault::CommentSignatureRefused,
+        NamedFault::TrustedCommentAbsent,
+        NamedFault::SignatureBoxIncomplete,
+        NamedFault::ClockIncorrect,
+        NamedFault::DataChanged,
+        NamedFault::InvalidOutputLength,
+        NamedFault::InputOrOutputFailed,
+        NamedFault::FormattingFailed,
+        NamedFault::InvalidUtf8,
+    ];
+
+    /// What the fault concerns.
+    pub fn kind(&self) -> &'static ErrorKind
+        ensures { result.now ≡ (fault_row self.now).kind }
+    {
+        self.row().1
+    }
+
+    /// The number by which a program in another language knows the fault.
+    pub fn number(&self) -> u32
+        ensures { result ≡ (fault_row self.now).number }
+    {
+        self.row().0
+    }
+
+    /// What the fault says without its identifiers, at most 127 bytes: but for three faults all of
+    /// its text.
+    pub fn summary(&self) -> &'static str
+        ensures { result.now ≡ (fault_row self.now).summary }
+    {
+        self.row().2
+    }
+
+    /// The text, which `Display` writes. One with identifiers is put together in `room`. Takes no
+    /// memory.
+    pub fn text<'a>(&self, room: &'a mut [u8; TEXT_ROOM]) -> &'a [u8]
+        ensures { result.now ≡ named_text self.now }
+    {
+        match self {
+            NamedFault::DifferentKeyIds { signature, key } => joined(
+                room,
+                b"Signature key id: ",
+                &Identifier(*signature).digits(),
+                b" is different from public key: ",
+                &Identifier(*key).digits(),
+            ),
+            NamedFault::RefusedByGivenKey { key } => joined(
+                room,
+                self.summary().as_bytes(),
+                b": ",
+                &Identifier(*key).digits(),
+                b"",
+            ),
+            NamedFault::EncryptedKeyRefused =>
+                "Cannot sign with an encrypted secret key. The key must be decrypted first. Options include: SecretKeyBox::into_secret_key(password), SecretKey::from_box(box, password), SecretKey::from_file(path, password), or use KeyPair::generate_unencrypted_keypair() for passwordless keys.".as_bytes(),
+            _ => self.summary().as_bytes(),
+        }
+    }
+
+    // The number, the kind and the summary.
+    fn row(&self) -> (u32, &'static ErrorKind, &'static str)
+        ensures { record { number = result.0; kind = result.1.now; summary = result.2.now } ≡ fault_row self.now }
+    {
+        use NamedFault::*;
+        match self {
+            OutOfMemory => (7, &ErrorKind::OutOfMemory, "out of memory"),
+            ReadingFailed => (64, &Io, "reading failed"),
+            WritingFailed => (65, &Io, "writing failed"),
+            GoingBackFailed => (66, &Io, "going back failed"),
+            RandomSourceFailed => (67, &RNG, "random source failed"),
+            RecordTooShort => (20, &Io, "failed to fill whole buffer"),
+            NotUtf8 => (8, &Io, "stream did not contain valid UTF-8"),
+            EndOfInput => (68, &Io, "unexpected end of input"),
+            PasswordTooLong => (69, &Misc, "passphrase can't exceed 1024 bytes length"),
+            PasswordsDiffer => (70, &Generate, "passwords don't match!"),
+            ParametersTooHigh => (40, &KDF, "scrypt parameters too high"),
+            InvalidParameters => (41, &KDF, "invalid scrypt parameters"),
+            WorkTooHigh => (43, &KDF, "scrypt work too high"),
+            MissingUntrustedComment => (21, &Io, "Missing untrusted comment"),
+            MissingSignature => (22, &Io, "Missing signature"),
+            MissingTrustedComment => (23, &Io, "Missing trusted comment"),
+            MissingGlobalSignature => (24, &Io, "Missing global signature"),
+            UntrustedCommentPrefix => (
+                25,
+                &Verify,
+                "Untrusted comment must start with: untrusted comment: ",
+            ),
+            SignatureNotBase64 => (26, &Io, "invalid base64"),
+            TrustedCommentPrefix => (
+                27,
+                &Verify,
+                "Trusted comment should start with: trusted comment: ",
+            ),
+            UnsupportedSignatureAlgorithm => (28, &Verify, "Unsupported signature algorithm"),
+            MissingPublicKeyComment => (16, &Io, "Missing comment in public key"),
+            MissingEncodedPublicKey => (17, &Io, "Missing encoded key in public key"),
+            PublicKeyLineLength => (
+                18,
+                &Io,
+                "Base64 conversion failed - was an actual public key given?",
+            ),
+            PublicKeyLineNotBase64 => (
+                19,
+                &Io,
+                "Base64 conversion failed - was an actual public key given?: invalid base64",
+            ),
+            BarePublicKeyLength => (
+                44,
+                &Io,
+                "base64 conversion failed - was an actual public key given?",
+            ),
+            BarePublicKeyNotBase64 => (
+                45,
+                &Io,
+                "base64 conversion failed - was an actual public key given?: invalid base64",
+            ),
+            MissingSecretKeyComment => (33, &Io, "Missing comment in secret key"),
+            MissingEncodedSecretKey => (34, &Io, "Missing encoded key in secret key"),
+            SecretKeyNotBase64 => (35, &Encoding, "invalid base64"),
+            KeyMightBeEncrypted => (36, &Io, "Key might be encrypted"),
+            KeyNotEncrypted => (38, &Io, "Key is not encrypted"),
+            UnsupportedEncryptionAlgorithm => (39, &Io, "Unsupported encryption algorithm"),
+            WrongPassword => (42, &Verify, "Wrong password for that key"),
+            CorruptedKey => (37, &Verify, "Corrupted key"),
+            EncryptedKeyRefused => (
+                71,
+                &EncryptedKey,
+                "Cannot sign with an encrypted secret key.",
+            ),
+            RefusedByGivenKey { .. } => (
+                72,
+                &Verify,
+                "Could not verify signature with the provided public key ID",
+            ),
+            DifferentKeyIds { .. } => (
+                29,
+                &Verify,
+                "Signature key id is different from public key",
+            ),
+            LegacyNotAccepted => (30, &Verify, "Legacy signatures are not accepted"),
+            SignatureRefused => (31, &Verify, "Signature verification failed"),
+            CommentSignatureRefused => (32, &Verify, "Comment signature verification failed"),
+            TrustedCommentAbsent => (73, &Misc, "trusted comment is not present"),
+            SignatureBoxIncomplete => (
+                74,
+                &Misc,
+                "Incomplete SignatureBox: trusted comment is missing",
+            ),
+            ClockIncorrect => (75, &Misc, "system clock is incorrect"),
+            DataChanged => (76, &Verify, "Data changed between verification and output"),
+            InvalidOutputLength => (77, &KDF, "invalid output length"),
+            InputOrOutputFailed => (78, &Io, "input or output failed"),
+            FormattingFailed => (79, &Io, "an error occurred when formatting an argument"),
+            InvalidUtf8 => (80, &Encoding, "invalid UTF-8"),
+        }
+    }
 }
 
-/// A sink or a prompt's writer failed at a write or a flush.
-#[tactic(auto, unfolding(crate::specs::Faults::writing_failed))]
-pub fn writing_failed() -> PError
-    ensures { result ≡ named.writing_failed }
-{
-    PError::fixed(ErrorKind::Io, "writing failed")
-}
+impl fmt::Display for NamedFault {
+    ghost output = { λ f. Some (named_text f) };
 
-/// A source failed at marking its place or at going back to it.
-#[tactic(auto, unfolding(crate::specs::Faults::going_back_failed))]
-pub fn going_back_failed() -> PError
-    ensures { result ≡ named.going_back_failed }
-{
-    PError::fixed(ErrorKind::Io, "going back failed")
-}
-
-/// A random source failed or had too few bytes.
-#[tactic(auto, unfolding(crate::specs::Faults::random_source_failed))]
-pub fn random_source_failed() -> PError
-    ensures { result ≡ named.random_source_failed }
-{
-    PError::fixed(ErrorKind::RNG, "random source failed")
-}
-
-/// Fewer bytes than a record has.
-#[tactic(auto, unfolding(crate::specs::Faults::record_too_short))]
-pub fn record_too_short() -> PError
-    ensures { result ≡ named.record_too_short }
-{
-    PError::fixed(ErrorKind::Io, "failed to fill whole buffer")
-}
-
-/// A file or a typed line is not UTF-8.
-#[tactic(auto, unfolding(crate::specs::Faults::not_utf8))]
-pub fn not_utf8() -> PError
-    ensures { result ≡ named.not_utf8 }
-{
-    PError::fixed(ErrorKind::Io, "stream did not contain valid UTF-8")
-}
-
-/// The input ended where a line was asked for.
-#[tactic(auto, unfolding(crate::specs::Faults::end_of_input))]
-pub fn end_of_input() -> PError
-    ensures { result ≡ named.end_of_input }
-{
-    PError::fixed(ErrorKind::Io, "unexpected end of input")
-}
-
-/// A typed password has more than 1024 bytes.
-#[tactic(auto, unfolding(crate::specs::Faults::password_too_long))]
-pub fn password_too_long() -> PError
-    ensures { result ≡ named.password_too_long }
-{
-    PError::fixed(ErrorKind::Misc, "passphrase can't exceed 1024 bytes length")
-}
-
-/// The two passwords typed at generation differ.
-#[tactic(auto, unfolding(crate::specs::Faults::passwords_differ))]
-pub fn passwords_differ() -> PError
-    ensures { result ≡ named.passwords_differ }
-{
-    PError::fixed(ErrorKind::Generate, "passwords don't match!")
-}
-
-/// The limits of a sealed key ask for more than is allowed.
-#[tactic(auto, unfolding(crate::specs::Faults::parameters_too_high))]
-pub fn parameters_too_high() -> PError
-    ensures { result ≡ named.parameters_too_high }
-{
-    PError::fixed(ErrorKind::KDF, "scrypt parameters too high")
-}
-
-/// The limits lead to parameters that scrypt does not take.
-#[tactic(auto, unfolding(crate::specs::Faults::invalid_parameters))]
-pub fn invalid_parameters() -> PError
-    ensures { result ≡ named.invalid_parameters }
-{
-    PError::fixed(ErrorKind::KDF, "invalid scrypt parameters")
-}
-
-/// The limits lead to more parallel work than the caller allows.
-#[tactic(auto, unfolding(crate::specs::Faults::work_too_high))]
-pub fn work_too_high() -> PError
-    ensures { result ≡ named.work_too_high }
-{
-    PError::fixed(ErrorKind::KDF, "scrypt work too high")
-}
-
-/// A signature text has no first line.
-#[tactic(auto, unfolding(crate::specs::Faults::missing_untrusted_comment))]
-pub fn missing_untrusted_comment() -> PError
-    ensures { result ≡ named.missing_untrusted_comment }
-{
-    PError::fixed(ErrorKind::Io, "Missing untrusted comment")
-}
-
-/// A signature text has no second line.
-#[tactic(auto, unfolding(crate::specs::Faults::missing_signature))]
-pub fn missing_signature() -> PError
-    ensures { result ≡ named.missing_signature }
-{
-    PError::fixed(ErrorKind::Io, "Missing signature")
-}
-
-/// A signature text has no third line.
-#[tactic(auto, unfolding(crate::specs::Faults::missing_trusted_comment))]
-pub fn missing_trusted_comment() -> PError
-    ensures { result ≡ named.missing_trusted_comment }
-{
-    PError::fixed(ErrorKind::Io, "Missing trusted comment")
-}
-
-/// A signature text has no fourth line.
-#[tactic(auto, unfolding(crate::specs::Faults::missing_global_signature))]
-pub fn missing_global_signature() -> PError
-    ensures { result ≡ named.missing_global_signature }
-{
-    PError::fixed(ErrorKind::Io, "Missing global signature")
-}
-
-/// The first line of a signature text begins otherwise. The text ends with a space.
-#[tactic(auto, unfolding(crate::specs::Faults::untrusted_comment_prefix))]
-pub fn untrusted_comment_prefix() -> PError
-    ensures { result ≡ named.untrusted_comment_prefix }
-{
-    PError::fixed(
-        ErrorKind::Verify,
-        "Untrusted comment must start with: untrusted comment: ",
-    )
-}
-
-/// A line of a signature text is not base64.
-#[tactic(auto, unfolding(crate::specs::Faults::signature_not_base64))]
-pub fn signature_not_base64() -> PError
-    ensures { result ≡ named.signature_not_base64 }
-{
-    PError::fixed(ErrorKind::Io, "invalid base64")
-}
-
-/// The third line of a signature text begins otherwise. The text ends with a space.
-#[tactic(auto, unfolding(crate::specs::Faults::trusted_comment_prefix))]
-pub fn trusted_comment_prefix() -> PError
-    ensures { result ≡ named.trusted_comment_prefix }
-{
-    PError::fixed(
-        ErrorKind::Verify,
-        "Trusted comment should start with: trusted comment: ",
-    )
-}
-
-/// The algorithm of a signature is neither `Ed` nor `ED`.
-#[tactic(auto, unfolding(crate::specs::Faults::unsupported_signature_algorithm))]
-pub fn unsupported_signature_algorithm() -> PError
-    ensures { result ≡ named.unsupported_signature_algorithm }
-{
-    PError::fixed(ErrorKind::Verify, "Unsupported signature algorithm")
-}
-
-/// A public key text has no first line.
-#[tactic(auto, unfolding(crate::specs::Faults::missing_public_key_comment))]
-pub fn missing_public_key_comment() -> PError
-    ensures { result ≡ named.missing_public_key_comment }
-{
-    PError::fixed(ErrorKind::Io, "Missing comment in public key")
-}
-
-/// A public key text has no second line.
-#[tactic(auto, unfolding(crate::specs::Faults::missing_encoded_public_key))]
-pub fn missing_encoded_public_key() -> PError
-    ensures { result ≡ named.missing_encoded_public_key }
-{
-    PError::fixed(ErrorKind::Io, "Missing encoded key in public key")
-}
-
-/// The second line of a public key text has not 56 bytes.
-#[tactic(auto, unfolding(crate::specs::Faults::public_key_line_length))]
-pub fn public_key_line_length() -> PError
-    ensures { result ≡ named.public_key_line_length }
-{
-    PError::fixed(
-        ErrorKind::Io,
-        "Base64 conversion failed - was an actual public key given?",
-    )
-}
-
-/// The second line of a public key text is not base64.
-#[tactic(auto, unfolding(crate::specs::Faults::public_key_line_not_base64))]
-pub fn public_key_line_not_base64() -> PError
-    ensures { result ≡ named.public_key_line_not_base64 }
-{
-    PError::fixed(
-        ErrorKind::Io,
-        "Base64 conversion failed - was an actual public key given?: invalid base64",
-    )
-}
-
-/// A public key given as base64 alone has not 56 bytes.
-#[tactic(auto, unfolding(crate::specs::Faults::bare_public_key_length))]
-pub fn bare_public_key_length() -> PError
-    ensures { result ≡ named.bare_public_key_length }
-{
-    PError::fixed(
-        ErrorKind::Io,
-        "base64 conversion failed - was an actual public key given?",
-    )
-}
-
-/// A public key given as base64 alone is not base64.
-#[tactic(auto, unfolding(crate::specs::Faults::bare_public_key_not_base64))]
-pub fn bare_public_key_not_base64() -> PError
-    ensures { result ≡ named.bare_public_key_not_base64 }
-{
-    PError::fixed(
-        ErrorKind::Io,
-        "base64 conversion failed - was an actual public key given?: invalid base64",
-    )
-}
-
-/// A secret key text has no first line.
-#[tactic(auto, unfolding(crate::specs::Faults::missing_secret_key_comment))]
-pub fn missing_secret_key_comment() -> PError
-    ensures { result ≡ named.missing_secret_key_comment }
-{
-    PError::fixed(ErrorKind::Io, "Missing comment in secret key")
-}
-
-/// A secret key text has no second line.
-#[tactic(auto, unfolding(crate::specs::Faults::missing_encoded_secret_key))]
-pub fn missing_encoded_secret_key() -> PError
-    ensures { result ≡ named.missing_encoded_secret_key }
-{
-    PError::fixed(ErrorKind::Io, "Missing encoded key in secret key")
-}
-
-/// The second line of a secret key text is not base64.
-#[tactic(auto, unfolding(crate::specs::Faults::secret_key_not_base64))]
-pub fn secret_key_not_base64() -> PError
-    ensures { result ≡ named.secret_key_not_base64 }
-{
-    PError::fixed(ErrorKind::Encoding, "invalid base64")
-}
-
-/// A key that is asked for as unsealed names a key derivation.
-#[tactic(auto, unfolding(crate::specs::Faults::key_might_be_encrypted))]
-pub fn key_might_be_encrypted() -> PError
-    ensures { result ≡ named.key_might_be_encrypted }
-{
-    PError::fixed(ErrorKind::Io, "Key might be encrypted")
-}
-
-/// A key that is asked for as sealed names no key derivation.
-#[tactic(auto, unfolding(crate::specs::Faults::key_not_encrypted))]
-pub fn key_not_encrypted() -> PError
-    ensures { result ≡ named.key_not_encrypted }
-{
-    PError::fixed(ErrorKind::Io, "Key is not encrypted")
-}
-
-/// A sealed key names a key derivation other than `Sc`.
-#[tactic(auto, unfolding(crate::specs::Faults::unsupported_encryption_algorithm))]
-pub fn unsupported_encryption_algorithm() -> PError
-    ensures { result ≡ named.unsupported_encryption_algorithm }
-{
-    PError::fixed(ErrorKind::Io, "Unsupported encryption algorithm")
-}
-
-/// The checksum of an opened key does not match.
-#[tactic(auto, unfolding(crate::specs::Faults::wrong_password))]
-pub fn wrong_password() -> PError
-    ensures { result ≡ named.wrong_password }
-{
-    PError::fixed(ErrorKind::Verify, "Wrong password for that key")
-}
-
-/// The checksum of an unsealed key does not match.
-#[tactic(auto, unfolding(crate::specs::Faults::corrupted_key))]
-pub fn corrupted_key() -> PError
-    ensures { result ≡ named.corrupted_key }
-{
-    PError::fixed(ErrorKind::Verify, "Corrupted key")
-}
-
-/// A sealed key was handed to `sign`.
-#[tactic(auto, unfolding(crate::specs::Faults::encrypted_key_refused))]
-pub fn encrypted_key_refused() -> PError
-    ensures { result ≡ named.encrypted_key_refused }
-{
-    PError::fixed(
-        ErrorKind::EncryptedKey,
-        "Cannot sign with an encrypted secret key. The key must be decrypted first. Options include: SecretKeyBox::into_secret_key(password), SecretKey::from_box(box, password), SecretKey::from_file(path, password), or use KeyPair::generate_unencrypted_keypair() for passwordless keys.",
-    )
-}
-
-/// A legacy signature where only prehashed ones are allowed.
-#[tactic(auto, unfolding(crate::specs::Faults::legacy_not_accepted))]
-pub fn legacy_not_accepted() -> PError
-    ensures { result ≡ named.legacy_not_accepted }
-{
-    PError::fixed(ErrorKind::Verify, "Legacy signatures are not accepted")
-}
-
-/// The signature of the data is not accepted.
-#[tactic(auto, unfolding(crate::specs::Faults::signature_refused))]
-pub fn signature_refused() -> PError
-    ensures { result ≡ named.signature_refused }
-{
-    PError::fixed(ErrorKind::Verify, "Signature verification failed")
-}
-
-/// The comment signature is too short or is not accepted.
-#[tactic(auto, unfolding(crate::specs::Faults::comment_signature_refused))]
-pub fn comment_signature_refused() -> PError
-    ensures { result ≡ named.comment_signature_refused }
-{
-    PError::fixed(ErrorKind::Verify, "Comment signature verification failed")
-}
-
-/// The trusted comment of a box made from bones was asked for.
-#[tactic(auto, unfolding(crate::specs::Faults::trusted_comment_absent))]
-pub fn trusted_comment_absent() -> PError
-    ensures { result ≡ named.trusted_comment_absent }
-{
-    PError::fixed(ErrorKind::Misc, "trusted comment is not present")
-}
-
-/// The text of a box made from bones was asked for.
-#[tactic(auto, unfolding(crate::specs::Faults::signature_box_incomplete))]
-pub fn signature_box_incomplete() -> PError
-    ensures { result ≡ named.signature_box_incomplete }
-{
-    PError::fixed(
-        ErrorKind::Misc,
-        "Incomplete SignatureBox: trusted comment is missing",
-    )
-}
-
-/// The system clock shows a moment before 1970, or cannot be read.
-#[tactic(auto, unfolding(crate::specs::Faults::clock_incorrect))]
-pub fn clock_incorrect() -> PError
-    ensures { result ≡ named.clock_incorrect }
-{
-    PError::fixed(ErrorKind::Misc, "system clock is incorrect")
-}
-
-/// The second pass over the data gave other bytes than the first.
-#[tactic(auto, unfolding(crate::specs::Faults::data_changed))]
-pub fn data_changed() -> PError
-    ensures { result ≡ named.data_changed }
-{
-    PError::fixed(
-        ErrorKind::Verify,
-        "Data changed between verification and output",
-    )
-}
-
-/// An output of no bytes, or of more than the key derivation can give.
-#[tactic(auto, unfolding(crate::specs::Faults::invalid_output_length))]
-pub fn invalid_output_length() -> PError
-    ensures { result ≡ named.invalid_output_length }
-{
-    PError::fixed(ErrorKind::KDF, "invalid output length")
-}
-
-/// What a fault of std's input and output becomes.
-#[tactic(auto, unfolding(crate::specs::Faults::input_or_output_failed))]
-pub fn input_or_output_failed() -> PError
-    ensures { result ≡ named.input_or_output_failed }
-{
-    PError::fixed(ErrorKind::Io, "input or output failed")
-}
-
-/// What a fault of std's formatting becomes.
-#[tactic(auto, unfolding(crate::specs::Faults::formatting_failed))]
-pub fn formatting_failed() -> PError
-    ensures { result ≡ named.formatting_failed }
-{
-    PError::fixed(
-        ErrorKind::Io,
-        "an error occurred when formatting an argument",
-    )
-}
-
-/// What std's fault of bytes that are not UTF-8 becomes.
-#[tactic(auto, unfolding(crate::specs::Faults::invalid_utf8))]
-pub fn invalid_utf8() -> PError
-    ensures { result ≡ named.invalid_utf8 }
-{
-    PError::fixed(ErrorKind::Encoding, "invalid UTF-8")
-}
-
-/// The identifier of a signature is not that of the public key. Each is shown as it is read little
-/// endian, in 16 upper hexadecimal digits.
-#[tactic(auto, unfolding(crate::specs::Faults::different_key_ids))]
-pub fn different_key_ids(signature: [u8; 8], key: [u8; 8]) -> PError
-    ensures { result ≡ named.different_key_ids signature key }
-{
-    PError::of_different_key_ids(signature, key)
-}
-
-/// The public key that was passed in, named by its identifier in 16 upper hexadecimal digits, does
-/// not accept the comment signature.
-#[tactic(auto, unfolding(crate::specs::Faults::refused_by_given_key))]
-pub fn refused_by_given_key(key: [u8; 8]) -> PError
-    ensures { result ≡ named.refused_by_given_key key }
-{
-    PError::of_given_key(key)
+    fn fmt<W: fmt::Write>(&self, f: &mut fmt::Formatter<W>) -> fmt::Result {
+        let mut room = [0; TEXT_ROOM];
+        match str::from_utf8(self.text(&mut room)) {
+            Ok(text) => f.write_str(text),
+            Err(_) => Err(fmt::Error),
+        }
+    }
 }

@@ -1,10 +1,11 @@
 //! Numbers as bytes, the parameters of scrypt that a key's limits lead to, asking for a password,
 //! and the clock.
 
-ghost use Rattle.std.specs.Prelude.{◌≡◌, ℕ, ◌/◌, ◌^◌, ◌<◌, ◌≤◌, List, Ok, Err, IfOk, IfErr, length, string_bytes, take};
+ghost use Rattle.std.specs.Prelude.{◌≡◌, ℕ, ◌+◌, ◌/◌, ◌^◌, ◌<◌, ◌≤◌, ◌++◌, List, Ok, Err, IfOk, IfErr, length, string_bytes, take};
 ghost use Rattle.std.specs.Int.{from_le_bytes, to_le_bytes, w64};
 ghost use Rattle.std.specs.Time.{system_time_nanos};
-ghost use Rattle.minisign_base.specs.Faults.{clock_incorrect, out_of_memory};
+ghost use Rattle.minisign_base.specs.Fault.{Named};
+ghost use Rattle.minisign_base.specs.declared.faults.NamedFault.TheVariants.{ClockIncorrect, OutOfMemory};
 ghost use Rattle.minisign_base.specs.Limits.{IsCostLog2, cost_log2, greatest_cost, limits, numbers, parallelization};
 ghost use Rattle.minisign_base.specs.Passages.{prompt_passage};
 ghost use Rattle.minisign_base.specs.Prompts.{HasAsked, IsAskingFault};
@@ -12,7 +13,7 @@ ghost use Rattle.minisign_base.specs.Prompts.{HasAsked, IsAskingFault};
 use crate::devices::sinks::Sink;
 use crate::devices::sources::Source;
 use crate::errors::Result;
-use crate::faults;
+use crate::faults::NamedFault;
 use crate::prompt::{LINE_BYTES, Prompt};
 use minisign_kdf::Params;
 use std::alloc::Global;
@@ -38,6 +39,36 @@ pub fn load_u64_le(bytes: &[u8]) -> u64
     let mut first = [0u8; 8];
     first.copy_from_slice(front);
     u64::from_le_bytes(first)
+}
+
+/// Four pieces one behind another, put together at the front of `room`. Takes no memory.
+pub fn joined<'a>(
+    room: &'a mut [u8],
+    first: &[u8],
+    second: &[u8],
+    third: &[u8],
+    fourth: &[u8],
+) -> &'a [u8]
+    requires { length first.now + length second.now + length third.now + length fourth.now ≤ length room.old }
+    ensures { result.now ≡ first.now ++ (second.now ++ (third.now ++ fourth.now)) }
+{
+    let end = put_at(room, 0, first);
+    let end = put_at(room, end, second);
+    let end = put_at(room, end, third);
+    let end = put_at(room, end, fourth);
+    &room[..end]
+}
+
+// Puts a piece behind the first `at` bytes, and returns where it ends.
+fn put_at(room: &mut [u8], at: usize, piece: &[u8]) -> usize
+    requires { at + length piece.now ≤ length room.old }
+    ensures end { result ≡ at + length piece.now }
+    ensures len { length room.new ≡ length room.old }
+    ensures bytes { take result room.new ≡ take at room.old ++ piece.now }
+{
+    let end = at + piece.len();
+    room[at..end].copy_from_slice(piece);
+    end
 }
 
 /// Asks for a password: writes the text and flushes it, and reads a line, byte by byte, up to a
@@ -71,7 +102,7 @@ pub fn get_password<R: Source, W: Sink>(
 // feed.
 fn line_buffer(alloc: Global) -> Result<Vec<u8>>
     ensures length { IfOk result (λ v. length v.items ≡ 1026) }
-    ensures refused { IfErr result (λ e. e ≡ out_of_memory) }
+    ensures refused { IfErr result (λ e. e ≡ Named OutOfMemory) }
 {
     Ok(vec![in alloc; 0u8; LINE_BYTES]?)
 }
@@ -79,9 +110,9 @@ fn line_buffer(alloc: Global) -> Result<Vec<u8>>
 /// The seconds since 1970, rounded down. Where the clock can't be read or is set before 1970, that
 /// is `clock_incorrect`. Takes no memory.
 pub fn unix_timestamp(clock: &impl Clock) -> Result<u64>
-    ensures { IfErr result (λ e. e ≡ clock_incorrect) }
+    ensures { IfErr result (λ e. e ≡ Named ClockIncorrect) }
 {
-    let now = SystemTime::now(clock).map_err(|_| faults::clock_incorrect())?;
+    let now = SystemTime::now(clock).map_err(|_| NamedFault::ClockIncorrect)?;
     seconds_since_1970(now)
 }
 
@@ -91,7 +122,7 @@ fn seconds_since_1970(now: SystemTime) -> Result<u64>
 {
     match now.duration_since(UNIX_EPOCH) {
         Ok(passed) => Ok(passed.as_secs()),
-        Err(_) => Err(faults::clock_incorrect()),
+        Err(_) => Err(NamedFault::ClockIncorrect.into()),
     }
 }
 
@@ -117,7 +148,7 @@ pub fn raw_scrypt_params(memlimit: u64, opslimit: u64, n_log2_max: u8) -> Result
         (n_log2, parallelization(operations, n_log2))
     };
     if n_log2 > n_log2_max {
-        return Err(faults::parameters_too_high());
+        return Err(NamedFault::ParametersTooHigh.into());
     }
     Ok(Params::new(n_log2, BLOCK_SIZE, p)?)
 }

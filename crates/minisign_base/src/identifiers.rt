@@ -1,7 +1,8 @@
 //! How a key's identifier is shown.
 
-ghost use Rattle.std.specs.Prelude.{Some};
-ghost use Rattle.minisign_base.specs.Identifiers.{identifier_text};
+ghost use Rattle.std.specs.Prelude.{◌≡◌, ◌<◌, Some, true, []};
+ghost use Rattle.std.specs.Fmt.{digit_glyph};
+ghost use Rattle.minisign_base.specs.Identifiers.{identifier_text, last_digits};
 
 use std::fmt;
 
@@ -10,11 +11,47 @@ use std::fmt;
 #[derive(Clone, Copy, Debug, PartialEq, Eq)]
 pub struct Identifier(pub [u8; 8]);
 
+impl Identifier {
+    /// What `Display` writes. Takes no memory.
+    pub fn digits(&self) -> [u8; 16]
+        ensures { result ≡ identifier_text self.now.0 }
+    {
+        sixteen_digits(u64::from_le_bytes(self.0))
+    }
+}
+
 impl fmt::Display for Identifier {
     ghost output = { λ id. Some (identifier_text id.0) };
 
     #[tactic(auto, unfolding(crate::specs::Identifiers::identifier_text))]
     fn fmt<W: fmt::Write>(&self, f: &mut fmt::Formatter<W>) -> fmt::Result {
         write!(f, "{:016X}", u64::from_le_bytes(self.0))
+    }
+}
+
+// The last 16 hexadecimal digits of a number, with zeros in front.
+fn sixteen_digits(number: u64) -> [u8; 16]
+    ensures { result ≡ last_digits 16 number [] }
+{
+    let mut digits = [0; 16];
+    let mut left = number;
+    let mut place = digits.len();
+    'places: while place > 0 {
+        place -= 1;
+        digits[place] = digit(left % 16);
+        left /= 16;
+    }
+    digits
+}
+
+// A hexadecimal digit, an upper letter from ten on.
+fn digit(value: u64) -> u8
+    requires { value < 16 }
+    ensures { result ≡ digit_glyph true value }
+{
+    if value < 10 {
+        b'0' + value as u8
+    } else {
+        b'A' + (value - 10) as u8
     }
 }

@@ -5,13 +5,14 @@ ghost use Rattle.std.specs.Io.KnownBytes.{Consumes, IsAtEnd};
 ghost use Rattle.std.specs.Str.Lines.{strip_carriage_return};
 ghost use Rattle.minisign_base.specs.Devices.{Rose, StaysOrHides};
 ghost use Rattle.minisign_base.specs.Passages.{prompt_passage, source_passage};
-ghost use Rattle.minisign_base.specs.Faults.{reading_failed, writing_failed};
+ghost use Rattle.minisign_base.specs.Fault.{Named};
+ghost use Rattle.minisign_base.specs.declared.faults.NamedFault.TheVariants.{ReadingFailed, WritingFailed};
 ghost use Rattle.minisign_base.specs.Prompts.{HasReadLine, HasFailedInLine, HasSaid, HasNotSaid, password_of, accepted_line, written_after, empty_mark};
 
 use crate::devices::sinks::{Sink, put_and_flush};
 use crate::devices::sources::Source;
 use crate::errors::Result;
-use crate::faults;
+use crate::faults::NamedFault;
 
 // The most bytes that are read for a line: a password of 1024 bytes, a carriage return and a line
 // feed.
@@ -51,10 +52,12 @@ impl<R: Source, W: Sink> Prompt<R, W> {
     pub fn say(&mut self, text: &str) -> Result<()>
         ensures said { OnOk result
             (HasSaid (prompt_passage R.Source W.Sink self.old self.new) text.now) }
-        ensures refused { IfErr result (λ e. (e ≡ writing_failed)
+        ensures refused { IfErr result (λ e. (e ≡ Named WritingFailed)
             × HasNotSaid (prompt_passage R.Source W.Sink self.old self.new) text.now) }
     {
-        put_and_flush(&mut self.writer, text.as_bytes()).map_err(|_| faults::writing_failed())
+        put_and_flush(&mut self.writer, text.as_bytes()).map_err(
+            |_| NamedFault::WritingFailed.into(),
+        )
     }
 
     // Where the password is empty, shows that.
@@ -63,7 +66,7 @@ impl<R: Source, W: Sink> Prompt<R, W> {
         ensures said { OnOk result (HasSaid (prompt_passage R.Source W.Sink self.old self.new)
             (written_after (Ok password.now))) }
         ensures empty { OnErr result (password.now ≡ []) }
-        ensures refused { IfErr result (λ e. (e ≡ writing_failed)
+        ensures refused { IfErr result (λ e. (e ≡ Named WritingFailed)
             × HasNotSaid (prompt_passage R.Source W.Sink self.old self.new) empty_mark) }
     {
         if !password.is_empty() {
@@ -80,7 +83,7 @@ impl<R: Source, W: Sink> Prompt<R, W> {
             × HasReadLine (source_passage R.Source self.old.reader self.new.reader) bytes
             × (password_of bytes ≡ Ok (string_bytes password))) }
         ensures refused { IfErr result (λ e.
-            ((e ≡ reading_failed)
+            ((e ≡ Named ReadingFailed)
             × HasFailedInLine (source_passage R.Source self.old.reader self.new.reader))
             ⊎ ((bytes : List ℕ)
             × HasReadLine (source_passage R.Source self.old.reader self.new.reader) bytes
@@ -100,7 +103,7 @@ fn read_line<R: Source>(source: &mut R, line: &mut [u8]) -> Result<usize>
     ensures outcome { MatchResult result
         (λ n. (bytes : List ℕ) × HasReadLine (source_passage R.Source source.old source.new) bytes
         × (n ≤ length line.new) × (password_of bytes ≡ accepted_line (take n line.new)))
-        (λ e. ((e ≡ reading_failed)
+        (λ e. ((e ≡ Named ReadingFailed)
         × HasFailedInLine (source_passage R.Source source.old source.new))
         ⊎ ((bytes : List ℕ) × HasReadLine (source_passage R.Source source.old source.new) bytes
         × (password_of bytes ≡ Err e))) }
@@ -110,12 +113,12 @@ fn read_line<R: Source>(source: &mut R, line: &mut [u8]) -> Result<usize>
         match next_byte(source)? {
             Some(b'\n') => return Ok(without_carriage_return(&line[..used])),
             Some(byte) => line[used] = byte,
-            None if used == 0 => return Err(faults::end_of_input()),
+            None if used == 0 => return Err(NamedFault::EndOfInput.into()),
             None => return Ok(used),
         }
         used += 1;
     }
-    Err(faults::password_too_long())
+    Err(NamedFault::PasswordTooLong.into())
 }
 
 // The next byte, or none at the end.
@@ -127,14 +130,14 @@ fn next_byte<R: Source>(source: &mut R) -> Result<Option<u8>>
         × (R.left source.new + 1 ≡ R.left source.old))) }
     ensures calm { OnOk result (R.faults source.new ≡ R.faults source.old) }
     ensures refused { IfErr result
-        (λ e. (e ≡ reading_failed) × Rose (R.faults source.old) (R.faults source.new)) }
+        (λ e. (e ≡ Named ReadingFailed) × Rose (R.faults source.old) (R.faults source.new)) }
     ensures kept { OnErr result (StaysOrHides (R.ahead source.old) (R.ahead source.new)) }
 {
     let mut byte = [0u8; 1];
     match source.read(&mut byte) {
         Ok(0) => Ok(None),
         Ok(_) => Ok(Some(byte[0])),
-        Err(_) => Err(faults::reading_failed()),
+        Err(_) => Err(NamedFault::ReadingFailed.into()),
     }
 }
 
@@ -158,10 +161,10 @@ fn accepted_line(line: Vec<u8>) -> Result<String>
         (λ e. accepted_line line.items ≡ Err e) }
 {
     let Ok(password) = String::from_utf8(line) else {
-        return Err(faults::not_utf8());
+        return Err(NamedFault::NotUtf8.into());
     };
     if password.len() > PASSWORD_BYTES {
-        return Err(faults::password_too_long());
+        return Err(NamedFault::PasswordTooLong.into());
     }
     Ok(password)
 }

@@ -9,22 +9,23 @@ ghost use Rattle.minisign_hash.specs.Blake2b.{blake2b_digest};
 ghost use Rattle.minisign.specs.Records.{PublicKeyRecord, SecretKeyRecord, SignatureBoxRecord, CommentsRecord};
 ghost use Rattle.minisign.specs.Acceptance.{Verifier};
 ghost use Rattle.minisign_questions.specs.Questions.{AnswersTexts, AreOpen};
-ghost use Rattle.minisign_questions.specs.Numbers.{WritesCut, misuse_number};
+ghost use Rattle.minisign_questions.specs.Numbers.{IsMeaning, WritesCut, misuse_number};
 ghost use Rattle.minisign_questions.specs.Signing.{GivesSecretKey, HoldsText, IsSigningNumber, IsWritingNumber, TellsKey, comments_of, passed_in};
 ghost use Rattle.minisign_questions.specs.declared.state.Misuse.TheVariants.{NoRoom};
-ghost use Rattle.minisign_questions.specs.States.{AreQuestions, GivesNumber, HasAsked, HasEnded, IsAnswer, IsAskingNumber, IsFed, IsMarkedFed, IsVerdictMisuse, feeding_misuse};
+ghost use Rattle.minisign_questions.specs.States.{AreQuestions, GivesNumber, HasAsked, HasEnded, IsAnswer, IsAskingNumber, IsFed, IsMarkedFed, IsVerdictNumber, feeding_misuse};
 
 use minisign_questions::numbers::write_error_text;
 use minisign_questions::secrets::SigningQuestions;
 use minisign_questions::signed_texts::{write_comment_message, write_signed_text};
-use minisign_questions::state::{Misuse, Questions, Refusal, State};
+use minisign_questions::state::{Misuse, Questions, State};
 use std::alloc::Global;
 
 /// Writes what an error number means: the text, cut where there is no room for more, and a 0.
 /// Returns the length of the whole text.
 #[unsafe(no_mangle)]
 pub extern "C" fn minisign_error_text(error: u32, text: &mut [u8]) -> usize
-    ensures { (meaning : List ℕ) × (result ≡ length meaning) × WritesCut meaning text.old text.new }
+    ensures written { (meaning : List ℕ) × IsMeaning error meaning × (result ≡ length meaning) × WritesCut meaning text.old text.new }
+    ensures room { result < 128 }
 {
     write_error_text(error, text)
 }
@@ -86,7 +87,7 @@ pub extern "C" fn minisign_ask(
         message,
     ) {
         Ok(()) => 0,
-        Err(refusal) => refusal.number(alloc, questions.signature_key_id, questions.public_key_id),
+        Err(refusal) => refusal.number(),
     }
 }
 
@@ -98,16 +99,15 @@ pub extern "C" fn minisign_verdict(state: &mut State, first: u32, second: u32) -
         → HasAsked state.old pk_text sig_text legacy → IsAnswer first → IsAnswer second
         → AnswersTexts accepts pk_text sig_text message (first == 1) (second == 1)
         → GivesNumber accepts pk_text sig_text message legacy result }
-    ensures ended { ((result ≡ 0) ⊎ (15 < result)) → HasEnded state.old state.new × IsAnswer first × IsAnswer second }
-    ensures refused { 0 < result → result < 16 → IsVerdictMisuse state.old first second result × (state.new ≡ state.old) }
+    ensures ended { result ≡ 0 → HasEnded state.old state.new × IsAnswer first × IsAnswer second }
+    ensures refused { 0 < result → IsVerdictNumber state.old state.new first second result }
 {
     if first > 1 || second > 1 {
         return Misuse::NoAnswer.number();
     }
     match state.verdict(first == 1, second == 1) {
         Ok(()) => 0,
-        Err(Refusal::WrongUse(misuse)) => misuse.number(),
-        Err(Refusal::Refused(_)) => { if first == 1 { 32 } else { 31 } }
+        Err(refusal) => refusal.number(),
     }
 }
 
@@ -140,7 +140,7 @@ pub extern "C" fn minisign_ask_signing(
     }
     match state.ask_signing(alloc, sk_text, given(with_password, password), questions) {
         Ok(()) => 0,
-        Err(refusal) => refusal.number(alloc, [0; 8], [0; 8]),
+        Err(refusal) => refusal.number(),
     }
 }
 
@@ -196,6 +196,6 @@ pub extern "C" fn minisign_signed_text(
             *text_len = len;
             0
         }
-        Err(refusal) => refusal.number(alloc, [0; 8], [0; 8]),
+        Err(refusal) => refusal.number(),
     }
 }

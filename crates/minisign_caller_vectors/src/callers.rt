@@ -6,18 +6,23 @@ use minisign::{
 use minisign_base::devices::random_sources::FixedRandom;
 use minisign_base::devices::sinks::VecSink;
 use minisign_base::devices::sources::{ReaderSource, Rereader, SliceSource};
+use minisign_base::faults::NamedFault::{
+    LegacyNotAccepted, MissingPublicKeyComment, MissingSignature, ReadingFailed, SignatureRefused,
+    WrongPassword,
+};
 use minisign_base::toy::ToyScheme;
 use minisign_examples::commenting::is_update_named;
 use minisign_examples::rotating::{NewKey, check_with_new_key};
 use minisign_examples::small_device::open_in_little_memory;
-use minisign_fixtures::outcomes::{comes_to, holds, is_text, outcome};
+use minisign_fixtures::outcomes::Outcome::{self, Accepted, Refused};
+use minisign_fixtures::outcomes::{comes_to, holds, is_text};
 use minisign_fixtures::texts::{KEY_TEXT, LEGACY_TEXT, SEALED, SECRET_TEXT, SIGNATURE_TEXT};
 use std::alloc::Global;
 use std::process::Abort;
 use std::test::Fail;
 use std::{env, fs, process};
 
-const REFUSED: &str = "Verify: Signature verification failed";
+const REFUSED: Outcome = Refused(SignatureRefused);
 
 // Verifies the bytes with two texts.
 fn verified(alloc: Global, texts: (&str, &str), message: &[u8]) -> Result<String> {
@@ -32,10 +37,16 @@ fn is_vouched_for(alloc: Global) -> bool {
 }
 
 // Asserts that verifying the bytes is refused so.
-fn refuses<A: Abort>(rt: &A, alloc: Global, texts: (&str, &str), message: &[u8], expected: &str) {
+fn refuses<A: Abort>(
+    rt: &A,
+    alloc: Global,
+    texts: (&str, &str),
+    message: &[u8],
+    expected: Outcome,
+) {
     let answer = verified(alloc, texts, message);
-    let came = comes_to(alloc, &answer, expected);
-    assert!(rt; came, "at {expected}");
+    let came = comes_to(&answer, expected);
+    assert!(rt; came, "at {expected:?}");
 }
 
 #[test]
@@ -44,11 +55,11 @@ fn the_comment_of_bytes_is_returned(rt: HostRuntime) {
     assert!(rt; is_vouched_for(alloc));
     let worked = (KEY_TEXT, SIGNATURE_TEXT);
     refuses(&rt, alloc, worked, b"abd", REFUSED);
-    let legacy = "Verify: Legacy signatures are not accepted";
+    let legacy = Refused(LegacyNotAccepted);
     refuses(&rt, alloc, (KEY_TEXT, LEGACY_TEXT), b"abc", legacy);
     let one_line = (KEY_TEXT, "untrusted comment: c");
-    refuses(&rt, alloc, one_line, b"abc", "Io: Missing signature");
-    let no_key = "Io: Missing comment in public key";
+    refuses(&rt, alloc, one_line, b"abc", Refused(MissingSignature));
+    let no_key = Refused(MissingPublicKeyComment);
     refuses(&rt, alloc, ("", ""), b"abc", no_key);
 }
 
@@ -107,12 +118,12 @@ fn is_file_refused(
     folder: &str,
     sig: &str,
     file: &str,
-    expected: &str,
+    expected: Outcome,
 ) -> std::result::Result<bool, Fail> {
     let sig_path = path_of(rt, folder, sig)?;
     let data_path = path_of(rt, folder, file)?;
     let answer = file_verified(rt, sig_path.as_str(), data_path.as_str());
-    Ok(comes_to(rt.alloc(), &answer, expected))
+    Ok(comes_to(&answer, expected))
 }
 
 #[test]
@@ -122,7 +133,7 @@ fn the_comment_of_files_is_returned(rt: HostRuntime) -> std::result::Result<(), 
     make_empty(&rt, folder)?;
     put(&rt, folder, "abc.sig", SIGNATURE_TEXT.as_bytes())?;
     put(&rt, folder, "abc", b"abc")?;
-    let unread = "Io: reading failed";
+    let unread = Refused(ReadingFailed);
     assert!(rt; is_file_vouched_for(&rt, folder)?);
     assert!(rt; is_file_refused(&rt, folder, "missing", "abc", unread)?);
     assert!(rt; is_file_refused(&rt, folder, "abc.sig", "missing", unread)?);
@@ -152,10 +163,10 @@ fn is_copied(alloc: Global, message: &[u8]) -> bool {
 }
 
 // Whether the data is refused so, and nothing of it is copied.
-fn is_left(alloc: Global, message: &[u8], expected: &str) -> bool {
+fn is_left(alloc: Global, message: &[u8], expected: Outcome) -> bool {
     let mut out = VecSink::new(alloc);
     let answer = copied(alloc, &mut SliceSource::new(message), &mut out);
-    let came = comes_to(alloc, &answer, expected);
+    let came = comes_to(&answer, expected);
     came && out.as_slice().is_empty()
 }
 
@@ -233,13 +244,12 @@ fn opened_keys_sign_bytes(rt: HostRuntime) {
     assert!(rt; holds(&signs(rt.alloc(), SEALED)));
 }
 
-// Whether another password is refused, and in little memory in the same words.
+// Whether another password is refused, and in little memory by the same fault.
 fn is_refused_alike(alloc: Global) -> bool {
     let whole = opened(alloc, SEALED, "passwore");
-    let told = outcome(alloc, &whole);
     let little = opened_in_little(alloc, "passwore");
-    let came = comes_to(alloc, &little, told.as_str());
-    whole.is_err() && came
+    let refused = comes_to(&whole, Refused(WrongPassword));
+    refused && comes_to(&little, Refused(WrongPassword))
 }
 
 // The record of the sealed key.
@@ -289,11 +299,11 @@ fn an_update_has_the_name_that_was_signed(rt: HostRuntime) {
     let alloc = rt.alloc();
     assert!(rt; holds(&has_its_name(alloc)));
     let changed = named(alloc, b"abd", "t");
-    assert!(rt; comes_to(alloc, &changed, REFUSED));
+    assert!(rt; comes_to(&changed, REFUSED));
 }
 
 // Whether the update under a new key, which this text has to vouch for, comes out so.
-fn is_checked(alloc: Global, sig_text: &str, update: &[u8], expected: &str) -> bool {
+fn is_checked(alloc: Global, sig_text: &str, update: &[u8], expected: Outcome) -> bool {
     let new_key = NewKey {
         pk_text: KEY_TEXT,
         sig_text,
@@ -306,11 +316,11 @@ fn is_checked(alloc: Global, sig_text: &str, update: &[u8], expected: &str) -> b
         SIGNATURE_TEXT,
         update,
     );
-    comes_to(alloc, &answer, expected)
+    comes_to(&answer, expected)
 }
 
 // Whether the update comes out so with a new key that the old one signed.
-fn is_vouched_by_the_old(alloc: Global, update: &[u8], expected: &str) -> Result<bool> {
+fn is_vouched_by_the_old(alloc: Global, update: &[u8], expected: Outcome) -> Result<bool> {
     let text = signed_with(alloc, SECRET_TEXT, "", KEY_TEXT.as_bytes(), "key of 2027")?;
     Ok(is_checked(alloc, text.as_str(), update, expected))
 }
@@ -318,7 +328,7 @@ fn is_vouched_by_the_old(alloc: Global, update: &[u8], expected: &str) -> Result
 #[test]
 fn a_new_key_is_vouched_for_by_the_old_one(rt: HostRuntime) {
     let alloc = rt.alloc();
-    assert!(rt; holds(&is_vouched_by_the_old(alloc, b"abc", "accepted")));
+    assert!(rt; holds(&is_vouched_by_the_old(alloc, b"abc", Accepted)));
     assert!(rt; holds(&is_vouched_by_the_old(alloc, b"abd", REFUSED)));
     assert!(rt; is_checked(alloc, SIGNATURE_TEXT, b"abc", REFUSED));
 }

@@ -7,13 +7,13 @@ ghost use Rattle.std.specs.Prelude.{ℕ, OnOk};
 ghost use Rattle.minisign_install.specs.Installing.{InstallsOnlyUpdates, IsInstalled, terms_of};
 ghost use Rattle.minisign_install.specs.Memory.{past_of, told_run};
 
-use minisign::Result;
+use minisign::{ErrorKind, NamedFault};
 use minisign_base::devices::random_sources::{FixedRandom, RandomSource};
 use minisign_base::devices::sources::{SliceSource, Source};
 use minisign_base::scheme::Scheme;
 use minisign_base::toy::ToyScheme;
 use minisign_install::memory::MemoryFolder;
-use minisign_install::{Name, Numbering, Wanted, install_update};
+use minisign_install::{InstallFault, Name, Numbering, Wanted, install_update};
 use std::alloc::Global;
 
 const KEY_TEXT: &str =
@@ -41,7 +41,7 @@ fn install(
     data: &[u8],
     sig_text: &str,
     is_first: bool,
-) -> Result<()> {
+) -> Result<(), InstallFault> {
     install_told(
         alloc,
         &ToyScheme::new(),
@@ -67,21 +67,18 @@ fn install_told<S: Scheme, Z: RandomSource, R: Source>(
     is_first: bool,
     update: &mut R,
     folder: &mut MemoryFolder,
-) -> Result<()>
+) -> Result<(), InstallFault>
     ensures headline { InstallsOnlyUpdates (S.accepts scheme.now) (terms_of wanted.entry) is_first (told_run (past_of folder.old)) (told_run (past_of folder.new)) }
     ensures installed { OnOk result ((kept : ℕ) × IsInstalled (S.accepts scheme.now) (terms_of wanted.entry) kept (told_run (past_of folder.new)).steps) }
 {
     install_update(alloc, scheme, random, wanted, is_first, update, folder)
 }
 
-// Whether the update was refused with this text.
-fn is_refused(alloc: Global, answer: &Result<()>, text: &str) -> bool {
-    match answer {
-        Ok(()) => false,
-        Err(fault) => match format!(in alloc; "{fault}") {
-            Ok(shown) => shown.as_str() == text,
-            Err(_) => false,
-        },
+// What the library calls the refusal, where it is one of the library's.
+fn named(refusal: &Option<InstallFault>) -> Option<NamedFault> {
+    match refusal {
+        Some(InstallFault::Library(fault)) => fault.named(),
+        _ => None,
     }
 }
 
@@ -118,31 +115,21 @@ fn installs(
     installed && holds(folder, update, record)
 }
 
-// Whether the update is refused with this text, where it is not the first one.
-fn refuses(
-    alloc: Global,
-    folder: &mut MemoryFolder,
-    drawn: &[u8],
-    update: &[u8],
-    sig_text: &str,
-    text: &str,
-) -> bool {
-    let answer = install(alloc, folder, drawn, update, sig_text, false);
-    is_refused(alloc, &answer, text)
-}
-
-// Whether it is refused so behind `second`, which stays.
-fn is_refused_behind_second(
+// Why the update is refused behind `second`, where that stays.
+fn refusal_behind_second(
     alloc: Global,
     drawn: &[u8],
     update: &[u8],
     sig_text: &str,
-    text: &str,
-) -> bool {
+) -> Option<InstallFault> {
     let mut folder = MemoryFolder::new(alloc);
     let installed = installs(alloc, &mut folder, b"second", SECOND, true, b"6");
-    let refused = refuses(alloc, &mut folder, drawn, update, sig_text, text);
-    installed && refused && holds(&folder, b"second", b"6")
+    let answer = install(alloc, &mut folder, drawn, update, sig_text, false);
+    if installed && holds(&folder, b"second", b"6") {
+        answer.err()
+    } else {
+        None
+    }
 }
 
 #[test]
@@ -157,22 +144,22 @@ fn updates_are_installed_one_after_another(rt: HostRuntime) {
 
 #[test]
 fn an_older_update_is_refused(rt: HostRuntime) {
-    let older = "the update is older than what was installed";
-    assert!(rt; is_refused_behind_second(rt.alloc(), &DRAWN, b"first", FIRST, older));
+    let refusal = refusal_behind_second(rt.alloc(), &DRAWN, b"first", FIRST);
+    assert!(rt; matches!(refusal, Some(InstallFault::OlderUpdate)));
 }
 
 #[test]
 fn what_the_texts_do_not_vouch_for_is_refused(rt: HostRuntime) {
-    let refused = "Signature verification failed";
-    assert!(rt; is_refused_behind_second(rt.alloc(), &DRAWN, b"Second", SECOND, refused));
+    let refusal = refusal_behind_second(rt.alloc(), &DRAWN, b"Second", SECOND);
+    assert!(rt; named(&refusal) == Some(NamedFault::SignatureRefused));
 }
 
 // Whether an update that is not the first one is refused where no number is kept, and nothing is
 // installed.
 fn is_refused_without_a_number(alloc: Global) -> bool {
     let mut folder = MemoryFolder::new(alloc);
-    let text = "no number is kept beside the place";
-    let refused = refuses(alloc, &mut folder, &DRAWN, b"first", FIRST, text);
+    let answer = install(alloc, &mut folder, &DRAWN, b"first", FIRST, false);
+    let refused = matches!(answer, Err(InstallFault::NoRecord));
     refused && is_free(&folder, Name::Place) && is_free(&folder, Name::Record)
 }
 
@@ -183,7 +170,63 @@ fn without_a_number_only_a_first_installation_goes_through(rt: HostRuntime) {
 
 #[test]
 fn a_name_that_is_drawn_twice_is_refused(rt: HostRuntime) {
-    let drawn = [7u8; 32];
-    let unwritten = "writing failed";
-    assert!(rt; is_refused_behind_second(rt.alloc(), &drawn, b"second", SECOND, unwritten));
+    let refusal = refusal_behind_second(rt.alloc(), &[7; 32], b"second", SECOND);
+    assert!(rt; named(&refusal) == Some(NamedFault::WritingFailed));
+}
+
+// Whether the fault is of this kind, and shows itself so.
+fn shows(alloc: Global, fault: InstallFault, kind: ErrorKind, text: &str) -> bool {
+    match format!(in alloc; "{fault}") {
+        Ok(shown) => *fault.kind() == kind && shown.as_str() == text,
+        Err(_) => false,
+    }
+}
+
+#[test]
+fn each_fault_shows_its_text(rt: HostRuntime) {
+    use ErrorKind::{Io, Verify};
+    use InstallFault::*;
+    let alloc = rt.alloc();
+    let of_library: InstallFault = NamedFault::NotUtf8.into();
+    let shown = [
+        shows(alloc, of_library, Io, "stream did not contain valid UTF-8"),
+        shows(
+            alloc,
+            PlaceInUse,
+            Io,
+            "another installation is at work at this place",
+        ),
+        shows(alloc, NoRecord, Io, "no number is kept beside the place"),
+        shows(
+            alloc,
+            DamagedRecord,
+            Io,
+            "what is kept beside the place is no number",
+        ),
+        shows(
+            alloc,
+            OtherFile,
+            Verify,
+            "the signed comment does not name this file",
+        ),
+        shows(
+            alloc,
+            NoNumber,
+            Verify,
+            "the signed comment has no such number",
+        ),
+        shows(
+            alloc,
+            OlderUpdate,
+            Verify,
+            "the update is older than what was installed",
+        ),
+        shows(
+            alloc,
+            FolderNotOnDisk,
+            Io,
+            "installed, but the folder could not be brought to the disk",
+        ),
+    ];
+    assert!(rt; shown == [true; 8]);
 }

@@ -3,9 +3,11 @@
 
 use minisign::{Result, SignatureBox};
 use minisign_base::devices::random_sources::FixedRandom;
+use minisign_base::faults::NamedFault::{RandomSourceFailed, SignatureRefused};
 use minisign_base::toy::ToyScheme;
 use minisign_examples::releasing::{Release, sign_release};
 use minisign_examples::updating::check_update;
+use minisign_fixtures::outcomes::Outcome::{self, Accepted, Refused};
 use minisign_fixtures::outcomes::{comes_to, counted, holds, is_text};
 use minisign_fixtures::texts::COUNTED_PUBLIC_TEXT;
 use std::alloc::Global;
@@ -37,21 +39,21 @@ fn has_comments(alloc: Global, sig_text: &str) -> Result<bool> {
 }
 
 // Whether checking the update with both texts comes out so.
-fn is_checked(alloc: Global, texts: (&str, &str), update: &str, expected: &str) -> bool {
+fn is_checked(alloc: Global, texts: (&str, &str), update: &str, expected: Outcome) -> bool {
     let (pk_text, sig_text) = texts;
     let toy = ToyScheme::new();
     let checked = check_update(alloc, &toy, pk_text, sig_text, update.as_bytes());
-    comes_to(alloc, &checked, expected)
+    comes_to(&checked, expected)
 }
 
 // Whether the two texts are those of the release: its update alone is accepted.
 fn are_released(alloc: Global, texts: (&str, &str)) -> bool {
     let (pk_text, sig_text) = texts;
-    let refused = "Verify: Signature verification failed";
+    let refused = Refused(SignatureRefused);
     let commented = has_comments(alloc, sig_text);
     pk_text == COUNTED_PUBLIC_TEXT
         && holds(&commented)
-        && is_checked(alloc, texts, "lorem ipsum", "accepted")
+        && is_checked(alloc, texts, "lorem ipsum", Accepted)
         && is_checked(alloc, texts, "lorem ipsun", refused)
 }
 
@@ -69,5 +71,5 @@ fn a_release_is_verified_with_its_texts(rt: HostRuntime) {
 #[test]
 fn a_release_wants_all_its_random_bytes(rt: HostRuntime) {
     let answer = released(rt.alloc(), &[7; 199]);
-    assert!(rt; comes_to(rt.alloc(), &answer, "RNG: random source failed"));
+    assert!(rt; comes_to(&answer, Refused(RandomSourceFailed)));
 }

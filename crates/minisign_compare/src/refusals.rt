@@ -1,11 +1,12 @@
 //! Why a request gets no fields for an answer.
 
 ghost use Rattle.std.specs.Prelude.{◌≡◌};
-ghost use Rattle.minisign_base.specs.Faults.{out_of_memory};
+ghost use Rattle.minisign_base.specs.Fault.{Named};
+ghost use Rattle.minisign_base.specs.declared.faults.NamedFault.TheVariants.{OutOfMemory};
 ghost use Rattle.minisign_compare.specs.declared.refusals.Refusal.TheVariants.{Fault};
 
 use minisign::PError;
-use minisign::base::faults;
+use minisign::base::NamedFault;
 use std::alloc::{AllocError, AllocFailed};
 
 /// Why a request gets no fields for an answer.
@@ -28,17 +29,17 @@ impl From<PError> for Refusal {
 }
 
 impl From<AllocError> for Refusal {
-    ghost from_gives = { λ _ e. e ≡ Fault out_of_memory };
+    ghost from_gives = { λ _ e. e ≡ Fault (Named OutOfMemory) };
 
     fn from(_error: AllocError) -> Refusal {
-        Refusal::Fault(faults::out_of_memory())
+        Refusal::Fault(NamedFault::OutOfMemory.into())
     }
 }
 
 impl<T: Drop> From<AllocFailed<T>> for Refusal {
-    ghost from_gives = { λ _ e. e ≡ Fault out_of_memory };
+    ghost from_gives = { λ _ e. e ≡ Fault (Named OutOfMemory) };
 
     fn from(_error: AllocFailed<T>) -> Refusal {
-        Refusal::Fault(faults::out_of_memory())
+        Refusal::Fault(NamedFault::OutOfMemory.into())
     }
 }

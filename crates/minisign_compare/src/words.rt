@@ -5,7 +5,7 @@ ghost use Rattle.hex.specs.Hex.{decode_of};
 
 use crate::refusals::Refusal;
 use hex::FromHexError;
-use minisign::base::faults;
+use minisign::base::NamedFault;
 use std::alloc::Global;
 use std::str::FromStr;
 
@@ -103,7 +103,7 @@ pub fn bytes_of(alloc: Global, word: &str) -> Result<Vec<u8>, Refusal>
     };
     match hex::decode(alloc, digits) {
         Ok(bytes) => Ok(bytes),
-        Err(FromHexError::OutOfMemory) => Err(Refusal::Fault(faults::out_of_memory())),
+        Err(FromHexError::OutOfMemory) => Err(Refusal::Fault(NamedFault::OutOfMemory.into())),
         Err(_) => Err(Refusal::BadRequest),
     }
 }

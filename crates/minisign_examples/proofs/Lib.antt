@@ -1,2 +1,3 @@
+mod AskedAgain
 mod Refusals
 mod SignedPairs

@@ -1,5 +1,5 @@
 -- What the key of a genuine pair signs.
-use Rattle.std.specs.Prelude.{◌≡◌, ◌⊎◌, ℕ, List, false, Result, Ok, Err, IfErr, IfOk, MatchResult}
+use Rattle.std.specs.Prelude.{ℕ, List, false, Result, Ok, Err, IfErr, IfOk, MatchResult}
 use Rattle.std.proofs.Common.{inl, inr, sym, ◌∙◌}
 use Rattle.std.proofs.lemmas.Bool.{true≢false}
 use Rattle.minisign_base.specs.Fault.{Fault}

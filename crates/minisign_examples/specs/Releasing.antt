@@ -1,7 +1,7 @@
 -- The texts of a pair of keys, and why a release is not made.
 use Rattle.std.specs.Prelude.{◌≡◌, ◌⊎◌, ℕ, List}
-use Rattle.minisign_base.specs.Fault.{Fault}
-use Rattle.minisign_base.specs.Faults.{out_of_memory, random_source_failed}
+use Rattle.minisign_base.specs.Fault.{Fault, Named}
+use Rattle.minisign_base.specs.declared.faults.NamedFault.TheVariants.{OutOfMemory, RandomSourceFailed}
 use Rattle.minisign.specs.Records.{PublicKeyRecord, SecretKeyRecord}
 use Rattle.minisign.specs.PublicKeyText.{PublicKeyText}
 use Rattle.minisign.specs.Generation.{IsGenuinePair, OpensOnlyTo}
@@ -14,4 +14,4 @@ pub record ArePairTexts (public_of : List ℕ → List ℕ) (password pk_text sk
 
 -- it ran out of memory, or the random source failed; no text and no signature was refused
 abbrev pub IsMemoryOrRandomFault : Fault → Type 0
-IsMemoryOrRandomFault e = (e ≡ out_of_memory) ⊎ (e ≡ random_source_failed)
+IsMemoryOrRandomFault e = (e ≡ Named OutOfMemory) ⊎ (e ≡ Named RandomSourceFailed)

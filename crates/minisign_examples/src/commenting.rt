@@ -2,7 +2,8 @@
 //! signature is of.
 
 ghost use Rattle.std.specs.Prelude.{◌≡◌, ◌⊎◌, ℕ, List, false, bytes_eq, MatchResult};
-ghost use Rattle.minisign_base.specs.Faults.{out_of_memory};
+ghost use Rattle.minisign_base.specs.Fault.{Named};
+ghost use Rattle.minisign_base.specs.declared.faults.NamedFault.TheVariants.{OutOfMemory};
 ghost use Rattle.minisign.specs.Calls.{TextsVouchWith};
 ghost use Rattle.minisign.specs.Headline.{TextsRefuse};
 
@@ -23,7 +24,7 @@ pub fn is_update_named<S: Scheme>(
 ) -> Result<bool>
     ensures { MatchResult result (λ b. (comment : List ℕ) × (b ≡ bytes_eq comment name.now)
         × TextsVouchWith (S.accepts scheme.now) pk_text.now sig_text.now update.now false comment)
-        (λ e. (e ≡ out_of_memory) ⊎ TextsRefuse (S.accepts scheme.now) pk_text.now sig_text.now update.now false e) }
+        (λ e. (e ≡ Named OutOfMemory) ⊎ TextsRefuse (S.accepts scheme.now) pk_text.now sig_text.now update.now false e) }
 {
     let comment = verify_bytes(alloc, scheme, pk_text, sig_text, update)?;
     Ok(comment.as_str() == name)

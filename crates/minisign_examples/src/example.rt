@@ -1,7 +1,8 @@
 //! A caller that signs and verifies with raw keys.
 
 ghost use Rattle.std.specs.Prelude.{◌≡◌, ◌⊎◌, ℕ, List, None, false, string_bytes, IfOk, IfErr};
-ghost use Rattle.minisign_base.specs.Faults.{out_of_memory, random_source_failed};
+ghost use Rattle.minisign_base.specs.Fault.{Named};
+ghost use Rattle.minisign_base.specs.declared.faults.NamedFault.TheVariants.{OutOfMemory, RandomSourceFailed};
 ghost use Rattle.minisign_base.specs.Passages.{random_passage};
 ghost use Rattle.minisign.specs.Headline.{TextsVouchFor};
 ghost use Rattle.minisign.specs.PublicKeyText.{public_key_text};
@@ -32,7 +33,7 @@ pub fn sign_and_verify<S: Scheme, Z: RandomSource>(
     ensures accepted { IfOk result (λ t. TextsVouchFor (S.accepts scheme.now) (public_key_text public_key.now) (string_bytes t) message.now false) }
     ensures genuine { (seed : List ℕ) → IsGenuine (S.public_of scheme.now) secret_key.now seed
         → public_key.now.key ≡ S.public_of scheme.now seed → public_key.now.keynum ≡ secret_key.now.keynum
-        → IfErr result (λ e. (e ≡ out_of_memory) ⊎ (e ≡ random_source_failed)) }
+        → IfErr result (λ e. (e ≡ Named OutOfMemory) ⊎ (e ≡ Named RandomSourceFailed)) }
 {
     let sig_text = sign_bytes(alloc, scheme, secret_key, message, None, random, moment)?;
     let pk_text = public_key.to_box(alloc)?.into_string();

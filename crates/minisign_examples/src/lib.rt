@@ -5,6 +5,7 @@
 
 #![tactic(auto)]
 
+pub mod asking;
 pub mod commenting;
 pub mod example;
 pub mod releasing;

@@ -2,7 +2,8 @@
 //! the new one.
 
 ghost use Rattle.std.specs.Prelude.{◌≡◌, ◌⊎◌, MatchResult};
-ghost use Rattle.minisign_base.specs.Faults.{out_of_memory};
+ghost use Rattle.minisign_base.specs.Fault.{Named};
+ghost use Rattle.minisign_base.specs.declared.faults.NamedFault.TheVariants.{OutOfMemory};
 ghost use Rattle.minisign_examples.specs.NewKeys.{RefuseThroughNewKey, VouchThroughNewKey};
 
 use crate::updating::check_update;
@@ -32,7 +33,7 @@ pub fn check_with_new_key<S: Scheme>(
     ensures { MatchResult result
         (λ _. VouchThroughNewKey (S.accepts scheme.now) old_text.now new_key.entry.sig_text.now
         new_key.entry.pk_text.now sig_text.now update.now)
-        (λ e. (e ≡ out_of_memory) ⊎ RefuseThroughNewKey (S.accepts scheme.now) old_text.now
+        (λ e. (e ≡ Named OutOfMemory) ⊎ RefuseThroughNewKey (S.accepts scheme.now) old_text.now
         new_key.entry.sig_text.now new_key.entry.pk_text.now sig_text.now update.now e) }
 {
     check_update(

@@ -1,7 +1,8 @@
 //! A caller that opens a sealed key where memory is scarce.
 
 ghost use Rattle.std.specs.Prelude.{◌≡◌, ◌⊎◌, None, MatchResult};
-ghost use Rattle.minisign_base.specs.Faults.{out_of_memory};
+ghost use Rattle.minisign_base.specs.Fault.{Named};
+ghost use Rattle.minisign_base.specs.declared.faults.NamedFault.TheVariants.{OutOfMemory};
 ghost use Rattle.minisign.specs.Opening.{IsOpened, RefusesOpening};
 
 use minisign::{Result, SecretKey, SecretKeyBox};
@@ -17,7 +18,7 @@ const KEPT_EVERY: u64 = 8;
 /// otherwise: 4 MiB with the usual limits. What is opened and what is refused is the same.
 pub fn open_in_little_memory(alloc: Global, sk_text: &str, password: &str) -> Result<SecretKey>
     ensures { MatchResult result (IsOpened sk_text.now password.now None)
-        (λ e. (e ≡ out_of_memory) ⊎ RefusesOpening sk_text.now password.now None e) }
+        (λ e. (e ≡ Named OutOfMemory) ⊎ RefusesOpening sk_text.now password.now None e) }
 {
     let sk_box = SecretKeyBox::from_string(alloc, sk_text)?;
     let passed_in = Some(String::from_str(alloc, password)?);

@@ -1,7 +1,8 @@
 //! A caller that installs what two texts vouch for, and nothing else.
 
 ghost use Rattle.std.specs.Prelude.{◌≡◌, ◌⊎◌, false, MatchResult};
-ghost use Rattle.minisign_base.specs.Faults.{out_of_memory};
+ghost use Rattle.minisign_base.specs.Fault.{Named};
+ghost use Rattle.minisign_base.specs.declared.faults.NamedFault.TheVariants.{OutOfMemory};
 ghost use Rattle.minisign.specs.Headline.{TextsRefuse, TextsVouchFor};
 
 use minisign::{Result, verify_bytes};
@@ -18,7 +19,7 @@ pub fn check_update<S: Scheme>(
     update: &[u8],
 ) -> Result<()>
     ensures { MatchResult result (λ _. TextsVouchFor (S.accepts scheme.now) pk_text.now sig_text.now update.now false)
-        (λ e. (e ≡ out_of_memory) ⊎ TextsRefuse (S.accepts scheme.now) pk_text.now sig_text.now update.now false e) }
+        (λ e. (e ≡ Named OutOfMemory) ⊎ TextsRefuse (S.accepts scheme.now) pk_text.now sig_text.now update.now false e) }
 {
     verify_bytes(alloc, scheme, pk_text, sig_text, update)?;
     Ok(())

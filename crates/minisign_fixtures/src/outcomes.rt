@@ -1,25 +1,37 @@
-//! How outcomes and bytes are shown and compared, and beginnings of texts and bytes.
+//! What comes of a call, and how bytes are shown and compared; beginnings of texts and bytes.
 
-use minisign_base::errors::{ErrorKind, Result};
+use crate::keys::{IDENTIFIER, OTHER_IDENTIFIER};
+use minisign_base::errors::Result;
+use minisign_base::faults::NamedFault;
 use std::alloc::Global;
 use std::fmt;
 use std::fmt::Write;
 
-/// `accepted`, or the kind of the fault and its text.
-pub fn outcome<T>(alloc: Global, answer: &Result<T>) -> String {
-    let shown = match answer {
-        Ok(_) => String::from_str(alloc, "accepted"),
-        Err(fault) => format!(in alloc; "{:?}: {fault}", fault.kind()),
-    };
-    match shown {
-        Ok(text) => text,
-        Err(_) => String::new(alloc),
-    }
+/// What comes of a call, without its value.
+#[derive(Clone, Copy, Debug, PartialEq, Eq)]
+pub enum Outcome {
+    /// The call gives its value.
+    Accepted,
+    /// The call returns this fault.
+    Refused(NamedFault),
 }
 
-/// Whether the outcome is shown so.
-pub fn comes_to<T>(alloc: Global, answer: &Result<T>, expected: &str) -> bool {
-    outcome(alloc, answer).as_str() == expected
+/// What comes of a signature with key A's identifier and a public key with the other one.
+pub const OTHER_KEY: Outcome = Outcome::Refused(NamedFault::DifferentKeyIds {
+    signature: IDENTIFIER,
+    key: OTHER_IDENTIFIER,
+});
+
+/// Whether the answer is a value where one is expected, and otherwise the very fault, with its
+/// identifiers. A fault with a kind and a text of its caller's own is none that can be expected.
+pub fn comes_to<T>(answer: &Result<T>, expected: Outcome) -> bool {
+    match answer {
+        Ok(_) => expected == Outcome::Accepted,
+        Err(fault) => match fault.named() {
+            Some(named) => expected == Outcome::Refused(named),
+            None => false,
+        },
+    }
 }
 
 /// Whether it was found out, and holds.
@@ -34,13 +46,13 @@ pub fn holds(answer: &Result<bool>) -> bool {
 pub fn is_right_or_wanting(answer: &Result<bool>) -> bool {
     match answer {
         Ok(right) => *right,
-        Err(fault) => *fault.kind() == ErrorKind::OutOfMemory,
+        Err(fault) => fault.named() == Some(NamedFault::OutOfMemory),
     }
 }
 
 /// The same, or a sink could not grow, so that writing failed.
-pub fn is_right_or_unwritten(alloc: Global, answer: &Result<bool>) -> bool {
-    is_right_or_wanting(answer) || comes_to(alloc, answer, "Io: writing failed")
+pub fn is_right_or_unwritten(answer: &Result<bool>) -> bool {
+    is_right_or_wanting(answer) || comes_to(answer, Outcome::Refused(NamedFault::WritingFailed))
 }
 
 /// Whether these are the bytes of the record.

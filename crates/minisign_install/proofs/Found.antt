@@ -4,14 +4,15 @@ use Rattle.std.proofs.lemmas.Bool.{true≢false}
 use Rattle.minisign.specs.Reading.{IsAhead}
 use Rattle.std.specs.declared.result.Result.{Result}
 use Rattle.std.specs.declared.result.Result.TheVariants.{Ok, Err}
-use Rattle.minisign_base.specs.Fault.{Fault}
-use Rattle.minisign_base.specs.Faults.{out_of_memory, reading_failed}
+use Rattle.minisign_base.specs.Fault.{Fault, Named}
+use Rattle.minisign_base.specs.declared.faults.NamedFault.TheVariants.{OutOfMemory, ReadingFailed}
 use Rattle.minisign_install.specs.Refusals.{IsDeviceFault}
 use Rattle.minisign_install.specs.Folders.{HasStepped, Reads, Run}
 use Rattle.minisign_install.specs.Installing.{IsKeptNumber}
+use Rattle.minisign_install.specs.declared.faults.InstallFault.{InstallFault}
 use Rattle.minisign_install.specs.declared.folders.Name.TheVariants.{Record}
 
-pub number_found : (first : Bool) (held bytes : List ℕ) (old new : Run) (r : Result ℕ Fault) → bytes ≡ held → (old.told ≡ true → HasStepped old new (Reads Record (Some held))) → IfOk r (IsKeptNumber first (Some bytes))
+pub number_found : (first : Bool) (held bytes : List ℕ) (old new : Run) (r : Result ℕ InstallFault) → bytes ≡ held → (old.told ≡ true → HasStepped old new (Reads Record (Some held))) → IfOk r (IsKeptNumber first (Some bytes))
     → IfOk r (λ kept. old.told ≡ true → ((found : Option (List ℕ)) × HasStepped old new (Reads Record found) × IsKeptNumber first found kept))
 number_found first held bytes old new (Ok n) same s number = λ told. (Some held, s told, subst (λ b. IsKeptNumber first (Some b) n) same number)
 number_found first held bytes old new (Err e) same s number = tt
@@ -24,7 +25,7 @@ judged_told false xs ahead V (Ok t) is judged = λ told. absurd (true≢false (s
 judged_told told xs ahead V (Err e) is judged = tt
 
 pub refused_told : {T : Type 0} (told : Bool) (xs : List ℕ) (ahead : Option (List ℕ)) (W : List ℕ → Fault → Type 0) (r : Result T Fault) → ahead ≡ (if told then Some xs else None)
-    → IfErr r (λ e. (e ≡ out_of_memory) ⊎ (e ≡ reading_failed) ⊎ ((message : List ℕ) × IsAhead ahead message × W message e)) → IfErr r (λ e. told ≡ true → IsDeviceFault e ⊎ W xs e)
+    → IfErr r (λ e. (e ≡ Named OutOfMemory) ⊎ (e ≡ Named ReadingFailed) ⊎ ((message : List ℕ) × IsAhead ahead message × W message e)) → IfErr r (λ e. told ≡ true → IsDeviceFault e ⊎ W xs e)
 refused_told told xs ahead W (Ok t) is why = tt
 refused_told told xs ahead W (Err e) is (inl memory) = λ yes. inl (inl memory)
 refused_told told xs ahead W (Err e) is (inr (inl reading)) = λ yes. inl (inr (inl reading))
@@ -38,7 +39,7 @@ some_vouched ahead V (Ok t) (message, given, v) = (message, v)
 some_vouched ahead V (Err e) judged = tt
 
 pub some_refused : {T : Type 0} (ahead : Option (List ℕ)) (W : List ℕ → Fault → Type 0) (r : Result T Fault)
-    → IfErr r (λ e. (e ≡ out_of_memory) ⊎ (e ≡ reading_failed) ⊎ ((message : List ℕ) × IsAhead ahead message × W message e)) → IfErr r (λ e. IsDeviceFault e ⊎ ((message : List ℕ) × W message e))
+    → IfErr r (λ e. (e ≡ Named OutOfMemory) ⊎ (e ≡ Named ReadingFailed) ⊎ ((message : List ℕ) × IsAhead ahead message × W message e)) → IfErr r (λ e. IsDeviceFault e ⊎ ((message : List ℕ) × W message e))
 some_refused ahead W (Ok t) why = tt
 some_refused ahead W (Err e) (inl memory) = inl (inl memory)
 some_refused ahead W (Err e) (inr (inl reading)) = inl (inr (inl reading))

@@ -1,18 +1,19 @@
 -- Why an installation is refused: the rows of the parts make those of the whole.
-use Rattle.std.proofs.Common.{◌≡◌, ◌⊎◌, inl, inr, ℕ, Bool, true, false, List, [], ◌∷◌, ◌++◌, Option, Some, ap, sym, subst, ◌∙◌, append_assoc, IfErr, IsErrAnd, MatchResult}
+use Rattle.std.proofs.Common.{◌≡◌, ◌⊎◌, inl, inr, ℕ, Bool, true, false, List, [], ◌∷◌, ◌++◌, Option, Some, ap, sym, subst, ◌∙◌, append_assoc, refl, IfErr, IsErrAnd, MatchResult}
 use Rattle.std.specs.Fmt.{decimal}
 use Rattle.std.specs.declared.result.Result.{Result}
 use Rattle.std.specs.declared.result.Result.TheVariants.{Ok, Err}
-use Rattle.minisign_base.specs.Fault.{Fault}
-use Rattle.minisign_base.specs.Faults.{out_of_memory, random_source_failed, reading_failed, writing_failed}
+use Rattle.minisign_base.specs.Fault.{Fault, Named}
+use Rattle.minisign_base.specs.declared.faults.NamedFault.TheVariants.{OutOfMemory, RandomSourceFailed, ReadingFailed, WritingFailed}
 use Rattle.minisign.specs.Acceptance.{Verifier}
 use Rattle.minisign.specs.Headline.{TextsRefuse}
 use Rattle.minisign.specs.Reading.{IsAhead}
-use Rattle.minisign_install.specs.Faults.{damaged_record, folder_not_on_disk, no_record}
 use Rattle.minisign_install.specs.Folders.{HasCreated, HasStepped, KeepsNames, Reads, Renames, Run, SettlesNames}
 use Rattle.minisign_install.specs.Installing.{HasFound, IsBrought, IsKeptNumber, IsUpdate, Terms}
 use Rattle.minisign_install.specs.Refusals.{IsCause, IsDataCause, IsDeviceFault, HasNamed, IsDataRefusal, IsLockedRefusal, IsRecordBrought, IsRecordRefused, IsRefusal}
 use Rattle.minisign_install.specs.Runs.{BringsNothing, BringsOnly, HasStage, IsOnly}
+use Rattle.minisign_install.specs.declared.faults.InstallFault.{InstallFault}
+use Rattle.minisign_install.specs.declared.faults.InstallFault.TheVariants.{DamagedRecord, FolderNotOnDisk, Library, NoRecord}
 use Rattle.minisign_install.specs.declared.folders.Name.{Name}
 use Rattle.minisign_install.specs.declared.folders.Name.TheVariants.{Place, Record}
 use Rattle.minisign_install.proofs.Moments.{step}
@@ -40,8 +41,8 @@ unsettled name to old mid new U (Err e) rename settle = λ u g stage on_disk.
     }
 
 -- the record was read, and is refused
-pub number_refused : (first : Bool) (held bytes : List ℕ) (old new : Run) (r : Result ℕ Fault) → bytes ≡ held → (old.told ≡ true → HasStepped old new (Reads Record (Some held))) → IfErr r (IsRecordRefused first (Some bytes))
-    → IfErr r (λ e. old.told ≡ true → ((e ≡ reading_failed) ⊎ ((found : Option (List ℕ)) × HasStepped old new (Reads Record found) × IsRecordRefused first found e)))
+pub number_refused : (first : Bool) (held bytes : List ℕ) (old new : Run) (r : Result ℕ InstallFault) → bytes ≡ held → (old.told ≡ true → HasStepped old new (Reads Record (Some held))) → IfErr r (IsRecordRefused first (Some bytes))
+    → IfErr r (λ e. old.told ≡ true → ((e ≡ Library (Named ReadingFailed)) ⊎ ((found : Option (List ℕ)) × HasStepped old new (Reads Record found) × IsRecordRefused first found e)))
 number_refused first held bytes old new (Ok n) same s refused = tt
 number_refused first held bytes old new (Err e) same s refused = λ told. inr (Some held, s told, subst (λ b. IsRecordRefused first (Some b) e) same refused)
 
@@ -50,7 +51,7 @@ pub copied_there : (ahead : Option (List ℕ)) (old new message : List ℕ) → 
 copied_there ahead old new message given grown empty = subst (IsAhead ahead) (sym (grown ∙ ap (λ l. l ++ message) empty)) given
 
 -- filling a stage failed
-pub fill_failed : (e : Fault) (M Z : Type 0) → (e ≡ out_of_memory) ⊎ ((e ≡ reading_failed) × Z) ⊎ (e ≡ writing_failed) → IsDeviceFault e ⊎ M
+pub fill_failed : (e : Fault) (M Z : Type 0) → (e ≡ Named OutOfMemory) ⊎ ((e ≡ Named ReadingFailed) × Z) ⊎ (e ≡ Named WritingFailed) → IsDeviceFault e ⊎ M
 fill_failed e M Z (inl memory) = inl (inl memory)
 fill_failed e M Z (inr (inl (reading, z))) = inl (inr (inl reading))
 fill_failed e M Z (inr (inr writing)) = inl (inr (inr (inl writing)))
@@ -115,7 +116,7 @@ module _ (accepts : Verifier) (terms : Terms) (kept : ℕ) (ahead : Option (List
   abbrev pub N : Name → List ℕ → Type 0
   N = λ _ _. ⊥
 
-  pub data_after : (old mid new : Run) (e : Fault) → BringsNothing old mid → IsDataRefusal accepts terms kept ahead mid new e → IsDataRefusal accepts terms kept ahead old new e
+  pub data_after : (old mid new : Run) (e : InstallFault) → BringsNothing old mid → IsDataRefusal accepts terms kept ahead mid new e → IsDataRefusal accepts terms kept ahead old new e
   data_after old mid new e before (inl (none, why)) = inl (brings_trans N old mid new before none, why)
   data_after old mid new e before (inr (inl (none, why))) = inr (inl (brings_trans N old mid new before none, why))
   data_after old mid new e before (inr (inr (inl (brings, why)))) = inr (inr (inl (brings_trans Q old mid new (brings_nothing Q old mid before) brings, why)))
@@ -127,7 +128,7 @@ module _ (accepts : Verifier) (terms : Terms) (kept : ℕ) (ahead : Option (List
         why,
       ))))
 
-  pub data_more : (old mid new : Run) (e : Fault) → BringsNothing mid new → IsDataRefusal accepts terms kept ahead old mid e → IsDataRefusal accepts terms kept ahead old new e
+  pub data_more : (old mid new : Run) (e : InstallFault) → BringsNothing mid new → IsDataRefusal accepts terms kept ahead old mid e → IsDataRefusal accepts terms kept ahead old new e
   data_more old mid new e more (inl (none, why)) = inl (brings_trans N old mid new none more, why)
   data_more old mid new e more (inr (inl (none, why))) = inr (inl (brings_trans N old mid new none more, why))
   data_more old mid new e more (inr (inr (inl (brings, why)))) = inr (inr (inl (brings_trans Q old mid new brings (brings_nothing Q mid new more), why)))
@@ -141,19 +142,19 @@ module _ (accepts : Verifier) (terms : Terms) (kept : ℕ) (ahead : Option (List
 
   -- staging failed
   pub staging_failed : (old new : Run) (e : Fault) → BringsNothing old new → IsDeviceFault e ⊎ ((message : List ℕ) × IsAhead ahead message × TextsRefuse accepts terms.pk_text terms.sig_text message false e)
-      → IsDataRefusal accepts terms kept ahead old new e
-  staging_failed old new e none (inl device) = inl (none, device)
-  staging_failed old new e none (inr (message, given, refused)) = inr (inl (none, (message, given, inl refused)))
+      → IsDataRefusal accepts terms kept ahead old new (Library e)
+  staging_failed old new e none (inl device) = inl (none, (e, refl, device))
+  staging_failed old new e none (inr (message, given, refused)) = inr (inl (none, (message, given, inl (e, refl, refused))))
 
   -- keeping the number failed
-  pub keeping_failed : (old new : Run) (e : Fault) → BringsOnly Q old new → (e ≡ out_of_memory) ⊎ (e ≡ writing_failed) ⊎ (e ≡ random_source_failed) → IsDataRefusal accepts terms kept ahead old new e
-  keeping_failed old new e brings (inl memory) = inr (inr (inl (brings, inl memory)))
-  keeping_failed old new e brings (inr (inl writing)) = inr (inr (inl (brings, inr (inr (inl writing)))))
-  keeping_failed old new e brings (inr (inr random)) = inr (inr (inl (brings, inr (inr (inr random)))))
+  pub keeping_failed : (old new : Run) (e : Fault) → BringsOnly Q old new → (e ≡ Named OutOfMemory) ⊎ (e ≡ Named WritingFailed) ⊎ (e ≡ Named RandomSourceFailed) → IsDataRefusal accepts terms kept ahead old new (Library e)
+  keeping_failed old new e brings (inl memory) = inr (inr (inl (brings, (e, refl, inl memory))))
+  keeping_failed old new e brings (inr (inl writing)) = inr (inr (inl (brings, (e, refl, inr (inr (inl writing))))))
+  keeping_failed old new e brings (inr (inr random)) = inr (inr (inl (brings, (e, refl, inr (inr (inr random))))))
 
   -- the last step failed
-  pub publishing_failed : (old mid new : Run) (e : Fault) (U V : Type 0) (bytes : List ℕ) (n : ℕ) → BringsOnly P old mid → BringsOnly P old new → IsUpdate accepts terms kept bytes n
-      → (V → HasNamed Place bytes mid new) → (U × (e ≡ writing_failed)) ⊎ (V × (e ≡ folder_not_on_disk)) → IsDataRefusal accepts terms kept ahead old new e
+  pub publishing_failed : (old mid new : Run) (e : InstallFault) (U V : Type 0) (bytes : List ℕ) (n : ℕ) → BringsOnly P old mid → BringsOnly P old new → IsUpdate accepts terms kept bytes n
+      → (V → HasNamed Place bytes mid new) → (U × (e ≡ Library (Named WritingFailed))) ⊎ (V × (e ≡ FolderNotOnDisk)) → IsDataRefusal accepts terms kept ahead old new e
   publishing_failed old mid new e U V bytes n before brings is named (inl (u, writing)) = inr (inr (inr (inl (brings, writing))))
   publishing_failed old mid new e U V bytes n before brings is named (inr (v, folder)) =
       inr (inr (inr (inr (brings, (bytes, n, is, named_after P Place bytes old mid new before (named v)), folder))))
@@ -163,7 +164,7 @@ module _ (accepts : Verifier) (terms : Terms) (kept : ℕ) (ahead : Option (List
   record_brought update n old new is brings = brings_weaken (IsOnly Record (decimal n)) Q old new (λ name b only. (only.0, (n, update, is, only.1))) brings
 
   -- the record was found to hold a number, and then the data is refused
-  pub refused_alone : (first : Bool) (found : Option (List ℕ)) (old cleared read new : Run) (e : Fault) → BringsNothing old cleared → HasStepped cleared read (Reads Record found) → BringsNothing cleared read
+  pub refused_alone : (first : Bool) (found : Option (List ℕ)) (old cleared read new : Run) (e : InstallFault) → BringsNothing old cleared → HasStepped cleared read (Reads Record found) → BringsNothing cleared read
       → IsKeptNumber first found kept → BringsOnly P read new → IsDataRefusal accepts terms kept ahead read new e → IsLockedRefusal accepts terms first ahead old new e
   refused_alone first found old cleared read new e clear s still number brings refusal =
       inr (inr (
@@ -175,7 +176,7 @@ module _ (accepts : Verifier) (terms : Terms) (kept : ℕ) (ahead : Option (List
       ))
 
 -- the lock was asked for before
-pub locked_after : (accepts : Verifier) (terms : Terms) (first : Bool) (ahead : Option (List ℕ)) (old locked new : Run) (e : Fault) → BringsNothing old locked
+pub locked_after : (accepts : Verifier) (terms : Terms) (first : Bool) (ahead : Option (List ℕ)) (old locked new : Run) (e : InstallFault) → BringsNothing old locked
     → IsLockedRefusal accepts terms first ahead locked new e → IsLockedRefusal accepts terms first ahead old new e
 locked_after accepts terms first ahead old locked new e lock (inl (none, why)) = inl (brings_trans (λ _ _. ⊥) old locked new lock none, why)
 locked_after accepts terms first ahead old locked new e lock (inr (inl (none, (found, read, why)))) =
@@ -184,7 +185,7 @@ locked_after accepts terms first ahead old locked new e lock (inr (inr (found, k
     inr (inr (found, kept, found_after (λ _ _. ⊥) Record found old locked new lock read, number, data_after accepts terms kept ahead old locked new e lock refusal))
 
 -- a stage was made, and then the data is refused
-pub created_refused : (accepts : Verifier) (terms : Terms) (kept : ℕ) (ahead : Option (List ℕ)) (name : List ℕ) (file : ℕ) (old mid new : Run) {A : Type 0} (r : Result A Fault) → (old.told ≡ true → HasCreated name file old mid)
+pub created_refused : (accepts : Verifier) (terms : Terms) (kept : ℕ) (ahead : Option (List ℕ)) (name : List ℕ) (file : ℕ) (old mid new : Run) {A : Type 0} (r : Result A InstallFault) → (old.told ≡ true → HasCreated name file old mid)
     → IfErr r (λ e. HasStage mid name file → mid.now.holds file ≡ [] → IsDataRefusal accepts terms kept ahead mid new e) → IfErr r (λ e. old.told ≡ true → IsDataRefusal accepts terms kept ahead old new e)
 created_refused accepts terms kept ahead name file old mid new (Ok a) made refused = tt
 created_refused accepts terms kept ahead name file old mid new (Err e) made refused = λ told.
@@ -192,7 +193,7 @@ created_refused accepts terms kept ahead name file old mid new (Err e) made refu
     (refused (created_stage name file old mid told (made told)) (made told).stepped.this.empty)
 
 -- the record was read, and then the data is refused
-pub alone_refused : (accepts : Verifier) (terms : Terms) (kept : ℕ) (ahead : Option (List ℕ)) (first : Bool) (old cleared read new : Run) {A : Type 0} (r : Result A Fault) → (old.told ≡ true → BringsNothing old cleared)
+pub alone_refused : (accepts : Verifier) (terms : Terms) (kept : ℕ) (ahead : Option (List ℕ)) (first : Bool) (old cleared read new : Run) {A : Type 0} (r : Result A InstallFault) → (old.told ≡ true → BringsNothing old cleared)
     → (cleared.told ≡ true → ((found : Option (List ℕ)) × HasStepped cleared read (Reads Record found) × IsKeptNumber first found kept)) → (cleared.told ≡ true → BringsNothing cleared read)
     → (read.told ≡ true → BringsOnly (IsBrought accepts terms kept) read new) → IfErr r (λ e. read.told ≡ true → IsDataRefusal accepts terms kept ahead read new e)
     → IfErr r (λ e. old.told ≡ true → IsLockedRefusal accepts terms first ahead old new e)
@@ -204,9 +205,9 @@ alone_refused accepts terms kept ahead first old cleared read new (Err e) clear 
     refused_alone accepts terms kept ahead first found old cleared read new e (clear told) s (still cleared_told) number (brings read_told) (refused read_told)
 
 -- the record was read, and is refused or could not be read
-pub record_refused : (accepts : Verifier) (terms : Terms) (ahead : Option (List ℕ)) (first : Bool) (old cleared read : Run) (e : Fault) → BringsNothing old cleared → BringsNothing cleared read
-    → (e ≡ reading_failed) ⊎ ((found : Option (List ℕ)) × HasStepped cleared read (Reads Record found) × IsRecordRefused first found e) → IsLockedRefusal accepts terms first ahead old read e
-record_refused accepts terms ahead first old cleared read e clear still (inl reading) = inl (brings_trans (λ _ _. ⊥) old cleared read clear still, inr (inl reading))
+pub record_refused : (accepts : Verifier) (terms : Terms) (ahead : Option (List ℕ)) (first : Bool) (old cleared read : Run) (e : InstallFault) → BringsNothing old cleared → BringsNothing cleared read
+    → (e ≡ Library (Named ReadingFailed)) ⊎ ((found : Option (List ℕ)) × HasStepped cleared read (Reads Record found) × IsRecordRefused first found e) → IsLockedRefusal accepts terms first ahead old read e
+record_refused accepts terms ahead first old cleared read e clear still (inl reading) = inl (brings_trans (λ _ _. ⊥) old cleared read clear still, (_, reading, inr (inl refl)))
 record_refused accepts terms ahead first old cleared read e clear still (inr (found, s, why)) =
     inr (inl (
       brings_trans (λ _ _. ⊥) old cleared read clear still,
@@ -214,7 +215,7 @@ record_refused accepts terms ahead first old cleared read e clear still (inr (fo
     ))
 
 -- the lock was held for what was refused
-pub update_refused : (accepts : Verifier) (terms : Terms) (first : Bool) (ahead : Option (List ℕ)) (old locked new : Run) {A : Type 0} (r : Result A Fault) → (old.told ≡ true → BringsNothing old locked)
+pub update_refused : (accepts : Verifier) (terms : Terms) (first : Bool) (ahead : Option (List ℕ)) (old locked new : Run) {A : Type 0} (r : Result A InstallFault) → (old.told ≡ true → BringsNothing old locked)
     → IfErr r (λ e. locked.told ≡ true → IsLockedRefusal accepts terms first ahead locked new e) → IfErr r (λ e. old.told ≡ true → IsRefusal accepts terms first ahead old new e)
 update_refused accepts terms first ahead old locked new (Ok a) lock refused = tt
 update_refused accepts terms first ahead old locked new (Err e) lock refused = λ told. inr (locked_after accepts terms first ahead old locked new e (lock told) (refused ((lock told).told ∙ told)))
@@ -222,23 +223,23 @@ update_refused accepts terms first ahead old locked new (Err e) lock refused = �
 -- == The causes alone ==
 
 module _ (accepts : Verifier) (terms : Terms) where
-  pub staging_cause : (e : Fault) → IsDeviceFault e ⊎ ((message : List ℕ) × TextsRefuse accepts terms.pk_text terms.sig_text message false e) → IsDataCause accepts terms e
-  staging_cause e (inl device) = inl device
-  staging_cause e (inr (message, refused)) = inr (inl (message, 0, inl refused))
+  pub staging_cause : (e : Fault) → IsDeviceFault e ⊎ ((message : List ℕ) × TextsRefuse accepts terms.pk_text terms.sig_text message false e) → IsDataCause accepts terms (Library e)
+  staging_cause e (inl device) = inl (e, refl, device)
+  staging_cause e (inr (message, refused)) = inr (inl (message, 0, inl (e, refl, refused)))
 
-  pub keeping_cause : (e : Fault) → (e ≡ out_of_memory) ⊎ (e ≡ writing_failed) ⊎ (e ≡ random_source_failed) → IsDataCause accepts terms e
-  keeping_cause e (inl memory) = inl (inl memory)
-  keeping_cause e (inr (inl writing)) = inl (inr (inr (inl writing)))
-  keeping_cause e (inr (inr random)) = inl (inr (inr (inr random)))
+  pub keeping_cause : (e : Fault) → (e ≡ Named OutOfMemory) ⊎ (e ≡ Named WritingFailed) ⊎ (e ≡ Named RandomSourceFailed) → IsDataCause accepts terms (Library e)
+  keeping_cause e (inl memory) = inl (e, refl, inl memory)
+  keeping_cause e (inr (inl writing)) = inl (e, refl, inr (inr (inl writing)))
+  keeping_cause e (inr (inr random)) = inl (e, refl, inr (inr (inr random)))
 
-  pub publishing_cause : (e : Fault) (U V : Type 0) → (U × (e ≡ writing_failed)) ⊎ (V × (e ≡ folder_not_on_disk)) → IsDataCause accepts terms e
-  publishing_cause e U V (inl (u, writing)) = inl (inr (inr (inl writing)))
+  pub publishing_cause : (e : InstallFault) (U V : Type 0) → (U × (e ≡ Library (Named WritingFailed))) ⊎ (V × (e ≡ FolderNotOnDisk)) → IsDataCause accepts terms e
+  publishing_cause e U V (inl (u, writing)) = inl (_, writing, inr (inr (inl refl)))
   publishing_cause e U V (inr (v, folder)) = inr (inr folder)
 
-  pub record_cause : (first : Bool) (e : Fault) → (e ≡ reading_failed) ⊎ ((first ≡ false) × ((e ≡ no_record) ⊎ (e ≡ damaged_record))) → IsCause accepts terms first e
-  record_cause first e (inl reading) = inr (inr (inl (inr (inl reading))))
+  pub record_cause : (first : Bool) (e : InstallFault) → (e ≡ Library (Named ReadingFailed)) ⊎ ((first ≡ false) × ((e ≡ NoRecord) ⊎ (e ≡ DamagedRecord))) → IsCause accepts terms first e
+  record_cause first e (inl reading) = inr (inr (inl (_, reading, inr (inl refl))))
   record_cause first e (inr refused) = inr (inl refused)
 
-  pub data_cause : (first : Bool) {A : Type 0} (r : Result A Fault) → IfErr r (IsDataCause accepts terms) → IfErr r (IsCause accepts terms first)
+  pub data_cause : (first : Bool) {A : Type 0} (r : Result A InstallFault) → IfErr r (IsDataCause accepts terms) → IfErr r (IsCause accepts terms first)
   data_cause first (Ok a) why = tt
   data_cause first (Err e) why = inr (inr why)

@@ -1,25 +1,21 @@
--- The faults of installing. A program shows them word for word.
-use Rattle.std.specs.Prelude.{codes}
-use Rattle.minisign_base.specs.Fault.{Fault}
+-- Why an installation is refused: of each fault the kind, and the text, which a program shows word for word.
+use Rattle.std.specs.Prelude.{ℕ, List, codes}
+use Rattle.minisign_base.specs.Fault.{kind_of, text_of}
+use Rattle.minisign_base.specs.declared.errors.ErrorKind.{ErrorKind}
 use Rattle.minisign_base.specs.declared.errors.ErrorKind.TheVariants.{Io, Verify}
+use Rattle.minisign_install.specs.declared.faults.InstallFault.{InstallFault}
+use Rattle.minisign_install.specs.declared.faults.InstallFault.TheVariants.{Library, PlaceInUse, NoRecord, DamagedRecord, OtherFile, NoNumber, OlderUpdate, FolderNotOnDisk}
 
-unfoldable pub place_in_use : Fault
-place_in_use = record { kind = Io; text = codes "another installation is at work at this place" }
+pub record InstallRow : Type 0 where
+  pub kind : ErrorKind
+  pub text : List ℕ
 
-unfoldable pub no_record : Fault
-no_record = record { kind = Io; text = codes "no number is kept beside the place" }
-
-unfoldable pub damaged_record : Fault
-damaged_record = record { kind = Io; text = codes "what is kept beside the place is no number" }
-
-unfoldable pub other_file : Fault
-other_file = record { kind = Verify; text = codes "the signed comment does not name this file" }
-
-unfoldable pub no_number : Fault
-no_number = record { kind = Verify; text = codes "the signed comment has no such number" }
-
-unfoldable pub older_update : Fault
-older_update = record { kind = Verify; text = codes "the update is older than what was installed" }
-
-unfoldable pub folder_not_on_disk : Fault
-folder_not_on_disk = record { kind = Io; text = codes "installed, but the folder could not be brought to the disk" }
+abbrev pub install_row : InstallFault → InstallRow
+install_row (Library fault) = record { kind = kind_of fault; text = text_of fault }
+install_row PlaceInUse = record { kind = Io; text = codes "another installation is at work at this place" }
+install_row NoRecord = record { kind = Io; text = codes "no number is kept beside the place" }
+install_row DamagedRecord = record { kind = Io; text = codes "what is kept beside the place is no number" }
+install_row OtherFile = record { kind = Verify; text = codes "the signed comment does not name this file" }
+install_row NoNumber = record { kind = Verify; text = codes "the signed comment has no such number" }
+install_row OlderUpdate = record { kind = Verify; text = codes "the update is older than what was installed" }
+install_row FolderNotOnDisk = record { kind = Io; text = codes "installed, but the folder could not be brought to the disk" }

@@ -2,10 +2,9 @@
 
 ghost use Rattle.std.specs.Prelude.{◌≡◌, ◌≢◌, ◌⊎◌, ◌≤◌, ◌<◌, ℕ, List, Some, None, option_map, IfOk, IfErr, MatchOption, bytes_eq, take, drop, length, true, false};
 ghost use Rattle.minisign_install.specs.Comments.{IsNumberText, Says, file_label, number_label, value_of};
-ghost use Rattle.minisign_install.specs.Faults.{no_number, older_update, other_file};
+ghost use Rattle.minisign_install.specs.declared.faults.InstallFault.TheVariants.{NoNumber, OlderUpdate, OtherFile};
 
-use crate::faults;
-use minisign::Result;
+use crate::faults::InstallFault;
 
 /// Which field of the trusted comment has the number of an update. Fields end at tabs, and the
 /// first one with the label counts.
@@ -35,24 +34,24 @@ pub(crate) fn check_comment(
     file: &str,
     numbering: Numbering,
     kept: u64,
-) -> Result<u64>
+) -> Result<u64, InstallFault>
     ensures says { IfOk result (λ n. Says comment.now file.now numbering n) }
     ensures newer { IfOk result (λ n. kept ≤ n) }
-    ensures refused { IfErr result (λ e. ((e ≡ other_file) × (value_of file_label comment.now ≢ Some file.now))
-        ⊎ ((e ≡ no_number) × ((n : ℕ) → ¬ (Says comment.now file.now numbering n)))
-        ⊎ ((e ≡ older_update) × ((n : ℕ) × Says comment.now file.now numbering n × (n < kept)))) }
+    ensures refused { IfErr result (λ e. ((e ≡ OtherFile) × (value_of file_label comment.now ≢ Some file.now))
+        ⊎ ((e ≡ NoNumber) × ((n : ℕ) → ¬ (Says comment.now file.now numbering n)))
+        ⊎ ((e ≡ OlderUpdate) × ((n : ℕ) × Says comment.now file.now numbering n × (n < kept)))) }
 {
     if value(comment, "file:") != Some(file) {
-        return Err(faults::other_file());
+        return Err(InstallFault::OtherFile);
     }
     let Some(digits) = value(comment, numbering.label()) else {
-        return Err(faults::no_number());
+        return Err(InstallFault::NoNumber);
     };
     let Some(number) = number_of(digits) else {
-        return Err(faults::no_number());
+        return Err(InstallFault::NoNumber);
     };
     if number < kept {
-        return Err(faults::older_update());
+        return Err(InstallFault::OlderUpdate);
     }
     Ok(number)
 }

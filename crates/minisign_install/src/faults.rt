@@ -1,75 +1,82 @@
-//! One function for each fault that installing adds to those of verifying. None takes memory.
+//! Why an installation is refused: one enum of the faults of the library and of those that
+//! installing adds. None of the latter takes memory.
 
-ghost use Rattle.std.specs.Prelude.{◌≡◌};
-ghost use Rattle.minisign_install.specs.Faults as named;
+ghost use Rattle.std.specs.Prelude.{◌≡◌, Some};
+ghost use Rattle.minisign_base.specs.Fault.{Named};
+ghost use Rattle.minisign_install.specs.Faults.{install_row};
+ghost use Rattle.minisign_install.specs.declared.faults.InstallFault.TheVariants.{Library};
 
-use minisign_base::{ErrorKind, PError};
+use minisign_base::{ErrorKind, NamedFault, PError};
+use std::fmt;
 
-/// Another run holds the lock on this place.
-#[tactic(auto, unfolding(crate::specs::Faults::place_in_use))]
-pub fn place_in_use() -> PError
-    ensures { result ≡ named.place_in_use }
-{
-    PError::fixed(
-        ErrorKind::Io,
-        "another installation is at work at this place",
-    )
+/// Why an installation is refused. `Display` writes the text.
+#[derive(Debug, Drop)]
+pub enum InstallFault {
+    /// A fault of the library: of the texts, of a device, or of memory.
+    Library(PError),
+    /// Another run holds the lock on this place.
+    PlaceInUse,
+    /// No number is kept beside the place, and this was not said to be the first installation.
+    NoRecord,
+    /// What is kept beside the place does not read as a number, and this was not said to be the
+    /// first installation.
+    DamagedRecord,
+    /// The trusted comment does not name the file that the caller expects.
+    OtherFile,
+    /// The trusted comment has no number under the label that the caller chose, or none below 2^64.
+    NoNumber,
+    /// The number of the trusted comment is below the one that is kept.
+    OlderUpdate,
+    /// The update stands at the place, but a crash may still bring back what stood there before.
+    FolderNotOnDisk,
 }
 
-/// No number is kept beside the place, and this was not said to be the first installation.
-#[tactic(auto, unfolding(crate::specs::Faults::no_record))]
-pub fn no_record() -> PError
-    ensures { result ≡ named.no_record }
-{
-    PError::fixed(ErrorKind::Io, "no number is kept beside the place")
+impl InstallFault {
+    /// What the fault concerns.
+    pub fn kind(&self) -> &ErrorKind
+        ensures { result.now ≡ (install_row self.now).kind }
+    {
+        use InstallFault::*;
+        match self {
+            Library(fault) => fault.kind(),
+            PlaceInUse | NoRecord | DamagedRecord | FolderNotOnDisk => &ErrorKind::Io,
+            OtherFile | NoNumber | OlderUpdate => &ErrorKind::Verify,
+        }
+    }
 }
 
-/// What is kept beside the place does not read as a number, and this was not said to be the
-/// first installation.
-#[tactic(auto, unfolding(crate::specs::Faults::damaged_record))]
-pub fn damaged_record() -> PError
-    ensures { result ≡ named.damaged_record }
-{
-    PError::fixed(ErrorKind::Io, "what is kept beside the place is no number")
+impl fmt::Display for InstallFault {
+    ghost output = { λ e. Some (install_row e).text };
+
+    fn fmt<W: fmt::Write>(&self, f: &mut fmt::Formatter<W>) -> fmt::Result {
+        use InstallFault::*;
+        match self {
+            Library(fault) => fault.fmt(f),
+            PlaceInUse => f.write_str("another installation is at work at this place"),
+            NoRecord => f.write_str("no number is kept beside the place"),
+            DamagedRecord => f.write_str("what is kept beside the place is no number"),
+            OtherFile => f.write_str("the signed comment does not name this file"),
+            NoNumber => f.write_str("the signed comment has no such number"),
+            OlderUpdate => f.write_str("the update is older than what was installed"),
+            FolderNotOnDisk => {
+                f.write_str("installed, but the folder could not be brought to the disk")
+            }
+        }
+    }
 }
 
-/// The trusted comment does not name the file that the caller expects.
-#[tactic(auto, unfolding(crate::specs::Faults::other_file))]
-pub fn other_file() -> PError
-    ensures { result ≡ named.other_file }
-{
-    PError::fixed(
-        ErrorKind::Verify,
-        "the signed comment does not name this file",
-    )
+impl From<PError> for InstallFault {
+    ghost from_gives = { λ f e. e ≡ Library f };
+
+    fn from(fault: PError) -> InstallFault {
+        InstallFault::Library(fault)
+    }
 }
 
-/// The trusted comment has no number under the label that the caller chose, or none below 2^64.
-#[tactic(auto, unfolding(crate::specs::Faults::no_number))]
-pub fn no_number() -> PError
-    ensures { result ≡ named.no_number }
-{
-    PError::fixed(ErrorKind::Verify, "the signed comment has no such number")
-}
+impl From<NamedFault> for InstallFault {
+    ghost from_gives = { λ f e. e ≡ Library (Named f) };
 
-/// The number of the trusted comment is below the one that is kept.
-#[tactic(auto, unfolding(crate::specs::Faults::older_update))]
-pub fn older_update() -> PError
-    ensures { result ≡ named.older_update }
-{
-    PError::fixed(
-        ErrorKind::Verify,
-        "the update is older than what was installed",
-    )
-}
-
-/// The update stands at the place, but a crash may still bring back what stood there before.
-#[tactic(auto, unfolding(crate::specs::Faults::folder_not_on_disk))]
-pub fn folder_not_on_disk() -> PError
-    ensures { result ≡ named.folder_not_on_disk }
-{
-    PError::fixed(
-        ErrorKind::Io,
-        "installed, but the folder could not be brought to the disk",
-    )
+    fn from(fault: NamedFault) -> InstallFault {
+        InstallFault::Library(fault.into())
+    }
 }

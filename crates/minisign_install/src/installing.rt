@@ -1,11 +1,12 @@
 //! An update is staged, judged as it was staged, and put in its place in one step.
 
 ghost use Rattle.std.specs.Prelude.{◌≡◌, ◌⊎◌, ℕ, List, [], true, false, string_bytes, IfOk, IfErr, OnOk};
-ghost use Rattle.minisign_base.specs.Faults.{writing_failed};
+ghost use Rattle.minisign_base.specs.Fault.{Named};
+ghost use Rattle.minisign_base.specs.declared.faults.NamedFault.TheVariants.{WritingFailed};
 ghost use Rattle.minisign.specs.Calls.{TextsVouchWith};
 ghost use Rattle.minisign.specs.Headline.{TextsRefuse};
 ghost use Rattle.minisign.specs.Reading.{IsAhead};
-ghost use Rattle.minisign_install.specs.Faults.{folder_not_on_disk};
+ghost use Rattle.minisign_install.specs.declared.faults.InstallFault.TheVariants.{FolderNotOnDisk, Library};
 ghost use Rattle.minisign_install.specs.Folders.{Told};
 ghost use Rattle.minisign_install.specs.Installing.{InstallsOnlyUpdates, IsBrought, IsInstalled, IsVouched, terms_of};
 ghost use Rattle.minisign_install.specs.Names.{drawn_bytes};
@@ -13,7 +14,7 @@ ghost use Rattle.minisign_install.specs.Refusals.{IsCause, IsDataCause, IsDataRe
 ghost use Rattle.minisign_install.specs.Runs.{BringsOnly, HasStage, WorksOn};
 
 use crate::comments::check_comment;
-use crate::faults;
+use crate::faults::InstallFault;
 use crate::folders::{Folder, Handle, Lock, Name};
 use crate::judging::judge;
 use crate::publishing::{Unpublished, publish};
@@ -22,10 +23,10 @@ use crate::stage_names::StageName;
 use crate::stage_reader::StageReader;
 use crate::staging::{fill, settle_stage};
 use crate::wanted::Wanted;
-use minisign::{PError, Result};
+use minisign::PError;
+use minisign_base::NamedFault;
 use minisign_base::devices::random_sources::RandomSource;
 use minisign_base::devices::sources::Source;
-use minisign_base::faults::{random_source_failed, reading_failed, writing_failed};
 use minisign_base::scheme::Scheme;
 use std::alloc::Global;
 
@@ -38,7 +39,7 @@ fn stage_update<S: Scheme, R: Source, F: Folder>(
     update: &mut R,
     folder: &mut F,
     handle: &F::Handle,
-) -> Result<String>
+) -> Result<String, PError>
     ensures works { (name : List ℕ) → HasStage (F.run folder.old) name (F.Handle.file handle.now)
         → WorksOn name (F.Handle.file handle.now) (F.run folder.old) (F.run folder.new) }
     ensures staged { IfOk result (λ t. (name : List ℕ) → HasStage (F.run folder.old) name (F.Handle.file handle.now)
@@ -55,7 +56,7 @@ fn stage_update<S: Scheme, R: Source, F: Folder>(
     let comment = judge_stage(alloc, scheme, wanted, folder, handle)?;
     match settle_stage(folder, handle) {
         Ok(()) => Ok(comment),
-        Err(_) => Err(writing_failed()),
+        Err(_) => Err(NamedFault::WritingFailed.into()),
     }
 }
 
@@ -66,7 +67,7 @@ fn judge_stage<'a, S: Scheme, F: Folder>(
     wanted: Wanted<'_>,
     folder: &'a F,
     handle: &'a F::Handle,
-) -> Result<String>
+) -> Result<String, PError>
     ensures vouched { IfOk result (λ t. Told (F.run folder.now) (TextsVouchWith (S.accepts scheme.now) wanted.entry.pk_text.now wanted.entry.sig_text.now
         ((F.run folder.now).now.holds (F.Handle.file handle.now)) false (string_bytes t))) }
     ensures refused { IfErr result (λ e. Told (F.run folder.now) (IsDeviceFault e ⊎ TextsRefuse (S.accepts scheme.now) wanted.entry.pk_text.now wanted.entry.sig_text.now
@@ -95,7 +96,7 @@ fn place_update<S: Scheme, Z: RandomSource, R: Source, F: Folder>(
     lock: &Lock,
     name: &StageName,
     handle: &F::Handle,
-) -> Result<()>
+) -> Result<(), InstallFault>
     ensures brings { HasStage (F.run folder.old) (drawn_bytes name.now) (F.Handle.file handle.now)
         → BringsOnly (IsBrought (S.accepts scheme.now) (terms_of wanted.entry) kept) (F.run folder.old) (F.run folder.new) }
     ensures installed { OnOk result (HasStage (F.run folder.old) (drawn_bytes name.now) (F.Handle.file handle.now)
@@ -115,12 +116,12 @@ fn place_update<S: Scheme, Z: RandomSource, R: Source, F: Folder>(
 }
 
 // The fault of an update that was not published.
-fn fault_of(what: Unpublished) -> PError
-    ensures { ((what ≡ Unpublished.Unnamed) × (result ≡ writing_failed)) ⊎ ((what ≡ Unpublished.Unsettled) × (result ≡ folder_not_on_disk)) }
+fn fault_of(what: Unpublished) -> InstallFault
+    ensures { ((what ≡ Unpublished.Unnamed) × (result ≡ Library (Named WritingFailed))) ⊎ ((what ≡ Unpublished.Unsettled) × (result ≡ FolderNotOnDisk)) }
 {
     match what {
-        Unpublished::Unnamed => writing_failed(),
-        Unpublished::Unsettled => faults::folder_not_on_disk(),
+        Unpublished::Unnamed => NamedFault::WritingFailed.into(),
+        Unpublished::Unsettled => InstallFault::FolderNotOnDisk,
     }
 }
 
@@ -136,7 +137,7 @@ fn install_staged<S: Scheme, Z: RandomSource, R: Source, F: Folder>(
     lock: &Lock,
     name: &StageName,
     handle: &F::Handle,
-) -> Result<()>
+) -> Result<(), InstallFault>
     ensures brings { HasStage (F.run folder.old) (drawn_bytes name.now) (F.Handle.file handle.now)
         → BringsOnly (IsBrought (S.accepts scheme.now) (terms_of wanted.entry) kept) (F.run folder.old) (F.run folder.new) }
     ensures installed { OnOk result (HasStage (F.run folder.old) (drawn_bytes name.now) (F.Handle.file handle.now)
@@ -167,7 +168,7 @@ fn install_newer<S: Scheme, Z: RandomSource, R: Source, F: Folder>(
     update: &mut R,
     folder: &mut F,
     lock: &Lock,
-) -> Result<()>
+) -> Result<(), InstallFault>
     ensures brings { Told (F.run folder.old) (BringsOnly (IsBrought (S.accepts scheme.now) (terms_of wanted.entry) kept) (F.run folder.old) (F.run folder.new)) }
     ensures installed { OnOk result (Told (F.run folder.old) (IsInstalled (S.accepts scheme.now) (terms_of wanted.entry) kept (F.run folder.new).steps)) }
     ensures refused { IfErr result (λ e. Told (F.run folder.old) (IsDataRefusal (S.accepts scheme.now) (terms_of wanted.entry) kept (R.ahead update.old) (F.run folder.old) (F.run folder.new) e)) }
@@ -175,13 +176,13 @@ fn install_newer<S: Scheme, Z: RandomSource, R: Source, F: Folder>(
     ensures causes { IfErr result (IsDataCause (S.accepts scheme.now) (terms_of wanted.entry)) }
 {
     let Ok(name) = StageName::draw(random) else {
-        return Err(random_source_failed());
+        return Err(NamedFault::RandomSourceFailed.into());
     };
     match folder.create(lock, &name) {
         Ok(handle) => install_staged(
             alloc, scheme, random, wanted, kept, update, folder, lock, &name, &handle,
         ),
-        Err(_) => Err(writing_failed()),
+        Err(_) => Err(NamedFault::WritingFailed.into()),
     }
 }
 
@@ -195,7 +196,7 @@ fn install_alone<S: Scheme, Z: RandomSource, R: Source, F: Folder>(
     update: &mut R,
     folder: &mut F,
     lock: &Lock,
-) -> Result<()>
+) -> Result<(), InstallFault>
     ensures headline { Told (F.run folder.old) (InstallsOnlyUpdates (S.accepts scheme.now) (terms_of wanted.entry) is_first (F.run folder.old) (F.run folder.new)) }
     ensures installed { OnOk result (Told (F.run folder.old) ((kept : ℕ) × IsInstalled (S.accepts scheme.now) (terms_of wanted.entry) kept (F.run folder.new).steps)) }
     ensures refused { IfErr result (λ e. Told (F.run folder.old) (IsLockedRefusal (S.accepts scheme.now) (terms_of wanted.entry) is_first (R.ahead update.old) (F.run folder.old) (F.run folder.new) e)) }
@@ -203,7 +204,7 @@ fn install_alone<S: Scheme, Z: RandomSource, R: Source, F: Folder>(
     ensures causes { IfErr result (IsCause (S.accepts scheme.now) (terms_of wanted.entry) is_first) }
 {
     let Ok(()) = folder.clear(lock) else {
-        return Err(writing_failed());
+        return Err(NamedFault::WritingFailed.into());
     };
     let kept = kept_number(alloc, folder, is_first)?;
     install_newer(alloc, scheme, random, wanted, kept, update, folder, lock)
@@ -213,19 +214,19 @@ fn install_alone<S: Scheme, Z: RandomSource, R: Source, F: Folder>(
 /// as the update that is wanted: `install_update(alloc, &scheme, &mut random, wanted, false, &mut
 /// ReaderSource::new(file), &mut folder)?`.
 ///
-/// In this order it locks the place (`place_in_use`: it does not wait for another run), removes
-/// what killed runs left there, and reads the number that is kept beside the place (`no_record`,
-/// `damaged_record`; with `is_first` 0 counts where no number is kept, and a number that is kept
+/// In this order it locks the place (`PlaceInUse`: it does not wait for another run), removes
+/// what killed runs left there, and reads the number that is kept beside the place (`NoRecord`,
+/// `DamagedRecord`; with `is_first` 0 counts where no number is kept, and a number that is kept
 /// counts all the same). It copies the data into a new file, verifies what that file holds (the
 /// first failing case of `verify_texts`; legacy signatures are never taken) and brings it to the
-/// disk. It tests the signed comment: `other_file`; `no_number`, below 2^64; `older_update`, where
+/// disk. It tests the signed comment: `OtherFile`; `NoNumber`, below 2^64; `OlderUpdate`, where
 /// the number is below the kept one. The same number may be installed again. Then it keeps the
 /// number, on the disk, and last gives the file the place's name and brings the folder to the disk.
 ///
-/// A device that fails is `reading_failed`, `writing_failed` or `random_source_failed`, and memory
+/// A device that fails is `ReadingFailed`, `WritingFailed` or `RandomSourceFailed`, and memory
 /// may run out at any time. After a refusal this run has brought nothing to the place, unless the
-/// renaming failed (`writing_failed`), which may have been done, or bringing it to the disk
-/// (`folder_not_on_disk`): then the update stands there. The record has changed only if keeping
+/// renaming failed (`WritingFailed`), which may have been done, or bringing it to the disk
+/// (`FolderNotOnDisk`): then the update stands there. The record has changed only if keeping
 /// the number failed or a later step did. The new file is removed if it can be, or by the next run.
 ///
 /// The data is copied, and read back, in pieces of at most 64 KiB, of which one is held at a time;
@@ -239,7 +240,7 @@ pub fn install_update<S: Scheme, Z: RandomSource, R: Source, F: Folder>(
     is_first: bool,
     update: &mut R,
     folder: &mut F,
-) -> Result<()>
+) -> Result<(), InstallFault>
     ensures headline { Told (F.run folder.old) (InstallsOnlyUpdates (S.accepts scheme.now) (terms_of wanted.entry) is_first (F.run folder.old) (F.run folder.new)) }
     ensures installed { OnOk result (Told (F.run folder.old) ((kept : ℕ) × IsInstalled (S.accepts scheme.now) (terms_of wanted.entry) kept (F.run folder.new).steps)) }
     ensures refused { IfErr result (λ e. Told (F.run folder.old) (IsRefusal (S.accepts scheme.now) (terms_of wanted.entry) is_first (R.ahead update.old) (F.run folder.old) (F.run folder.new) e)) }
@@ -250,7 +251,7 @@ pub fn install_update<S: Scheme, Z: RandomSource, R: Source, F: Folder>(
         Ok(Some(lock)) => install_alone(
             alloc, scheme, random, wanted, is_first, update, folder, &lock,
         ),
-        Ok(None) => Err(faults::place_in_use()),
-        Err(_) => Err(reading_failed()),
+        Ok(None) => Err(InstallFault::PlaceInUse),
+        Err(_) => Err(NamedFault::ReadingFailed.into()),
     }
 }

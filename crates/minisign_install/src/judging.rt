@@ -1,7 +1,8 @@
 //! Whether two texts vouch for what a stage holds.
 
 ghost use Rattle.std.specs.Prelude.{◌≡◌, ◌⊎◌, ℕ, List, false, string_bytes, IfOk, IfErr};
-ghost use Rattle.minisign_base.specs.Faults.{out_of_memory, reading_failed};
+ghost use Rattle.minisign_base.specs.Fault.{Named};
+ghost use Rattle.minisign_base.specs.declared.faults.NamedFault.TheVariants.{OutOfMemory, ReadingFailed};
 ghost use Rattle.minisign.specs.Calls.{TextsVouchWith};
 ghost use Rattle.minisign.specs.Headline.{TextsRefuse};
 ghost use Rattle.minisign.specs.Reading.{IsAhead};
@@ -22,7 +23,7 @@ pub(crate) fn judge<S: Scheme, R: Rereader>(
 ) -> Result<String>
     ensures vouched { IfOk result (λ t. (message : List ℕ) × IsAhead (R.ahead staged.old) message
         × TextsVouchWith (S.accepts scheme.now) pk_text.now sig_text.now message false (string_bytes t)) }
-    ensures refused { IfErr result (λ e. (e ≡ out_of_memory) ⊎ (e ≡ reading_failed)
+    ensures refused { IfErr result (λ e. (e ≡ Named OutOfMemory) ⊎ (e ≡ Named ReadingFailed)
         ⊎ ((message : List ℕ) × IsAhead (R.ahead staged.old) message
         × TextsRefuse (S.accepts scheme.now) pk_text.now sig_text.now message false e)) }
 {

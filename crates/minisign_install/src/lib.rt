@@ -16,6 +16,7 @@ mod staging;
 pub mod wanted;
 
 pub use comments::Numbering;
+pub use faults::InstallFault;
 pub use folders::{Folder, Handle, Lock, Name};
 pub use installing::install_update;
 pub use stage_names::StageName;

@@ -3,8 +3,9 @@
 ghost use Rattle.std.specs.Prelude.{◌≡◌, ◌++◌, ℕ, List, true, false, [], Option, Some, None, ◌⊎◌, IfOk, IfErr, OnOk, MatchOption};
 ghost use Rattle.std.specs.Fmt.{decimal};
 ghost use Rattle.std.specs.Str.{IsUtf8};
-ghost use Rattle.minisign_base.specs.Faults.{out_of_memory, random_source_failed, reading_failed, writing_failed};
-ghost use Rattle.minisign_install.specs.Faults.{damaged_record, no_record};
+ghost use Rattle.minisign_base.specs.Fault.{Named};
+ghost use Rattle.minisign_base.specs.declared.faults.NamedFault.TheVariants.{OutOfMemory, RandomSourceFailed, ReadingFailed, WritingFailed};
+ghost use Rattle.minisign_install.specs.declared.faults.InstallFault.TheVariants.{DamagedRecord, Library, NoRecord};
 ghost use Rattle.minisign_install.specs.Folders.{HasStepped, IsStill, KeepsOwn, Reads, Step, Told};
 ghost use Rattle.minisign_install.specs.Comments.{IsNumberText};
 ghost use Rattle.minisign_install.specs.Installing.{IsKeptNumber};
@@ -13,53 +14,57 @@ ghost use Rattle.minisign_install.specs.Refusals.{IsRecordRefused};
 ghost use Rattle.minisign_install.specs.Runs.{Goes, GoesBeside, HasStage, IsOnly, IsPublished, WorksOn};
 
 use crate::comments::number_of;
-use crate::faults;
+use crate::faults::InstallFault;
 use crate::folders::{Folder, Handle, Lock, Name};
 use crate::publishing::publish;
 use crate::stage_names::StageName;
 use crate::staging::write_all;
-use minisign::Result;
+use minisign::PError;
+use minisign_base::NamedFault;
 use minisign_base::devices::DeviceFault;
 use minisign_base::devices::random_sources::RandomSource;
-use minisign_base::faults::{random_source_failed, reading_failed, writing_failed};
 use std::alloc::Global;
 
 // The number that the record holds. Where it holds none and this is the first installation, that is
 // 0.
-pub(crate) fn kept_number<F: Folder>(alloc: Global, folder: &mut F, is_first: bool) -> Result<u64>
+pub(crate) fn kept_number<F: Folder>(
+    alloc: Global,
+    folder: &mut F,
+    is_first: bool,
+) -> Result<u64, InstallFault>
     ensures read { IfOk result (λ kept. Told (F.run folder.old) ((found : Option (List ℕ)) × HasStepped (F.run folder.old) (F.run folder.new) (Reads Name.Record found) × IsKeptNumber is_first found kept)) }
     ensures still { Told (F.run folder.old) (HasStepped (F.run folder.old) (F.run folder.new) IsStill × KeepsOwn (F.run folder.old) (F.run folder.new)) }
-    ensures refused { IfErr result (λ e. Told (F.run folder.old) ((e ≡ reading_failed)
+    ensures refused { IfErr result (λ e. Told (F.run folder.old) ((e ≡ Library (Named ReadingFailed))
         ⊎ ((found : Option (List ℕ)) × HasStepped (F.run folder.old) (F.run folder.new) (Reads Name.Record found) × IsRecordRefused is_first found e))) }
-    ensures causes { IfErr result (λ e. (e ≡ reading_failed) ⊎ ((is_first ≡ false) × ((e ≡ no_record) ⊎ (e ≡ damaged_record)))) }
+    ensures causes { IfErr result (λ e. (e ≡ Library (Named ReadingFailed)) ⊎ ((is_first ≡ false) × ((e ≡ NoRecord) ⊎ (e ≡ DamagedRecord)))) }
 {
     match folder.read_record(alloc) {
         Ok(Some(bytes)) => number_in(bytes.as_slice(), is_first),
         Ok(None) => number_without_record(is_first),
-        Err(_) => Err(reading_failed()),
+        Err(_) => Err(NamedFault::ReadingFailed.into()),
     }
 }
 
 // The number that these bytes write.
-fn number_in(bytes: &[u8], is_first: bool) -> Result<u64>
+fn number_in(bytes: &[u8], is_first: bool) -> Result<u64, InstallFault>
     ensures number { IfOk result (IsKeptNumber is_first (Some bytes.now)) }
     ensures refused { IfErr result (IsRecordRefused is_first (Some bytes.now)) }
 {
     match parsed(bytes) {
         Some(number) => Ok(number),
         None if is_first => Ok(0),
-        None => Err(faults::damaged_record()),
+        None => Err(InstallFault::DamagedRecord),
     }
 }
 
-fn number_without_record(is_first: bool) -> Result<u64>
+fn number_without_record(is_first: bool) -> Result<u64, InstallFault>
     ensures number { IfOk result (IsKeptNumber is_first None) }
     ensures refused { IfErr result (IsRecordRefused is_first None) }
 {
     if is_first {
         Ok(0)
     } else {
-        Err(faults::no_record())
+        Err(InstallFault::NoRecord)
     }
 }
 
@@ -80,10 +85,10 @@ pub(crate) fn keep_number<F: Folder, Z: RandomSource>(
     folder: &mut F,
     lock: &Lock,
     number: u64,
-) -> Result<()>
+) -> Result<(), PError>
     ensures goes { Told (F.run folder.old) (GoesBeside (IsOnly Name.Record (decimal number)) (F.run folder.old) (F.run folder.new)) }
     ensures recorded { OnOk result (Told (F.run folder.old) ((earlier : List Step) × IsPublished Name.Record (decimal number) earlier (F.run folder.new).steps)) }
-    ensures refused { IfErr result (λ e. (e ≡ out_of_memory) ⊎ (e ≡ writing_failed) ⊎ (e ≡ random_source_failed)) }
+    ensures refused { IfErr result (λ e. (e ≡ Named OutOfMemory) ⊎ (e ≡ Named WritingFailed) ⊎ (e ≡ Named RandomSourceFailed)) }
 {
     let text = format!(in alloc; "{number}")?;
     keep_bytes(random, folder, lock, text.as_bytes())
@@ -95,17 +100,17 @@ fn keep_bytes<F: Folder, Z: RandomSource>(
     folder: &mut F,
     lock: &Lock,
     bytes: &[u8],
-) -> Result<()>
+) -> Result<(), PError>
     ensures goes { Told (F.run folder.old) (GoesBeside (IsOnly Name.Record bytes.now) (F.run folder.old) (F.run folder.new)) }
     ensures recorded { OnOk result (Told (F.run folder.old) ((earlier : List Step) × IsPublished Name.Record bytes.now earlier (F.run folder.new).steps)) }
-    ensures refused { IfErr result (λ e. (e ≡ writing_failed) ⊎ (e ≡ random_source_failed)) }
+    ensures refused { IfErr result (λ e. (e ≡ Named WritingFailed) ⊎ (e ≡ Named RandomSourceFailed)) }
 {
     let Ok(name) = StageName::draw(random) else {
-        return Err(random_source_failed());
+        return Err(NamedFault::RandomSourceFailed.into());
     };
     match folder.create(lock, &name) {
         Ok(handle) => write_record(folder, &name, &handle, bytes),
-        Err(_) => Err(writing_failed()),
+        Err(_) => Err(NamedFault::WritingFailed.into()),
     }
 }
 
@@ -115,18 +120,18 @@ fn write_record<F: Folder>(
     name: &StageName,
     handle: &F::Handle,
     bytes: &[u8],
-) -> Result<()>
+) -> Result<(), PError>
     ensures goes { HasStage (F.run folder.old) (drawn_bytes name.now) (F.Handle.file handle.now) → (F.run folder.old).now.holds (F.Handle.file handle.now) ≡ []
         → Goes (IsOnly Name.Record bytes.now) (drawn_bytes name.now) (F.Handle.file handle.now) (F.run folder.old) (F.run folder.new) }
     ensures recorded { OnOk result (HasStage (F.run folder.old) (drawn_bytes name.now) (F.Handle.file handle.now) → (F.run folder.old).now.holds (F.Handle.file handle.now) ≡ []
         → ((earlier : List Step) × IsPublished Name.Record bytes.now earlier (F.run folder.new).steps)) }
-    ensures refused { IfErr result (λ e. e ≡ writing_failed) }
+    ensures refused { IfErr result (λ e. e ≡ Named WritingFailed) }
 {
     match publish_record(folder, name, handle, bytes) {
         Ok(()) => Ok(()),
         Err(_) => {
             let _removed = folder.remove(name);
-            Err(writing_failed())
+            Err(NamedFault::WritingFailed.into())
         }
     }
 }
@@ -137,7 +142,7 @@ fn publish_record<F: Folder>(
     name: &StageName,
     handle: &F::Handle,
     bytes: &[u8],
-) -> std::result::Result<(), DeviceFault>
+) -> Result<(), DeviceFault>
     ensures goes { HasStage (F.run folder.old) (drawn_bytes name.now) (F.Handle.file handle.now) → (F.run folder.old).now.holds (F.Handle.file handle.now) ≡ []
         → Goes (IsOnly Name.Record bytes.now) (drawn_bytes name.now) (F.Handle.file handle.now) (F.run folder.old) (F.run folder.new) }
     ensures recorded { OnOk result (HasStage (F.run folder.old) (drawn_bytes name.now) (F.Handle.file handle.now) → (F.run folder.old).now.holds (F.Handle.file handle.now) ≡ []
@@ -155,7 +160,7 @@ fn write_settled<F: Folder>(
     folder: &mut F,
     handle: &F::Handle,
     bytes: &[u8],
-) -> std::result::Result<(), DeviceFault>
+) -> Result<(), DeviceFault>
     ensures works { (name : List ℕ) → HasStage (F.run folder.old) name (F.Handle.file handle.now)
         → WorksOn name (F.Handle.file handle.now) (F.run folder.old) (F.run folder.new) }
     ensures written { OnOk result ((name : List ℕ) → HasStage (F.run folder.old) name (F.Handle.file handle.now)

@@ -2,15 +2,16 @@
 
 ghost use Rattle.std.specs.Prelude.{◌≡◌, ◌⊎◌, ◌++◌, ◌<◌, ◌^◌, ℕ, List, length, true, vec_len, IfOk, IfErr, IfSome, OnOk, OnErr};
 ghost use Rattle.minisign_base.specs.Devices.{Rose};
-ghost use Rattle.minisign_base.specs.Faults.{out_of_memory, reading_failed, writing_failed};
+ghost use Rattle.minisign_base.specs.Fault.{Named};
+ghost use Rattle.minisign_base.specs.declared.faults.NamedFault.TheVariants.{OutOfMemory, ReadingFailed, WritingFailed};
 ghost use Rattle.minisign.specs.Reading.{IsAhead};
 ghost use Rattle.minisign_install.specs.Runs.{HasStage, WorksOn};
 
 use crate::folders::{Folder, Handle};
 use minisign::Result;
+use minisign_base::NamedFault;
 use minisign_base::devices::DeviceFault;
 use minisign_base::devices::sources::Source;
-use minisign_base::faults;
 use std::alloc::{AllocError, Global};
 
 // The size of the pieces in which data is copied.
@@ -28,7 +29,7 @@ pub(crate) fn fill<F: Folder, R: Source>(
     ensures copied { OnOk result ((message : List ℕ) × IsAhead (R.ahead update.old) message
         × ((name : List ℕ) → HasStage (F.run folder.old) name (F.Handle.file handle.now)
         → (F.run folder.new).now.holds (F.Handle.file handle.now) ≡ (F.run folder.old).now.holds (F.Handle.file handle.now) ++ message)) }
-    ensures refused { IfErr result (λ e. (e ≡ out_of_memory) ⊎ ((e ≡ reading_failed) × Rose (R.faults update.old) (R.faults update.new)) ⊎ (e ≡ writing_failed)) }
+    ensures refused { IfErr result (λ e. (e ≡ Named OutOfMemory) ⊎ ((e ≡ Named ReadingFailed) × Rose (R.faults update.old) (R.faults update.new)) ⊎ (e ≡ Named WritingFailed)) }
 {
     let mut buf = zeros(alloc, PIECE)?;
     copy(folder, handle, update, &mut buf)
@@ -54,17 +55,17 @@ fn copy<F: Folder, R: Source>(
     ensures copied { OnOk result ((message : List ℕ) × IsAhead (R.ahead update.old) message
         × ((name : List ℕ) → HasStage (F.run folder.old) name (F.Handle.file handle.now)
         → (F.run folder.new).now.holds (F.Handle.file handle.now) ≡ (F.run folder.old).now.holds (F.Handle.file handle.now) ++ message)) }
-    ensures refused { IfErr result (λ e. ((e ≡ reading_failed) × Rose (R.faults update.old) (R.faults update.new)) ⊎ (e ≡ writing_failed)) }
+    ensures refused { IfErr result (λ e. ((e ≡ Named ReadingFailed) × Rose (R.faults update.old) (R.faults update.new)) ⊎ (e ≡ Named WritingFailed)) }
 {
     'pieces: loop {
         let Ok(n) = update.read(buf) else {
-            return Err(faults::reading_failed());
+            return Err(NamedFault::ReadingFailed.into());
         };
         if n == 0 {
             return Ok(());
         }
         let Ok(()) = write_all(folder, handle, &buf[..n]) else {
-            return Err(faults::writing_failed());
+            return Err(NamedFault::WritingFailed.into());
         };
     }
 }

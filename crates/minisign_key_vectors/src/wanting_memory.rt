@@ -135,7 +135,7 @@ fn making_a_raw_pair(rt: HostRuntime) {
 
 #[test]
 fn writing_a_raw_pair(rt: HostRuntime) {
-    assert!(rt; is_right_or_unwritten(rt.alloc(), &wrote_raw(rt.alloc())));
+    assert!(rt; is_right_or_unwritten(&wrote_raw(rt.alloc())));
 }
 
 #[test]
@@ -145,7 +145,7 @@ fn making_a_sealed_pair(rt: HostRuntime) {
 
 #[test]
 fn writing_a_sealed_pair(rt: HostRuntime) {
-    assert!(rt; is_right_or_unwritten(rt.alloc(), &wrote_sealed(rt.alloc())));
+    assert!(rt; is_right_or_unwritten(&wrote_sealed(rt.alloc())));
 }
 
 #[test]

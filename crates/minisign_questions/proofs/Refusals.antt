@@ -2,8 +2,8 @@
 use Rattle.std.proofs.Common.{◌≡◌, ℕ, Bool, true, false, ◌⊎◌, List, Some, IsTrue, IfSome, inl, inr, bytes_eq, nat_le, length, subst, sym, refl, arith}
 use Rattle.std.proofs.lemmas.Slice.Eq.{bytes_eq-Decides}
 use Rattle.std.proofs.lemmas.Bool.Decides.{nat_tests}
-use Rattle.minisign_base.specs.Fault.{Fault}
-use Rattle.minisign_base.specs.Faults.{different_key_ids, legacy_not_accepted, signature_refused, comment_signature_refused}
+use Rattle.minisign_base.specs.Fault.{Fault, Named}
+use Rattle.minisign_base.specs.declared.faults.NamedFault.TheVariants.{DifferentKeyIds, LegacyNotAccepted, SignatureRefused, CommentSignatureRefused}
 use Rattle.minisign.specs.Records.{PublicKeyRecord, SignatureBoxRecord, CommentsRecord, is_prehashed, prehashed_algorithm}
 use Rattle.minisign.specs.Acceptance.{Verifier, Vouches, CommentIsSigned, signed_bytes, first_refusal, accepts_comment}
 use Rattle.minisign.specs.Headline.{TextsRefuse}
@@ -27,7 +27,7 @@ clash holds fails = absurd (grind (arith, holds, fails))
 -- the identifiers differ
 pub other_ids : (accepts : Verifier) (pk_text sig_text message : List ℕ) (legacy : Bool) (pk : PublicKeyRecord) (x : SignatureBoxRecord)
     → AreReadAs pk_text sig_text pk x → bytes_eq x.signature.keynum pk.keynum ≡ false
-    → TextsRefuse accepts pk_text sig_text message legacy (different_key_ids x.signature.keynum pk.keynum)
+    → TextsRefuse accepts pk_text sig_text message legacy (Named (DifferentKeyIds x.signature.keynum pk.keynum))
 other_ids accepts pk_text sig_text message legacy pk x read differ =
     turned_down accepts pk_text sig_text message legacy pk x _ read (rw differ refl)
     (λ v. clash ((bytes_eq-Decides x.signature.keynum pk.keynum).1 v.same_key) differ)
@@ -39,7 +39,7 @@ not_prehashed x legacy (inr t) = absurd (grind (arith, t))
 -- the signature is over the data itself, which is not allowed
 pub not_allowed : (accepts : Verifier) (pk_text sig_text message : List ℕ) (pk : PublicKeyRecord) (x : SignatureBoxRecord)
     → AreReadAs pk_text sig_text pk x → bytes_eq x.signature.keynum pk.keynum ≡ true → is_prehashed x.signature ≡ false
-    → TextsRefuse accepts pk_text sig_text message false legacy_not_accepted
+    → TextsRefuse accepts pk_text sig_text message false (Named LegacyNotAccepted)
 not_allowed accepts pk_text sig_text message pk x read same legacy =
     turned_down accepts pk_text sig_text message false pk x _ read (rw (same, legacy) refl)
     (λ v. not_prehashed x legacy v.allowed)
@@ -50,16 +50,16 @@ module _ (accepts : Verifier) (pk_text sig_text message : List ℕ) (legacy : Bo
   same_key = (bytes_eq-Decides x.signature.keynum pk.keynum).1 asked.same_key
 
   -- the first question was answered by no
-  pub refused_first : accepts (signed_bytes x message) pk.key x.signature.signature ≡ false → TextsRefuse accepts pk_text sig_text message legacy signature_refused
+  pub refused_first : accepts (signed_bytes x message) pk.key x.signature.signature ≡ false → TextsRefuse accepts pk_text sig_text message legacy (Named SignatureRefused)
   refused_first refused =
-      turned_down accepts pk_text sig_text message legacy pk x signature_refused asked.read (rw (same_key, asked.allowed, refused) refl)
+      turned_down accepts pk_text sig_text message legacy pk x (Named SignatureRefused) asked.read (rw (same_key, asked.allowed, refused) refl)
       (λ v. absurd (grind (arith, v.signed, refused)))
 
   -- the second could not be asked, or was answered by no
   pub refused_second : accepts (signed_bytes x message) pk.key x.signature.signature ≡ true → accepts_comment accepts pk x.signature c ≡ false
-      → TextsRefuse accepts pk_text sig_text message legacy comment_signature_refused
+      → TextsRefuse accepts pk_text sig_text message legacy (Named CommentSignatureRefused)
   refused_second accepted refused =
-      turned_down accepts pk_text sig_text message legacy pk x comment_signature_refused asked.read (rw (same_key, asked.allowed, accepted, asked.comments, refused) refl)
+      turned_down accepts pk_text sig_text message legacy pk x (Named CommentSignatureRefused) asked.read (rw (same_key, asked.allowed, accepted, asked.comments, refused) refl)
       (λ v. let signed : CommentIsSigned accepts pk x.signature c = subst (λ o. IfSome o (CommentIsSigned accepts pk x.signature)) asked.comments v.comment_signed in
       let long : nat_le 64 (length c.signature) ≡ true = grind (arith, nat_tests, signed.long_enough) in
       absurd (grind (arith, refused, signed.signed, long)))

@@ -4,8 +4,8 @@ use Rattle.std.specs.declared.result.Result.{Result}
 use Rattle.std.specs.declared.result.Result.TheVariants.{Ok, Err}
 use Rattle.std.proofs.lemmas.Bool.{true≢false}
 use Rattle.std.proofs.lemmas.Slice.Eq.{bytes_eq-Decides}
-use Rattle.minisign_base.specs.Fault.{Fault}
-use Rattle.minisign_base.specs.Faults.{out_of_memory}
+use Rattle.minisign_base.specs.Fault.{Fault, Named}
+use Rattle.minisign_base.specs.declared.faults.NamedFault.TheVariants.{OutOfMemory}
 use Rattle.minisign.specs.Records.{SecretKeyRecord}
 use Rattle.minisign.specs.Opening.{IsUnencryptedText, RefusesUnencrypted}
 use Rattle.minisign.specs.Sealing.{no_kdf}
@@ -39,8 +39,8 @@ not_lacking k x y a b kdf checksum test_kdf test_checksum fails lacks =
     true≢false (sym (and_true a b unsealed unchecked) ∙ fails)
 
 -- a text that reads as no key
-pub unread : (text : List ℕ) (e : Fault) → (e ≡ out_of_memory) ⊎ IsRefused (SecretKeyText text) (secret_key_refusal text) e
-    → (e ≡ out_of_memory) ⊎ RefusesUnsealed text e
+pub unread : (text : List ℕ) (e : Fault) → (e ≡ Named OutOfMemory) ⊎ IsRefused (SecretKeyText text) (secret_key_refusal text) e
+    → (e ≡ Named OutOfMemory) ⊎ RefusesUnsealed text e
 unread text e (inl memory) = inl memory
 unread text e (inr refused) = inr (record {
   refused = record { first = inl refused; none = λ k read unsealed. refused.unread k read };
@@ -50,8 +50,8 @@ unread text e (inr refused) = inr (record {
 -- a text that reads as a key with a checksum, or as a sealed one
 pub unchecked : (text other : List ℕ) (k : SecretKeyRecord) (r : Result SecretKeyRecord Fault) → other ≡ text
     → ((l : SecretKeyRecord) → SecretKeyText text l → l ≡ k) → ¬ (LacksChecksum k)
-    → MatchResult r (IsUnencryptedText other) (λ e. (e ≡ out_of_memory) ⊎ RefusesUnencrypted other e)
-    → IfErr r (λ e. (e ≡ out_of_memory) ⊎ RefusesUnsealed text e)
+    → MatchResult r (IsUnencryptedText other) (λ e. (e ≡ Named OutOfMemory) ⊎ RefusesUnencrypted other e)
+    → IfErr r (λ e. (e ≡ Named OutOfMemory) ⊎ RefusesUnsealed text e)
 unchecked text other k (Ok v) same only none h = tt
 unchecked text other k (Err e) same only none (inl memory) = inl memory
 unchecked text other k (Err e) same only none (inr refused) = inr (record {

@@ -1,13 +1,14 @@
--- The numbers by which a program in another language knows refusals.
-use Rattle.std.specs.Prelude.{◌≡◌, ◌==◌, ◌⊎◌, ℕ, ◌<◌, ◌-◌, ◌+◌, if◌then◌else◌, List, [], ◌∷◌, ◌++◌, length, take, min}
-use Rattle.minisign_base.specs.Fault.{Fault}
-use Rattle.minisign_base.specs.Faults as fault
+-- The numbers by which a program in another language knows refusals, and what they mean. The numbers of named faults
+-- stand in their table.
+use Rattle.std.specs.Prelude.{◌≡◌, ℕ, ◌<◌, ◌-◌, ◌+◌, List, [], ◌∷◌, ◌++◌, codes, length, take, min}
+use Rattle.minisign_base.specs.Fault.{Fault, Named, Worded}
+use Rattle.minisign_base.specs.Faults.{fault_row}
+use Rattle.minisign_base.specs.declared.faults.NamedFault.{NamedFault}
 use Rattle.minisign_questions.specs.declared.state.Misuse.{Misuse}
 use Rattle.minisign_questions.specs.declared.state.Misuse.TheVariants.{NotBegun, AlreadyAsked, NotAsked, NoAnswer, NoRoom, NoLegacy, NoComment, NoPassword}
 use Rattle.minisign_questions.specs.declared.state.Refusal.{Refusal}
 use Rattle.minisign_questions.specs.declared.state.Refusal.TheVariants.{WrongUse, Refused}
 
--- the number of a wrong use
 abbrev pub misuse_number : Misuse → ℕ
 misuse_number NotBegun = 1
 misuse_number AlreadyAsked = 2
@@ -18,49 +19,30 @@ misuse_number NoLegacy = 6
 misuse_number NoComment = 9
 misuse_number NoPassword = 10
 
--- the fault that a number names; 29 is that of identifiers that differ, which names them too
-abbrev pub named_fault : ℕ → Fault
-named_fault n =
-    if n == 8 then fault.not_utf8 else
-    if n == 16 then fault.missing_public_key_comment else
-    if n == 17 then fault.missing_encoded_public_key else
-    if n == 18 then fault.public_key_line_length else
-    if n == 19 then fault.public_key_line_not_base64 else
-    if n == 20 then fault.record_too_short else
-    if n == 21 then fault.missing_untrusted_comment else
-    if n == 22 then fault.missing_signature else
-    if n == 23 then fault.missing_trusted_comment else
-    if n == 24 then fault.missing_global_signature else
-    if n == 25 then fault.untrusted_comment_prefix else
-    if n == 26 then fault.signature_not_base64 else
-    if n == 27 then fault.trusted_comment_prefix else
-    if n == 28 then fault.unsupported_signature_algorithm else
-    if n == 30 then fault.legacy_not_accepted else
-    if n == 31 then fault.signature_refused else
-    if n == 32 then fault.comment_signature_refused else
-    if n == 33 then fault.missing_secret_key_comment else
-    if n == 34 then fault.missing_encoded_secret_key else
-    if n == 35 then fault.secret_key_not_base64 else
-    if n == 36 then fault.key_might_be_encrypted else
-    if n == 37 then fault.corrupted_key else
-    if n == 38 then fault.key_not_encrypted else
-    if n == 39 then fault.unsupported_encryption_algorithm else
-    if n == 40 then fault.parameters_too_high else
-    if n == 41 then fault.invalid_parameters else
-    if n == 42 then fault.wrong_password else
-    fault.out_of_memory
+abbrev pub misuse_text : Misuse → List ℕ
+misuse_text NotBegun = codes "the state was never begun"
+misuse_text AlreadyAsked = codes "the questions were asked before"
+misuse_text NotAsked = codes "the questions were not asked"
+misuse_text NoAnswer = codes "an answer is neither 0 nor 1"
+misuse_text NoRoom = codes "the buffer is too short"
+misuse_text NoLegacy = codes "allow_legacy is neither 0 nor 1"
+misuse_text NoComment = codes "a comment has a line break, or the trusted one white space at an end"
+misuse_text NoPassword = codes "with_password is neither 0 nor 1"
 
--- the number of a fault: 7 is out of memory, which may also have run out while telling faults apart
-abbrev pub IsFaultNumber : Fault → ℕ → Type 0
-IsFaultNumber e n =
-    (n ≡ 7)
-    ⊎ ((n ≡ 29) × (signature : List ℕ) × (key : List ℕ) × (e ≡ fault.different_key_ids signature key))
-    ⊎ (e ≡ named_fault n)
+-- the number of a fault: 255 where it has no name, which no call answers
+abbrev pub fault_number : Fault → ℕ
+fault_number (Named f) = (fault_row f).number
+fault_number (Worded kind text) = 255
 
--- the number of a refusal
-abbrev pub IsNumberOf : Refusal → ℕ → Type 0
-IsNumberOf (WrongUse m) n = n ≡ misuse_number m
-IsNumberOf (Refused e) n = IsFaultNumber e n
+abbrev pub refusal_number : Refusal → ℕ
+refusal_number (WrongUse m) = misuse_number m
+refusal_number (Refused e) = fault_number e
+
+-- the text is what the number means
+pub record IsMeaning (n : ℕ) (text : List ℕ) : Type 0 where
+  pub success : n ≡ 0 → text ≡ codes "no error"
+  pub misuse : (m : Misuse) → n ≡ misuse_number m → text ≡ misuse_text m
+  pub fault : (f : NamedFault) → n ≡ (fault_row f).number → text ≡ (fault_row f).summary
 
 -- the text, or as much of it as there is room for, and then a 0; where there is no byte nothing is written
 abbrev pub WritesCut : List ℕ → List ℕ → List ℕ → Type 0

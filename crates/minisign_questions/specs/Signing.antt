@@ -2,8 +2,8 @@
 use Rattle.std.specs.Prelude.{◌≡◌, ◌==◌, ◌⊎◌, ◌<◌, ◌≤◌, ℕ, true, if◌then◌else◌, List, ◌++◌, length, take, Option, None, Some, IfSome, replicate}
 use Rattle.std.specs.Str.{IsUtf8}
 use Rattle.minisign_hash.specs.Blake2b.{blake2b_digest}
-use Rattle.minisign_base.specs.Fault.{Fault}
-use Rattle.minisign_base.specs.Faults.{out_of_memory, not_utf8}
+use Rattle.minisign_base.specs.Fault.{Fault, Named}
+use Rattle.minisign_base.specs.declared.faults.NamedFault.TheVariants.{OutOfMemory, NotUtf8}
 use Rattle.minisign.specs.Records.{CommentsRecord, SecretKeyRecord, SignatureRecord, SignatureBoxRecord, prehashed_algorithm}
 use Rattle.minisign.specs.Acceptance.{Verifier, VouchesUnderEachKey}
 use Rattle.minisign.specs.Headline.{SigningHeadline}
@@ -12,7 +12,7 @@ use Rattle.minisign.specs.Sealing.{IsUnencrypted, no_kdf}
 use Rattle.minisign.specs.SecretKeyText.{SecretKeyText}
 use Rattle.minisign.specs.Signing.{AreKept, ChosenComments, IsGenuine, Signer, signed_box}
 use Rattle.minisign.specs.SignatureText.{SignatureText, signature_text}
-use Rattle.minisign_questions.specs.Numbers.{IsNumberOf, misuse_number}
+use Rattle.minisign_questions.specs.Numbers.{misuse_number, refusal_number}
 use Rattle.minisign_questions.specs.States.{IsNotFed}
 use Rattle.minisign_questions.specs.declared.state.State.{State}
 use Rattle.minisign_questions.specs.declared.state.Misuse.TheVariants.{NoComment, NoPassword, NoRoom}
@@ -54,8 +54,8 @@ pub record TellsKey (q : SigningQuestions) (key : SecretKeyRecord) : Type 0 wher
 abbrev pub IsSigningRefusal : State → List ℕ → Option (List ℕ) → Refusal → Type 0
 IsSigningRefusal s text password (WrongUse m) = IsNotFed s m
 IsSigningRefusal s text password (Refused e) =
-    (e ≡ out_of_memory)
-    ⊎ ((e ≡ not_utf8) × ¬ (IsUtf8 text × IfSome password IsUtf8))
+    (e ≡ Named OutOfMemory)
+    ⊎ ((e ≡ Named NotUtf8) × ¬ (IsUtf8 text × IfSome password IsUtf8))
     ⊎ RefusesSecretKey text password e
 
 -- the box of two answers, under a key's identifier and with these comments
@@ -110,16 +110,16 @@ IsWritingRefusal key_id chosen first second bytes (WrongUse m) =
     ((m ≡ NoRoom) × (length bytes < length (signature_text (answered_signature key_id first) (answered_comments chosen second))))
     ⊎ ((m ≡ NoComment) × ¬ (AreKept chosen))
 IsWritingRefusal key_id chosen first second bytes (Refused e) =
-    (e ≡ out_of_memory) ⊎ ((e ≡ not_utf8) × ¬ (IsUtf8 chosen.trusted × IsUtf8 chosen.untrusted))
+    (e ≡ Named OutOfMemory) ⊎ ((e ≡ Named NotUtf8) × ¬ (IsUtf8 chosen.trusted × IsUtf8 chosen.untrusted))
 
 -- the number of a refusal of asking for signatures, and of writing a text
 abbrev pub IsSigningNumber : State → List ℕ → Option (List ℕ) → ℕ → ℕ → Type 0
 IsSigningNumber s text password with_password n =
     ((n ≡ misuse_number NoPassword) × (1 < with_password))
-    ⊎ ((r : Refusal) × IsNumberOf r n × IsSigningRefusal s text password r)
+    ⊎ ((r : Refusal) × (n ≡ refusal_number r) × IsSigningRefusal s text password r)
 
 abbrev pub IsWritingNumber : List ℕ → ChosenComments → List ℕ → List ℕ → List ℕ → ℕ → Type 0
-IsWritingNumber key_id chosen first second bytes n = (r : Refusal) × IsNumberOf r n × IsWritingRefusal key_id chosen first second bytes r
+IsWritingNumber key_id chosen first second bytes n = (r : Refusal) × (n ≡ refusal_number r) × IsWritingRefusal key_id chosen first second bytes r
 
 -- the password that a caller passes in by two arguments: none with 0, these bytes with 1
 abbrev pub passed_in : ℕ → List ℕ → Option (List ℕ)

@@ -2,14 +2,14 @@
 use Rattle.std.specs.Prelude.{◌≡◌, ◌==◌, ◌⊎◌, ◌<◌, ℕ, Bool, IsTrue, if◌then◌else◌, List, ◌+◌, length, take, Some, MatchResult, Result}
 use Rattle.std.specs.Str.{IsUtf8}
 use Rattle.minisign_hash.specs.Stored.{WasFed}
-use Rattle.minisign_base.specs.Fault.{Fault}
-use Rattle.minisign_base.specs.Faults.{out_of_memory, not_utf8, signature_refused, comment_signature_refused}
+use Rattle.minisign_base.specs.Fault.{Fault, Named}
+use Rattle.minisign_base.specs.declared.faults.NamedFault.TheVariants.{OutOfMemory, NotUtf8, SignatureRefused, CommentSignatureRefused}
 use Rattle.minisign.specs.Records.{PublicKeyRecord, SignatureBoxRecord, CommentsRecord, is_prehashed}
 use Rattle.minisign.specs.Acceptance.{Verifier}
 use Rattle.minisign.specs.SignatureText.{SignatureText}
 use Rattle.minisign.specs.Headline.{TextsRefuse, TextsVouchFor}
 use Rattle.minisign_questions.specs.Questions.{AreOpen, HoldsMessage, IsRefusedUnasked, has_whole_signature}
-use Rattle.minisign_questions.specs.Numbers.{IsNumberOf, misuse_number, named_fault}
+use Rattle.minisign_questions.specs.Numbers.{fault_number, misuse_number, refusal_number}
 use Rattle.minisign_questions.specs.declared.state.Misuse.{Misuse}
 use Rattle.minisign_questions.specs.declared.state.Misuse.TheVariants.{NotBegun, AlreadyAsked, NotAsked, NoAnswer, NoRoom, NoLegacy}
 use Rattle.minisign_questions.specs.declared.state.Refusal.{Refusal}
@@ -67,8 +67,8 @@ IsAskingRefusal s pk_text sig_text legacy bytes (WrongUse m) =
     IsNotFed s m
     ⊎ ((m ≡ NoRoom) × (x : SignatureBoxRecord) × (c : CommentsRecord) × SignatureText sig_text x × (x.comments ≡ Some c) × (length bytes < 64 + length c.trusted))
 IsAskingRefusal s pk_text sig_text legacy bytes (Refused e) =
-    (e ≡ out_of_memory)
-    ⊎ ((e ≡ not_utf8) × ¬ (IsUtf8 pk_text × IsUtf8 sig_text))
+    (e ≡ Named OutOfMemory)
+    ⊎ ((e ≡ Named NotUtf8) × ¬ (IsUtf8 pk_text × IsUtf8 sig_text))
     ⊎ IsRefusedUnasked pk_text sig_text legacy e
 
 -- the refusal is a fault of the library, of this kind
@@ -95,7 +95,7 @@ HasEnded old new = (old.mark ≡ asked_mark) × (new.mark ≡ 0)
 abbrev pub IsVerdictRefusal : State → State → Bool → Refusal → Type 0
 IsVerdictRefusal old new first (WrongUse m) = (m ≡ verdict_misuse old) × (new ≡ old)
 IsVerdictRefusal old new first (Refused e) =
-    HasEnded old new × (e ≡ (if first then comment_signature_refused else signature_refused))
+    HasEnded old new × (e ≡ (if first then Named CommentSignatureRefused else Named SignatureRefused))
 
 -- an answer: 0 for no, 1 for yes
 abbrev pub IsAnswer : ℕ → Type 0
@@ -106,15 +106,17 @@ IsAnswer n = n < 2
 abbrev pub GivesNumber : Verifier → List ℕ → List ℕ → List ℕ → Bool → ℕ → Type 0
 GivesNumber accepts pk_text sig_text message legacy n =
     ((n ≡ 0) × TextsVouchFor accepts pk_text sig_text message legacy)
-    ⊎ ((0 < n) × TextsRefuse accepts pk_text sig_text message legacy (named_fault n))
+    ⊎ ((0 < n) × (e : Fault) × (n ≡ fault_number e) × TextsRefuse accepts pk_text sig_text message legacy e)
 
--- the number of a verdict that was refused since the state has not asked, or an answer is none
-abbrev pub IsVerdictMisuse : State → ℕ → ℕ → ℕ → Type 0
-IsVerdictMisuse s first second n =
-    (n ≡ misuse_number (verdict_misuse s)) ⊎ ((n ≡ misuse_number NoAnswer) × ((1 < first) ⊎ (1 < second)))
+-- the number of a verdict that is no success: an answer is none, and the state stays as it was; or both are, and the
+-- number is that of the refusal
+abbrev pub IsVerdictNumber : State → State → ℕ → ℕ → ℕ → Type 0
+IsVerdictNumber old new first second n =
+    ((n ≡ misuse_number NoAnswer) × ((1 < first) ⊎ (1 < second)) × (new ≡ old))
+    ⊎ (IsAnswer first × IsAnswer second × (r : Refusal) × (n ≡ refusal_number r) × IsVerdictRefusal old new (first == 1) r)
 
 -- the number of a refusal of asking
 abbrev pub IsAskingNumber : State → List ℕ → List ℕ → ℕ → List ℕ → ℕ → Type 0
 IsAskingNumber s pk_text sig_text legacy bytes n =
     ((n ≡ misuse_number NoLegacy) × (1 < legacy))
-    ⊎ ((r : Refusal) × IsNumberOf r n × IsAskingRefusal s pk_text sig_text (legacy == 1) bytes r)
+    ⊎ ((r : Refusal) × (n ≡ refusal_number r) × IsAskingRefusal s pk_text sig_text (legacy == 1) bytes r)

@@ -4,7 +4,8 @@ ghost use Rattle.std.specs.Prelude.{◌≡◌, ◌⊎◌, ◌<◌, ◌+◌, ℕ,
 ghost use Rattle.minisign_hash.specs.Blake2b.{blake2b_digest};
 ghost use Rattle.minisign.specs.Records.{PublicKeyRecord, SignatureBoxRecord, CommentsRecord};
 ghost use Rattle.minisign.specs.Acceptance.{Verifier};
-ghost use Rattle.minisign_base.specs.Faults.{out_of_memory, not_utf8};
+ghost use Rattle.minisign_base.specs.Fault.{Named};
+ghost use Rattle.minisign_base.specs.declared.faults.NamedFault.TheVariants.{OutOfMemory, NotUtf8};
 ghost use Rattle.std.specs.Str.{IsUtf8};
 ghost use Rattle.minisign_questions.specs.Questions.{AnswersTexts, AreOpen, AreReadAs, IsRefusedUnasked, has_whole_signature};
 ghost use Rattle.minisign_questions.specs.States.{AreQuestions, GivesVerdict, HasAsked, HasEnded, IsMarkedFed, IsAskingRefusal, IsFed, IsVerdictRefusal};
@@ -14,7 +15,7 @@ use crate::state::{ASKED, FED, Misuse, Questions, Refusal, State};
 use crate::texts::Texts;
 use crate::verdict::verdict;
 use minisign::Result;
-use minisign_base::faults;
+use minisign_base::NamedFault;
 use std::alloc::Global;
 
 impl State {
@@ -90,15 +91,15 @@ impl State {
 fn read_bytes(alloc: Global, pk_text: &[u8], sig_text: &[u8]) -> Result<Texts>
     ensures read { IfOk result (λ t. AreReadAs pk_text.now sig_text.now t.key t.box) }
     ensures utf8 { OnOk result (IsUtf8 pk_text.now × IsUtf8 sig_text.now) }
-    ensures refused { IfErr result (λ e. (e ≡ out_of_memory)
-        ⊎ ((e ≡ not_utf8) × ¬ (IsUtf8 pk_text.now × IsUtf8 sig_text.now))
+    ensures refused { IfErr result (λ e. (e ≡ Named OutOfMemory)
+        ⊎ ((e ≡ Named NotUtf8) × ¬ (IsUtf8 pk_text.now × IsUtf8 sig_text.now))
         ⊎ ((legacy : Bool) → IsRefusedUnasked pk_text.now sig_text.now legacy e)) }
 {
     let Ok(pk_text) = str::from_utf8(pk_text) else {
-        return Err(faults::not_utf8());
+        return Err(NamedFault::NotUtf8.into());
     };
     let Ok(sig_text) = str::from_utf8(sig_text) else {
-        return Err(faults::not_utf8());
+        return Err(NamedFault::NotUtf8.into());
     };
     Texts::read(alloc, pk_text, sig_text)
 }

@@ -1,7 +1,8 @@
 //! The key of a secret key's text, where it was never sealed.
 
 ghost use Rattle.std.specs.Prelude.{◌≡◌, ◌⊎◌, true, false, IfOk, IfErr};
-ghost use Rattle.minisign_base.specs.Faults.{out_of_memory};
+ghost use Rattle.minisign_base.specs.Fault.{Named};
+ghost use Rattle.minisign_base.specs.declared.faults.NamedFault.TheVariants.{OutOfMemory};
 ghost use Rattle.minisign_questions.specs.Signing.{GivesUnsealedKey, LacksChecksum, RefusesUnsealed};
 
 use minisign::{Result, SecretKey, SecretKeyBox};
@@ -17,7 +18,7 @@ const NO_CHECKSUM: [u8; 32] = [0; 32];
 /// Minisign writes it, or else what `SecretKey::from_unencrypted_box` takes, and refused as there.
 pub fn open_unsealed(alloc: Global, sk_text: &str) -> Result<SecretKey>
     ensures given { IfOk result (GivesUnsealedKey sk_text.now) }
-    ensures refused { IfErr result (λ e. (e ≡ out_of_memory) ⊎ RefusesUnsealed sk_text.now e) }
+    ensures refused { IfErr result (λ e. (e ≡ Named OutOfMemory) ⊎ RefusesUnsealed sk_text.now e) }
 {
     let key = SecretKey::from_text(alloc, sk_text)?;
     if lacks_checksum(alloc, &key)? {
@@ -31,7 +32,7 @@ pub fn open_unsealed(alloc: Global, sk_text: &str) -> Result<SecretKey>
 fn lacks_checksum(alloc: Global, key: &SecretKey) -> Result<bool>
     ensures lacks { IfOk result (λ lacks. lacks ≡ true → LacksChecksum key.now) }
     ensures has { IfOk result (λ lacks. lacks ≡ false → ¬ (LacksChecksum key.now)) }
-    ensures refused { IfErr result (λ e. e ≡ out_of_memory) }
+    ensures refused { IfErr result (λ e. e ≡ Named OutOfMemory) }
 {
     let bytes = key.to_bytes(alloc)?;
     let unsealed = &bytes[2..4] == &UNSEALED[..];

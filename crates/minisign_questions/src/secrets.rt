@@ -5,7 +5,8 @@ ghost use Rattle.std.specs.Prelude.{◌≡◌, ◌⊎◌, ℕ, List, Some, OnOk,
 ghost use Rattle.std.specs.Option.{option_map};
 ghost use Rattle.std.specs.Str.{IsUtf8};
 ghost use Rattle.minisign_hash.specs.Blake2b.{blake2b_digest};
-ghost use Rattle.minisign_base.specs.Faults.{out_of_memory, not_utf8};
+ghost use Rattle.minisign_base.specs.Fault.{Named};
+ghost use Rattle.minisign_base.specs.declared.faults.NamedFault.TheVariants.{OutOfMemory, NotUtf8};
 ghost use Rattle.minisign.specs.Records.{SecretKeyRecord};
 ghost use Rattle.minisign_questions.specs.Signing.{GivesSecretKey, IsSigningRefusal, RefusesSecretKey, TellsKey};
 ghost use Rattle.minisign_questions.specs.States.{IsFed, IsMarkedFed};
@@ -15,7 +16,7 @@ use crate::state::{Refusal, State};
 use minisign::{Result, SecretKey, SecretKeyBox};
 use minisign_base::devices::sinks::VecSink;
 use minisign_base::devices::sources::SliceSource;
-use minisign_base::faults;
+use minisign_base::NamedFault;
 use minisign_base::prompt::Prompt;
 use std::alloc::Global;
 
@@ -75,18 +76,18 @@ impl State {
 // The key of a text and a password, each of which has to be UTF-8.
 fn open_bytes(alloc: Global, sk_text: &[u8], password: Option<&[u8]>) -> Result<SecretKey>
     ensures given { IfOk result (GivesSecretKey sk_text.now (option_map (λ p. p.now) password.entry)) }
-    ensures refused { IfErr result (λ e. (e ≡ out_of_memory)
-        ⊎ ((e ≡ not_utf8) × ¬ (IsUtf8 sk_text.now × IfSome password.entry (λ p. IsUtf8 p.now)))
+    ensures refused { IfErr result (λ e. (e ≡ Named OutOfMemory)
+        ⊎ ((e ≡ Named NotUtf8) × ¬ (IsUtf8 sk_text.now × IfSome password.entry (λ p. IsUtf8 p.now)))
         ⊎ RefusesSecretKey sk_text.now (option_map (λ p. p.now) password.entry) e) }
 {
     let Ok(sk_text) = str::from_utf8(sk_text) else {
-        return Err(faults::not_utf8());
+        return Err(NamedFault::NotUtf8.into());
     };
     let Some(password) = password else {
         return open_unsealed(alloc, sk_text);
     };
     let Ok(password) = str::from_utf8(password) else {
-        return Err(faults::not_utf8());
+        return Err(NamedFault::NotUtf8.into());
     };
     open_sealed(alloc, sk_text, password)
 }
@@ -94,7 +95,7 @@ fn open_bytes(alloc: Global, sk_text: &[u8], password: Option<&[u8]>) -> Result<
 // The key of a text, which the password opens. Nobody is asked for one.
 fn open_sealed(alloc: Global, sk_text: &str, password: &str) -> Result<SecretKey>
     ensures { MatchResult result (GivesSecretKey sk_text.now (Some password.now))
-        (λ e. (e ≡ out_of_memory) ⊎ RefusesSecretKey sk_text.now (Some password.now) e) }
+        (λ e. (e ≡ Named OutOfMemory) ⊎ RefusesSecretKey sk_text.now (Some password.now) e) }
 {
     let sk_box = SecretKeyBox::from_string(alloc, sk_text)?;
     let password = String::from_str(alloc, password)?;
@@ -105,7 +106,7 @@ fn open_sealed(alloc: Global, sk_text: &str, password: &str) -> Result<SecretKey
 // The identifier of a key, and its secret.
 fn key_parts(alloc: Global, key: &SecretKey) -> Result<([u8; 8], [u8; 64])>
     ensures parts { IfOk result (λ parts. (parts.0 ≡ key.now.keynum) × (parts.1 ≡ key.now.secret)) }
-    ensures refused { IfErr result (λ e. e ≡ out_of_memory) }
+    ensures refused { IfErr result (λ e. e ≡ Named OutOfMemory) }
 {
     let bytes = key.to_bytes(alloc)?;
     let mut key_id = [0u8; 8];

@@ -1,7 +1,8 @@
 //! The text of a signature, from the answers of a signature scheme.
 
 ghost use Rattle.std.specs.Prelude.{◌≡◌, ◌⊎◌, ◌<◌, ◌≤◌, ◌+◌, ◌++◌, Some, true, false, string_bytes, length, take, OnOk, OnErr, IfOk, IfErr, IfNone, MatchOption};
-ghost use Rattle.minisign_base.specs.Faults.{out_of_memory};
+ghost use Rattle.minisign_base.specs.Fault.{Named};
+ghost use Rattle.minisign_base.specs.declared.faults.NamedFault.TheVariants.{OutOfMemory};
 ghost use Rattle.minisign.specs.Signing.{AreKept};
 ghost use Rattle.minisign.specs.SignatureText.{SignatureText, signature_text};
 ghost use Rattle.minisign_questions.specs.Signing.{HoldsText, IsAnsweredText, IsWritingRefusal, answered_box, answered_comments, answered_signature, comments_of};
@@ -11,7 +12,7 @@ ghost use Rattle.minisign_questions.specs.declared.state.Refusal.TheVariants.{Re
 use crate::state::{Misuse, Refusal};
 use crate::texts::write_joined;
 use minisign::SignatureBox;
-use minisign_base::faults;
+use minisign_base::NamedFault;
 use std::alloc::Global;
 
 /// The text of a signature, the four lines that Minisign reads, from the two answers of a signature
@@ -30,7 +31,7 @@ pub fn signed_text(
     untrusted: &str,
 ) -> std::result::Result<String, Refusal>
     ensures text { IfOk result (λ t. IsAnsweredText key_id.now (comments_of trusted.now untrusted.now) first.now second.now (string_bytes t)) }
-    ensures refused { IfErr result (λ r. (r ≡ Refused out_of_memory)
+    ensures refused { IfErr result (λ r. (r ≡ Refused (Named OutOfMemory))
         ⊎ ((r ≡ WrongUse NoComment) × ¬ (AreKept (comments_of trusted.now untrusted.now)))) }
 {
     if !are_kept(trusted, untrusted) {
@@ -56,10 +57,10 @@ pub fn write_signed_text(
     ensures kept { OnErr result (to.new ≡ to.old) }
 {
     let Ok(trusted) = str::from_utf8(trusted) else {
-        return Err(Refusal::Refused(faults::not_utf8()));
+        return Err(Refusal::Refused(NamedFault::NotUtf8.into()));
     };
     let Ok(untrusted) = str::from_utf8(untrusted) else {
-        return Err(Refusal::Refused(faults::not_utf8()));
+        return Err(Refusal::Refused(NamedFault::NotUtf8.into()));
     };
     let text = signed_text(alloc, key_id, first, second, trusted, untrusted)?;
     match write_front(text.as_bytes(), to) {
@@ -124,7 +125,7 @@ fn written(
         (answered_comments (comments_of trusted.now untrusted.now) second.now)) }
     ensures reads_back { AreKept (comments_of trusted.now untrusted.now) → IfOk result (λ t. SignatureText (string_bytes t)
         (answered_box key_id.now (comments_of trusted.now untrusted.now) first.now second.now)) }
-    ensures refused { IfErr result (λ e. e ≡ out_of_memory) }
+    ensures refused { IfErr result (λ e. e ≡ Named OutOfMemory) }
 {
     let signature_box = SignatureBox::from_parts(alloc, key_id, first, untrusted, trusted, second)?;
     signature_box.into_string(alloc)

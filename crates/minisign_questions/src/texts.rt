@@ -1,12 +1,13 @@
 //! Two texts that were read: what is refused before a scheme is asked, and what it has to be asked.
 
 ghost use Rattle.std.specs.Prelude.{◌≡◌, if◌then◌else◌, ◌⊎◌, ◌++◌, ◌||◌, ◌<◌, ◌≤◌, ◌+◌, ℕ, Bool, List, Some, true, false, None, not, nat_le, length, take, IsTrue, IfOk, IfErr, IfNone, MatchOption, MatchResult};
-ghost use Rattle.minisign_base.specs.Faults.{out_of_memory};
+ghost use Rattle.minisign_base.specs.Fault.{Named};
+ghost use Rattle.minisign_base.specs.declared.faults.NamedFault.TheVariants.{OutOfMemory};
 ghost use Rattle.minisign.specs.Records.{CommentsRecord, is_prehashed};
 ghost use Rattle.minisign_questions.specs.Questions.{AreOpen, AreReadAs, HoldsMessage, IsRefusedUnasked, TextsRecord, has_whole_signature};
 
 use minisign::{PublicKey, PublicKeyBox, Result, SignatureBox};
-use minisign_base::faults;
+use minisign_base::NamedFault;
 use std::alloc::Global;
 use std::marker::Model;
 
@@ -31,7 +32,7 @@ impl Texts {
     /// of memory at any time.
     pub fn read(alloc: Global, pk_text: &str, sig_text: &str) -> Result<Texts>
         ensures read { IfOk result (λ t. AreReadAs pk_text.now sig_text.now t.key t.box) }
-        ensures refused { IfErr result (λ e. (e ≡ out_of_memory) ⊎ ((legacy : Bool) → IsRefusedUnasked pk_text.now sig_text.now legacy e)) }
+        ensures refused { IfErr result (λ e. (e ≡ Named OutOfMemory) ⊎ ((legacy : Bool) → IsRefusedUnasked pk_text.now sig_text.now legacy e)) }
     {
         let pk = PublicKey::from_box(alloc, PublicKeyBox::from_string(alloc, pk_text)?)?;
         let signature_box = SignatureBox::from_string(alloc, sig_text)?;
@@ -47,10 +48,14 @@ impl Texts {
     {
         let signature = self.signature_box.signature();
         if signature.keynum != *self.public_key_id() {
-            return Err(faults::different_key_ids(signature.keynum, *self.public_key_id()));
+            return Err(NamedFault::DifferentKeyIds {
+                signature: signature.keynum,
+                key: *self.public_key_id(),
+            }
+            .into());
         }
         if self.is_legacy() && !allow_legacy {
-            return Err(faults::legacy_not_accepted());
+            return Err(NamedFault::LegacyNotAccepted.into());
         }
         Ok(())
     }

@@ -1,13 +1,14 @@
 //! What the answers to the two questions decide.
 
 ghost use Rattle.std.specs.Prelude.{◌≡◌, if◌then◌else◌, ℕ, List, Bool, IfErr};
-ghost use Rattle.minisign_base.specs.Faults.{comment_signature_refused, signature_refused};
+ghost use Rattle.minisign_base.specs.Fault.{Named};
+ghost use Rattle.minisign_base.specs.declared.faults.NamedFault.TheVariants.{CommentSignatureRefused, SignatureRefused};
 ghost use Rattle.minisign.specs.Records.{PublicKeyRecord, SignatureBoxRecord, CommentsRecord};
 ghost use Rattle.minisign.specs.Acceptance.{Verifier};
 ghost use Rattle.minisign.specs.Headline.{IsVerdict};
 ghost use Rattle.minisign_questions.specs.Questions.{AreOpen, AnswersSo, has_whole_signature};
 
-use minisign_base::{Result, faults};
+use minisign_base::{Result, NamedFault};
 
 /// The verdict on two texts and a message from the answers to their two questions. `whole` says
 /// whether the second one could be asked: the comment signature has its 64 bytes.
@@ -18,13 +19,13 @@ pub fn verdict(whole: bool, first: bool, second: bool) -> Result<()>
     ensures verdict { (pk_text sig_text message : List ℕ) (legacy : Bool) (pk : PublicKeyRecord) (x : SignatureBoxRecord) (c : CommentsRecord) (accepts : Verifier)
         → AreOpen pk_text sig_text legacy pk x c → whole ≡ has_whole_signature c → AnswersSo accepts pk x c message first second
         → IsVerdict accepts pk_text sig_text message legacy result }
-    ensures which { IfErr result (λ e. e ≡ (if first then comment_signature_refused else signature_refused)) }
+    ensures which { IfErr result (λ e. e ≡ (if first then Named CommentSignatureRefused else Named SignatureRefused)) }
 {
     if !first {
-        return Err(faults::signature_refused());
+        return Err(NamedFault::SignatureRefused.into());
     }
     if !whole || !second {
-        return Err(faults::comment_signature_refused());
+        return Err(NamedFault::CommentSignatureRefused.into());
     }
     Ok(())
 }

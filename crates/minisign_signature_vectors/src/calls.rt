@@ -13,7 +13,7 @@ use minisign_base::toy::ToyScheme;
 use minisign_fixtures::devices::sinks::LimitedSink;
 use minisign_fixtures::devices::sources::OneByOne;
 use minisign_fixtures::keys::{CHECKSUM, IDENTIFIER, PUBLIC_BYTES, public_record, secret_record};
-use minisign_fixtures::outcomes::comes_to;
+use minisign_fixtures::outcomes::{Outcome, comes_to};
 use std::alloc::Global;
 
 /// The status is said, nothing is copied, and legacy signatures are refused.
@@ -33,7 +33,7 @@ pub const COPYING: VerifyOptions = VerifyOptions {
 /// What verifying is wanted to come to: the outcome, what is said, and what is copied.
 #[derive(Clone, Copy)]
 pub struct Wanted<'a> {
-    pub outcome: &'a str,
+    pub outcome: Outcome,
     pub said: &'a [u8],
     pub copied: &'a [u8],
 }
@@ -54,8 +54,8 @@ pub fn ample(alloc: Global) -> Sinks {
 }
 
 /// Whether the sinks hold what was wanted, and the outcome is this one.
-fn is_wanted(alloc: Global, answer: &Result<()>, sinks: &Sinks, wanted: Wanted) -> bool {
-    comes_to(alloc, answer, wanted.outcome)
+fn is_wanted(answer: &Result<()>, sinks: &Sinks, wanted: Wanted) -> bool {
+    comes_to(answer, wanted.outcome)
         && sinks.status.as_slice() == wanted.said
         && sinks.out.as_slice() == wanted.copied
 }
@@ -105,7 +105,7 @@ pub fn texts_come_out<S: Scheme, R: Rereader>(
         &mut sinks.status,
         &mut sinks.out,
     );
-    is_wanted(alloc, &answer, &sinks, wanted)
+    is_wanted(&answer, &sinks, wanted)
 }
 
 /// Whether verifying these bytes with two texts comes out as wanted, at once and one byte a read.
@@ -150,7 +150,7 @@ pub fn box_comes_out<S: Scheme, R: Rereader>(
         &mut sinks.status,
         &mut sinks.out,
     );
-    is_wanted(alloc, &answer, &sinks, wanted)
+    is_wanted(&answer, &sinks, wanted)
 }
 
 /// Whether verifying these bytes with a box comes out as wanted, at once and one byte a read.
@@ -190,8 +190,8 @@ pub fn records_come_out<R: Rereader>(
             let toy = ToyScheme::new();
             box_comes_out(alloc, &toy, parts, data, options, sinks, wanted)
         }
-        (Err(fault), _) => comes_to::<()>(alloc, &Err(fault), wanted.outcome),
-        (_, Err(fault)) => comes_to::<()>(alloc, &Err(fault), wanted.outcome),
+        (Err(fault), _) => comes_to::<()>(&Err(fault), wanted.outcome),
+        (_, Err(fault)) => comes_to::<()>(&Err(fault), wanted.outcome),
     }
 }
 

@@ -1,8 +1,8 @@
 -- Why a file is not replaced.
 use Rattle.std.specs.Prelude.{◌≡◌, ◌⊎◌}
-use Rattle.minisign_base.specs.Fault.{Fault}
-use Rattle.minisign_base.specs.Faults.{out_of_memory, writing_failed}
+use Rattle.minisign_base.specs.Fault.{Fault, Named}
+use Rattle.minisign_base.specs.declared.faults.NamedFault.TheVariants.{OutOfMemory, WritingFailed}
 
 -- memory ran out, or the system refused
 abbrev pub IsWriteFault : Fault → Type 0
-IsWriteFault e = (e ≡ out_of_memory) ⊎ (e ≡ writing_failed)
+IsWriteFault e = (e ≡ Named OutOfMemory) ⊎ (e ≡ Named WritingFailed)

@@ -2,8 +2,7 @@
 use Rattle.std.specs.Prelude.{◌≡◌, ℕ, ◌⊎◌, List, ◌++◌, codes}
 use Rattle.std.specs.Io.KnownBytes.{Appends}
 use Rattle.minisign_base.specs.Devices.{Rose, AppendsFront}
-use Rattle.minisign_base.specs.Fault.{Fault}
-use Rattle.minisign_base.specs.Faults.{out_of_memory}
+use Rattle.minisign_base.specs.Fault.{Fault, text_of}
 use Rattle.minisign_base.specs.Members.{SinkOf}
 use Rattle.minisign_base.specs.Passages.{SinkPassage, sink_passage}
 use Rattle.minisign.specs.Lines.{line}
@@ -18,7 +17,7 @@ usage_line = line (codes "usage: minisign_tool keygen PK SK | sign SK FILE SIG |
 
 -- how a fault is shown
 abbrev pub fault_line : Fault → List ℕ
-fault_line e = codes "error: " ++ line e.text
+fault_line e = codes "error: " ++ line (text_of e)
 
 -- a sink took the text whole, or it failed and took a beginning of it
 abbrev pub TakesOrFails : {S : Type 0} → SinkOf S → S → S → List ℕ → Type 0
@@ -32,9 +31,9 @@ SaysAfterWarning {S = S} sink old new text =
     (warned : S) × TakesOrFails sink old warned warning_line
     × Appends (sink.taken warned) (sink.taken new) text × (sink.sink_faults new ≡ sink.sink_faults warned)
 
--- the line of a fault was said, or, where memory ran out for it, that of running out of memory
+-- the line of a fault was said
 abbrev pub ShowsFault : {S : Type 0} → SinkOf S → S → S → Fault → Type 0
-ShowsFault sink old new e = TakesOrFails sink old new (fault_line e) ⊎ TakesOrFails sink old new (fault_line out_of_memory)
+ShowsFault sink old new e = TakesOrFails sink old new (fault_line e)
 
 -- a run ends with a fault: the warning was said, what Fails says went on, and the line of the fault was said
 abbrev pub EndsWithFault : {S : Type 0} → SinkOf S → S → S → (SinkPassage S → Fault → Type 0) → Type 0

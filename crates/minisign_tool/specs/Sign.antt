@@ -1,8 +1,8 @@
 -- How a run that signs with a text file ends.
 use Rattle.std.specs.Prelude.{◌≡◌, ℕ, ◌⊎◌, None, List}
 use Rattle.minisign_base.specs.Passages.{PromptPassage, RandomPassage, SinkPassage, SourcePassage, Takes}
-use Rattle.minisign_base.specs.Fault.{Fault}
-use Rattle.minisign_base.specs.Faults.{writing_failed}
+use Rattle.minisign_base.specs.Fault.{Fault, Named}
+use Rattle.minisign_base.specs.declared.faults.NamedFault.TheVariants.{WritingFailed}
 use Rattle.minisign.specs.Records.{SecretKeyRecord, SignatureBoxRecord}
 use Rattle.minisign.specs.Acceptance.{Verifier, VouchesUnderEachKey}
 use Rattle.minisign.specs.Generation.{FailsAtPart, TakesPart}
@@ -50,7 +50,7 @@ pub record MakesVouched {K A B R : Type 0} (accepts : Verifier) (public_of : Lis
 
 -- the text of a signature could not be written: a beginning of it was
 pub record WriteFails {G : Type 0} (g : SinkPassage G) (text : List ℕ) (e : Fault) : Type 0 where
-  pub fault : e ≡ writing_failed
+  pub fault : e ≡ Named WritingFailed
   pub failed : FailsAtPart g text
 
 -- what a genuine key signed was written: every public key of its seed and identifier vouches for all of the

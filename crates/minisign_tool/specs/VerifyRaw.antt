@@ -1,7 +1,7 @@
 -- What it means that `verify-raw` accepts, and why it ends otherwise.
 use Rattle.std.specs.Prelude.{◌≡◌, ℕ, ◌<◌, ◌⊎◌, false, List, length, None}
-use Rattle.minisign_base.specs.Fault.{Fault}
-use Rattle.minisign_base.specs.Faults.{record_too_short}
+use Rattle.minisign_base.specs.Fault.{Fault, Named}
+use Rattle.minisign_base.specs.declared.faults.NamedFault.TheVariants.{RecordTooShort}
 use Rattle.minisign_base.specs.Passages.{RereaderPassage, SinkPassage, SourcePassage, TakesFront}
 use Rattle.minisign.specs.Records.{PublicKeyRecord, SignatureRecord, SignatureBoxRecord, ReadsPublicKey, ReadsSignature, IsKnownAlgorithm, IsBonesFault}
 use Rattle.minisign.specs.Acceptance.{Verifier, Vouches, verified_text}
@@ -20,7 +20,7 @@ pub record HoldsRaw (key_file signature_file : List ℕ) (key : PublicKeyRecord)
 -- the first file is too short for a public key, or it holds one and the second holds no bare signature
 abbrev pub IsFileFault : List ℕ → List ℕ → Fault → Type 0
 IsFileFault key_file signature_file e =
-    ((e ≡ record_too_short) × (length key_file < 42))
+    ((e ≡ Named RecordTooShort) × (length key_file < 42))
     ⊎ ((key : PublicKeyRecord) × ReadsPublicKey key_file key × IsBonesFault signature_file e)
 
 -- the box of a bare signature

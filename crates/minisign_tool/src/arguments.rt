@@ -1,9 +1,10 @@
 //! The arguments of the program.
 
 ghost use Rattle.std.specs.Prelude.{◌≡◌, IfErr};
-ghost use Rattle.minisign_base.specs.Faults.{out_of_memory};
+ghost use Rattle.minisign_base.specs.Fault.{Named};
+ghost use Rattle.minisign_base.specs.declared.faults.NamedFault.TheVariants.{OutOfMemory};
 
-use minisign::base::{Result, faults};
+use minisign::base::{NamedFault, Result};
 use std::env::FillError;
 use std::rt::Env;
 use std::{env, io};
@@ -32,12 +33,12 @@ impl<R: Env> Env for BehindProgram<'_, R> {
 /// The arguments behind the program's path, or none where one of them is not UTF-8. Only running
 /// out of memory is refused.
 pub fn read_arguments<R: Env + AllocGlobal>(rt: &R) -> Result<Option<Vec<String>>>
-    ensures { IfErr result (λ e. e ≡ out_of_memory) }
+    ensures { IfErr result (λ e. e ≡ Named OutOfMemory) }
 {
     let arguments = match env::args(&(BehindProgram(rt), rt.alloc())) {
         Ok(arguments) => arguments,
         Err(error) if error.kind() == io::ErrorKind::OutOfMemory => {
-            return Err(faults::out_of_memory());
+            return Err(NamedFault::OutOfMemory.into());
         }
         Err(_) => return Ok(None),
     };

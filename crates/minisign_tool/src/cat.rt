@@ -48,7 +48,7 @@ pub fn run_cat<S: Scheme, P: Source, R: Rereader, Q: Source, O: Sink, W: Sink>(
     warn(errors);
     match copy_with_files(alloc, scheme, pk_file, data_reader, sig_file, out, errors) {
         Ok(()) => 0,
-        Err(fault) => report(alloc, errors, &fault),
+        Err(fault) => report(errors, &fault),
     }
 }
 

@@ -3,7 +3,8 @@
 //! is returned as a fault, with nothing said.
 
 ghost use Rattle.std.specs.Prelude.{◌≡◌, ◌≤◌, ◌⊎◌, IfOk, IfErr};
-ghost use Rattle.minisign_base.specs.Faults.{clock_incorrect, reading_failed};
+ghost use Rattle.minisign_base.specs.Fault.{Named};
+ghost use Rattle.minisign_base.specs.declared.faults.NamedFault.TheVariants.{ClockIncorrect, ReadingFailed};
 ghost use Rattle.minisign_tool.specs.Copying.{input_is_output};
 
 use crate::cat::run_cat;
@@ -22,7 +23,7 @@ use minisign::base::devices::sources::{FileSource, ReaderSource};
 use minisign::base::helpers::unix_timestamp;
 use minisign::base::prompt::Prompt;
 use minisign::base::toy::ToyScheme;
-use minisign::base::{ErrorKind, PError, faults};
+use minisign::base::{ErrorKind, NamedFault, PError};
 use std::fs;
 use std::fs::File;
 
@@ -30,7 +31,7 @@ use std::fs::File;
 /// output, and memory. The two files are replaced last.
 pub fn keygen_files<W: Sink>(rt: &HostRuntime, pk: &str, sk: &str, errors: &mut W) -> Result<u8>
     ensures status { IfOk result (λ s. s ≤ 1) }
-    ensures refused { IfErr result (λ e. (e ≡ reading_failed) × (errors.new ≡ errors.old)) }
+    ensures refused { IfErr result (λ e. (e ≡ Named ReadingFailed) × (errors.new ≡ errors.old)) }
 {
     let random_file = open(rt, "/dev/urandom")?;
     let mut pk_text = VecSink::new(rt.alloc());
@@ -59,7 +60,7 @@ pub fn keygen_files<W: Sink>(rt: &HostRuntime, pk: &str, sk: &str, errors: &mut 
     };
     Ok(match replace_both(rt, public, secret) {
         Ok(()) => 0,
-        Err(fault) => report(rt.alloc(), errors, &fault),
+        Err(fault) => report(errors, &fault),
     })
 }
 
@@ -74,7 +75,7 @@ pub fn sign_files<W: Sink>(
     errors: &mut W,
 ) -> Result<u8>
     ensures status { IfOk result (λ s. s ≤ 1) }
-    ensures refused { IfErr result (λ e. ((e ≡ reading_failed) ⊎ (e ≡ clock_incorrect))
+    ensures refused { IfErr result (λ e. ((e ≡ Named ReadingFailed) ⊎ (e ≡ Named ClockIncorrect))
         × (errors.new ≡ errors.old)) }
 {
     let sk_file = open(rt, sk)?;
@@ -103,7 +104,7 @@ pub fn sign_files<W: Sink>(
     };
     Ok(match replace_file(rt, contents) {
         Ok(()) => 0,
-        Err(fault) => report(rt.alloc(), errors, &fault),
+        Err(fault) => report(errors, &fault),
     })
 }
 
@@ -116,7 +117,7 @@ pub fn verify_files<W: Sink>(
     errors: &mut W,
 ) -> Result<u8>
     ensures status { IfOk result (λ s. s ≤ 1) }
-    ensures refused { IfErr result (λ e. (e ≡ reading_failed) × (errors.new ≡ errors.old)) }
+    ensures refused { IfErr result (λ e. (e ≡ Named ReadingFailed) × (errors.new ≡ errors.old)) }
 {
     let pk_file = open(rt, pk)?;
     let data_file = open(rt, file)?;
@@ -139,7 +140,7 @@ pub fn verify_raw_files<W: Sink>(
     errors: &mut W,
 ) -> Result<u8>
     ensures status { IfOk result (λ s. s ≤ 1) }
-    ensures refused { IfErr result (λ e. (e ≡ reading_failed) × (errors.new ≡ errors.old)) }
+    ensures refused { IfErr result (λ e. (e ≡ Named ReadingFailed) × (errors.new ≡ errors.old)) }
 {
     let pk_file = open(rt, pk)?;
     let sig_file = open(rt, sig)?;
@@ -164,7 +165,7 @@ pub fn cat_files<W: Sink>(
     errors: &mut W,
 ) -> Result<u8>
     ensures status { IfOk result (λ s. s ≤ 1) }
-    ensures refused { IfErr result (λ e. ((e ≡ reading_failed) ⊎ (e ≡ input_is_output))
+    ensures refused { IfErr result (λ e. ((e ≡ Named ReadingFailed) ⊎ (e ≡ input_is_output))
         × (errors.new ≡ errors.old)) }
 {
     let pk_file = open(rt, pk)?;
@@ -186,11 +187,11 @@ pub fn cat_files<W: Sink>(
 
 // Opens a file for reading.
 fn open(rt: &HostRuntime, path: &str) -> Result<File>
-    ensures { IfErr result (λ e. e ≡ reading_failed) }
+    ensures { IfErr result (λ e. e ≡ Named ReadingFailed) }
 {
     match fs::open(rt, path) {
         Ok(file) => Ok(file),
-        Err(_) => Err(faults::reading_failed()),
+        Err(_) => Err(NamedFault::ReadingFailed.into()),
     }
 }
 

@@ -52,6 +52,6 @@ pub fn run_keygen<S: Scheme, Z: RandomSource, R: Source, W: Sink, P: Sink, K: Si
         alloc, scheme, random, pk_sink, sk_sink, comment, password, prompt,
     ) {
         Ok(_) => 0,
-        Err(fault) => report(alloc, errors, &fault),
+        Err(fault) => report(errors, &fault),
     }
 }

@@ -31,8 +31,8 @@ use arguments::read_arguments;
 use commands::{Command, command_of, words_of};
 use files::{cat_files, keygen_files, sign_files, verify_files, verify_raw_files};
 use minisign::Result;
+use minisign::base::NamedFault;
 use minisign::base::devices::sinks::{Sink, WriterSink};
-use minisign::base::faults;
 use report::{end, usage, warn};
 use std::process::ExitCode;
 use streams::hold_closed_streams;
@@ -43,9 +43,9 @@ fn main(rt: HostRuntime) -> ExitCode {
     // go.
     let answer = match hold_closed_streams(&rt) {
         Ok(_held) => run(&rt, &mut errors),
-        Err(_) => Err(faults::reading_failed()),
+        Err(_) => Err(NamedFault::ReadingFailed.into()),
     };
-    ExitCode::from(end(rt.alloc(), &mut errors, answer))
+    ExitCode::from(end(&mut errors, answer))
 }
 
 // Runs the command that the arguments ask for, and returns its exit status. What fails before its

@@ -5,7 +5,7 @@ ghost use Rattle.std.specs.Prelude.{IfErr};
 ghost use Rattle.minisign_tool.specs.Replacing.{IsWriteFault};
 
 use minisign::base::devices::sinks::{WriterSink, put_and_flush};
-use minisign::base::{PError, Result, faults};
+use minisign::base::{NamedFault, PError, Result};
 use std::fs::{File, Metadata, OpenOptions, Permissions};
 use std::os::unix::fs::{MetadataExt, OpenOptionsExt, PermissionsExt, fchown};
 use std::random::RandomSource;
@@ -101,7 +101,7 @@ impl Stage<'_> {
         };
         match folder.sync_all() {
             Err(error) if error.kind() != io::ErrorKind::InvalidInput => Err(
-                faults::writing_failed(),
+                NamedFault::WritingFailed.into(),
             ),
             _ => Ok(()),
         }
@@ -218,7 +218,7 @@ fn find_place(rt: &HostRuntime, path: &str) -> Result<Place>
         Ok(found) if found.is_file() => Some(found),
         Ok(_) => return Ok(Place::Stream),
         Err(error) if error.kind() == io::ErrorKind::NotFound && !path.is_empty() => None,
-        Err(_) => return Err(faults::writing_failed()),
+        Err(_) => return Err(NamedFault::WritingFailed.into()),
     };
     Ok(match follow_links(rt, path)? {
         Some(path) => Place::File(FilePlace {
@@ -241,7 +241,7 @@ fn follow_links(rt: &HostRuntime, path: &str) -> Result<Option<String>>
             Ok(found) if found.is_symlink() => found,
             Ok(_) => return Ok(Some(path)),
             Err(error) if error.kind() == io::ErrorKind::NotFound => return Ok(Some(path)),
-            Err(_) => return Err(faults::writing_failed()),
+            Err(_) => return Err(NamedFault::WritingFailed.into()),
         };
         if is_of_processes(rt, &link) {
             return Ok(None);
@@ -249,7 +249,7 @@ fn follow_links(rt: &HostRuntime, path: &str) -> Result<Option<String>>
         let target = written(fs::read_link(rt, path.as_str()))?;
         path = beside(rt, &path, target.as_str())?;
     }
-    Err(faults::writing_failed())
+    Err(NamedFault::WritingFailed.into())
 }
 
 // Whether a link is one of those by which the system shows what a process has open.
@@ -314,10 +314,10 @@ fn create_beside(rt: &HostRuntime, path: &str, mode: u32) -> Result<(File, Strin
         match made {
             Ok(file) => return Ok((file, staged)),
             Err(error) if error.kind() == io::ErrorKind::AlreadyExists => {}
-            Err(_) => return Err(faults::writing_failed()),
+            Err(_) => return Err(NamedFault::WritingFailed.into()),
         }
     }
-    Err(faults::writing_failed())
+    Err(NamedFault::WritingFailed.into())
 }
 
 // Gives a new file the owner, the group and the rights of an older one. Where another group may not
@@ -343,7 +343,7 @@ fn fill(file: File, bytes: &[u8]) -> Result<()>
     ensures { IfErr result IsWriteFault }
 {
     let Ok(()) = put_and_flush(&mut WriterSink::new(&file), bytes) else {
-        return Err(faults::writing_failed());
+        return Err(NamedFault::WritingFailed.into());
     };
     written(file.sync_all())
 }
@@ -360,7 +360,7 @@ fn write_stream(rt: &HostRuntime, contents: Contents<'_>) -> Result<()>
     )?;
     match put_and_flush(&mut WriterSink::new(stream), contents.bytes) {
         Ok(()) => Ok(()),
-        Err(_) => Err(faults::writing_failed()),
+        Err(_) => Err(NamedFault::WritingFailed.into()),
     }
 }
 
@@ -371,8 +371,10 @@ fn written<T>(answer: io::Result<T>) -> Result<T>
 {
     match answer {
         Ok(value) => Ok(value),
-        Err(error) if error.kind() == io::ErrorKind::OutOfMemory => Err(faults::out_of_memory()),
-        Err(_) => Err(faults::writing_failed()),
+        Err(error) if error.kind() == io::ErrorKind::OutOfMemory => Err(
+            NamedFault::OutOfMemory.into(),
+        ),
+        Err(_) => Err(NamedFault::WritingFailed.into()),
     }
 }
 

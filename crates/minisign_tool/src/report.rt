@@ -1,13 +1,17 @@
 //! What the program says on the error stream, each line in one write. A line that cannot be written
 //! there changes no exit status.
 
-ghost use Rattle.std.specs.Prelude.{◌≡◌, MatchResult};
-ghost use Rattle.minisign_base.specs.Faults.{out_of_memory};
-ghost use Rattle.minisign_tool.specs.Report.{TakesOrFails, ShowsFault, fault_line, usage_line, warning_line};
+ghost use Rattle.std.specs.Prelude.{◌≡◌, ◌++◌, codes, MatchResult, OnOk, OnErr};
+ghost use Rattle.std.specs.Io.KnownBytes.{Appends};
+ghost use Rattle.minisign_base.specs.Devices.{Rose, AppendsFront};
+ghost use Rattle.minisign.specs.Lines.{line};
+ghost use Rattle.minisign_tool.specs.Report.{TakesOrFails, ShowsFault, usage_line, warning_line};
 
+use minisign::base::devices::DeviceFault;
 use minisign::base::devices::sinks::{Sink, put_all};
+use minisign::base::faults::TEXT_ROOM;
+use minisign::base::helpers::joined;
 use minisign::base::{PError, Result};
-use std::alloc::Global;
 
 /// Warns of the toy scheme. This line is always the first. Takes no memory.
 #[tactic(auto, unfolding(crate::specs::Report::warning_line))]
@@ -31,24 +35,19 @@ pub fn usage<W: Sink>(errors: &mut W) -> u8
     2
 }
 
-/// Shows a fault, and returns the exit status of one. Where memory runs out for its line, that is
-/// shown in its place.
-pub fn report<W: Sink>(alloc: Global, errors: &mut W, fault: &PError) -> u8
+/// Shows a fault, and returns the exit status of one. Takes no memory.
+pub fn report<W: Sink>(errors: &mut W, fault: &PError) -> u8
     ensures status { result ≡ 1 }
     ensures said { ShowsFault W.Sink errors.old errors.new fault.now }
 {
-    match format!(in alloc; "error: {fault}\n") {
-        Ok(line) => {
-            let _ = put_all(errors, line.as_bytes());
-        }
-        Err(_) => report_want_of_memory(errors),
-    }
+    let mut room = [0; TEXT_ROOM];
+    let _ = put_fault(errors, fault.text(&mut room));
     1
 }
 
 /// The exit status of a command: its own, or that of a fault that came before its body, which is
 /// shown behind the warning.
-pub fn end<W: Sink>(alloc: Global, errors: &mut W, answer: Result<u8>) -> u8
+pub fn end<W: Sink>(errors: &mut W, answer: Result<u8>) -> u8
     ensures { MatchResult answer (λ s. (result ≡ s) × (errors.new ≡ errors.old))
         (λ e. (result ≡ 1) × ((warned : W) × TakesOrFails W.Sink errors.old warned warning_line
         × ShowsFault W.Sink warned errors.new e)) }
@@ -57,15 +56,25 @@ pub fn end<W: Sink>(alloc: Global, errors: &mut W, answer: Result<u8>) -> u8
         Ok(status) => status,
         Err(fault) => {
             warn(errors);
-            report(alloc, errors, &fault)
+            report(errors, &fault)
         }
     }
 }
 
-// Shows that memory ran out, and takes none.
-#[tactic(auto, unfolding(minisign_base::specs::Faults::out_of_memory))]
-fn report_want_of_memory<W: Sink>(errors: &mut W)
-    ensures { TakesOrFails W.Sink errors.old errors.new (fault_line out_of_memory) }
+// Puts the line of a fault with this text: in one call of `put_all` where the text takes at most
+// 504 bytes, as that of every named fault does, and otherwise in three.
+fn put_fault<W: Sink>(errors: &mut W, text: &[u8]) -> std::result::Result<(), DeviceFault>
+    ensures bytes { OnOk result (Appends (W.taken errors.old) (W.taken errors.new) (codes "error: " ++ line text.now)) }
+    ensures calm { OnOk result (W.sink_faults errors.new ≡ W.sink_faults errors.old) }
+    ensures refused { OnErr result (Rose (W.sink_faults errors.old) (W.sink_faults errors.new)) }
+    ensures front { OnErr result (AppendsFront (W.taken errors.old) (W.taken errors.new) (codes "error: " ++ line text.now)) }
 {
-    let _ = put_all(errors, b"error: out of memory\n");
+    let mut room = [0; 512];
+    if text.len() <= 504 {
+        put_all(errors, joined(&mut room, b"error: ", text, b"\n", b""))
+    } else {
+        put_all(errors, b"error: ")?;
+        put_all(errors, text)?;
+        put_all(errors, b"\n")
+    }
 }

@@ -1,12 +1,37 @@
-//! What `report` shows of each fault that there is, where memory is ample: the fault's own text,
-//! and nothing in its place.
+//! What `report` shows of each fault that there is: the fault's own text, and nothing in its place.
 use crate::files::input_is_output;
 use crate::report::report;
-use minisign::base::devices::sinks::VecSink;
-use minisign::base::{PError, faults};
-use std::alloc::Global;
+use minisign::base::devices::sinks::{VecSink, WriterSink};
+use minisign::base::{ErrorKind, NamedFault, PError};
+use std::alloc::{AllocError, Global};
+use std::io::Write;
 use std::process::Abort;
-use std::str;
+use std::{io, str};
+
+// A writer that takes all, and counts its calls.
+#[derive(Drop)]
+struct Counting {
+    calls: u8,
+}
+
+impl Write for Counting {
+    fn write(&mut self, buf: &[u8]) -> io::Result<usize> {
+        self.calls = self.calls.saturating_add(1);
+        Ok(buf.len())
+    }
+
+    fn flush(&mut self) -> io::Result<()> {
+        Ok(())
+    }
+}
+
+// Whether the line of a fault is one write.
+fn is_one_write(fault: &PError) -> bool {
+    let mut writer = Counting { calls: 0 };
+    let mut errors = WriterSink::new(&mut writer);
+    let status = report(&mut errors, fault);
+    status == 1 && writer.calls == 1
+}
 
 // Whether a text is the line of a fault with this text.
 fn is_line_of(line: &str, text: &str) -> bool {
@@ -27,7 +52,7 @@ fn are_line_of(bytes: &[u8], text: &str) -> bool {
 // Whether a fault is shown as a line of this text, with status 1.
 fn is_shown_as(alloc: Global, fault: PError, text: &str) -> bool {
     let mut errors = VecSink::new(alloc);
-    let status = report(alloc, &mut errors, &fault);
+    let status = report(&mut errors, &fault);
     let are_line = are_line_of(errors.as_slice(), text);
     status == 1 && are_line
 }
@@ -41,47 +66,62 @@ fn shows<A: Abort>(rt: &A, alloc: Global, fault: PError, text: &str) {
 #[test]
 fn faults_of_devices_and_of_callers(rt: HostRuntime) {
     let alloc = rt.alloc();
-    shows(&rt, alloc, faults::out_of_memory(), "out of memory");
-    shows(&rt, alloc, faults::reading_failed(), "reading failed");
-    shows(&rt, alloc, faults::writing_failed(), "writing failed");
-    shows(&rt, alloc, faults::going_back_failed(), "going back failed");
+    shows(&rt, alloc, NamedFault::OutOfMemory.into(), "out of memory");
     shows(
         &rt,
         alloc,
-        faults::random_source_failed(),
+        NamedFault::ReadingFailed.into(),
+        "reading failed",
+    );
+    shows(
+        &rt,
+        alloc,
+        NamedFault::WritingFailed.into(),
+        "writing failed",
+    );
+    shows(
+        &rt,
+        alloc,
+        NamedFault::GoingBackFailed.into(),
+        "going back failed",
+    );
+    shows(
+        &rt,
+        alloc,
+        NamedFault::RandomSourceFailed.into(),
         "random source failed",
     );
     shows(
         &rt,
         alloc,
-        faults::clock_incorrect(),
+        NamedFault::ClockIncorrect.into(),
         "system clock is incorrect",
     );
     shows(
         &rt,
         alloc,
-        faults::data_changed(),
+        NamedFault::DataChanged.into(),
         "Data changed between verification and output",
     );
     shows(
         &rt,
         alloc,
-        faults::invalid_output_length(),
+        NamedFault::InvalidOutputLength.into(),
         "invalid output length",
     );
     shows(
         &rt,
         alloc,
-        faults::input_or_output_failed(),
+        NamedFault::InputOrOutputFailed.into(),
         "input or output failed",
     );
     shows(
         &rt,
         alloc,
-        faults::formatting_failed(),
+        NamedFault::FormattingFailed.into(),
         "an error occurred when formatting an argument",
     );
-    shows(&rt, alloc, faults::invalid_utf8(), "invalid UTF-8");
+    shows(&rt, alloc, NamedFault::InvalidUtf8.into(), "invalid UTF-8");
     shows(&rt, alloc, input_is_output(), "input file is output file");
 }
 
@@ -91,65 +131,70 @@ fn faults_of_passwords_and_sealing(rt: HostRuntime) {
     shows(
         &rt,
         alloc,
-        faults::not_utf8(),
+        NamedFault::NotUtf8.into(),
         "stream did not contain valid UTF-8",
     );
     shows(
         &rt,
         alloc,
-        faults::end_of_input(),
+        NamedFault::EndOfInput.into(),
         "unexpected end of input",
     );
     shows(
         &rt,
         alloc,
-        faults::password_too_long(),
+        NamedFault::PasswordTooLong.into(),
         "passphrase can't exceed 1024 bytes length",
     );
     shows(
         &rt,
         alloc,
-        faults::passwords_differ(),
+        NamedFault::PasswordsDiffer.into(),
         "passwords don't match!",
     );
     shows(
         &rt,
         alloc,
-        faults::parameters_too_high(),
+        NamedFault::ParametersTooHigh.into(),
         "scrypt parameters too high",
     );
     shows(
         &rt,
         alloc,
-        faults::invalid_parameters(),
+        NamedFault::InvalidParameters.into(),
         "invalid scrypt parameters",
     );
-    shows(&rt, alloc, faults::work_too_high(), "scrypt work too high");
     shows(
         &rt,
         alloc,
-        faults::key_might_be_encrypted(),
+        NamedFault::WorkTooHigh.into(),
+        "scrypt work too high",
+    );
+    shows(
+        &rt,
+        alloc,
+        NamedFault::KeyMightBeEncrypted.into(),
         "Key might be encrypted",
     );
     shows(
         &rt,
         alloc,
-        faults::key_not_encrypted(),
+        NamedFault::KeyNotEncrypted.into(),
         "Key is not encrypted",
     );
     shows(
         &rt,
         alloc,
-        faults::unsupported_encryption_algorithm(),
+        NamedFault::UnsupportedEncryptionAlgorithm.into(),
         "Unsupported encryption algorithm",
     );
     shows(
         &rt,
         alloc,
-        faults::wrong_password(),
+        NamedFault::WrongPassword.into(),
         "Wrong password for that key",
     );
-    shows(&rt, alloc, faults::corrupted_key(), "Corrupted key");
+    shows(&rt, alloc, NamedFault::CorruptedKey.into(), "Corrupted key");
 }
 
 #[test]
@@ -158,61 +203,61 @@ fn faults_of_key_texts(rt: HostRuntime) {
     shows(
         &rt,
         alloc,
-        faults::record_too_short(),
+        NamedFault::RecordTooShort.into(),
         "failed to fill whole buffer",
     );
     shows(
         &rt,
         alloc,
-        faults::missing_public_key_comment(),
+        NamedFault::MissingPublicKeyComment.into(),
         "Missing comment in public key",
     );
     shows(
         &rt,
         alloc,
-        faults::missing_encoded_public_key(),
+        NamedFault::MissingEncodedPublicKey.into(),
         "Missing encoded key in public key",
     );
     shows(
         &rt,
         alloc,
-        faults::public_key_line_length(),
+        NamedFault::PublicKeyLineLength.into(),
         "Base64 conversion failed - was an actual public key given?",
     );
     shows(
         &rt,
         alloc,
-        faults::public_key_line_not_base64(),
+        NamedFault::PublicKeyLineNotBase64.into(),
         "Base64 conversion failed - was an actual public key given?: invalid base64",
     );
     shows(
         &rt,
         alloc,
-        faults::bare_public_key_length(),
+        NamedFault::BarePublicKeyLength.into(),
         "base64 conversion failed - was an actual public key given?",
     );
     shows(
         &rt,
         alloc,
-        faults::bare_public_key_not_base64(),
+        NamedFault::BarePublicKeyNotBase64.into(),
         "base64 conversion failed - was an actual public key given?: invalid base64",
     );
     shows(
         &rt,
         alloc,
-        faults::missing_secret_key_comment(),
+        NamedFault::MissingSecretKeyComment.into(),
         "Missing comment in secret key",
     );
     shows(
         &rt,
         alloc,
-        faults::missing_encoded_secret_key(),
+        NamedFault::MissingEncodedSecretKey.into(),
         "Missing encoded key in secret key",
     );
     shows(
         &rt,
         alloc,
-        faults::secret_key_not_base64(),
+        NamedFault::SecretKeyNotBase64.into(),
         "invalid base64",
     );
 }
@@ -223,51 +268,61 @@ fn faults_of_signature_texts(rt: HostRuntime) {
     shows(
         &rt,
         alloc,
-        faults::missing_untrusted_comment(),
+        NamedFault::MissingUntrustedComment.into(),
         "Missing untrusted comment",
     );
-    shows(&rt, alloc, faults::missing_signature(), "Missing signature");
     shows(
         &rt,
         alloc,
-        faults::missing_trusted_comment(),
+        NamedFault::MissingSignature.into(),
+        "Missing signature",
+    );
+    shows(
+        &rt,
+        alloc,
+        NamedFault::MissingTrustedComment.into(),
         "Missing trusted comment",
     );
     shows(
         &rt,
         alloc,
-        faults::missing_global_signature(),
+        NamedFault::MissingGlobalSignature.into(),
         "Missing global signature",
     );
     shows(
         &rt,
         alloc,
-        faults::untrusted_comment_prefix(),
+        NamedFault::UntrustedCommentPrefix.into(),
         "Untrusted comment must start with: untrusted comment: ",
     );
-    shows(&rt, alloc, faults::signature_not_base64(), "invalid base64");
     shows(
         &rt,
         alloc,
-        faults::trusted_comment_prefix(),
+        NamedFault::SignatureNotBase64.into(),
+        "invalid base64",
+    );
+    shows(
+        &rt,
+        alloc,
+        NamedFault::TrustedCommentPrefix.into(),
         "Trusted comment should start with: trusted comment: ",
     );
     shows(
         &rt,
         alloc,
-        faults::unsupported_signature_algorithm(),
+        NamedFault::UnsupportedSignatureAlgorithm.into(),
         "Unsupported signature algorithm",
     );
     shows(
         &rt,
         alloc,
-        faults::trusted_comment_absent(),
+        NamedFault::TrustedCommentAbsent.into(),
         "trusted comment is not present",
     );
     shows(
         &rt,
         alloc,
-        faults::signature_box_incomplete(),
+        NamedFault::SignatureBoxIncomplete.into(),
         "Incomplete SignatureBox: trusted comment is missing",
     );
 }
@@ -280,37 +335,59 @@ fn faults_of_signing_and_verdicts(rt: HostRuntime) {
     shows(
         &rt,
         alloc,
-        faults::encrypted_key_refused(),
+        NamedFault::EncryptedKeyRefused.into(),
         "Cannot sign with an encrypted secret key. The key must be decrypted first. Options include: SecretKeyBox::into_secret_key(password), SecretKey::from_box(box, password), SecretKey::from_file(path, password), or use KeyPair::generate_unencrypted_keypair() for passwordless keys.",
     );
     shows(
         &rt,
         alloc,
-        faults::refused_by_given_key(key),
+        NamedFault::RefusedByGivenKey { key }.into(),
         "Could not verify signature with the provided public key ID: E7620F1842B4E81F",
     );
     shows(
         &rt,
         alloc,
-        faults::different_key_ids(signer, key),
+        NamedFault::DifferentKeyIds {
+            signature: signer,
+            key,
+        }
+        .into(),
         "Signature key id: 0807060504030201 is different from public key: E7620F1842B4E81F",
     );
     shows(
         &rt,
         alloc,
-        faults::legacy_not_accepted(),
+        NamedFault::LegacyNotAccepted.into(),
         "Legacy signatures are not accepted",
     );
     shows(
         &rt,
         alloc,
-        faults::signature_refused(),
+        NamedFault::SignatureRefused.into(),
         "Signature verification failed",
     );
     shows(
         &rt,
         alloc,
-        faults::comment_signature_refused(),
+        NamedFault::CommentSignatureRefused.into(),
         "Comment signature verification failed",
     );
+}
+
+#[test]
+fn each_line_is_one_write(rt: HostRuntime) {
+    for named in NamedFault::ALL {
+        assert!(rt; is_one_write(&named.into()));
+    }
+    assert!(rt; is_one_write(&input_is_output()));
+}
+
+#[test]
+fn a_text_of_any_length_is_shown(rt: HostRuntime) -> Result<(), AllocError> {
+    for len in [0, 504, 505, 5000] {
+        let text = "a".repeat(rt.alloc(), len)?;
+        let fault = PError::new(ErrorKind::Misc, text.clone()?);
+        shows(&rt, rt.alloc(), fault, &text);
+    }
+    Ok(())
 }

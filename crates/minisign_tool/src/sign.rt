@@ -9,10 +9,10 @@ ghost use Rattle.minisign_tool.specs.Report.{ShowsOnlyFault, TakesOrFails, warni
 ghost use Rattle.minisign_tool.specs.Sign.{FileSigningFails, HasWrittenSigned, HasWrittenVouched, MakesSigned, MakesVouched, NoSignature, WriteFails};
 
 use crate::report::{report, warn};
+use minisign::base::NamedFault;
 use minisign::base::devices::random_sources::RandomSource;
 use minisign::base::devices::sinks::{Sink, put_and_flush};
 use minisign::base::devices::sources::Source;
-use minisign::base::faults;
 use minisign::base::prompt::Prompt;
 use minisign::base::scheme::Scheme;
 use minisign::reading::read_text;
@@ -89,7 +89,7 @@ pub fn run_sign<
         moment,
     ) {
         Ok(()) => 0,
-        Err(fault) => report(alloc, errors, &fault),
+        Err(fault) => report(errors, &fault),
     }
 }
 
@@ -179,6 +179,6 @@ fn write_text<G: Sink>(sink: &mut G, text: &str) -> Result<()>
 {
     match put_and_flush(sink, text.as_bytes()) {
         Ok(()) => Ok(()),
-        Err(_) => Err(faults::writing_failed()),
+        Err(_) => Err(NamedFault::WritingFailed.into()),
     }
 }

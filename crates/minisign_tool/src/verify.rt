@@ -48,7 +48,7 @@ pub fn run_verify<S: Scheme, P: Source, R: Rereader, Q: Source, W: Sink>(
     warn(errors);
     match verify_with_files(alloc, scheme, pk_file, data_reader, sig_file, errors) {
         Ok(()) => 0,
-        Err(fault) => report(alloc, errors, &fault),
+        Err(fault) => report(errors, &fault),
     }
 }
 

@@ -52,7 +52,7 @@ pub fn run_verify_raw<S: Scheme, P: Source, Q: Source, R: Rereader, W: Sink>(
     warn(errors);
     match verify_with_files(alloc, scheme, pk_file, sig_file, data_reader, errors) {
         Ok(()) => 0,
-        Err(fault) => report(alloc, errors, &fault),
+        Err(fault) => report(errors, &fault),
     }
 }
 

@@ -10,15 +10,14 @@ mod files;
 
 use arguments::read_arguments;
 use files::FileFolder;
-use minisign::Result;
 use minisign::base::devices::random_sources::SourceRandom;
 use minisign::base::devices::sinks::{WriterSink, put_all};
 use minisign::base::devices::sources::ReaderSource;
-use minisign::base::faults;
 use minisign::base::scheme::Scheme;
 use minisign::base::toy::ToyScheme;
 use minisign::reading::read_text;
-use minisign_install::{Numbering, Wanted, install_update};
+use minisign::{NamedFault, PError};
+use minisign_install::{InstallFault, Numbering, Wanted, install_update};
 use std::fs;
 use std::process::ExitCode;
 
@@ -52,7 +51,7 @@ fn main(rt: HostRuntime) -> ExitCode {
             let _ = put_all(&mut errors, USAGE);
             return ExitCode::from(2);
         }
-        Err(fault) => Err(fault),
+        Err(fault) => Err(fault.into()),
     };
     match answer {
         Ok(()) => ExitCode::SUCCESS,
@@ -112,17 +111,21 @@ fn files_of<'a>(
 }
 
 // Reads both texts, opens the data and the device of random bytes, and installs.
-fn install_files<S: Scheme>(rt: &HostRuntime, scheme: &S, asked: Asked<'_>) -> Result<()>
+fn install_files<S: Scheme>(
+    rt: &HostRuntime,
+    scheme: &S,
+    asked: Asked<'_>,
+) -> Result<(), InstallFault>
     ensures { OnOk result ((pk_text : List ℕ) × (sig_text : List ℕ) × (file : List ℕ)
         × IsVouched (S.accepts scheme.now) (record { pk_text = pk_text; sig_text = sig_text; file = file; numbering = asked.entry.numbering })) }
 {
     let pk_text = read_file(rt, asked.pk)?;
     let sig_text = read_file(rt, asked.sig)?;
     let Ok(update) = fs::open(rt, asked.data) else {
-        return Err(faults::reading_failed());
+        return Err(NamedFault::ReadingFailed.into());
     };
     let Ok(random) = fs::open(rt, "/dev/urandom") else {
-        return Err(faults::reading_failed());
+        return Err(NamedFault::ReadingFailed.into());
     };
     let mut folder = FileFolder::of_place(rt, asked.place);
     let wanted = Wanted {
@@ -143,9 +146,9 @@ fn install_files<S: Scheme>(rt: &HostRuntime, scheme: &S, asked: Asked<'_>) -> R
 }
 
 // The text that a file holds.
-fn read_file(rt: &HostRuntime, path: &str) -> Result<String> {
+fn read_file(rt: &HostRuntime, path: &str) -> Result<String, PError> {
     match fs::open(rt, path) {
         Ok(file) => read_text(rt.alloc(), &mut ReaderSource::new(file)),
-        Err(_) => Err(faults::reading_failed()),
+        Err(_) => Err(NamedFault::ReadingFailed.into()),
     }
 }

@@ -3,10 +3,12 @@
 ghost use Rattle.std.specs.Prelude.{Option, ◌≡◌, ◌⊎◌, ℕ, ◌<◌, List, [], ◌∷◌, ◌++◌, length, Some, IsOk, IfOk, IfErr, OnOk, OnErr};
 ghost use Rattle.std.specs.Io.KnownBytes.{Appends};
 ghost use Rattle.minisign_base.specs.Devices.{Rose, AppendsFront, HasWritten, HasFlushed};
-ghost use Rattle.minisign_base.specs.Faults.{out_of_memory, writing_failed};
+ghost use Rattle.minisign_base.specs.Fault.{Named};
+ghost use Rattle.minisign_base.specs.declared.faults.NamedFault.TheVariants.{OutOfMemory, WritingFailed};
 
 use super::{DeviceFault, FaultCount};
-use crate::{errors, faults};
+use crate::errors;
+use crate::faults::NamedFault;
 use std::alloc::{AllocError, Global};
 use std::io::Write;
 
@@ -143,14 +145,14 @@ pub fn put_line<S: Sink>(
 ) -> errors::Result<()>
     ensures bytes { OnOk result (Appends (S.taken sink.old) (S.taken sink.new) (label.now ++ text.now ++ 10 ∷ [])) }
     ensures calm { OnOk result (S.sink_faults sink.new ≡ S.sink_faults sink.old) }
-    ensures refused { IfErr result (λ e. ((e ≡ out_of_memory) × (sink.new ≡ sink.old))
-        ⊎ ((e ≡ writing_failed) × Rose (S.sink_faults sink.old) (S.sink_faults sink.new))) }
+    ensures refused { IfErr result (λ e. ((e ≡ Named OutOfMemory) × (sink.new ≡ sink.old))
+        ⊎ ((e ≡ Named WritingFailed) × Rose (S.sink_faults sink.old) (S.sink_faults sink.new))) }
     ensures front { OnErr result (AppendsFront (S.taken sink.old) (S.taken sink.new) (label.now ++ text.now ++ 10 ∷ [])) }
 {
     let line = line_of(alloc, label, text)?;
     match put_all(sink, &line) {
         Ok(()) => Ok(()),
-        Err(_) => Err(faults::writing_failed()),
+        Err(_) => Err(NamedFault::WritingFailed.into()),
     }
 }
 
@@ -185,7 +187,7 @@ pub fn put_all<S: Sink>(sink: &mut S, bytes: &[u8]) -> Result<(), DeviceFault>
 // A label, a text and a line feed.
 fn line_of(alloc: Global, label: &[u8], text: &[u8]) -> errors::Result<Vec<u8>>
     ensures line { IfOk result (λ v. v.items ≡ label.now ++ text.now ++ 10 ∷ []) }
-    ensures refused { IfErr result (λ e. e ≡ out_of_memory) }
+    ensures refused { IfErr result (λ e. e ≡ Named OutOfMemory) }
 {
     let mut line = Vec::new(alloc);
     line.extend_from_slice(label)?;

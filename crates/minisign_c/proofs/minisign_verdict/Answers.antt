@@ -1,16 +1,27 @@
-use Rattle.std.proofs.Common.{◌∙◌, arith, subst, inr, refl}
+use Rattle.std.proofs.Common.{◌≡◌, ◌<◌, if◌then◌else◌, ℕ, List, Bool, true, false, inr, lit<, subst, sym}
+use Rattle.minisign_base.specs.Fault.{Fault, Named}
+use Rattle.minisign_base.specs.declared.faults.NamedFault.TheVariants.{CommentSignatureRefused, SignatureRefused}
+use Rattle.minisign.specs.Acceptance.{Verifier}
 use Rattle.minisign.specs.Headline.{TextsRefuse}
-use Rattle.minisign_questions.specs.States.{IsFaultOf, IsVerdictRefusal}
+use Rattle.minisign_questions.specs.Numbers.{fault_number, refusal_number}
+use Rattle.minisign_questions.specs.States.{GivesNumber, IsFaultOf, IsVerdictRefusal}
+use Rattle.minisign_questions.specs.declared.state.Refusal.{Refusal}
+use Rattle.minisign_questions.specs.declared.state.Refusal.TheVariants.{Refused, WrongUse}
+use Rattle.minisign_questions.specs.declared.state.State.{State}
 use Rattle.minisign_c.proofs.minisign_verdict.Goals as goal
 
-pub returns-in-Err-WrongUse-clause-verdict : goal.returns-in-Err-WrongUse-clause-verdict
-returns-in-Err-WrongUse-clause-verdict c = λ pk_text sig_text message legacy accepts has one two answers.
-    absurd (subst (IsFaultOf (TextsRefuse accepts pk_text sig_text message legacy)) c.in-Err-WrongUse.field-0-is
-    (c.in-Err-WrongUse.ensures.verdict pk_text sig_text message legacy accepts has answers))
+positive : (first : Bool) (e : Fault) → e ≡ (if first then Named CommentSignatureRefused else Named SignatureRefused) → 0 < fault_number e
+positive true e is = subst (λ x. 0 < fault_number x) (sym is) (lit< tt)
+positive false e is = subst (λ x. 0 < fault_number x) (sym is) (lit< tt)
 
-pub returns-then-first-eq1-clause-verdict : goal.returns-then-first-eq1-clause-verdict
-returns-then-first-eq1-clause-verdict c = λ pk_text sig_text message legacy accepts has one two answers.
-    let fault = subst (IsVerdictRefusal c.args.state.now c.verdict.new.self _) c.in-Err-Refused.field-0-is c.in-Err-Refused.ensures.refused in
-    let down = subst (IsFaultOf (TextsRefuse accepts pk_text sig_text message legacy)) c.in-Err-Refused.field-0-is
-    (c.in-Err-Refused.ensures.verdict pk_text sig_text message legacy accepts has answers) in
-    inr (omega arith, subst (TextsRefuse accepts pk_text sig_text message legacy) (fault.1 ∙ rw (c.if-first-eq1.true) refl) down)
+-- a verdict that is no success has the number of its fault
+given_number : (accepts : Verifier) (pk_text sig_text message : List ℕ) (legacy first : Bool) (old new : State) (r : Refusal) (n : ℕ) → n ≡ refusal_number r
+    → IsFaultOf (TextsRefuse accepts pk_text sig_text message legacy) r → IsVerdictRefusal old new first r → GivesNumber accepts pk_text sig_text message legacy n
+given_number accepts pk_text sig_text message legacy first old new (WrongUse m) n is refuses refused = absurd refuses
+given_number accepts pk_text sig_text message legacy first old new (Refused e) n is refuses refused =
+    inr (subst (λ k. 0 < k) (sym is) (positive first e refused.1), e, is, refuses)
+
+pub returns-in-Err-clause-verdict : goal.returns-in-Err-clause-verdict
+returns-in-Err-clause-verdict c = λ pk_text sig_text message legacy accepts has one two answers.
+    given_number accepts pk_text sig_text message legacy _ _ _ c.in-Err.refusal _ c.number-in-Err.ensures
+    (c.in-Err.ensures.verdict pk_text sig_text message legacy accepts has answers) c.in-Err.ensures.refused

@@ -9,7 +9,7 @@ use minisign_base::devices::sources::{Rereader, SliceSource, Source};
 use minisign_base::prompt::Prompt;
 use minisign_base::toy::ToyScheme;
 use minisign_fixtures::devices::sources::OneByOne;
-use minisign_fixtures::outcomes::{comes_to, counted};
+use minisign_fixtures::outcomes::{Outcome, comes_to, counted};
 use minisign_fixtures::prompts::{handed, typed, typed_at_once};
 use std::alloc::Global;
 
@@ -121,7 +121,7 @@ pub fn is_judged(
     pk: &PublicKey,
     signature_box: &SignatureBox,
     data: &[u8],
-    expected: &str,
+    expected: Outcome,
 ) -> bool {
     is_judged_from(
         alloc,
@@ -137,7 +137,7 @@ fn is_judged_from<R: Rereader>(
     pk: &PublicKey,
     signature_box: &SignatureBox,
     data: &mut R,
-    expected: &str,
+    expected: Outcome,
 ) -> bool {
     let answer = verify(
         alloc,
@@ -151,5 +151,5 @@ fn is_judged_from<R: Rereader>(
         &mut VecSink::new(alloc),
         &mut VecSink::new(alloc),
     );
-    comes_to(alloc, &answer, expected)
+    comes_to(&answer, expected)
 }

@@ -6,22 +6,22 @@ use minisign::{KeyPair, Result};
 use minisign_base::devices::random_sources::SourceRandom;
 use minisign_base::devices::sinks::{Sink, VecSink};
 use minisign_base::devices::sources::{SliceSource, Source};
+use minisign_base::faults::NamedFault::{RandomSourceFailed, ReadingFailed, WritingFailed};
 use minisign_base::prompt::Prompt;
 use minisign_base::toy::ToyScheme;
 use minisign_fixtures::devices::sinks::LimitedSink;
 use minisign_fixtures::devices::sources::FailsAfter;
+use minisign_fixtures::outcomes::Outcome::{self, Accepted, Refused};
 use minisign_fixtures::outcomes::{beginning, comes_to, counted};
 use minisign_fixtures::prompts::typed_at_once;
 use minisign_fixtures::texts::COUNTED_PUBLIC_TEXT;
 use std::alloc::Global;
 
-const ACCEPTED: &str = "accepted";
+const UNREAD: Outcome = Refused(ReadingFailed);
 
-const UNREAD: &str = "Io: reading failed";
+const UNWRITTEN: Outcome = Refused(WritingFailed);
 
-const UNWRITTEN: &str = "Io: writing failed";
-
-const UNDRAWN: &str = "RNG: random source failed";
+const UNDRAWN: Outcome = Refused(RandomSourceFailed);
 
 const SECRET_TEXT: &str =
     "untrusted comment: rsign encrypted secret key\nRWRTY0IyKCkqKywtLi8wMTIzNDU2Nzg5Ojs8PT4/QEFCQ0RFRkcAABAAAAAAAAAAAAIAAAAAXsrUPdVfRwB5KzWs1gxMpeWRV1NwSl+wvS3yfJHSuB4R/Pz7fjWZ0NuIvbOTYzc06tcjZcma8YW35LizX+hn4HmrLBaZfd3HwOv+fYOu+VKlFvoXb5KyfQcAcM++/0OlXTsF5mCWdJA=\n";
@@ -50,14 +50,14 @@ fn takes(
     alloc: Global,
     public: LimitedSink,
     secret: LimitedSink,
-    expected: &str,
+    expected: Outcome,
     pk_took: usize,
     sk_took: usize,
 ) -> bool {
     let (mut public, mut secret) = (public, secret);
     let mut prompt = typed_at_once(alloc, b"p\np\n");
     let answer = made(alloc, 72, &mut prompt, &mut public, &mut secret);
-    comes_to(alloc, &answer, expected)
+    comes_to(&answer, expected)
         && public.as_slice() == beginning(COUNTED_PUBLIC_TEXT, pk_took).as_bytes()
         && secret.as_slice() == beginning(SECRET_TEXT, sk_took).as_bytes()
         && prompt.writer.as_slice() == SHOWN.as_bytes()
@@ -69,7 +69,7 @@ fn key_sinks_that_take_one_byte_a_write(rt: HostRuntime) {
     let alloc = rt.alloc();
     let public = LimitedSink::new(alloc, 114).by(1).flushed(1);
     let secret = LimitedSink::new(alloc, 259).by(1).flushed(1);
-    assert!(rt; takes(alloc, public, secret, ACCEPTED, 114, 259));
+    assert!(rt; takes(alloc, public, secret, Accepted, 114, 259));
 }
 
 // The public text is written and flushed before the secret one is begun.
@@ -113,14 +113,14 @@ fn is_refused<R: Source + Drop>(
     alloc: Global,
     draws: u64,
     prompt: Prompt<R, LimitedSink>,
-    expected: &str,
+    expected: Outcome,
     length: usize,
 ) -> bool {
     let mut prompt = prompt;
     let mut public = VecSink::new(alloc);
     let mut secret = VecSink::new(alloc);
     let answer = made(alloc, draws, &mut prompt, &mut public, &mut secret);
-    comes_to(alloc, &answer, expected)
+    comes_to(&answer, expected)
         && prompt.writer.as_slice() == beginning(SHOWN, length).as_bytes()
         && public.as_slice().is_empty()
         && secret.as_slice().is_empty()
@@ -181,7 +181,7 @@ fn is_not_drawn(alloc: Global, draws: u64) -> bool {
 
 // Whether making a pair that is not sealed of so many random bytes has this outcome, and whether
 // both keys are written.
-fn is_drawn_raw(alloc: Global, draws: u64, expected: &str, written: bool) -> bool {
+fn is_drawn_raw(alloc: Global, draws: u64, expected: Outcome, written: bool) -> bool {
     let drawn = counted();
     let mut public = VecSink::new(alloc);
     let mut secret = VecSink::new(alloc);
@@ -192,7 +192,7 @@ fn is_drawn_raw(alloc: Global, draws: u64, expected: &str, written: bool) -> boo
         &mut public,
         &mut secret,
     );
-    comes_to(alloc, &answer, expected)
+    comes_to(&answer, expected)
         && public.as_slice().is_empty() != written
         && secret.as_slice().is_empty() != written
 }
@@ -211,7 +211,7 @@ fn random_bytes_that_cannot_be_drawn(rt: HostRuntime) {
     }
     for draws in 40..72u64 {
         assert!(rt;
-            is_drawn_raw(rt.alloc(), draws, ACCEPTED, true),
+            is_drawn_raw(rt.alloc(), draws, Accepted, true),
             "at {draws}"
         );
     }

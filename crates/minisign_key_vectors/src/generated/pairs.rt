@@ -9,9 +9,14 @@ use crate::generated::calls::{
 use minisign::{KeyPair, PublicKey, Result, SecretKey, SecretKeyBox, SignatureBones, SignatureBox};
 use minisign_base::devices::random_sources::FixedRandom;
 use minisign_base::devices::sinks::VecSink;
+use minisign_base::faults::NamedFault::{
+    EndOfInput, KeyMightBeEncrypted, KeyNotEncrypted, NotUtf8, PasswordsDiffer, RandomSourceFailed,
+    SignatureRefused, WritingFailed, WrongPassword,
+};
 use minisign_base::toy::ToyScheme;
 use minisign_fixtures::devices::sinks::LimitedSink;
 use minisign_fixtures::keys::{CHECKSUM, IDENTIFIER, PUBLIC_BYTES, public_record, secret_record};
+use minisign_fixtures::outcomes::Outcome::{self, Accepted, Refused};
 use minisign_fixtures::outcomes::{comes_to, counted, front, holds, is_record};
 use minisign_fixtures::prompts::{typed, typed_at_once};
 use minisign_fixtures::texts::{COUNTED_PUBLIC_TEXT, COUNTED_SEALED_UNDER_NOTHING};
@@ -26,17 +31,15 @@ const SEALED_LINE: &str =
 const SEALED_UNDER_P: &str =
     "RWRTY0IyKCkqKywtLi8wMTIzNDU2Nzg5Ojs8PT4/QEFCQ0RFRkcAABAAAAAAAAAAAAIAAAAAXsrUPdVfRwB5KzWs1gxMpeWRV1NwSl+wvS3yfJHSuB4R/Pz7fjWZ0NuIvbOTYzc06tcjZcma8YW35LizX+hn4HmrLBaZfd3HwOv+fYOu+VKlFvoXb5KyfQcAcM++/0OlXTsF5mCWdJA=";
 
-const ACCEPTED: &str = "accepted";
+const UNDRAWN: Outcome = Refused(RandomSourceFailed);
 
-const UNDRAWN: &str = "RNG: random source failed";
+const UNWRITTEN: Outcome = Refused(WritingFailed);
 
-const UNWRITTEN: &str = "Io: writing failed";
+const DIFFERENT: Outcome = Refused(PasswordsDiffer);
 
-const DIFFERENT: &str = "Generate: passwords don't match!";
+const ENDED: Outcome = Refused(EndOfInput);
 
-const ENDED: &str = "Io: unexpected end of input";
-
-const NO_UTF8: &str = "Io: stream did not contain valid UTF-8";
+const NO_UTF8: Outcome = Refused(NotUtf8);
 
 // What is written until two passwords were typed, of which none is empty, and what in all.
 const BOTH_ASKED: &str =
@@ -86,7 +89,7 @@ fn is_written_raw(
     random_bytes: usize,
     public: LimitedSink,
     secret: LimitedSink,
-    expected: &str,
+    expected: Outcome,
     took: (usize, usize),
 ) -> bool {
     let (mut public, mut secret) = (public, secret);
@@ -107,7 +110,7 @@ fn is_written_raw(
         Err(_) => true,
     };
     is_right
-        && comes_to(alloc, &answer, expected)
+        && comes_to(&answer, expected)
         && public.as_slice() == front(&pk_record, took.0)
         && secret.as_slice() == front(&sk_record, took.1)
 }
@@ -119,7 +122,7 @@ fn writes_raw<A: Abort>(
     random_bytes: usize,
     pk_room: (usize, usize),
     sk_room: (usize, usize),
-    expected: &str,
+    expected: Outcome,
     took: (usize, usize),
 ) {
     let public = LimitedSink::new(alloc, pk_room.0).flushed(pk_room.1);
@@ -134,7 +137,7 @@ fn writes_raw<A: Abort>(
 #[test]
 fn raw_pairs_are_written(rt: HostRuntime) {
     let alloc = rt.alloc();
-    writes_raw(&rt, alloc, 40, (42, 1), (158, 1), ACCEPTED, (42, 158));
+    writes_raw(&rt, alloc, 40, (42, 1), (158, 1), Accepted, (42, 158));
     writes_raw(&rt, alloc, 39, (42, 1), (158, 1), UNDRAWN, (0, 0));
     writes_raw(&rt, alloc, 0, (42, 1), (158, 1), UNDRAWN, (0, 0));
     writes_raw(&rt, alloc, 40, (41, 1), (158, 1), UNWRITTEN, (41, 0));
@@ -159,7 +162,7 @@ fn is_made(
     alloc: Global,
     random_bytes: usize,
     bytes: &[u8],
-    expected: &str,
+    expected: Outcome,
     shown: &str,
     line: &str,
 ) -> bool {
@@ -177,7 +180,7 @@ fn is_made(
         &mut public,
         &mut secret,
     );
-    comes_to(alloc, &answer, expected)
+    comes_to(&answer, expected)
         && prompt.writer.as_slice() == shown.as_bytes()
         && hold_texts(public.as_slice(), secret.as_slice(), line)
 }
@@ -188,7 +191,7 @@ fn makes<A: Abort>(
     alloc: Global,
     random_bytes: usize,
     bytes: &[u8],
-    expected: &str,
+    expected: Outcome,
     shown: &str,
     line: &str,
 ) {
@@ -202,8 +205,8 @@ fn makes<A: Abort>(
 fn sealed_pairs_are_made_of_typed_passwords(rt: HostRuntime) {
     let alloc = rt.alloc();
     let under_nothing = COUNTED_SEALED_UNDER_NOTHING;
-    makes(&rt, alloc, 72, b"p\np\n", ACCEPTED, SHOWN, SEALED_UNDER_P);
-    makes(&rt, alloc, 72, b"\r\n\nx", ACCEPTED, MARKED, under_nothing);
+    makes(&rt, alloc, 72, b"p\np\n", Accepted, SHOWN, SEALED_UNDER_P);
+    makes(&rt, alloc, 72, b"\r\n\nx", Accepted, MARKED, under_nothing);
     makes(&rt, alloc, 72, b"a\nb\n", DIFFERENT, BOTH_ASKED, "");
     makes(&rt, alloc, 72, b"a\n", ENDED, BOTH_ASKED, "");
     makes(&rt, alloc, 72, b"\xff\n", NO_UTF8, ONCE_ASKED, "");
@@ -221,7 +224,7 @@ fn does_not_sign(alloc: Global, sk: &SecretKey) -> bool {
 fn is_written_sealed(
     alloc: Global,
     room: usize,
-    expected: &str,
+    expected: Outcome,
     public: &[u8],
     line: Option<&str>,
 ) -> bool {
@@ -248,7 +251,7 @@ fn is_written_sealed(
         Ok(pair) => does_not_sign(alloc, &pair.sk),
         Err(_) => true,
     };
-    comes_to(alloc, &answer, expected)
+    comes_to(&answer, expected)
         && prompt.writer.as_slice().is_empty()
         && pk_sink.as_slice() == public
         && secret
@@ -259,7 +262,7 @@ fn is_written_sealed(
 fn sealed_pairs_are_written(rt: HostRuntime) {
     let alloc = rt.alloc();
     let whole = COUNTED_PUBLIC_TEXT.as_bytes();
-    assert!(rt; is_written_sealed(alloc, 200, ACCEPTED, whole, Some(SEALED_LINE)));
+    assert!(rt; is_written_sealed(alloc, 200, Accepted, whole, Some(SEALED_LINE)));
     assert!(rt; is_written_sealed(alloc, 9, UNWRITTEN, b"untrusted", None));
 }
 
@@ -269,13 +272,13 @@ fn is_not_unsealed(alloc: Global, text: &str) -> bool {
         return false;
     };
     let plain = sk_box.into_unencrypted_secret_key(alloc);
-    comes_to(alloc, &plain, "Io: Key might be encrypted")
+    comes_to(&plain, Refused(KeyMightBeEncrypted))
 }
 
 // Whether the text is not one that opens.
 fn is_closed(alloc: Global, text: &str) -> bool {
     let sealed = opened(alloc, text, "");
-    comes_to(alloc, &sealed, "Verify: Wrong password for that key")
+    comes_to(&sealed, Refused(WrongPassword))
 }
 
 // Whether the key is written as neither a sealed one nor one that was never sealed.
@@ -290,7 +293,7 @@ fn is_written_as_none(alloc: Global, sk: &SecretKey) -> bool {
 fn signs_as_counted(alloc: Global, sk: &SecretKey) -> Result<bool> {
     let pair = counted_pair()?;
     let signature_box = signed_by_bytes(alloc, sk, b"test")?;
-    let judged = is_judged(alloc, &pair.pk, &signature_box, b"test", ACCEPTED);
+    let judged = is_judged(alloc, &pair.pk, &signature_box, b"test", Accepted);
     Ok(judged && !sk.is_encrypted())
 }
 
@@ -357,8 +360,8 @@ fn comes_back(alloc: Global, pair: &KeyPair) -> bool {
 
 // Whether the box is accepted under the public key for the data alone.
 fn is_right(alloc: Global, pk: &PublicKey, signature_box: &SignatureBox) -> bool {
-    let refused = "Verify: Signature verification failed";
-    is_judged(alloc, pk, signature_box, b"test", ACCEPTED)
+    let refused = Refused(SignatureRefused);
+    is_judged(alloc, pk, signature_box, b"test", Accepted)
         && is_judged(alloc, pk, signature_box, b"test2", refused)
 }
 
@@ -374,7 +377,7 @@ fn signs(alloc: Global, key: &SecretKey, pk: &PublicKey) -> Result<bool> {
 // Whether no password opens the text.
 fn is_not_sealed(alloc: Global, text: &str) -> bool {
     let asked = opened(alloc, text, "");
-    comes_to(alloc, &asked, "Io: Key is not encrypted")
+    comes_to(&asked, Refused(KeyNotEncrypted))
 }
 
 // Whether the key of the text signs.

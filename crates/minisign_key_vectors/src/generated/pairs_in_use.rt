@@ -6,27 +6,30 @@ use crate::generated::calls::{
 use minisign::{PublicKey, PublicKeyBox, Result, SecretKey, SignatureBox};
 use minisign_base::devices::random_sources::{FixedRandom, RandomSource};
 use minisign_base::devices::sources::SliceSource;
+use minisign_base::faults::NamedFault::{
+    CorruptedKey, EncryptedKeyRefused, UnsupportedEncryptionAlgorithm,
+};
 use minisign_fixtures::devices::sources::FailsAfter;
 use minisign_fixtures::keys::secret_record;
+use minisign_fixtures::outcomes::Outcome::{self, Accepted, Refused};
 use minisign_fixtures::outcomes::{comes_to, counted, holds, is_text};
 use minisign_fixtures::prompts::{bytes_left, typed};
 use std::alloc::Global;
 
-const SEALED: &str =
-    "EncryptedKey: Cannot sign with an encrypted secret key. The key must be decrypted first. Options include: SecretKeyBox::into_secret_key(password), SecretKey::from_box(box, password), SecretKey::from_file(path, password), or use KeyPair::generate_unencrypted_keypair() for passwordless keys.";
+const SEALED: Outcome = Refused(EncryptedKeyRefused);
 
-const UNSUPPORTED: &str = "Io: Unsupported encryption algorithm";
+const UNSUPPORTED: Outcome = Refused(UnsupportedEncryptionAlgorithm);
 
 // Whether a sealed key does not sign.
 fn does_not_sign(alloc: Global, sk: &SecretKey) -> bool {
     let refused = signed(alloc, sk, b"test");
-    comes_to(alloc, &refused, SEALED) && sk.is_encrypted()
+    comes_to(&refused, SEALED) && sk.is_encrypted()
 }
 
 // Whether a key that is sealed no more signs.
 fn signs(alloc: Global, sk: &SecretKey, pk: &PublicKey) -> Result<bool> {
     let signature_box = signed_by_bytes(alloc, sk, b"test")?;
-    let judged = is_judged(alloc, pk, &signature_box, b"test", "accepted");
+    let judged = is_judged(alloc, pk, &signature_box, b"test", Accepted);
     Ok(judged && !sk.is_encrypted())
 }
 
@@ -70,7 +73,7 @@ fn read_public(alloc: Global, public: &str) -> Result<PublicKey> {
 fn is_vouched_for(alloc: Global, public: &str, text: &str) -> Result<bool> {
     let signature_box = SignatureBox::from_string(alloc, text)?;
     let pk = read_public(alloc, public)?;
-    let judged = is_judged(alloc, &pk, &signature_box, b"lorem ipsum", "accepted");
+    let judged = is_judged(alloc, &pk, &signature_box, b"lorem ipsum", Accepted);
     Ok(judged && has_default_comments(alloc, &signature_box))
 }
 
@@ -120,20 +123,20 @@ fn all_goes_through_texts(rt: HostRuntime) {
 }
 
 // Whether the text is refused so, and leaves the prompt, the data and the random bytes as they were.
-fn is_refused_at_once(alloc: Global, text: &str, expected: &str) -> bool {
+fn is_refused_at_once(alloc: Global, text: &str, expected: Outcome) -> bool {
     let mut prompt = typed(alloc, b"p\n");
     let mut data = FailsAfter::new(b"abc", 1);
     let drawn = counted();
     let mut random = FixedRandom::new(&drawn);
     let answer = signed_text(alloc, text, None, &mut prompt, &mut data, &mut random);
-    let refused = comes_to(alloc, &answer, expected);
+    let refused = comes_to(&answer, expected);
     let unread = (bytes_left(&mut prompt.reader), bytes_left(&mut data));
     let undrawn = random.fill(&mut [0; 128]).is_ok();
     refused && prompt.writer.as_slice().is_empty() && unread == (2, 1) && undrawn
 }
 
 // Whether the text of key A under this key derivation, with a checksum of zeros, is refused so.
-fn is_refused(alloc: Global, kdf: &[u8; 2], expected: &str) -> Result<bool> {
+fn is_refused(alloc: Global, kdf: &[u8; 2], expected: Outcome) -> Result<bool> {
     let key = SecretKey::from_bytes(&secret_record(kdf, &[0; 32]))?;
     let text = text_of(alloc, &key)?;
     Ok(is_refused_at_once(alloc, text.as_str(), expected))
@@ -144,7 +147,7 @@ fn what_gives_no_key_is_refused_at_once(rt: HostRuntime) {
     for (kdf, expected) in [
         (b"Xx", UNSUPPORTED),
         (b"SC", UNSUPPORTED),
-        (b"\0\0", "Verify: Corrupted key"),
+        (b"\0\0", Refused(CorruptedKey)),
     ] {
         let refused = is_refused(rt.alloc(), kdf, expected);
         assert!(rt; holds(&refused), "at {kdf:?}");

@@ -4,7 +4,7 @@ use minisign::{Result, SecretKey, SecretKeyBox};
 use minisign_base::devices::sinks::{Sink, VecSink};
 use minisign_base::devices::sources::Source;
 use minisign_base::prompt::Prompt;
-use minisign_fixtures::outcomes::{comes_to, is_record};
+use minisign_fixtures::outcomes::{Outcome, comes_to, is_record};
 use minisign_fixtures::prompts::{bytes_left, handed, typed};
 use std::alloc::Global;
 
@@ -29,7 +29,7 @@ pub struct Opening {
 /// bytes are left.
 #[derive(Clone, Copy)]
 pub struct Wanted<'a> {
-    pub outcome: &'a str,
+    pub outcome: Outcome,
     pub told: &'a str,
     pub unread: usize,
 }
@@ -81,7 +81,7 @@ pub fn comes_out(
         return false;
     };
     let opening = open(alloc, sk_box, password, bytes, way);
-    comes_to(alloc, &opening.answer, wanted.outcome)
+    comes_to(&opening.answer, wanted.outcome)
         && opening.told.as_slice() == wanted.told.as_bytes()
         && opening.unread == wanted.unread
 }
@@ -92,7 +92,7 @@ pub fn has_outcome(
     sk_box: Result<SecretKeyBox>,
     password: &str,
     way: Way,
-    outcome: &str,
+    outcome: Outcome,
 ) -> bool {
     let wanted = Wanted {
         outcome,

@@ -3,10 +3,17 @@
 
 use crate::sealed::calls::{Way, opened};
 use minisign::{Result, SecretKey, SecretKeyBox};
+use minisign_base::faults::NamedFault::{
+    EndOfInput, InvalidParameters, KeyNotEncrypted, MissingEncodedSecretKey,
+    MissingSecretKeyComment, NotUtf8, ParametersTooHigh, PasswordTooLong, ReadingFailed,
+    RecordTooShort, SecretKeyNotBase64, UnsupportedEncryptionAlgorithm, WritingFailed,
+    WrongPassword,
+};
 use minisign_base::prompt::Prompt;
 use minisign_fixtures::devices::sinks::LimitedSink;
 use minisign_fixtures::devices::sources::FailsAfter;
 use minisign_fixtures::keys::{CHECKSUM, secret_record};
+use minisign_fixtures::outcomes::Outcome::{self, Refused};
 use minisign_fixtures::outcomes::comes_to;
 use minisign_fixtures::texts::{SEALED, SECRET_TEXT};
 use std::alloc::Global;
@@ -23,7 +30,7 @@ fn is_refused_by(
     sk_box: &SecretKeyBox,
     typed: (&[u8], u64),
     room: usize,
-    expected: &str,
+    expected: Outcome,
 ) -> bool {
     let Ok(copy) = sk_box.try_clone(alloc) else {
         return false;
@@ -31,7 +38,7 @@ fn is_refused_by(
     let reader = FailsAfter::new(typed.0, typed.1);
     let mut prompt = Prompt::new(reader, LimitedSink::new(alloc, room));
     let answer = opened(alloc, copy, None, &mut prompt, way);
-    comes_to(alloc, &answer, expected)
+    comes_to(&answer, expected)
 }
 
 // Whether each call does.
@@ -40,7 +47,7 @@ fn is_refused(
     sk_box: &SecretKeyBox,
     typed: (&[u8], u64),
     room: usize,
-    expected: &str,
+    expected: Outcome,
 ) -> bool {
     is_refused_by(alloc, Way::AnyParts, sk_box, typed, room, expected)
         && is_refused_by(alloc, Way::Within(512), sk_box, typed, room, expected)
@@ -53,7 +60,7 @@ fn is_refused_text(
     text: &str,
     typed: (&[u8], u64),
     room: usize,
-    expected: &str,
+    expected: Outcome,
 ) -> bool {
     let Ok(sk_box) = SecretKeyBox::from_string(alloc, text) else {
         return false;
@@ -68,20 +75,20 @@ fn refuses<A: Abort>(
     text: &str,
     typed: (&[u8], u64),
     room: usize,
-    expected: &str,
+    expected: Outcome,
 ) {
     let refused = is_refused_text(alloc, text, typed, room, expected);
-    assert!(rt; refused, "at {expected}");
+    assert!(rt; refused, "at {expected:?}");
 }
 
 // Each row: the text, what is typed and how many reads pass, the room of the writer, and the fault.
 #[test]
 fn faults_of_texts(rt: HostRuntime) {
     let alloc = rt.alloc();
-    let no_comment = "Io: Missing comment in secret key";
-    let no_key = "Io: Missing encoded key in secret key";
-    let too_short = "Io: failed to fill whole buffer";
-    let unsealed = "Io: Key is not encrypted";
+    let no_comment = Refused(MissingSecretKeyComment);
+    let no_key = Refused(MissingEncodedSecretKey);
+    let too_short = Refused(RecordTooShort);
+    let unsealed = Refused(KeyNotEncrypted);
     refuses(&rt, alloc, "", (b"p\n", 9), 99, no_comment);
     refuses(&rt, alloc, "c\n", (b"p\n", 9), 99, no_key);
     refuses(
@@ -90,7 +97,7 @@ fn faults_of_texts(rt: HostRuntime) {
         "c\n!\n",
         (b"p\n", 9),
         99,
-        "Encoding: invalid base64",
+        Refused(SecretKeyNotBase64),
     );
     refuses(&rt, alloc, "c\nAAAA\n", (b"p\n", 9), 99, too_short);
     refuses(&rt, alloc, SECRET_TEXT, (b"p\n", 9), 99, unsealed);
@@ -99,16 +106,16 @@ fn faults_of_texts(rt: HostRuntime) {
 #[test]
 fn faults_of_prompts(rt: HostRuntime) {
     let alloc = rt.alloc();
-    let ended = "Io: unexpected end of input";
-    let no_utf8 = "Io: stream did not contain valid UTF-8";
-    let too_long = "Misc: passphrase can't exceed 1024 bytes length";
-    let wrong = "Verify: Wrong password for that key";
+    let ended = Refused(EndOfInput);
+    let no_utf8 = Refused(NotUtf8);
+    let too_long = Refused(PasswordTooLong);
+    let wrong = Refused(WrongPassword);
     refuses(&rt, alloc, SEALED, (b"", 9), 99, ended);
     refuses(&rt, alloc, SEALED, (b"\xff\n", 9), 99, no_utf8);
     refuses(&rt, alloc, SEALED, (&LONG, 2000), 99, too_long);
-    refuses(&rt, alloc, SEALED, (b"p\n", 1), 99, "Io: reading failed");
-    refuses(&rt, alloc, SEALED, (b"p\n", 9), 4, "Io: writing failed");
-    refuses(&rt, alloc, SEALED, (b"p\n", 9), 80, "Io: writing failed");
+    refuses(&rt, alloc, SEALED, (b"p\n", 1), 99, Refused(ReadingFailed));
+    refuses(&rt, alloc, SEALED, (b"p\n", 9), 4, Refused(WritingFailed));
+    refuses(&rt, alloc, SEALED, (b"p\n", 9), 80, Refused(WritingFailed));
     refuses(&rt, alloc, SEALED, (b"p\n", 9), 99, wrong);
 }
 
@@ -118,7 +125,7 @@ fn is_refused_record(
     kdf: &[u8; 2],
     memory: u64,
     operations: u64,
-    expected: &str,
+    expected: Outcome,
 ) -> Result<bool> {
     let mut record = secret_record(kdf, &CHECKSUM);
     let (_, behind_salt) = record.split_at_mut(38);
@@ -132,14 +139,14 @@ fn is_refused_record(
 
 #[test]
 fn faults_of_records(rt: HostRuntime) {
-    let too_high = "KDF: scrypt parameters too high";
-    let invalid = "KDF: invalid scrypt parameters";
+    let too_high = Refused(ParametersTooHigh);
+    let invalid = Refused(InvalidParameters);
     for (kdf, memory, operations, expected) in [
-        (b"Xx", 0u64, 0u64, "Io: Unsupported encryption algorithm"),
+        (b"Xx", 0u64, 0u64, Refused(UnsupportedEncryptionAlgorithm)),
         (b"Sc", 1073741825, 0, too_high),
         (b"Sc", 0, 1099511627776, invalid),
     ] {
         let refused = is_refused_record(rt.alloc(), kdf, memory, operations, expected);
-        assert!(rt; matches!(refused, Ok(true)), "at {expected}");
+        assert!(rt; matches!(refused, Ok(true)), "at {expected:?}");
     }
 }

@@ -4,14 +4,16 @@
 use crate::sealed::calls::{Way, gives, has_outcome};
 use minisign::{KeyPair, Result, SecretKey, SecretKeyBox};
 use minisign_base::devices::random_sources::FixedRandom;
+use minisign_base::faults::NamedFault::WorkTooHigh;
 use minisign_base::toy::ToyScheme;
 use minisign_fixtures::keys::{CHECKSUM, secret_record};
+use minisign_fixtures::outcomes::Outcome::{self, Accepted, Refused};
 use minisign_fixtures::outcomes::counted;
 use minisign_fixtures::prompts::{handed, typed};
 use minisign_kdf::{Params, scrypt};
 use std::alloc::Global;
 
-const TOO_MUCH_WORK: &str = "KDF: scrypt work too high";
+const TOO_MUCH_WORK: Outcome = Refused(WorkTooHigh);
 
 /// The text of key A, whose salt and limits are zeros, sealed under `password`.
 pub fn sealed_in_parts(alloc: Global) -> Result<SecretKeyBox> {
@@ -47,8 +49,8 @@ fn a_bound_on_parts_is_kept(rt: HostRuntime) {
     for (max_p, expected) in [
         (0u32, TOO_MUCH_WORK),
         (511, TOO_MUCH_WORK),
-        (512, "accepted"),
-        (u32::MAX, "accepted"),
+        (512, Accepted),
+        (u32::MAX, Accepted),
     ] {
         let sk_box = sealed_in_parts(alloc);
         assert!(rt;
@@ -74,7 +76,7 @@ fn made(alloc: Global) -> Result<SecretKeyBox> {
 #[test]
 fn a_bound_of_one_opens_what_is_made(rt: HostRuntime) {
     let alloc = rt.alloc();
-    for (max_p, expected) in [(0u32, TOO_MUCH_WORK), (1, "accepted")] {
+    for (max_p, expected) in [(0u32, TOO_MUCH_WORK), (1, Accepted)] {
         assert!(rt;
             has_outcome(alloc, made(alloc), "password", Way::Within(max_p), expected),
             "at {max_p}"

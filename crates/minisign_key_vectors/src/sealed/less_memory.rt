@@ -3,13 +3,15 @@
 use crate::sealed::calls::{Wanted, Way, comes_out, gives, has_outcome, opened};
 use minisign::{KeyPair, Result, SecretKeyBox};
 use minisign_base::devices::random_sources::FixedRandom;
+use minisign_base::faults::NamedFault::WrongPassword;
 use minisign_base::toy::ToyScheme;
+use minisign_fixtures::outcomes::Outcome::{self, Accepted, Refused};
 use minisign_fixtures::outcomes::holds;
 use minisign_fixtures::prompts::{handed, typed};
 use minisign_fixtures::texts::SEALED;
 use std::alloc::Global;
 
-const WRONG: &str = "Verify: Wrong password for that key";
+const WRONG: Outcome = Refused(WrongPassword);
 
 const TOLD: &str =
     "Password: Deriving a key from the password and decrypting the secret key... done\n";
@@ -57,10 +59,10 @@ fn opens_to_the_same_key(rt: HostRuntime) {
 #[test]
 fn opens_with_a_typed_password(rt: HostRuntime) {
     let alloc = rt.alloc();
-    let rows: [(u64, &[u8], &str); 4] = [
-        (1, b"password\n", "accepted"),
-        (7, b"password\n", "accepted"),
-        (100, b"password\n", "accepted"),
+    let rows: [(u64, &[u8], Outcome); 4] = [
+        (1, b"password\n", Accepted),
+        (7, b"password\n", Accepted),
+        (100, b"password\n", Accepted),
         (16, b"Password\n", WRONG),
     ];
     for (k, bytes, outcome) in rows {

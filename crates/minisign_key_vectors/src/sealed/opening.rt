@@ -7,9 +7,15 @@
 use crate::sealed::calls::{Wanted, Way, comes_out, gives, has_outcome, opened};
 use minisign::{Result, SecretKey, SecretKeyBox};
 use minisign_base::devices::sources::SliceSource;
+use minisign_base::faults::NamedFault::{
+    EndOfInput, InvalidParameters, KeyMightBeEncrypted, KeyNotEncrypted, MissingEncodedSecretKey,
+    MissingSecretKeyComment, NotUtf8, ParametersTooHigh, RecordTooShort, SecretKeyNotBase64,
+    UnsupportedEncryptionAlgorithm, WorkTooHigh, WritingFailed, WrongPassword,
+};
 use minisign_base::prompt::Prompt;
 use minisign_fixtures::devices::sinks::LimitedSink;
 use minisign_fixtures::keys::{CHECKSUM, secret_record};
+use minisign_fixtures::outcomes::Outcome::{self, Accepted, Refused};
 use minisign_fixtures::outcomes::{beginning, comes_to, holds};
 use minisign_fixtures::texts::{SEALED, SEALED_AS_MINISIGN, SEALED_AS_USUAL, SEALED_WITH_NOTHING};
 use std::alloc::Global;
@@ -28,21 +34,21 @@ const DONE: &str =
 const MARKED: &str =
     "Password: <empty>\nDeriving a key from the password and decrypting the secret key... done\n";
 
-const WRONG: &str = "Verify: Wrong password for that key";
+const WRONG: Outcome = Refused(WrongPassword);
 
-const TOO_HIGH: &str = "KDF: scrypt parameters too high";
+const TOO_HIGH: Outcome = Refused(ParametersTooHigh);
 
-const INVALID: &str = "KDF: invalid scrypt parameters";
+const INVALID: Outcome = Refused(InvalidParameters);
 
-const TOO_MUCH_WORK: &str = "KDF: scrypt work too high";
+const TOO_MUCH_WORK: Outcome = Refused(WorkTooHigh);
 
-const UNSUPPORTED: &str = "Io: Unsupported encryption algorithm";
+const UNSUPPORTED: Outcome = Refused(UnsupportedEncryptionAlgorithm);
 
-const ENDED: &str = "Io: unexpected end of input";
+const ENDED: Outcome = Refused(EndOfInput);
 
-const NO_UTF8: &str = "Io: stream did not contain valid UTF-8";
+const NO_UTF8: Outcome = Refused(NotUtf8);
 
-const UNWRITTEN: &str = "Io: writing failed";
+const UNWRITTEN: Outcome = Refused(WritingFailed);
 
 // Key A's record, not sealed, under this key derivation and these limits.
 fn limited_record(kdf: &[u8; 2], memory: u64, operations: u64) -> [u8; 158] {
@@ -77,7 +83,7 @@ fn sealed_keys_open_with_their_password(rt: HostRuntime) {
         let sk_box = SecretKeyBox::from_string(alloc, text);
         assert!(rt; gives(alloc, sk_box, Some(password), b"", Way::AnyParts, &record));
         let sk_box = SecretKeyBox::from_string(alloc, text);
-        assert!(rt; has_outcome(alloc, sk_box, password, Way::AnyParts, "accepted"));
+        assert!(rt; has_outcome(alloc, sk_box, password, Way::AnyParts, Accepted));
     }
 }
 
@@ -104,7 +110,7 @@ fn opened_with_nothing(alloc: Global) -> Result<SecretKey> {
 // Whether the box is not that of an unsealed key.
 fn is_not_unsealed(alloc: Global, sk_box: SecretKeyBox) -> bool {
     let plain = SecretKey::from_unencrypted_box(alloc, sk_box);
-    comes_to(alloc, &plain, "Io: Key might be encrypted")
+    comes_to(&plain, Refused(KeyMightBeEncrypted))
 }
 
 // Whether an opened key is written in the clear, and is then neither an unsealed key nor one that
@@ -129,7 +135,7 @@ fn is_bounded<A: Abort>(
     memory: u64,
     operations: u64,
     max_p: u32,
-    expected: &str,
+    expected: Outcome,
 ) {
     let sk_box = box_of(alloc, &limited_record(b"Sc", memory, operations));
     let came = has_outcome(alloc, sk_box, "p", Way::Within(max_p), expected);
@@ -190,7 +196,7 @@ fn a_key_of_the_c_program_opens_in_less_memory(rt: HostRuntime) {
 }
 
 // Whether what no password opens is refused so before one is asked for.
-fn is_refused_unasked(alloc: Global, sk_box: Result<SecretKeyBox>, outcome: &str) -> bool {
+fn is_refused_unasked(alloc: Global, sk_box: Result<SecretKeyBox>, outcome: Outcome) -> bool {
     let wanted = Wanted {
         outcome,
         told: "",
@@ -203,10 +209,10 @@ fn is_refused_unasked(alloc: Global, sk_box: Result<SecretKeyBox>, outcome: &str
 fn keys_that_no_password_opens(rt: HostRuntime) {
     let alloc = rt.alloc();
     for (text, expected) in [
-        ("", "Io: Missing comment in secret key"),
-        ("c\n", "Io: Missing encoded key in secret key"),
-        ("c\n!\n", "Encoding: invalid base64"),
-        ("c\nAAAA\n", "Io: failed to fill whole buffer"),
+        ("", Refused(MissingSecretKeyComment)),
+        ("c\n", Refused(MissingEncodedSecretKey)),
+        ("c\n!\n", Refused(SecretKeyNotBase64)),
+        ("c\nAAAA\n", Refused(RecordTooShort)),
     ] {
         let sk_box = SecretKeyBox::from_string(alloc, text);
         assert!(rt; is_refused_unasked(alloc, sk_box, expected), "at {text:?}");
@@ -217,7 +223,7 @@ fn keys_that_no_password_opens(rt: HostRuntime) {
 fn keys_of_other_derivations(rt: HostRuntime) {
     let alloc = rt.alloc();
     for (kdf, expected) in [
-        (b"\0\0", "Io: Key is not encrypted"),
+        (b"\0\0", Refused(KeyNotEncrypted)),
         (b"Xx", UNSUPPORTED),
         (b"SC", UNSUPPORTED),
     ] {
@@ -232,7 +238,7 @@ fn asks<A: Abort>(
     alloc: Global,
     text: &str,
     bytes: &[u8],
-    outcome: &str,
+    outcome: Outcome,
     told: &str,
     unread: usize,
 ) {
@@ -250,9 +256,9 @@ fn asks<A: Abort>(
 #[test]
 fn a_password_is_asked_for(rt: HostRuntime) {
     let alloc = rt.alloc();
-    asks(&rt, alloc, SEALED, b"password\nmore", "accepted", DONE, 4);
-    asks(&rt, alloc, SEALED, b"password", "accepted", DONE, 0);
-    asks(&rt, alloc, SEALED, b"password\r\n", "accepted", DONE, 0);
+    asks(&rt, alloc, SEALED, b"password\nmore", Accepted, DONE, 4);
+    asks(&rt, alloc, SEALED, b"password", Accepted, DONE, 0);
+    asks(&rt, alloc, SEALED, b"password\r\n", Accepted, DONE, 0);
     asks(&rt, alloc, SEALED, b"pass\n", WRONG, DONE, 0);
     asks(&rt, alloc, SEALED, b"password\r", WRONG, DONE, 0);
     asks(
@@ -260,7 +266,7 @@ fn a_password_is_asked_for(rt: HostRuntime) {
         alloc,
         SEALED_WITH_NOTHING,
         b"\n\n",
-        "accepted",
+        Accepted,
         MARKED,
         1,
     );
@@ -292,18 +298,25 @@ fn limits_are_refused_behind_a_typed_password(rt: HostRuntime) {
 
 // Whether opening with so much room for what the prompt is told has this outcome, and the room is
 // filled.
-fn fills(alloc: Global, room: usize, memory: u64, bytes: &[u8], outcome: &str) -> bool {
+fn fills(alloc: Global, room: usize, memory: u64, bytes: &[u8], outcome: Outcome) -> bool {
     let Ok(sk_box) = box_of(alloc, &limited_record(b"Sc", memory, 0)) else {
         return false;
     };
     let mut prompt = Prompt::new(SliceSource::new(bytes), LimitedSink::new(alloc, room));
     let answer = opened(alloc, sk_box, None, &mut prompt, Way::AnyParts);
     let (_, writer) = prompt.into_parts();
-    comes_to(alloc, &answer, outcome) && writer.as_slice() == beginning(DONE, room).as_bytes()
+    comes_to(&answer, outcome) && writer.as_slice() == beginning(DONE, room).as_bytes()
 }
 
 // Asserts it.
-fn is_told<A: Abort>(rt: &A, alloc: Global, room: usize, memory: u64, bytes: &[u8], outcome: &str) {
+fn is_told<A: Abort>(
+    rt: &A,
+    alloc: Global,
+    room: usize,
+    memory: u64,
+    bytes: &[u8],
+    outcome: Outcome,
+) {
     let filled = fills(alloc, room, memory, bytes, outcome);
     assert!(rt; filled, "at {room} {memory}");
 }

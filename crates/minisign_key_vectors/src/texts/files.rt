@@ -5,8 +5,15 @@ use crate::texts::joined;
 use minisign::{PublicKey, Result, SecretKey, SignatureBox};
 use minisign_base::devices::sinks::VecSink;
 use minisign_base::devices::sources::SliceSource;
+use minisign_base::faults::NamedFault::{
+    MissingEncodedPublicKey, MissingEncodedSecretKey, MissingPublicKeyComment,
+    MissingSecretKeyComment, MissingSignature, MissingTrustedComment, MissingUntrustedComment,
+    NotUtf8, PublicKeyLineLength, PublicKeyLineNotBase64, ReadingFailed, RecordTooShort,
+    SecretKeyNotBase64, SignatureNotBase64, UntrustedCommentPrefix,
+};
 use minisign_base::prompt::Prompt;
 use minisign_fixtures::keys::{IDENTIFIER, PUBLIC_BYTES, public_record};
+use minisign_fixtures::outcomes::Outcome::{self, Accepted, Refused};
 use minisign_fixtures::outcomes::{comes_to, is_record, is_text};
 use minisign_fixtures::prompts::{handed, typed_at_once};
 use minisign_fixtures::texts::{COUNTED_SEALED_UNDER_NOTHING, KEY_TEXT, SIGNATURE_TEXT};
@@ -18,21 +25,20 @@ use std::process::Abort;
 use std::test::Fail;
 use std::{env, fs, process};
 
-const UNREADABLE: &str = "Io: reading failed";
+const UNREADABLE: Outcome = Refused(ReadingFailed);
 
-const NOT_BASE64: &str =
-    "Io: Base64 conversion failed - was an actual public key given?: invalid base64";
+const NOT_BASE64: Outcome = Refused(PublicKeyLineNotBase64);
 
-const LENGTH: &str = "Io: Base64 conversion failed - was an actual public key given?";
+const LENGTH: Outcome = Refused(PublicKeyLineLength);
 
-const SECRET_NOT_BASE64: &str = "Encoding: invalid base64";
+const SECRET_NOT_BASE64: Outcome = Refused(SecretKeyNotBase64);
 
-const UNTRUSTED: &str = "Verify: Untrusted comment must start with: untrusted comment: ";
+const UNTRUSTED: Outcome = Refused(UntrustedCommentPrefix);
 
 // A comment of as many letters as an encoded public key has, behind a line feed.
 const FED: &str = "\nuntrusted comment: minisign public key: 0807060504030201\n";
 
-const NOT_UTF8: &str = "Io: stream did not contain valid UTF-8";
+const NOT_UTF8: Outcome = Refused(NotUtf8);
 
 const OPENING: &str =
     "Password: <empty>\nDeriving a key from the password and decrypting the secret key... done\n";
@@ -76,29 +82,29 @@ fn read_signature(rt: &HostRuntime, path: &str) -> Result<SignatureBox> {
 }
 
 // Whether reading the file as a public key has this outcome.
-fn gives_public(rt: &HostRuntime, path: &str, expected: &str) -> bool {
+fn gives_public(rt: &HostRuntime, path: &str, expected: Outcome) -> bool {
     let answer = read_public(rt, path);
-    comes_to(rt.alloc(), &answer, expected)
+    comes_to(&answer, expected)
 }
 
 // Whether reading the file as a secret key has this outcome where an empty password is typed.
 // Nothing is asked for a file that gives no key.
-fn gives_secret(rt: &HostRuntime, path: &str, expected: &str) -> bool {
+fn gives_secret(rt: &HostRuntime, path: &str, expected: Outcome) -> bool {
     let alloc = rt.alloc();
     let mut prompt = typed_at_once(alloc, b"\n");
     let answer = read_secret(rt, path, None, &mut prompt);
     let told = if answer.is_ok() { OPENING } else { "" };
-    comes_to(alloc, &answer, expected) && prompt.writer.as_slice() == told.as_bytes()
+    comes_to(&answer, expected) && prompt.writer.as_slice() == told.as_bytes()
 }
 
 // Whether reading the file as a signature has this outcome.
-fn gives_signature(rt: &HostRuntime, path: &str, expected: &str) -> bool {
+fn gives_signature(rt: &HostRuntime, path: &str, expected: Outcome) -> bool {
     let answer = read_signature(rt, path);
-    comes_to(rt.alloc(), &answer, expected)
+    comes_to(&answer, expected)
 }
 
 // Whether reading the file so has this outcome.
-fn gives(rt: &HostRuntime, kind: Kind, path: &str, expected: &str) -> bool {
+fn gives(rt: &HostRuntime, kind: Kind, path: &str, expected: Outcome) -> bool {
     match kind {
         Kind::Public => gives_public(rt, path, expected),
         Kind::Secret => gives_secret(rt, path, expected),
@@ -251,7 +257,7 @@ fn keys_and_signatures_are_read_from_files(rt: HostRuntime) -> std::result::Resu
 }
 
 // Whether a file of the folder has this outcome.
-fn has_outcome(rt: &HostRuntime, folder: &str, kind: Kind, name: &str, expected: &str) -> bool {
+fn has_outcome(rt: &HostRuntime, folder: &str, kind: Kind, name: &str, expected: Outcome) -> bool {
     let Ok(path) = path_of(rt, folder, name) else {
         return false;
     };
@@ -265,7 +271,7 @@ fn comes_out<A: Abort>(
     folder: &str,
     kind: Kind,
     name: &str,
-    expected: &str,
+    expected: Outcome,
 ) {
     let came = has_outcome(rt, folder, kind, name, expected);
     assert!(abort; came, "at {name}");
@@ -294,16 +300,16 @@ fn files_that_hold_no_text(rt: HostRuntime) -> std::result::Result<(), Fail> {
 
 // Asserts that what holds another text is refused so.
 fn are_other_texts<A: Abort>(abort: &A, rt: &HostRuntime, folder: &str) {
-    let no_public = "Io: Missing comment in public key";
+    let no_public = Refused(MissingPublicKeyComment);
     comes_out(abort, rt, folder, Kind::Public, "empty", no_public);
     comes_out(abort, rt, folder, Kind::Public, "abc.sig", LENGTH);
-    let no_secret = "Io: Missing comment in secret key";
+    let no_secret = Refused(MissingSecretKeyComment);
     comes_out(abort, rt, folder, Kind::Secret, "empty", no_secret);
-    let too_short = "Io: failed to fill whole buffer";
+    let too_short = Refused(RecordTooShort);
     comes_out(abort, rt, folder, Kind::Secret, "key.pk", too_short);
-    let uncommented = "Io: Missing untrusted comment";
+    let uncommented = Refused(MissingUntrustedComment);
     comes_out(abort, rt, folder, Kind::Signature, "empty", uncommented);
-    let untrusted = "Io: Missing trusted comment";
+    let untrusted = Refused(MissingTrustedComment);
     comes_out(abort, rt, folder, Kind::Signature, "key.pk", untrusted);
 }
 
@@ -319,9 +325,9 @@ fn files_that_hold_another_text(rt: HostRuntime) -> std::result::Result<(), Fail
 #[test]
 fn a_file_of_nothing(rt: HostRuntime) {
     let path = "/dev/null";
-    assert!(rt; gives_public(&rt, path, "Io: Missing comment in public key"));
-    assert!(rt; gives_secret(&rt, path, "Io: Missing comment in secret key"));
-    assert!(rt; gives_signature(&rt, path, "Io: Missing untrusted comment"));
+    assert!(rt; gives_public(&rt, path, Refused(MissingPublicKeyComment)));
+    assert!(rt; gives_secret(&rt, path, Refused(MissingSecretKeyComment)));
+    assert!(rt; gives_signature(&rt, path, Refused(MissingUntrustedComment)));
 }
 
 // Writes a file that its owner may not read.
@@ -367,7 +373,7 @@ fn stands(
     kind: Kind,
     before: &str,
     behind: &str,
-    expected: &str,
+    expected: Outcome,
 ) -> bool {
     let written = put_parts(rt, folder, "file", before, body_of(kind), behind);
     written && has_outcome(rt, folder, kind, "file", expected)
@@ -398,11 +404,11 @@ fn is_read_behind(
     kind: Kind,
     line: &str,
     more: &str,
-    refused: (&str, &str),
+    refused: (&str, Outcome),
 ) -> bool {
     let (letter, fault) = refused;
-    stands(rt, folder, kind, line, "", "accepted")
-        && stands(rt, folder, kind, line, more, "accepted")
+    stands(rt, folder, kind, line, "", Accepted)
+        && stands(rt, folder, kind, line, more, Accepted)
         && stands(rt, folder, kind, line, letter, fault)
 }
 
@@ -412,8 +418,8 @@ fn is_read_whole(
     rt: &HostRuntime,
     folder: &str,
     kind: Kind,
-    fed: &str,
-    refused: (&str, &str),
+    fed: Outcome,
+    refused: (&str, Outcome),
 ) -> bool {
     let Ok(line) = long_line(rt.alloc()) else {
         return false;
@@ -437,7 +443,7 @@ fn files_are_read_as_they_stand(rt: HostRuntime) -> std::result::Result<(), Fail
     assert!(rt; is_read_whole(&rt, path, Kind::Public, NOT_BASE64, public));
     let secret = (" ", SECRET_NOT_BASE64);
     assert!(rt; is_read_whole(&rt, path, Kind::Secret, SECRET_NOT_BASE64, secret));
-    let signature = ("!", "Io: invalid base64");
+    let signature = ("!", Refused(SignatureNotBase64));
     assert!(rt; is_read_whole(&rt, path, Kind::Signature, UNTRUSTED, signature));
     fs::remove_dir_all(&rt, folder.as_str())?;
     Ok(())
@@ -456,8 +462,8 @@ fn put_long_line(rt: &HostRuntime, folder: &str) -> bool {
 fn long_files_end_where_they_end(rt: HostRuntime) -> std::result::Result<(), Fail> {
     let folder = new_folder(&rt, "long_files")?;
     let path = folder.as_str();
-    let no_public = "Io: Missing encoded key in public key";
-    let no_secret = "Io: Missing encoded key in secret key";
+    let no_public = Refused(MissingEncodedPublicKey);
+    let no_secret = Refused(MissingEncodedSecretKey);
     assert!(rt; put_long_line(&rt, path));
     comes_out(&rt, &rt, path, Kind::Public, "cut", no_public);
     comes_out(&rt, &rt, path, Kind::Secret, "cut", no_secret);
@@ -467,7 +473,7 @@ fn long_files_end_where_they_end(rt: HostRuntime) -> std::result::Result<(), Fai
         path,
         Kind::Signature,
         "cut",
-        "Io: Missing signature",
+        Refused(MissingSignature),
     );
     fs::remove_dir_all(&rt, folder.as_str())?;
     Ok(())
@@ -483,7 +489,7 @@ fn is_alone(rt: &HostRuntime, folder: &str, kind: Kind, name: &str, trimmed: &st
         "untrusted comment: c\n",
         body_of(kind),
         "\n",
-    ) && has_outcome(rt, folder, kind, name, "accepted")
+    ) && has_outcome(rt, folder, kind, name, Accepted)
         && has_outcome(rt, folder, kind, trimmed, UNREADABLE)
 }
 

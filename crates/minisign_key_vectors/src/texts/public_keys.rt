@@ -4,7 +4,12 @@
 
 use crate::texts::joined;
 use minisign::{PublicKey, PublicKeyBox, Result, SecretKey};
+use minisign_base::faults::NamedFault::{
+    BarePublicKeyLength, BarePublicKeyNotBase64, MissingEncodedPublicKey, MissingPublicKeyComment,
+    PublicKeyLineLength, PublicKeyLineNotBase64, RecordTooShort,
+};
 use minisign_fixtures::keys::{IDENTIFIER, PUBLIC_BYTES, public_record, secret_record};
+use minisign_fixtures::outcomes::Outcome::{self, Accepted, Refused};
 use minisign_fixtures::outcomes::{beginning, comes_to, holds, is_record, is_text};
 use minisign_fixtures::texts::KEY_TEXT;
 use std::alloc::Global;
@@ -24,21 +29,19 @@ const OTHER: &str = "RWRzq51bKcS8oJvZ4xEm+nRvGYPdsNRD3ciFPu1YJEL8Bl/3daWaj72r";
 
 const LONGER: &str = "RWQt7oYqpar/yePp+nonossdnononovlOSkkckMMfvHuGc+0+oShmJyN5Y";
 
-const NO_COMMENT: &str = "Io: Missing comment in public key";
+const NO_COMMENT: Outcome = Refused(MissingPublicKeyComment);
 
-const NO_KEY: &str = "Io: Missing encoded key in public key";
+const NO_KEY: Outcome = Refused(MissingEncodedPublicKey);
 
-const LENGTH: &str = "Io: Base64 conversion failed - was an actual public key given?";
+const LENGTH: Outcome = Refused(PublicKeyLineLength);
 
-const NOT_BASE64: &str =
-    "Io: Base64 conversion failed - was an actual public key given?: invalid base64";
+const NOT_BASE64: Outcome = Refused(PublicKeyLineNotBase64);
 
-const BARE_LENGTH: &str = "Io: base64 conversion failed - was an actual public key given?";
+const BARE_LENGTH: Outcome = Refused(BarePublicKeyLength);
 
-const BARE_NOT_BASE64: &str =
-    "Io: base64 conversion failed - was an actual public key given?: invalid base64";
+const BARE_NOT_BASE64: Outcome = Refused(BarePublicKeyNotBase64);
 
-const TOO_SHORT: &str = "Io: failed to fill whole buffer";
+const TOO_SHORT: Outcome = Refused(RecordTooShort);
 
 fn read(alloc: Global, text: &str) -> Result<PublicKey> {
     PublicKeyBox::from_string(alloc, text)?.into_public_key(alloc)
@@ -175,9 +178,9 @@ fn is_begun(alloc: Global, len: usize) -> bool {
         0 => NO_COMMENT,
         1..=57 => NO_KEY,
         58..=112 => LENGTH,
-        _ => "accepted",
+        _ => Accepted,
     };
-    comes_to(alloc, &answer, expected)
+    comes_to(&answer, expected)
 }
 
 // The outcome of reading so many letters of the encoded key, and what stands before and behind them.
@@ -193,10 +196,10 @@ fn is_read_odd<A: Abort>(
     before: &str,
     letters: usize,
     behind: &str,
-    expected: &str,
+    expected: Outcome,
 ) {
     let answer = read_odd(alloc, before, letters, behind);
-    let came = comes_to(alloc, &answer, expected);
+    let came = comes_to(&answer, expected);
     assert!(rt; came, "at {before:?} {letters} {behind:?}");
 }
 
@@ -208,8 +211,8 @@ fn odd_public_texts(rt: HostRuntime) {
     is_read_odd(&rt, alloc, "", 0, "", NO_COMMENT);
     is_read_odd(&rt, alloc, "\n", 0, "", NO_KEY);
     is_read_odd(&rt, alloc, "c", 0, "", NO_KEY);
-    is_read_odd(&rt, alloc, "c\r\n", 56, "\r\n", "accepted");
-    is_read_odd(&rt, alloc, "\n", 56, "\nmore\nlines", "accepted");
+    is_read_odd(&rt, alloc, "c\r\n", 56, "\r\n", Accepted);
+    is_read_odd(&rt, alloc, "\n", 56, "\nmore\nlines", Accepted);
     is_read_odd(&rt, alloc, "c\n", 56, "\r\r\n", LENGTH);
     is_read_odd(&rt, alloc, "c\n", 56, "A\n", LENGTH);
     is_read_odd(&rt, alloc, "c\n ", 56, "\n", LENGTH);
@@ -234,10 +237,10 @@ fn is_read_bare<A: Abort>(
     before: &str,
     encoded: &str,
     behind: &str,
-    expected: &str,
+    expected: Outcome,
 ) {
     let answer = read_bare(alloc, before, encoded, behind);
-    let came = comes_to(alloc, &answer, expected);
+    let came = comes_to(&answer, expected);
     assert!(rt; came, "at {before:?} {encoded} {behind:?}");
 }
 
@@ -245,7 +248,7 @@ fn is_read_bare<A: Abort>(
 fn bare_public_keys(rt: HostRuntime) {
     let alloc = rt.alloc();
     let (most, but_one) = (beginning(ENCODED, 54), beginning(ENCODED, 55));
-    is_read_bare(&rt, alloc, "", OTHER, "", "accepted");
+    is_read_bare(&rt, alloc, "", OTHER, "", Accepted);
     is_read_bare(&rt, alloc, " ", OTHER, "", BARE_NOT_BASE64);
     is_read_bare(&rt, alloc, "", OTHER, "\n", BARE_NOT_BASE64);
     is_read_bare(&rt, alloc, "", LONGER, "", BARE_LENGTH);

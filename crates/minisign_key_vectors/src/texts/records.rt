@@ -3,14 +3,16 @@
 
 use minisign::keynum::{KeynumPK, KeynumSK};
 use minisign::{PublicKey, Result, SecretKey, Signature, SignatureBones, SignatureBox};
+use minisign_base::faults::NamedFault::{RecordTooShort, TrustedCommentAbsent};
 use minisign_fixtures::keys::{
     CHECKSUM, IDENTIFIER, OTHER_IDENTIFIER, PUBLIC_BYTES, TIED_TO_ABC, public_record,
     secret_record, signature_record,
 };
+use minisign_fixtures::outcomes::Outcome::{self, Refused};
 use minisign_fixtures::outcomes::{comes_to, front, holds, is_record, is_text};
 use std::alloc::Global;
 
-const TOO_SHORT: &str = "Io: failed to fill whole buffer";
+const TOO_SHORT: Outcome = Refused(RecordTooShort);
 
 // Whether the public key of this record is read from these bytes.
 fn is_public_key(alloc: Global, bytes: &[u8], record: &[u8]) -> bool {
@@ -22,9 +24,9 @@ fn is_public_key(alloc: Global, bytes: &[u8], record: &[u8]) -> bool {
 }
 
 // Whether these bytes are refused as too short for a public key.
-fn is_no_public_key(alloc: Global, bytes: &[u8]) -> bool {
+fn is_no_public_key(bytes: &[u8]) -> bool {
     let short = PublicKey::from_bytes(bytes);
-    comes_to(alloc, &short, TOO_SHORT)
+    comes_to(&short, TOO_SHORT)
 }
 
 // A public key is read from its record and from a longer one, and not from a shorter one.
@@ -36,7 +38,7 @@ fn public_keys_are_read_back(rt: HostRuntime) {
     longer[..42].copy_from_slice(&record);
     assert!(rt; is_public_key(alloc, &record, &record));
     assert!(rt; is_public_key(alloc, &longer, &record));
-    assert!(rt; is_no_public_key(alloc, front(&record, 41)));
+    assert!(rt; is_no_public_key(front(&record, 41)));
 }
 
 // Whether the secret key of this record is read from these bytes.
@@ -49,9 +51,9 @@ fn is_secret_key(alloc: Global, bytes: &[u8], record: &[u8]) -> bool {
 }
 
 // Whether these bytes are refused as too short for a secret key.
-fn is_no_secret_key(alloc: Global, bytes: &[u8]) -> bool {
+fn is_no_secret_key(bytes: &[u8]) -> bool {
     let short = SecretKey::from_bytes(bytes);
-    comes_to(alloc, &short, TOO_SHORT)
+    comes_to(&short, TOO_SHORT)
 }
 
 // The same of a secret key.
@@ -63,7 +65,7 @@ fn secret_keys_are_read_back(rt: HostRuntime) {
     longer[..158].copy_from_slice(&record);
     assert!(rt; is_secret_key(alloc, &record, &record));
     assert!(rt; is_secret_key(alloc, &longer, &record));
-    assert!(rt; is_no_secret_key(alloc, front(&record, 157)));
+    assert!(rt; is_no_secret_key(front(&record, 157)));
 }
 
 // Whether the signature of this record is read from these bytes.
@@ -77,9 +79,9 @@ fn is_signature(alloc: Global, bytes: &[u8], record: &[u8]) -> bool {
 }
 
 // Whether these bytes are refused as too short for a signature.
-fn is_no_signature(alloc: Global, bytes: &[u8]) -> bool {
+fn is_no_signature(bytes: &[u8]) -> bool {
     let short = Signature::from_bytes(bytes);
-    comes_to(alloc, &short, TOO_SHORT)
+    comes_to(&short, TOO_SHORT)
 }
 
 // A signature is read from its record and from a longer one, and not from a shorter one.
@@ -91,7 +93,7 @@ fn signatures_are_read_back(rt: HostRuntime) {
     longer[..74].copy_from_slice(&record);
     assert!(rt; is_signature(alloc, &record, &record));
     assert!(rt; is_signature(alloc, &longer, &record));
-    assert!(rt; is_no_signature(alloc, front(&record, 73)));
+    assert!(rt; is_no_signature(front(&record, 73)));
 }
 
 // Whether the bare bones of this record are read from these bytes.
@@ -104,9 +106,9 @@ fn are_bones(alloc: Global, bytes: &[u8], record: &[u8]) -> bool {
 }
 
 // Whether these bytes are refused as too short for bare bones.
-fn are_no_bones(alloc: Global, bytes: &[u8]) -> bool {
+fn are_no_bones(bytes: &[u8]) -> bool {
     let short = SignatureBones::from_bytes(bytes);
-    comes_to(alloc, &short, TOO_SHORT)
+    comes_to(&short, TOO_SHORT)
 }
 
 // The same of bare bones.
@@ -118,7 +120,7 @@ fn bare_bones_are_read_back(rt: HostRuntime) {
     longer[..74].copy_from_slice(&record);
     assert!(rt; are_bones(alloc, &record, &record));
     assert!(rt; are_bones(alloc, &longer, &record));
-    assert!(rt; are_no_bones(alloc, front(&record, 73)));
+    assert!(rt; are_no_bones(front(&record, 73)));
 }
 
 #[test]
@@ -133,7 +135,7 @@ fn has_no_comments(alloc: Global, signature_box: &SignatureBox) -> bool {
     let untrusted = signature_box.untrusted_comment(alloc);
     let trusted = signature_box.trusted_comment(alloc);
     let empty = is_text(&untrusted, "");
-    comes_to(alloc, &trusted, "Misc: trusted comment is not present") && empty
+    comes_to(&trusted, Refused(TrustedCommentAbsent)) && empty
 }
 
 // Whether the box gives the bones of this record.

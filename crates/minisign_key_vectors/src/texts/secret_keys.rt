@@ -4,7 +4,12 @@
 
 use crate::texts::joined;
 use minisign::{Result, SecretKey, SecretKeyBox};
+use minisign_base::faults::NamedFault::{
+    CorruptedKey, KeyMightBeEncrypted, MissingEncodedSecretKey, MissingSecretKeyComment,
+    RecordTooShort, SecretKeyNotBase64,
+};
 use minisign_fixtures::keys::{CHECKSUM, secret_record};
+use minisign_fixtures::outcomes::Outcome::{self, Accepted, Refused};
 use minisign_fixtures::outcomes::{beginning, comes_to, holds, is_record, is_text};
 use minisign_fixtures::texts::SECRET_TEXT;
 use std::alloc::Global;
@@ -18,13 +23,13 @@ const ENCODED: &str =
 const ENCODED_SHORT: &str =
     "RWQAAEIyAAAAAAAAAAAAAAAAAAAAAAAAAAAAAAAAAAAAAAAAAAAAAAAAAAAAAAAAAAAAAAAAAQIDBAUGBwgAAAAAAAAAAAAAAAAAAAAAAAAAAAAAAAAAAAAAAAAAAFpaWlpaWlpaWlpaWlpaWlpaWlpaWlpaWlpaWlpaWlpazoeDdHm2Hr/pRluKO3DYzP11U/WDPdZWSdZKEnx6iQ==";
 
-const NO_COMMENT: &str = "Io: Missing comment in secret key";
+const NO_COMMENT: Outcome = Refused(MissingSecretKeyComment);
 
-const NO_KEY: &str = "Io: Missing encoded key in secret key";
+const NO_KEY: Outcome = Refused(MissingEncodedSecretKey);
 
-const NOT_BASE64: &str = "Encoding: invalid base64";
+const NOT_BASE64: Outcome = Refused(SecretKeyNotBase64);
 
-const TOO_SHORT: &str = "Io: failed to fill whole buffer";
+const TOO_SHORT: Outcome = Refused(RecordTooShort);
 
 // The key of an unsealed key's text.
 fn unsealed(alloc: Global, text: &str) -> Result<SecretKey> {
@@ -123,9 +128,9 @@ fn is_begun(alloc: Global, len: usize) -> bool {
         1..=46 => NO_KEY,
         47..=257 if (len - 46) % 4 == 0 => TOO_SHORT,
         47..=257 => NOT_BASE64,
-        _ => "accepted",
+        _ => Accepted,
     };
-    comes_to(alloc, &answer, expected)
+    comes_to(&answer, expected)
 }
 
 // The outcome of reading an encoded key between two texts.
@@ -141,10 +146,10 @@ fn is_read_odd<A: Abort>(
     before: &str,
     encoded: &str,
     behind: &str,
-    expected: &str,
+    expected: Outcome,
 ) {
     let answer = read_odd(alloc, before, encoded, behind);
-    let came = comes_to(alloc, &answer, expected);
+    let came = comes_to(&answer, expected);
     assert!(rt; came, "at {before:?} {behind:?}");
 }
 
@@ -152,9 +157,9 @@ fn is_read_odd<A: Abort>(
 fn odd_texts(rt: HostRuntime) {
     let alloc = rt.alloc();
     is_read_odd(&rt, alloc, "", ENCODED, "", NO_KEY);
-    is_read_odd(&rt, alloc, "c\r\n", ENCODED, "\r\n", "accepted");
-    is_read_odd(&rt, alloc, "\n", ENCODED, "\n", "accepted");
-    is_read_odd(&rt, alloc, "c\n", ENCODED, "\nmore\nlines", "accepted");
+    is_read_odd(&rt, alloc, "c\r\n", ENCODED, "\r\n", Accepted);
+    is_read_odd(&rt, alloc, "\n", ENCODED, "\n", Accepted);
+    is_read_odd(&rt, alloc, "c\n", ENCODED, "\nmore\nlines", Accepted);
     is_read_odd(&rt, alloc, "c\n", ENCODED, "\r\r\n", NOT_BASE64);
     is_read_odd(&rt, alloc, "c\n", ENCODED, "\r", NOT_BASE64);
     is_read_odd(&rt, alloc, "c\n", ENCODED, " \n", NOT_BASE64);
@@ -175,15 +180,15 @@ fn keys_that_are_not_unsealed(rt: HostRuntime) {
     let alloc = rt.alloc();
     let mut changed = CHECKSUM;
     changed[31] ^= 1;
-    let sealed = "Io: Key might be encrypted";
-    assert!(rt; is_read_so(alloc, b"\0\0", &CHECKSUM, "accepted"));
-    assert!(rt; is_read_so(alloc, b"\0\0", &changed, "Verify: Corrupted key"));
+    let sealed = Refused(KeyMightBeEncrypted);
+    assert!(rt; is_read_so(alloc, b"\0\0", &CHECKSUM, Accepted));
+    assert!(rt; is_read_so(alloc, b"\0\0", &changed, Refused(CorruptedKey)));
     assert!(rt; is_read_so(alloc, b"Sc", &CHECKSUM, sealed));
     assert!(rt; is_read_so(alloc, b"Xx", &CHECKSUM, sealed));
 }
 
 // Whether it is this one.
-fn is_read_so(alloc: Global, kdf: &[u8; 2], checksum: &[u8; 32], expected: &str) -> bool {
+fn is_read_so(alloc: Global, kdf: &[u8; 2], checksum: &[u8; 32], expected: Outcome) -> bool {
     let answer = read_record(alloc, kdf, checksum);
-    comes_to(alloc, &answer, expected)
+    comes_to(&answer, expected)
 }

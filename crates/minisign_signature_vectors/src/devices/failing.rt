@@ -9,11 +9,15 @@ use minisign::{Result, SecretKey, SecretKeyBox};
 use minisign_base::devices::random_sources::{FixedRandom, RandomSource};
 use minisign_base::devices::sinks::{Sink, VecSink};
 use minisign_base::devices::sources::{Rereader, SliceSource, Source};
+use minisign_base::faults::NamedFault::{
+    DataChanged, GoingBackFailed, RandomSourceFailed, ReadingFailed, WritingFailed,
+};
 use minisign_base::prompt::Prompt;
 use minisign_base::toy::ToyScheme;
 use minisign_fixtures::devices::random::FailingRandom;
 use minisign_fixtures::devices::sinks::LimitedSink;
 use minisign_fixtures::devices::sources::{Changes, FailingSource};
+use minisign_fixtures::outcomes::Outcome::{self, Accepted, Refused};
 use minisign_fixtures::outcomes::{comes_to, front, holds, is_record, is_text};
 use minisign_fixtures::texts::{
     KEY_TEXT, LEGACY_TEXT, SAID, SEALED, SEALED_WITH_NOTHING, SIGNATURE_TEXT,
@@ -21,15 +25,15 @@ use minisign_fixtures::texts::{
 use std::alloc::Global;
 use std::process::Abort;
 
-const UNREAD: &str = "Io: reading failed";
+const UNREAD: Outcome = Refused(ReadingFailed);
 
-const UNWRITTEN: &str = "Io: writing failed";
+const UNWRITTEN: Outcome = Refused(WritingFailed);
 
-const NOT_BACK: &str = "Io: going back failed";
+const NOT_BACK: Outcome = Refused(GoingBackFailed);
 
-const UNDRAWN: &str = "RNG: random source failed";
+const UNDRAWN: Outcome = Refused(RandomSourceFailed);
 
-const CHANGED: &str = "Verify: Data changed between verification and output";
+const CHANGED: Outcome = Refused(DataChanged);
 
 // What a prompt says where a password is typed: 10 bytes, 66 and 5.
 const ASKED_AND_DONE: &[u8] =
@@ -82,7 +86,7 @@ fn copies<A: Abort>(
     rt: &A,
     alloc: Global,
     calls: usize,
-    outcome: &str,
+    outcome: Outcome,
     (said, copied): (usize, usize),
 ) {
     let mut data = FailingSource::new(b"abc", calls);
@@ -109,7 +113,7 @@ fn the_data_of_a_copy_fails(rt: HostRuntime) {
     copies(&rt, alloc, 7, UNREAD, (60, 1));
     copies(&rt, alloc, 8, UNREAD, (60, 2));
     copies(&rt, alloc, 9, UNREAD, (60, 3));
-    copies(&rt, alloc, 10, "accepted", (60, 3));
+    copies(&rt, alloc, 10, Accepted, (60, 3));
 }
 
 // A mark that fails leaves all of the data.
@@ -143,7 +147,7 @@ fn reads_four_times<A: Abort>(rt: &A, alloc: Global, text: &str, output: bool, c
         assert!(rt; is_read(alloc, text, output, calls, unread), "at {calls}");
     }
     let wanted = Wanted {
-        outcome: "accepted",
+        outcome: Accepted,
         said: SAID,
         copied,
     };
@@ -179,7 +183,7 @@ fn tells<A: Abort>(rt: &A, alloc: Global, text: &str, most: usize, writes: usize
         assert!(rt; is_told(alloc, text, most, calls, wanted), "at {calls}");
     }
     let wanted = Wanted {
-        outcome: "accepted",
+        outcome: Accepted,
         said: SAID,
         copied: b"abc",
     };
@@ -202,7 +206,7 @@ fn is_copied(
     text: &str,
     second: &[u8],
     calls: usize,
-    outcome: &str,
+    outcome: Outcome,
     copied: &[u8],
 ) -> bool {
     let mut data = Changes::new(b"abc", second);
@@ -224,7 +228,7 @@ fn outputs<A: Abort>(
     text: &str,
     (second, whole): (&[u8], &[u8]),
     calls: usize,
-    answer: &str,
+    answer: Outcome,
 ) {
     for call in 0..calls {
         let copied = front(whole, call);
@@ -243,15 +247,15 @@ fn outputs<A: Abort>(
 fn the_output_fails(rt: HostRuntime) {
     let alloc = rt.alloc();
     let same: (&[u8], &[u8]) = (b"abc", b"abc");
-    outputs(&rt, alloc, SIGNATURE_TEXT, same, 4, "accepted");
-    outputs(&rt, alloc, LEGACY_TEXT, same, 4, "accepted");
-    outputs(&rt, alloc, LEGACY_TEXT, (b"abd", b"abc"), 4, "accepted");
+    outputs(&rt, alloc, SIGNATURE_TEXT, same, 4, Accepted);
+    outputs(&rt, alloc, LEGACY_TEXT, same, 4, Accepted);
+    outputs(&rt, alloc, LEGACY_TEXT, (b"abd", b"abc"), 4, Accepted);
     outputs(&rt, alloc, SIGNATURE_TEXT, (b"abd", b"abd"), 3, CHANGED);
 }
 
 // Whether signing over data that fails behind so many reads and random bytes that fail behind so
 // many draws has this outcome, and draws so.
-fn is_signed(alloc: Global, reads: usize, draws: usize, expected: &str) -> Result<bool> {
+fn is_signed(alloc: Global, reads: usize, draws: usize, expected: Outcome) -> Result<bool> {
     let secret = key_a()?;
     let mut data = FailingSource::new(b"abc", reads);
     let mut random = FailingRandom::new(&ZEROS, draws);
@@ -261,13 +265,13 @@ fn is_signed(alloc: Global, reads: usize, draws: usize, expected: &str) -> Resul
         moment: 0,
     };
     let answer = signed_from(alloc, None, &secret, &mut data, said, &mut random);
-    let came = comes_to(alloc, &answer, expected);
+    let came = comes_to(&answer, expected);
     let undrawn = random.random.fill(&mut [0; 128]).is_ok();
     Ok(came && undrawn == (reads < 4 || draws == 0))
 }
 
 // Asserts it.
-fn signs<A: Abort>(rt: &A, alloc: Global, reads: usize, draws: usize, expected: &str) {
+fn signs<A: Abort>(rt: &A, alloc: Global, reads: usize, draws: usize, expected: Outcome) {
     let came = is_signed(alloc, reads, draws, expected);
     assert!(rt; holds(&came), "at {reads} {draws}");
 }
@@ -282,7 +286,7 @@ fn the_devices_of_signing_fail(rt: HostRuntime) {
     signs(&rt, alloc, 3, 0, UNREAD);
     signs(&rt, alloc, 4, 0, UNDRAWN);
     signs(&rt, alloc, 4, 1, UNDRAWN);
-    signs(&rt, alloc, 4, 2, "accepted");
+    signs(&rt, alloc, 4, 2, Accepted);
 }
 
 // Whether signing with this prompt has this outcome, tells so much, and leaves so much of the data
@@ -290,7 +294,7 @@ fn the_devices_of_signing_fail(rt: HostRuntime) {
 fn is_signed_with<P: Source + Drop>(
     alloc: Global,
     prompt: Prompt<P, LimitedSink>,
-    expected: &str,
+    expected: Outcome,
     told: usize,
     is_untouched: bool,
 ) -> bool {
@@ -298,7 +302,7 @@ fn is_signed_with<P: Source + Drop>(
     let mut data = SliceSource::new(b"abc");
     let mut random = FixedRandom::new(&ZEROS);
     let answer = signed(alloc, &mut prompt, &mut data, &mut random);
-    let came = comes_to(alloc, &answer, expected);
+    let came = comes_to(&answer, expected);
     let told = prompt.writer.as_slice() == front(ASKED_AND_DONE, told);
     let left: &[u8] = if is_untouched { b"abc" } else { b"" };
     let read = is_record(&read_to_end(alloc, &mut data), left);
@@ -320,12 +324,12 @@ fn the_reader_of_signing_fails(rt: HostRuntime) {
     }
     let reader = FailingSource::new(b"password\n", 9);
     let prompt = Prompt::new(reader, LimitedSink::new(alloc, 100));
-    assert!(rt; is_signed_with(alloc, prompt, "accepted", 81, false));
+    assert!(rt; is_signed_with(alloc, prompt, Accepted, 81, false));
 }
 
 // Asserts that signing with a writer that fails behind so many calls has this outcome, and tells so
 // much.
-fn writes<A: Abort>(rt: &A, alloc: Global, calls: usize, expected: &str, told: usize) {
+fn writes<A: Abort>(rt: &A, alloc: Global, calls: usize, expected: Outcome, told: usize) {
     let writer = LimitedSink::new(alloc, 100).failing_after(calls);
     let prompt = Prompt::new(SliceSource::new(b"password\n"), writer);
     let came = is_signed_with(alloc, prompt, expected, told, calls < 6);
@@ -342,17 +346,17 @@ fn the_writer_of_signing_fails(rt: HostRuntime) {
     writes(&rt, alloc, 3, UNWRITTEN, 76);
     writes(&rt, alloc, 4, UNWRITTEN, 76);
     writes(&rt, alloc, 5, UNWRITTEN, 81);
-    writes(&rt, alloc, 6, "accepted", 81);
+    writes(&rt, alloc, 6, Accepted, 81);
 }
 
 // Whether signing with a text over such data and random bytes has this outcome, and draws so; the
 // prompt is told all.
-fn is_signed_by_text(alloc: Global, reads: usize, draws: usize, expected: &str) -> bool {
+fn is_signed_by_text(alloc: Global, reads: usize, draws: usize, expected: Outcome) -> bool {
     let mut prompt = Prompt::new(SliceSource::new(b"password\n"), VecSink::new(alloc));
     let mut data = FailingSource::new(b"abc", reads);
     let mut random = FailingRandom::new(&ZEROS, draws);
     let answer = signed(alloc, &mut prompt, &mut data, &mut random);
-    let came = comes_to(alloc, &answer, expected);
+    let came = comes_to(&answer, expected);
     let text = answer.is_err() || is_text(&answer, SIGNATURE_TEXT);
     let told = prompt.writer.as_slice() == ASKED_AND_DONE;
     let undrawn = random.random.fill(&mut [0; 128]).is_ok();
@@ -360,7 +364,7 @@ fn is_signed_by_text(alloc: Global, reads: usize, draws: usize, expected: &str) 
 }
 
 // Asserts it.
-fn signs_by_text<A: Abort>(rt: &A, alloc: Global, reads: usize, draws: usize, expected: &str) {
+fn signs_by_text<A: Abort>(rt: &A, alloc: Global, reads: usize, draws: usize, expected: Outcome) {
     let came = is_signed_by_text(alloc, reads, draws, expected);
     assert!(rt; came, "at {reads} {draws}");
 }
@@ -375,7 +379,7 @@ fn the_devices_of_signing_with_a_text_fail(rt: HostRuntime) {
     signs_by_text(&rt, alloc, 3, 0, UNREAD);
     signs_by_text(&rt, alloc, 4, 0, UNDRAWN);
     signs_by_text(&rt, alloc, 4, 1, UNDRAWN);
-    signs_by_text(&rt, alloc, 4, 2, "accepted");
+    signs_by_text(&rt, alloc, 4, 2, Accepted);
 }
 
 #[test]
@@ -388,7 +392,7 @@ fn a_prompt_that_takes_four_bytes_leaves_the_data(rt: HostRuntime) {
     let mut data = SliceSource::new(b"abc");
     let mut random = FixedRandom::new(&ZEROS);
     let answer = signed(alloc, &mut prompt, &mut data, &mut random);
-    assert!(rt; comes_to(alloc, &answer, UNWRITTEN));
+    assert!(rt; comes_to(&answer, UNWRITTEN));
     let (mut reader, writer) = prompt.into_parts();
     assert!(rt; writer.as_slice() == b"Pass".as_slice());
     assert!(rt; is_record(&read_to_end(alloc, &mut reader), b"password\n"));
@@ -400,7 +404,7 @@ fn opens<P: Source + Drop>(
     alloc: Global,
     text: &str,
     prompt: Prompt<P, LimitedSink>,
-    expected: &str,
+    expected: Outcome,
     told: &[u8],
 ) -> bool {
     let mut prompt = prompt;
@@ -408,7 +412,7 @@ fn opens<P: Source + Drop>(
         return false;
     };
     let answer = SecretKey::from_box(alloc, sk_box, None, &mut prompt);
-    comes_to(alloc, &answer, expected) && prompt.writer.as_slice() == told
+    comes_to(&answer, expected) && prompt.writer.as_slice() == told
 }
 
 // Asserts that opening the text reads all that is typed, whichever of the reads fails.
@@ -421,7 +425,7 @@ fn reads<A: Abort>(rt: &A, alloc: Global, text: &str, typed: &[u8], whole: &[u8]
     }
     let reader = FailingSource::new(typed, typed.len());
     let prompt = Prompt::new(reader, LimitedSink::new(alloc, 100));
-    assert!(rt; opens(alloc, text, prompt, "accepted", whole));
+    assert!(rt; opens(alloc, text, prompt, Accepted, whole));
 }
 
 // The prompt's reader, where a password is typed and where an empty one is: it is told that it is
@@ -435,14 +439,14 @@ fn the_reader_of_opening_fails(rt: HostRuntime) {
 
 // Whether opening the key with `password` and a writer that fails behind so many calls has this
 // outcome, and tells so much.
-fn opens_typed(alloc: Global, calls: usize, expected: &str, told: usize) -> bool {
+fn opens_typed(alloc: Global, calls: usize, expected: Outcome, told: usize) -> bool {
     let writer = LimitedSink::new(alloc, 100).failing_after(calls);
     let prompt = Prompt::new(SliceSource::new(b"password\n"), writer);
     opens(alloc, SEALED, prompt, expected, front(ASKED_AND_DONE, told))
 }
 
 // The same with the empty password.
-fn opens_empty(alloc: Global, calls: usize, expected: &str, told: usize) -> bool {
+fn opens_empty(alloc: Global, calls: usize, expected: Outcome, told: usize) -> bool {
     let writer = LimitedSink::new(alloc, 100).failing_after(calls);
     let prompt = Prompt::new(SliceSource::new(b"\n"), writer);
     opens(
@@ -484,6 +488,6 @@ fn the_writer_of_opening_with_nothing_fails(rt: HostRuntime) {
 #[test]
 fn the_writer_of_opening_is_called_so_often(rt: HostRuntime) {
     let alloc = rt.alloc();
-    assert!(rt; opens_typed(alloc, 6, "accepted", 81));
-    assert!(rt; opens_empty(alloc, 8, "accepted", 89));
+    assert!(rt; opens_typed(alloc, 6, Accepted, 81));
+    assert!(rt; opens_empty(alloc, 8, Accepted, 89));
 }

@@ -210,10 +210,10 @@ fn signing_and_verifying_with_raw_keys(rt: HostRuntime) {
 // The buffers that grow are sinks that fail where they cannot.
 #[test]
 fn signing_with_a_prompt_that_grows(rt: HostRuntime) {
-    assert!(rt; is_right_or_unwritten(rt.alloc(), &signed_and_told(rt.alloc())));
+    assert!(rt; is_right_or_unwritten(&signed_and_told(rt.alloc())));
 }
 
 #[test]
 fn verifying_into_buffers_that_grow(rt: HostRuntime) {
-    assert!(rt; is_right_or_unwritten(rt.alloc(), &copied_and_kept(rt.alloc())));
+    assert!(rt; is_right_or_unwritten(&copied_and_kept(rt.alloc())));
 }

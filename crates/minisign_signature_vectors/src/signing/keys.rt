@@ -8,6 +8,10 @@ use minisign::reading::read_to_end;
 use minisign::{PublicKey, Result, SecretKey, SignatureBones, SignatureBox, VerifyOptions};
 use minisign_base::devices::random_sources::{FixedRandom, RandomSource, SourceRandom};
 use minisign_base::devices::sources::{SliceSource, Source};
+use minisign_base::faults::NamedFault::{
+    CommentSignatureRefused, EncryptedKeyRefused, RandomSourceFailed, ReadingFailed,
+    RefusedByGivenKey, SignatureRefused, WritingFailed,
+};
 use minisign_base::scheme::Scheme;
 use minisign_base::toy::ToyScheme;
 use minisign_examples::example::sign_and_verify;
@@ -18,7 +22,8 @@ use minisign_fixtures::keys::{
     TIED_TO_ABC, TIED_TO_COMMENT, TIED_TO_NO_COMMENT, TIED_TO_NOTHING, public_record,
     secret_record, signature_record,
 };
-use minisign_fixtures::outcomes::{comes_to, front, holds, is_record, is_text};
+use minisign_fixtures::outcomes::Outcome::{self, Accepted, Refused};
+use minisign_fixtures::outcomes::{OTHER_KEY, comes_to, front, holds, is_record, is_text};
 use minisign_fixtures::texts::SAID;
 use minisign_fixtures::two_signatures::TwoSignatures;
 use std::alloc::Global;
@@ -37,24 +42,21 @@ fn with_zeros(tied: &[u8; 32]) -> [u8; 64] {
 // The random bytes of most signatures.
 const ZEROS: [u8; 128] = [0; 128];
 
-const REFUSED: &str = "Verify: Signature verification failed";
+const REFUSED: Outcome = Refused(SignatureRefused);
 
-const COMMENT_REFUSED: &str = "Verify: Comment signature verification failed";
+const COMMENT_REFUSED: Outcome = Refused(CommentSignatureRefused);
 
-const OTHER_KEY: &str =
-    "Verify: Signature key id: 0807060504030201 is different from public key: E7620F1842B4E81F";
+const OTHER_GIVEN: Outcome = Refused(RefusedByGivenKey {
+    key: OTHER_IDENTIFIER,
+});
 
-const OTHER_GIVEN: &str =
-    "Verify: Could not verify signature with the provided public key ID: E7620F1842B4E81F";
+const SEALED: Outcome = Refused(EncryptedKeyRefused);
 
-const SEALED: &str =
-    "EncryptedKey: Cannot sign with an encrypted secret key. The key must be decrypted first. Options include: SecretKeyBox::into_secret_key(password), SecretKey::from_box(box, password), SecretKey::from_file(path, password), or use KeyPair::generate_unencrypted_keypair() for passwordless keys.";
+const UNDRAWN: Outcome = Refused(RandomSourceFailed);
 
-const UNDRAWN: &str = "RNG: random source failed";
+const UNREAD: Outcome = Refused(ReadingFailed);
 
-const UNREAD: &str = "Io: reading failed";
-
-const UNWRITTEN: &str = "Io: writing failed";
+const UNWRITTEN: Outcome = Refused(WritingFailed);
 
 // What is said of a signature without a comment, and of one with an empty comment.
 const SAID_BARE: &[u8] = b"Signature and comment signature verified\n";
@@ -92,7 +94,7 @@ fn judges<S: Scheme>(
     scheme: &S,
     parts: (&PublicKey, &SignatureBox),
     data: &[u8],
-    outcome: &str,
+    outcome: Outcome,
     said: &[u8],
 ) -> bool {
     let wanted = Wanted {
@@ -138,7 +140,7 @@ fn is_exact(alloc: Global, worked: Worked, parts: (&PublicKey, &SignatureBox)) -
     let signature = with_zeros(&worked.tied);
     let mut comment_signature = with_zeros(&worked.comment_tied);
     let exact = TwoSignatures::new(worked.digest, signature, comment_signature);
-    let is_accepted = judges(alloc, &exact, parts, worked.data, "accepted", worked.said);
+    let is_accepted = judges(alloc, &exact, parts, worked.data, Accepted, worked.said);
     comment_signature[63] ^= 1;
     let changed = TwoSignatures::new(worked.digest, signature, comment_signature);
     is_accepted && judges(alloc, &changed, parts, worked.data, COMMENT_REFUSED, b"")
@@ -147,7 +149,7 @@ fn is_exact(alloc: Global, worked: Worked, parts: (&PublicKey, &SignatureBox)) -
 // Whether the box is accepted under the toy for its data alone.
 fn is_accepted(alloc: Global, worked: Worked, parts: (&PublicKey, &SignatureBox)) -> bool {
     let toy = ToyScheme::new();
-    judges(alloc, &toy, parts, worked.data, "accepted", worked.said)
+    judges(alloc, &toy, parts, worked.data, Accepted, worked.said)
         && judges(alloc, &toy, parts, b"x", REFUSED, b"")
 }
 
@@ -158,7 +160,7 @@ fn has_bones(alloc: Global, worked: Worked, pk: &PublicKey, signature_box: Signa
     let recorded = is_record(&bones.to_bytes(alloc), &record);
     let bare = SignatureBox::from_bones(bones);
     let toy = ToyScheme::new();
-    recorded && judges(alloc, &toy, (pk, &bare), worked.data, "accepted", SAID_BARE)
+    recorded && judges(alloc, &toy, (pk, &bare), worked.data, Accepted, SAID_BARE)
 }
 
 // Whether the box is as it was worked out.
@@ -230,8 +232,8 @@ fn has_byte_95(alloc: Global, signature_box: &SignatureBox) -> Result<bool> {
     let exact = TwoSignatures::new(DIGEST_OF_ABC, with_zeros(&TIED_TO_ABC), comment_signature);
     let toy = ToyScheme::new();
     let parts = (&pk, signature_box);
-    let tied = judges(alloc, &exact, parts, b"abc", "accepted", SAID);
-    Ok(tied && judges(alloc, &toy, parts, b"abc", "accepted", SAID))
+    let tied = judges(alloc, &exact, parts, b"abc", Accepted, SAID);
+    Ok(tied && judges(alloc, &toy, parts, b"abc", Accepted, SAID))
 }
 
 // Whether it is so where the data and the random bytes come from these sources.
@@ -272,7 +274,7 @@ fn leaves(
     record: &[u8; 158],
     reads: u64,
     random_bytes: usize,
-    expected: &str,
+    expected: Outcome,
     left: usize,
 ) -> Result<bool> {
     let secret = SecretKey::from_bytes(record)?;
@@ -280,7 +282,7 @@ fn leaves(
     let mut random = FixedRandom::new(front(&drawn, random_bytes));
     let mut source = FailsAfter::new(b"abc", reads);
     let answer = signed_from(alloc, None, &secret, &mut source, BY_DEFAULT, &mut random);
-    let came = comes_to(alloc, &answer, expected);
+    let came = comes_to(&answer, expected);
     Ok(came && are_left(&mut random, left))
 }
 
@@ -290,7 +292,7 @@ fn leaving<A: Abort>(
     alloc: Global,
     record: &[u8; 158],
     (reads, random_bytes): (u64, usize),
-    expected: &str,
+    expected: Outcome,
     left: usize,
 ) {
     let came = leaves(alloc, record, reads, random_bytes, expected, left);
@@ -304,9 +306,9 @@ fn leaving<A: Abort>(
 fn signing_is_refused_in_its_order(rt: HostRuntime) {
     let alloc = rt.alloc();
     let without_checksum = secret_record(b"\0\0", &[0; 32]);
-    leaving(&rt, alloc, &without_checksum, (4, 128), "accepted", 0);
+    leaving(&rt, alloc, &without_checksum, (4, 128), Accepted, 0);
     let opened = secret_record(b"Sc", &CHECKSUM);
-    leaving(&rt, alloc, &opened, (4, 128), "accepted", 0);
+    leaving(&rt, alloc, &opened, (4, 128), Accepted, 0);
     let sealed = secret_record(b"Sc", &[0; 32]);
     leaving(&rt, alloc, &sealed, (4, 128), SEALED, 128);
     leaving(&rt, alloc, &sealed, (0, 0), SEALED, 0);
@@ -354,13 +356,13 @@ fn is_tested<R: Source>(
     alloc: Global,
     record: &[u8; 42],
     data: &mut R,
-    expected: &str,
+    expected: Outcome,
 ) -> Result<bool> {
     let sk = key_a()?;
     let pk = PublicKey::from_bytes(record)?;
     let mut random = FixedRandom::new(&ZEROS);
     let answer = signed_from(alloc, Some(&pk), &sk, data, COMMENTED, &mut random);
-    Ok(comes_to(alloc, &answer, expected))
+    Ok(comes_to(&answer, expected))
 }
 
 // The 32 bytes of a public key that is passed in are tested, and never its identifier: its own one,
@@ -369,15 +371,15 @@ fn is_tested<R: Source>(
 fn a_given_public_key_is_tested_by_its_bytes(rt: HostRuntime) {
     let alloc = rt.alloc();
     for (identifier, bytes, expected) in [
-        (IDENTIFIER, PUBLIC_BYTES, "accepted"),
-        (OTHER_IDENTIFIER, PUBLIC_BYTES, "accepted"),
+        (IDENTIFIER, PUBLIC_BYTES, Accepted),
+        (OTHER_IDENTIFIER, PUBLIC_BYTES, Accepted),
         (OTHER_IDENTIFIER, [0x5b; 32], OTHER_GIVEN),
     ] {
         let record = public_record(&identifier, &bytes);
         let whole = is_tested(alloc, &record, &mut SliceSource::new(b"abc"), expected);
-        assert!(rt; holds(&whole), "at {expected}");
+        assert!(rt; holds(&whole), "at {expected:?}");
         let bytes = is_tested(alloc, &record, &mut OneByOne::new(b"abc"), expected);
-        assert!(rt; holds(&bytes), "at {expected}");
+        assert!(rt; holds(&bytes), "at {expected:?}");
     }
 }
 
@@ -419,7 +421,7 @@ fn is_told_of(
     parts: (&PublicKey, &SignatureBox),
     quiet: bool,
     room: usize,
-    outcome: &str,
+    outcome: Outcome,
     said: usize,
 ) -> bool {
     let sinks = Sinks {
@@ -442,7 +444,7 @@ fn is_told_of(
 }
 
 // Whether it is so of the box of `abc`.
-fn is_told(alloc: Global, quiet: bool, room: usize, outcome: &str, said: usize) -> Result<bool> {
+fn is_told(alloc: Global, quiet: bool, room: usize, outcome: Outcome, said: usize) -> Result<bool> {
     let made = signed(alloc, b"abc", COMMENTED, &ZEROS)?;
     let pk = public_a()?;
     Ok(is_told_of(alloc, (&pk, &made), quiet, room, outcome, said))
@@ -453,8 +455,8 @@ fn failing_status_of_signed_boxes_is_told(rt: HostRuntime) {
     for (quiet, room, expected, said) in [
         (false, 50usize, UNWRITTEN, 50usize),
         (false, 59, UNWRITTEN, 59),
-        (false, 60, "accepted", 60),
-        (true, 0, "accepted", 0),
+        (false, 60, Accepted, 60),
+        (true, 0, Accepted, 0),
     ] {
         let told = is_told(rt.alloc(), quiet, room, expected, said);
         assert!(rt; holds(&told), "room for {room}");
@@ -486,7 +488,7 @@ fn is_exemplary(alloc: Global) -> Result<bool> {
 // Whether the example refuses another public key.
 fn is_exemplary_of_another(alloc: Global) -> Result<bool> {
     let other = PublicKey::from_bytes(&public_record(&IDENTIFIER, &[0x5b; 32]))?;
-    Ok(comes_to(alloc, &example(alloc, &other), REFUSED))
+    Ok(comes_to(&example(alloc, &other), REFUSED))
 }
 
 // The example of a caller, with its own public key and with another one.

@@ -6,10 +6,15 @@ use minisign::Result;
 use minisign_base::devices::random_sources::FixedRandom;
 use minisign_base::devices::sinks::VecSink;
 use minisign_base::devices::sources::Source;
+use minisign_base::faults::NamedFault::{
+    MissingEncodedSecretKey, MissingSecretKeyComment, ReadingFailed, SecretKeyNotBase64,
+    WrongPassword,
+};
 use minisign_base::prompt::Prompt;
 use minisign_base::toy::ToyScheme;
 use minisign_examples::updating::check_update;
 use minisign_fixtures::devices::sources::{FailsAfter, OneByOne};
+use minisign_fixtures::outcomes::Outcome::{self, Refused};
 use minisign_fixtures::outcomes::{comes_to, holds};
 use minisign_fixtures::prompts::{handed, typed};
 use minisign_fixtures::texts::{KEY_TEXT, SEALED, SECRET_TEXT, SIGNATURE_TEXT};
@@ -73,40 +78,40 @@ fn is_refused(
     sk_text: &str,
     password: Option<String>,
     reads: u64,
-    expected: &str,
+    expected: Outcome,
     told: &str,
 ) -> bool {
     let mut prompt = typed(alloc, b"password\n");
     let mut data = FailsAfter::new(b"abc", reads);
     let refused = signed(alloc, sk_text, password, &mut prompt, &mut data);
-    let came = comes_to(alloc, &refused, expected);
+    let came = comes_to(&refused, expected);
     came && is_told(&prompt, told)
 }
 
 // Asserts that the text is refused so before anything is read.
-fn refuses<A: Abort>(rt: &A, alloc: Global, sk_text: &str, expected: &str) {
+fn refuses<A: Abort>(rt: &A, alloc: Global, sk_text: &str, expected: Outcome) {
     let came = is_refused(alloc, sk_text, None, 0, expected, "");
-    assert!(rt; came, "at {expected}");
+    assert!(rt; came, "at {expected:?}");
 }
 
 // Whether a wrong password that is passed in is refused before anything is read.
 fn is_wrong(alloc: Global) -> Result<bool> {
     let wrong = handed(alloc, Some("another"))?;
-    let expected = "Verify: Wrong password for that key";
+    let expected = Refused(WrongPassword);
     Ok(is_refused(alloc, SEALED, wrong, 0, expected, ""))
 }
 
 #[test]
 fn a_text_is_refused_before_anything_is_read(rt: HostRuntime) {
     let alloc = rt.alloc();
-    refuses(&rt, alloc, "", "Io: Missing comment in secret key");
-    refuses(&rt, alloc, "c\n", "Io: Missing encoded key in secret key");
-    refuses(&rt, alloc, "c\n!\n", "Encoding: invalid base64");
+    refuses(&rt, alloc, "", Refused(MissingSecretKeyComment));
+    refuses(&rt, alloc, "c\n", Refused(MissingEncodedSecretKey));
+    refuses(&rt, alloc, "c\n!\n", Refused(SecretKeyNotBase64));
     assert!(rt; holds(&is_wrong(alloc)));
 }
 
 #[test]
 fn a_failing_source_comes_after_the_prompt(rt: HostRuntime) {
-    let came = is_refused(rt.alloc(), SEALED, None, 2, "Io: reading failed", SAID);
+    let came = is_refused(rt.alloc(), SEALED, None, 2, Refused(ReadingFailed), SAID);
     assert!(rt; came);
 }

@@ -4,12 +4,20 @@
 
 use crate::calls::{COPYING, Said, Wanted, read_box, signed, signed_by_bytes, texts_judge};
 use minisign::{PublicKey, Result, Signature, SignatureBones, SignatureBox};
+use minisign_base::faults::NamedFault::{
+    CommentSignatureRefused, MissingEncodedPublicKey, MissingGlobalSignature,
+    MissingPublicKeyComment, MissingSignature, MissingTrustedComment, MissingUntrustedComment,
+    RecordTooShort, SignatureBoxIncomplete, SignatureNotBase64, SignatureRefused,
+    TrustedCommentAbsent, TrustedCommentPrefix, UnsupportedSignatureAlgorithm,
+    UntrustedCommentPrefix,
+};
 use minisign_base::toy::ToyScheme;
 use minisign_examples::updating::check_update;
 use minisign_fixtures::keys::{
     IDENTIFIER, OTHER_IDENTIFIER, PUBLIC_BYTES, TIED_TO_ABC, public_record, signature_record,
 };
-use minisign_fixtures::outcomes::{beginning, comes_to, holds, is_record, is_text};
+use minisign_fixtures::outcomes::Outcome::{self, Accepted, Refused};
+use minisign_fixtures::outcomes::{OTHER_KEY, beginning, comes_to, holds, is_record, is_text};
 use minisign_fixtures::texts::{KEY_TEXT, SAID, SIGNATURE_TEXT};
 use std::alloc::Global;
 use std::process::Abort;
@@ -21,35 +29,32 @@ const SIGNED: &str =
 const COMMENT_SIGNED: &str =
     "AAAAAAAAAAAAAAAAAAAAAAAAAAAAAAAAAAAAAAAAAACzB2AGsrc0IKh1QmjaITp8VPKlvLOrVu3yMT2CD/878g==";
 
-const NO_FIRST: &str = "Io: Missing untrusted comment";
+const NO_FIRST: Outcome = Refused(MissingUntrustedComment);
 
-const NO_SECOND: &str = "Io: Missing signature";
+const NO_SECOND: Outcome = Refused(MissingSignature);
 
-const NO_THIRD: &str = "Io: Missing trusted comment";
+const NO_THIRD: Outcome = Refused(MissingTrustedComment);
 
-const NO_FOURTH: &str = "Io: Missing global signature";
+const NO_FOURTH: Outcome = Refused(MissingGlobalSignature);
 
-const UNTRUSTED: &str = "Verify: Untrusted comment must start with: untrusted comment: ";
+const UNTRUSTED: Outcome = Refused(UntrustedCommentPrefix);
 
-const TRUSTED: &str = "Verify: Trusted comment should start with: trusted comment: ";
+const TRUSTED: Outcome = Refused(TrustedCommentPrefix);
 
-const NOT_BASE64: &str = "Io: invalid base64";
+const NOT_BASE64: Outcome = Refused(SignatureNotBase64);
 
-const TOO_SHORT: &str = "Io: failed to fill whole buffer";
+const TOO_SHORT: Outcome = Refused(RecordTooShort);
 
-const UNSUPPORTED: &str = "Verify: Unsupported signature algorithm";
+const UNSUPPORTED: Outcome = Refused(UnsupportedSignatureAlgorithm);
 
-const REFUSED: &str = "Verify: Signature verification failed";
+const REFUSED: Outcome = Refused(SignatureRefused);
 
-const COMMENT_REFUSED: &str = "Verify: Comment signature verification failed";
-
-const OTHER_KEY: &str =
-    "Verify: Signature key id: 0807060504030201 is different from public key: E7620F1842B4E81F";
+const COMMENT_REFUSED: Outcome = Refused(CommentSignatureRefused);
 
 // Whether verifying the data with two texts has this outcome, and where it is accepted the trusted
 // comment `t` is said and the data is copied: at once and one byte a read.
-fn are_judged(alloc: Global, texts: (&str, &str), data: &[u8], outcome: &str) -> bool {
-    let accepted = outcome == "accepted";
+fn are_judged(alloc: Global, texts: (&str, &str), data: &[u8], outcome: Outcome) -> bool {
+    let accepted = outcome == Accepted;
     let wanted = Wanted {
         outcome,
         said: if accepted { SAID } else { b"" },
@@ -59,14 +64,14 @@ fn are_judged(alloc: Global, texts: (&str, &str), data: &[u8], outcome: &str) ->
 }
 
 // Whether the text has this outcome for `abc` under key A.
-fn is_judged(alloc: Global, sig_text: &str, expected: &str) -> bool {
+fn is_judged(alloc: Global, sig_text: &str, expected: Outcome) -> bool {
     are_judged(alloc, (KEY_TEXT, sig_text), b"abc", expected)
 }
 
 // Asserts it.
-fn judges<A: Abort>(rt: &A, alloc: Global, sig_text: &str, expected: &str) {
+fn judges<A: Abort>(rt: &A, alloc: Global, sig_text: &str, expected: Outcome) {
     let came = is_judged(alloc, sig_text, expected);
-    assert!(rt; came, "at {sig_text} {expected}");
+    assert!(rt; came, "at {sig_text} {expected:?}");
 }
 
 // The comments of the worked text.
@@ -166,15 +171,15 @@ fn a_trusted_comment_with_spaces_does_not_survive(rt: HostRuntime) {
     assert!(rt; holds(&do_not_survive(rt.alloc())));
 }
 
-const INCOMPLETE: &str = "Misc: Incomplete SignatureBox: trusted comment is missing";
+const INCOMPLETE: Outcome = Refused(SignatureBoxIncomplete);
 
-const ABSENT: &str = "Misc: trusted comment is not present";
+const ABSENT: Outcome = Refused(TrustedCommentAbsent);
 
 // Whether the box has no text, whichever way it is asked.
 fn is_without_text(alloc: Global, bare: &SignatureBox) -> bool {
-    let text = comes_to(alloc, &bare.to_string(alloc), INCOMPLETE);
-    let bytes = comes_to(alloc, &bare.to_bytes(alloc), INCOMPLETE);
-    let copy = comes_to(alloc, &text_of_a_copy(alloc, bare), INCOMPLETE);
+    let text = comes_to(&bare.to_string(alloc), INCOMPLETE);
+    let bytes = comes_to(&bare.to_bytes(alloc), INCOMPLETE);
+    let copy = comes_to(&text_of_a_copy(alloc, bare), INCOMPLETE);
     text && bytes && copy
 }
 
@@ -182,7 +187,7 @@ fn is_without_text(alloc: Global, bare: &SignatureBox) -> bool {
 fn has_no_text(alloc: Global) -> Result<bool> {
     let record = signature_record(b"ED", &IDENTIFIER, &TIED_TO_ABC);
     let bare = SignatureBox::from_bones(SignatureBones::from_bytes(&record)?);
-    let comment = comes_to(alloc, &bare.trusted_comment(alloc), ABSENT);
+    let comment = comes_to(&bare.trusted_comment(alloc), ABSENT);
     Ok(comment && is_without_text(alloc, &bare))
 }
 
@@ -201,7 +206,7 @@ fn beginnings_of_a_signature_text(rt: HostRuntime) {
             123..=141 => NO_FOURTH,
             142..=228 if (len - 141) % 4 == 0 => COMMENT_REFUSED,
             142..=228 => NOT_BASE64,
-            _ => "accepted",
+            _ => Accepted,
         };
         let text = beginning(SIGNATURE_TEXT, len);
         assert!(rt; is_judged(rt.alloc(), text, expected), "at {len}");
@@ -212,15 +217,15 @@ fn beginnings_of_a_signature_text(rt: HostRuntime) {
 const FIRST: &str = "untrusted comment: c";
 
 // Whether a text of these lines has this outcome, of which the fourth is `!`.
-fn is_judged_by_lines(alloc: Global, second: &str, third: &str, expected: &str) -> Result<bool> {
+fn is_judged_by_lines(alloc: Global, second: &str, third: &str, expected: Outcome) -> Result<bool> {
     let text = format!(in alloc; "{FIRST}\n{second}\n{third}\n!")?;
     Ok(is_judged(alloc, text.as_str(), expected))
 }
 
 // Asserts it.
-fn judges_lines<A: Abort>(rt: &A, alloc: Global, second: &str, third: &str, expected: &str) {
+fn judges_lines<A: Abort>(rt: &A, alloc: Global, second: &str, third: &str, expected: Outcome) {
     let came = is_judged_by_lines(alloc, second, third, expected);
-    assert!(rt; holds(&came), "at {expected}");
+    assert!(rt; holds(&came), "at {expected:?}");
 }
 
 #[test]
@@ -259,7 +264,7 @@ fn is_odd(
     end: &str,
     before: &str,
     comment_signed: &str,
-    expected: &str,
+    expected: Outcome,
 ) -> Result<bool> {
     let text = format!(in alloc;
         "{front}untrusted comment: c{end}{SIGNED}{end}trusted comment: {before}t{end}{comment_signed}{end}fifth"
@@ -275,14 +280,14 @@ fn judges_odd<A: Abort>(
     front: &str,
     end: &str,
     before: &str,
-    expected: &str,
+    expected: Outcome,
 ) {
     let odd = is_odd(alloc, front, end, before, COMMENT_SIGNED, expected);
     assert!(rt; holds(&odd), "at {front:?} {end:?} {before:?}");
 }
 
 // Asserts that a text with this fourth line has this outcome.
-fn judges_fourth<A: Abort>(rt: &A, alloc: Global, comment_signed: &str, expected: &str) {
+fn judges_fourth<A: Abort>(rt: &A, alloc: Global, comment_signed: &str, expected: Outcome) {
     let odd = is_odd(alloc, "", "\n", "", comment_signed, expected);
     assert!(rt; holds(&odd), "at {comment_signed:?}");
 }
@@ -290,12 +295,12 @@ fn judges_fourth<A: Abort>(rt: &A, alloc: Global, comment_signed: &str, expected
 #[test]
 fn odd_signature_texts(rt: HostRuntime) {
     let alloc = rt.alloc();
-    judges_odd(&rt, alloc, "", "\n", "", "accepted");
-    judges_odd(&rt, alloc, "", "\r\n", "", "accepted");
-    judges_odd(&rt, alloc, "", "\r\r\n", "", "accepted");
-    judges_odd(&rt, alloc, "", " \t\n", " ", "accepted");
+    judges_odd(&rt, alloc, "", "\n", "", Accepted);
+    judges_odd(&rt, alloc, "", "\r\n", "", Accepted);
+    judges_odd(&rt, alloc, "", "\r\r\n", "", Accepted);
+    judges_odd(&rt, alloc, "", " \t\n", " ", Accepted);
     judges_odd(&rt, alloc, "\n", "\n", "", UNTRUSTED);
-    judges_odd(&rt, alloc, "", "\n", "\u{a0}", "accepted");
+    judges_odd(&rt, alloc, "", "\n", "\u{a0}", Accepted);
     judges_odd(&rt, alloc, "", "\n", "\u{200b}", COMMENT_REFUSED);
 }
 
@@ -308,9 +313,9 @@ fn odd_fourth_lines(rt: HostRuntime) {
         "AAAAAAAAAAAAAAAAAAAAAAAAAAAAAAAAAAAAAAAAAPKzB2AGsrc0IKh1QmjaITp8VPKlvLOrVu3yMT2CD/87";
     let longer =
         "AAAAAAAAAAAAAAAAAAAAAAAAAAAAAAAAAAAAAAAAAPKzB2AGsrc0IKh1QmjaITp8VPKlvLOrVu3yMT2CD/87AAc=";
-    judges_fourth(&rt, alloc, changed, "accepted");
+    judges_fourth(&rt, alloc, changed, Accepted);
     judges_fourth(&rt, alloc, cut, COMMENT_REFUSED);
-    judges_fourth(&rt, alloc, longer, "accepted");
+    judges_fourth(&rt, alloc, longer, Accepted);
     judges_fourth(&rt, alloc, "", COMMENT_REFUSED);
     judges_fourth(&rt, alloc, " \u{a0}", COMMENT_REFUSED);
 }
@@ -322,7 +327,7 @@ fn is_cut(alloc: Global) -> Result<bool> {
     let text = format!(in alloc;
         "untrusted comment: c\n{longer}\ntrusted comment: t\n{COMMENT_SIGNED}\n"
     )?;
-    let accepted = is_judged(alloc, text.as_str(), "accepted");
+    let accepted = is_judged(alloc, text.as_str(), Accepted);
     let read = read_box(alloc, text.as_str())?;
     let written = is_text(&read.to_string(alloc), SIGNATURE_TEXT);
     Ok(accepted && written)
@@ -346,34 +351,40 @@ fn is_of_another_key(alloc: Global) -> Result<bool> {
 }
 
 // Asserts that the data with two texts has this outcome.
-fn judges_texts<A: Abort>(rt: &A, alloc: Global, texts: (&str, &str), data: &[u8], expected: &str) {
+fn judges_texts<A: Abort>(
+    rt: &A,
+    alloc: Global,
+    texts: (&str, &str),
+    data: &[u8],
+    expected: Outcome,
+) {
     let judged = are_judged(alloc, texts, data, expected);
-    assert!(rt; judged, "at {expected}");
+    assert!(rt; judged, "at {expected:?}");
 }
 
 #[test]
 fn verdicts_of_two_texts(rt: HostRuntime) {
     let alloc = rt.alloc();
     let worked = (KEY_TEXT, SIGNATURE_TEXT);
-    judges_texts(&rt, alloc, worked, b"abc", "accepted");
+    judges_texts(&rt, alloc, worked, b"abc", Accepted);
     judges_texts(&rt, alloc, worked, b"abd", REFUSED);
     judges_texts(&rt, alloc, worked, b"", REFUSED);
-    let no_comment = "Io: Missing comment in public key";
+    let no_comment = Refused(MissingPublicKeyComment);
     judges_texts(&rt, alloc, ("", ""), b"abc", no_comment);
-    let no_key = "Io: Missing encoded key in public key";
+    let no_key = Refused(MissingEncodedPublicKey);
     judges_texts(&rt, alloc, ("a", ""), b"abc", no_key);
     judges_texts(&rt, alloc, (KEY_TEXT, ""), b"abc", NO_FIRST);
     assert!(rt; holds(&is_of_another_key(alloc)));
 }
 
 // Whether checking the update with the worked texts comes out so.
-fn is_checked(alloc: Global, update: &[u8], expected: &str) -> bool {
+fn is_checked(alloc: Global, update: &[u8], expected: Outcome) -> bool {
     let told = check_update(alloc, &ToyScheme::new(), KEY_TEXT, SIGNATURE_TEXT, update);
-    comes_to(alloc, &told, expected)
+    comes_to(&told, expected)
 }
 
 #[test]
 fn an_update_is_checked_by_its_texts(rt: HostRuntime) {
-    assert!(rt; is_checked(rt.alloc(), b"abc", "accepted"));
+    assert!(rt; is_checked(rt.alloc(), b"abc", Accepted));
     assert!(rt; is_checked(rt.alloc(), b"abd", REFUSED));
 }

@@ -7,14 +7,16 @@ use crate::calls::{
 use minisign::{PublicKey, Result, SecretKey, SignatureBox};
 use minisign_base::devices::random_sources::FixedRandom;
 use minisign_base::devices::sources::SliceSource;
+use minisign_base::faults::NamedFault::SignatureRefused;
 use minisign_base::toy::ToyScheme;
+use minisign_fixtures::outcomes::Outcome::{self, Accepted, Refused};
 use minisign_fixtures::outcomes::{front, holds, is_text};
 use minisign_fixtures::prompts::typed_at_once;
 use minisign_fixtures::texts::{KEY_TEXT, SAID, SECRET_TEXT};
 use std::alloc::Global;
 use std::process::Abort;
 
-const REFUSED: &str = "Verify: Signature verification failed";
+const REFUSED: Outcome = Refused(SignatureRefused);
 
 const ZEROS: [u8; 128] = [0; 128];
 
@@ -43,7 +45,7 @@ fn comes_out(alloc: Global, texts: (&str, &str), data: &[u8], wanted: Wanted) ->
 // Whether the text over the data is accepted, with the trusted comment `t`, and its data copied.
 fn is_accepted(alloc: Global, sig_text: &str, data: &[u8]) -> bool {
     let wanted = Wanted {
-        outcome: "accepted",
+        outcome: Accepted,
         said: SAID,
         copied: data,
     };
@@ -66,7 +68,7 @@ fn is_said(alloc: Global, texts: (&str, &str), comment: &str) -> Result<bool> {
         "Signature and comment signature verified\nTrusted comment: {comment}\n"
     )?;
     let wanted = Wanted {
-        outcome: "accepted",
+        outcome: Accepted,
         said: told.as_str().as_bytes(),
         copied: b"abc",
     };

@@ -3,7 +3,9 @@
 
 use crate::calls::{Wanted, read_box, texts_judge};
 use minisign::{PublicKey, Result, Signature, VerifyOptions};
+use minisign_base::faults::NamedFault::{LegacyNotAccepted, SignatureRefused};
 use minisign_base::toy::{ToyScheme, Triple};
+use minisign_fixtures::outcomes::Outcome::{self, Accepted, Refused};
 use minisign_fixtures::outcomes::{holds, is_text};
 use std::alloc::Global;
 use std::process::Abort;
@@ -124,7 +126,7 @@ fn is_judged(
     text: &str,
     data: &[u8],
     allow_legacy: bool,
-    outcome: &str,
+    outcome: Outcome,
 ) -> Result<bool> {
     let pk_text = key_text(alloc)?;
     let scheme = ToyScheme::with_table(&TABLE);
@@ -146,22 +148,22 @@ fn judges<A: Abort>(
     text: &str,
     data: &[u8],
     allow_legacy: bool,
-    outcome: &str,
+    outcome: Outcome,
 ) {
     let judged = is_judged(alloc, text, data, allow_legacy, outcome);
-    assert!(rt; holds(&judged), "at {outcome} {allow_legacy}");
+    assert!(rt; holds(&judged), "at {outcome:?} {allow_legacy}");
 }
 
 #[test]
 fn texts_of_the_upstream_tool(rt: HostRuntime) {
     let alloc = rt.alloc();
-    let legacy = "Verify: Legacy signatures are not accepted";
-    let refused = "Verify: Signature verification failed";
-    judges(&rt, alloc, LEGACY_TEXT, b"test", true, "accepted");
+    let legacy = Refused(LegacyNotAccepted);
+    let refused = Refused(SignatureRefused);
+    judges(&rt, alloc, LEGACY_TEXT, b"test", true, Accepted);
     judges(&rt, alloc, LEGACY_TEXT, b"test", false, legacy);
     judges(&rt, alloc, LEGACY_TEXT, b"test2", true, refused);
-    judges(&rt, alloc, PREHASHED_TEXT, b"test", false, "accepted");
-    judges(&rt, alloc, PREHASHED_TEXT, b"test", true, "accepted");
+    judges(&rt, alloc, PREHASHED_TEXT, b"test", false, Accepted);
+    judges(&rt, alloc, PREHASHED_TEXT, b"test", true, Accepted);
     judges(&rt, alloc, PREHASHED_TEXT, b"test2", false, refused);
 }
 

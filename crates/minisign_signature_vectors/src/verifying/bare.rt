@@ -3,13 +3,18 @@
 use crate::calls::{SAYING, Sinks, Wanted, ample, records_come_out};
 use minisign::{Result, VerifyOptions};
 use minisign_base::devices::sources::{ReaderSource, Rereader, SliceSource};
+use minisign_base::faults::NamedFault::{
+    LegacyNotAccepted, ReadingFailed, RecordTooShort, SignatureRefused,
+    UnsupportedSignatureAlgorithm, WritingFailed,
+};
 use minisign_fixtures::devices::sinks::LimitedSink;
 use minisign_fixtures::devices::sources::{FailsAfter, OneByOne};
 use minisign_fixtures::keys::{
     IDENTIFIER, OTHER_IDENTIFIER, PUBLIC_BYTES, TIED_TO_ABC, TIED_TO_LEGACY_ABC, TIED_TO_NOTHING,
     public_record, signature_record,
 };
-use minisign_fixtures::outcomes::front;
+use minisign_fixtures::outcomes::Outcome::{self, Accepted, Refused};
+use minisign_fixtures::outcomes::{OTHER_KEY, front};
 use std::alloc::Global;
 use std::io;
 use std::io::Read;
@@ -18,18 +23,15 @@ use std::test::Fail;
 
 const VERIFIED: &[u8] = b"Signature and comment signature verified\n";
 
-const REFUSED: &str = "Verify: Signature verification failed";
+const REFUSED: Outcome = Refused(SignatureRefused);
 
-const LEGACY: &str = "Verify: Legacy signatures are not accepted";
+const LEGACY: Outcome = Refused(LegacyNotAccepted);
 
-const UNSUPPORTED: &str = "Verify: Unsupported signature algorithm";
+const UNSUPPORTED: Outcome = Refused(UnsupportedSignatureAlgorithm);
 
-const TOO_SHORT: &str = "Io: failed to fill whole buffer";
+const TOO_SHORT: Outcome = Refused(RecordTooShort);
 
-const UNREAD: &str = "Io: reading failed";
-
-const OTHER_KEY: &str =
-    "Verify: Signature key id: 0807060504030201 is different from public key: E7620F1842B4E81F";
+const UNREAD: Outcome = Refused(ReadingFailed);
 
 // Behind 32 zeros the signature of the digest of the long message.
 const TIED_TO_LONG: [u8; 32] = [
@@ -69,9 +71,9 @@ fn comes_to<R: Rereader>(
     records: (&[u8], &[u8]),
     data: &mut R,
     allow_legacy: bool,
-    outcome: &str,
+    outcome: Outcome,
 ) -> bool {
-    let said = if outcome == "accepted" { VERIFIED } else { b"" };
+    let said = if outcome == Accepted { VERIFIED } else { b"" };
     let wanted = Wanted {
         outcome,
         said,
@@ -87,7 +89,7 @@ fn is_judged(
     records: (&[u8], &[u8]),
     data: &[u8],
     allow_legacy: bool,
-    outcome: &str,
+    outcome: Outcome,
 ) -> bool {
     let mut whole = SliceSource::new(data);
     let mut bytes = OneByOne::new(data);
@@ -112,10 +114,10 @@ fn judges<A: Abort>(
     records: (&[u8], &[u8]),
     data: &[u8],
     allow_legacy: bool,
-    outcome: &str,
+    outcome: Outcome,
 ) {
     let came = is_judged(alloc, records, data, allow_legacy, outcome);
-    assert!(rt; came, "at {data:?} {allow_legacy} {outcome}");
+    assert!(rt; came, "at {data:?} {allow_legacy} {outcome:?}");
 }
 
 // Asserts that a signature under key A's identifier has this outcome under its key.
@@ -125,7 +127,7 @@ fn judges_signature<A: Abort>(
     signature: &[u8],
     data: &[u8],
     allow_legacy: bool,
-    outcome: &str,
+    outcome: Outcome,
 ) {
     judges(
         rt,
@@ -141,15 +143,15 @@ fn judges_signature<A: Abort>(
 fn bare_signatures_are_judged(rt: HostRuntime) {
     let alloc = rt.alloc();
     let good = signature(b"ED", &TIED_TO_ABC);
-    judges_signature(&rt, alloc, &good, b"abc", false, "accepted");
-    judges_signature(&rt, alloc, &good, b"abc", true, "accepted");
+    judges_signature(&rt, alloc, &good, b"abc", false, Accepted);
+    judges_signature(&rt, alloc, &good, b"abc", true, Accepted);
     judges_signature(&rt, alloc, &good, b"", false, REFUSED);
     judges_signature(&rt, alloc, &good, b"abd", false, REFUSED);
     let mut changed = good;
     changed[73] = 0xa9;
     judges_signature(&rt, alloc, &changed, b"abc", false, REFUSED);
     let of_nothing = signature(b"ED", &TIED_TO_NOTHING);
-    judges_signature(&rt, alloc, &of_nothing, b"", false, "accepted");
+    judges_signature(&rt, alloc, &of_nothing, b"", false, Accepted);
 }
 
 #[test]
@@ -160,7 +162,7 @@ fn bare_legacy_signatures_are_judged(rt: HostRuntime) {
     judges_signature(&rt, alloc, &named, b"abc", true, REFUSED);
     let legacy = signature(b"Ed", &TIED_TO_LEGACY_ABC);
     judges_signature(&rt, alloc, &legacy, b"abc", false, LEGACY);
-    judges_signature(&rt, alloc, &legacy, b"abc", true, "accepted");
+    judges_signature(&rt, alloc, &legacy, b"abc", true, Accepted);
     judges_signature(&rt, alloc, &legacy, b"abd", true, REFUSED);
 }
 
@@ -196,8 +198,8 @@ fn longer_records_are_judged(rt: HostRuntime) {
     longer[..74].copy_from_slice(&good);
     let mut longer_key = [b'!'; 43];
     longer_key[..42].copy_from_slice(&key);
-    assert!(rt; is_judged(rt.alloc(), (&key, &longer), b"abc", false, "accepted"));
-    assert!(rt; is_judged(rt.alloc(), (&longer_key, &good), b"abc", false, "accepted"));
+    assert!(rt; is_judged(rt.alloc(), (&key, &longer), b"abc", false, Accepted));
+    assert!(rt; is_judged(rt.alloc(), (&longer_key, &good), b"abc", false, Accepted));
 }
 
 // The long message: byte number i is 7 i + i / 256 modulo 256.
@@ -218,7 +220,7 @@ fn a_long_message_is_judged(rt: HostRuntime) -> std::result::Result<(), Fail> {
     let message = long_message(alloc)?;
     let data = message.as_slice();
     let cut = front(data, LONG - 1);
-    assert!(rt; is_judged(alloc, (&key, &signature), data, false, "accepted"));
+    assert!(rt; is_judged(alloc, (&key, &signature), data, false, Accepted));
     assert!(rt; is_judged(alloc, (&key, &signature), cut, false, REFUSED));
     Ok(())
 }
@@ -230,7 +232,7 @@ fn judges_failing<A: Abort>(
     alloc: Global,
     records: (&[u8], &[u8]),
     reads: u64,
-    outcome: &str,
+    outcome: Outcome,
 ) {
     let mut data = FailsAfter::new(b"abc", reads);
     let came = comes_to(alloc, records, &mut data, true, outcome);
@@ -248,13 +250,13 @@ fn failing_sources_are_told_from_verdicts(rt: HostRuntime) {
     judges_failing(&rt, alloc, (&key, &prehashed), 0, UNREAD);
     judges_failing(&rt, alloc, (&key, &prehashed), 1, UNREAD);
     judges_failing(&rt, alloc, (&key, &prehashed), 3, UNREAD);
-    judges_failing(&rt, alloc, (&key, &prehashed), 4, "accepted");
+    judges_failing(&rt, alloc, (&key, &prehashed), 4, Accepted);
     judges_failing(&rt, alloc, (&other_key, &prehashed), 1, UNREAD);
     judges_failing(&rt, alloc, (&other_key, &prehashed), 3, UNREAD);
     judges_failing(&rt, alloc, (&other_key, &prehashed), 4, OTHER_KEY);
     let legacy = signature(b"Ed", &TIED_TO_LEGACY_ABC);
     judges_failing(&rt, alloc, (&key, &legacy), 1, UNREAD);
-    judges_failing(&rt, alloc, (&key, &legacy), 4, "accepted");
+    judges_failing(&rt, alloc, (&key, &legacy), 4, Accepted);
 }
 
 // A reader of std, which can't be marked, and one that breaks off.
@@ -264,13 +266,13 @@ fn readers_of_std_are_judged(rt: HostRuntime) {
     let key = public_record(&IDENTIFIER, &PUBLIC_BYTES);
     let good = signature(b"ED", &TIED_TO_ABC);
     let mut whole = ReaderSource::new(b"abc".as_slice());
-    assert!(rt; comes_to(alloc, (&key, &good), &mut whole, false, "accepted"));
+    assert!(rt; comes_to(alloc, (&key, &good), &mut whole, false, Accepted));
     let mut broken = ReaderSource::new(BreaksOff { reads: 0 });
     assert!(rt; comes_to(alloc, (&key, &good), &mut broken, false, UNREAD));
 }
 
 // Whether verifying over a status with this room, that can't be flushed, comes out so.
-fn is_told(alloc: Global, room: usize, outcome: &str, said: &[u8]) -> bool {
+fn is_told(alloc: Global, room: usize, outcome: Outcome, said: &[u8]) -> bool {
     let key = public_record(&IDENTIFIER, &PUBLIC_BYTES);
     let good = signature(b"ED", &TIED_TO_ABC);
     let mut data = SliceSource::new(b"abc");
@@ -290,10 +292,10 @@ fn is_told(alloc: Global, room: usize, outcome: &str, said: &[u8]) -> bool {
 #[test]
 fn failing_status_is_told(rt: HostRuntime) {
     let alloc = rt.alloc();
-    let failed = "Io: writing failed";
+    let failed = Refused(WritingFailed);
     assert!(rt; is_told(alloc, 5, failed, b"Signa"));
     assert!(rt; is_told(alloc, 40, failed, front(VERIFIED, 40)));
-    assert!(rt; is_told(alloc, 41, "accepted", VERIFIED));
+    assert!(rt; is_told(alloc, 41, Accepted, VERIFIED));
 }
 
 #[test]
@@ -302,7 +304,7 @@ fn a_quiet_run_says_nothing(rt: HostRuntime) {
     let good = signature(b"ED", &TIED_TO_ABC);
     let mut data = SliceSource::new(b"abc");
     let wanted = Wanted {
-        outcome: "accepted",
+        outcome: Accepted,
         said: b"",
         copied: b"",
     };

@@ -2,21 +2,25 @@
 
 use crate::calls::{COPYING, Sinks, Wanted, ample, records_come_out};
 use minisign_base::devices::sources::{ReaderSource, Rereader, SliceSource, Source};
+use minisign_base::faults::NamedFault::{
+    DataChanged, GoingBackFailed, SignatureRefused, WritingFailed,
+};
 use minisign_fixtures::devices::sinks::LimitedSink;
 use minisign_fixtures::devices::sources::{Changes, OneByOne};
 use minisign_fixtures::keys::{
     IDENTIFIER, PUBLIC_BYTES, TIED_TO_ABC, TIED_TO_LEGACY_ABC, public_record, signature_record,
 };
+use minisign_fixtures::outcomes::Outcome::{self, Accepted, Refused};
 use std::alloc::Global;
 use std::process::Abort;
 
 const VERIFIED: &[u8] = b"Signature and comment signature verified\n";
 
-const CHANGED: &str = "Verify: Data changed between verification and output";
+const CHANGED: Outcome = Refused(DataChanged);
 
-const REFUSED: &str = "Verify: Signature verification failed";
+const REFUSED: Outcome = Refused(SignatureRefused);
 
-const UNWRITTEN: &str = "Io: writing failed";
+const UNWRITTEN: Outcome = Refused(WritingFailed);
 
 // The two bare signatures over `abc`, and what is tied to their zeros.
 const PREHASHED: (&[u8; 2], &[u8; 32]) = (b"ED", &TIED_TO_ABC);
@@ -44,7 +48,7 @@ fn tells<A: Abort>(rt: &A, alloc: Global, first: &[u8], second: &[u8], wanted: W
 }
 
 // The same of `abc`, that is accepted: all that comes is copied.
-fn tells_of_abc<A: Abort>(rt: &A, alloc: Global, second: &[u8], outcome: &str) {
+fn tells_of_abc<A: Abort>(rt: &A, alloc: Global, second: &[u8], outcome: Outcome) {
     let wanted = Wanted {
         outcome,
         said: VERIFIED,
@@ -56,7 +60,7 @@ fn tells_of_abc<A: Abort>(rt: &A, alloc: Global, second: &[u8], outcome: &str) {
 #[test]
 fn the_second_pass_has_to_give_the_judged_data(rt: HostRuntime) {
     let alloc = rt.alloc();
-    tells_of_abc(&rt, alloc, b"abc", "accepted");
+    tells_of_abc(&rt, alloc, b"abc", Accepted);
     tells_of_abc(&rt, alloc, b"abd", CHANGED);
     tells_of_abc(&rt, alloc, b"ab", CHANGED);
     tells_of_abc(&rt, alloc, b"", CHANGED);
@@ -71,7 +75,7 @@ fn the_second_pass_has_to_give_the_judged_data(rt: HostRuntime) {
 // Whether `abc` is copied of a source of which two bytes were read.
 fn copies_the_rest<R: Rereader>(alloc: Global, data: &mut R) -> bool {
     let wanted = Wanted {
-        outcome: "accepted",
+        outcome: Accepted,
         said: VERIFIED,
         copied: b"abc",
     };
@@ -91,14 +95,14 @@ fn what_cannot_be_read_again_is_marked_in_vain(rt: HostRuntime) {
     let alloc = rt.alloc();
     let mut data = ReaderSource::new(b"abc".as_slice());
     let wanted = Wanted {
-        outcome: "Io: going back failed",
+        outcome: Refused(GoingBackFailed),
         said: b"",
         copied: b"",
     };
     assert!(rt; comes_out(alloc, PREHASHED, &mut data, ample(alloc), wanted));
     let mut data = ReaderSource::new(b"abc".as_slice());
     let wanted = Wanted {
-        outcome: "accepted",
+        outcome: Accepted,
         said: VERIFIED,
         copied: b"abc",
     };
@@ -110,7 +114,7 @@ fn what_cannot_be_read_again_is_marked_in_vain(rt: HostRuntime) {
 #[test]
 fn a_failing_output_holds_a_beginning(rt: HostRuntime) {
     let alloc = rt.alloc();
-    let rows: [((&[u8; 2], &[u8; 32]), &[u8], usize, &str, &[u8]); 5] = [
+    let rows: [((&[u8; 2], &[u8; 32]), &[u8], usize, Outcome, &[u8]); 5] = [
         (PREHASHED, b"abc", 2, UNWRITTEN, b"ab"),
         (PREHASHED, b"abc", 3, UNWRITTEN, b"abc"),
         (PREHASHED, b"abd", 3, CHANGED, b"abd"),

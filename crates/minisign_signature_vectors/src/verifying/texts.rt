@@ -12,10 +12,15 @@ use crate::texts::upstream::{
 use minisign::reading::read_to_end;
 use minisign::{Result, VerifyOptions};
 use minisign_base::devices::sources::{ReaderSource, Rereader, SliceSource, Source};
+use minisign_base::faults::NamedFault::{
+    CommentSignatureRefused, DataChanged, GoingBackFailed, LegacyNotAccepted,
+    MissingPublicKeyComment, MissingUntrustedComment, ReadingFailed, SignatureRefused,
+};
 use minisign_base::toy::{ToyScheme, Triple};
 use minisign_fixtures::devices::sinks::LimitedSink;
 use minisign_fixtures::devices::sources::{Changes, FailsAfter, OneByOne};
-use minisign_fixtures::outcomes::{holds, is_record};
+use minisign_fixtures::outcomes::Outcome::{self, Accepted, Refused};
+use minisign_fixtures::outcomes::{OTHER_KEY, holds, is_record};
 use minisign_fixtures::texts::{KEY_TEXT, LEGACY_TEXT, SAID, SIGNATURE_TEXT};
 use std::alloc::Global;
 use std::process::Abort;
@@ -31,22 +36,19 @@ const CHANGED_LEGACY_COMMENT: &str =
 const RENAMED_KEY_TEXT: &str =
     "untrusted comment: minisign public key: E7620F1842B4E81F\nRWQf6LRCGA9i51paWlpaWlpaWlpaWlpaWlpaWlpaWlpaWlpaWlpaWlpa\n";
 
-const NO_KEY: &str = "Io: Missing comment in public key";
+const NO_KEY: Outcome = Refused(MissingPublicKeyComment);
 
-const NO_SIGNATURE: &str = "Io: Missing untrusted comment";
+const NO_SIGNATURE: Outcome = Refused(MissingUntrustedComment);
 
-const OTHER_KEY: &str =
-    "Verify: Signature key id: 0807060504030201 is different from public key: E7620F1842B4E81F";
+const LEGACY: Outcome = Refused(LegacyNotAccepted);
 
-const LEGACY: &str = "Verify: Legacy signatures are not accepted";
+const REFUSED: Outcome = Refused(SignatureRefused);
 
-const REFUSED: &str = "Verify: Signature verification failed";
+const COMMENT_REFUSED: Outcome = Refused(CommentSignatureRefused);
 
-const COMMENT_REFUSED: &str = "Verify: Comment signature verification failed";
+const NOT_BACK: Outcome = Refused(GoingBackFailed);
 
-const NOT_BACK: &str = "Io: going back failed";
-
-const CHANGED: &str = "Verify: Data changed between verification and output";
+const CHANGED: Outcome = Refused(DataChanged);
 
 // Whether all comes out so under the toy: the answer, the status, the output, and what the source
 // still has ahead. A text that is refused leaves all of the data.
@@ -56,9 +58,9 @@ fn comes_out<R: Rereader>(
     data: &mut R,
     whole: &[u8],
     options: VerifyOptions,
-    outcome: &str,
+    outcome: Outcome,
 ) -> bool {
-    let accepted = outcome == "accepted";
+    let accepted = outcome == Accepted;
     let unread = outcome == NO_KEY || outcome == NO_SIGNATURE;
     let wanted = Wanted {
         outcome,
@@ -85,7 +87,7 @@ fn is_judged(
     texts: (&str, &str),
     whole: &[u8],
     allow_legacy: bool,
-    outcome: &str,
+    outcome: Outcome,
 ) -> bool {
     for (quiet, output) in [(false, false), (false, true), (true, false), (true, true)] {
         let options = VerifyOptions {
@@ -111,7 +113,7 @@ fn judges<A: Abort>(
     sig_text: &str,
     whole: &[u8],
     allow_legacy: bool,
-    outcome: &str,
+    outcome: Outcome,
 ) {
     judges_texts(
         rt,
@@ -130,19 +132,19 @@ fn judges_texts<A: Abort>(
     texts: (&str, &str),
     whole: &[u8],
     allow_legacy: bool,
-    outcome: &str,
+    outcome: Outcome,
 ) {
     let came = is_judged(alloc, texts, whole, allow_legacy, outcome);
-    assert!(rt; came, "at {whole:?} {allow_legacy} {outcome}");
+    assert!(rt; came, "at {whole:?} {allow_legacy} {outcome:?}");
 }
 
 // Where several conditions fail, the first is named.
 #[test]
 fn texts_are_judged_in_their_order(rt: HostRuntime) {
     let alloc = rt.alloc();
-    judges(&rt, alloc, SIGNATURE_TEXT, b"abc", false, "accepted");
-    judges(&rt, alloc, SIGNATURE_TEXT, b"abc", true, "accepted");
-    judges(&rt, alloc, LEGACY_TEXT, b"abc", true, "accepted");
+    judges(&rt, alloc, SIGNATURE_TEXT, b"abc", false, Accepted);
+    judges(&rt, alloc, SIGNATURE_TEXT, b"abc", true, Accepted);
+    judges(&rt, alloc, LEGACY_TEXT, b"abc", true, Accepted);
     judges(&rt, alloc, LEGACY_TEXT, b"abc", false, LEGACY);
     judges(&rt, alloc, LEGACY_TEXT, b"abd", false, LEGACY);
     judges(&rt, alloc, LEGACY_TEXT, b"abd", true, REFUSED);
@@ -180,7 +182,7 @@ fn texts_of_another_key_are_judged_in_their_order(rt: HostRuntime) {
 }
 
 // Whether verifying over data that fails behind so many reads has this outcome.
-fn is_failed(alloc: Global, texts: (&str, &str), reads: u64, outcome: &str) -> bool {
+fn is_failed(alloc: Global, texts: (&str, &str), reads: u64, outcome: Outcome) -> bool {
     let mut data = FailsAfter::new(b"abc", reads);
     let wanted = Wanted {
         outcome,
@@ -192,16 +194,16 @@ fn is_failed(alloc: Global, texts: (&str, &str), reads: u64, outcome: &str) -> b
 }
 
 // Asserts it.
-fn fails<A: Abort>(rt: &A, alloc: Global, texts: (&str, &str), reads: u64, outcome: &str) {
+fn fails<A: Abort>(rt: &A, alloc: Global, texts: (&str, &str), reads: u64, outcome: Outcome) {
     let came = is_failed(alloc, texts, reads, outcome);
-    assert!(rt; came, "at {outcome} {reads}");
+    assert!(rt; came, "at {outcome:?} {reads}");
 }
 
 // A source that fails is told before any verdict, and after a refused text.
 #[test]
 fn failing_data_comes_between_texts_and_verdicts(rt: HostRuntime) {
     let alloc = rt.alloc();
-    let unread = "Io: reading failed";
+    let unread = Refused(ReadingFailed);
     let other = (RENAMED_KEY_TEXT, SIGNATURE_TEXT);
     let changed = (KEY_TEXT, CHANGED_COMMENT);
     fails(&rt, alloc, (KEY_TEXT, SIGNATURE_TEXT), 1, unread);
@@ -218,7 +220,7 @@ fn failing_data_comes_between_texts_and_verdicts(rt: HostRuntime) {
 fn copies_the_rest<R: Rereader>(alloc: Global, text: &str, data: &mut R) -> bool {
     let mut byte = [0u8; 1];
     let read = data.mark().is_ok() && data.read(&mut byte).is_ok() && data.read(&mut byte).is_ok();
-    read && comes_out(alloc, (KEY_TEXT, text), data, b"abc", COPYING, "accepted")
+    read && comes_out(alloc, (KEY_TEXT, text), data, b"abc", COPYING, Accepted)
 }
 
 // The copy begins where the source stood, whatever was read of it before.
@@ -296,7 +298,7 @@ fn is_read_once(alloc: Global, text: &str, output: bool, wanted: Wanted, left: &
 
 // What is wanted where the data is accepted and not copied.
 const ACCEPTED: Wanted<'static> = Wanted {
-    outcome: "accepted",
+    outcome: Accepted,
     said: SAID,
     copied: b"",
 };
@@ -387,13 +389,13 @@ const UNMARKED: Wanted<'static> = Wanted {
 
 // What is wanted of the two texts where they are accepted.
 const LEGACY_ACCEPTED: Wanted<'static> = Wanted {
-    outcome: "accepted",
+    outcome: Accepted,
     said: LEGACY_SAID,
     copied: b"test",
 };
 
 const PREHASHED_ACCEPTED: Wanted<'static> = Wanted {
-    outcome: "accepted",
+    outcome: Accepted,
     said: PREHASHED_SAID,
     copied: b"",
 };

@@ -1,7 +1,9 @@
 //! The clock.
 
+use minisign_base::faults::NamedFault::ClockIncorrect;
 use minisign_base::helpers::unix_timestamp;
-use minisign_fixtures::outcomes::outcome;
+use minisign_fixtures::outcomes::Outcome::Refused;
+use minisign_fixtures::outcomes::comes_to;
 use std::io;
 use std::test::Fail;
 use std::time::{Clock, Duration};
@@ -39,10 +41,7 @@ fn moments_are_whole_seconds(rt: HostRuntime) -> Result<(), Fail> {
         assert_eq!(rt; unix_timestamp(&clock)?, seconds);
     }
     let unread = unix_timestamp(&Shows(None));
-    assert_eq!(rt;
-        outcome(rt.alloc(), &unread).as_str(),
-        "Misc: system clock is incorrect"
-    );
+    assert!(rt; comes_to(&unread, Refused(ClockIncorrect)));
     assert!(rt; unix_timestamp(&rt)? > 1700000000);
     Ok(())
 }

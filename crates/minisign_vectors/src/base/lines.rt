@@ -1,6 +1,8 @@
 //! Lines that are written to a sink.
 
 use minisign_base::devices::sinks::{Sink, VecSink, WriterSink, put_line};
+use minisign_base::faults::NamedFault::WritingFailed;
+use minisign_fixtures::outcomes::Outcome::{self, Accepted, Refused};
 use minisign_fixtures::outcomes::comes_to;
 use std::alloc::Global;
 use std::io;
@@ -42,9 +44,9 @@ fn lines_have_a_label_a_text_and_a_line_feed(rt: HostRuntime) {
 }
 
 // Whether putting a line comes to this.
-fn is_put<W: Sink>(alloc: Global, sink: &mut W, expected: &str) -> bool {
+fn is_put<W: Sink>(alloc: Global, sink: &mut W, expected: Outcome) -> bool {
     let answer = put_line(alloc, sink, b"a label ", b"a text");
-    comes_to(alloc, &answer, expected)
+    comes_to(&answer, expected)
 }
 
 #[test]
@@ -55,8 +57,8 @@ fn a_line_is_one_write(rt: HostRuntime) {
         last: 0,
     };
     let mut sink = WriterSink::new(&mut writer);
-    assert!(rt; is_put(rt.alloc(), &mut sink, "accepted"));
-    assert!(rt; is_put(rt.alloc(), &mut sink, "Io: writing failed"));
+    assert!(rt; is_put(rt.alloc(), &mut sink, Accepted));
+    assert!(rt; is_put(rt.alloc(), &mut sink, Refused(WritingFailed)));
     assert!(rt; writer.calls == 2);
     assert!(rt; writer.last == b'\n');
 }

@@ -2,21 +2,19 @@
 
 use minisign_base::devices::sinks::{VecSink, WriterSink};
 use minisign_base::devices::sources::{ReaderSource, SliceSource, Source};
+use minisign_base::faults::NamedFault::{
+    EndOfInput, NotUtf8, PasswordTooLong, ReadingFailed, WritingFailed,
+};
 use minisign_base::helpers::get_password;
 use minisign_base::prompt::Prompt;
 use minisign_fixtures::devices::sinks::LimitedSink;
 use minisign_fixtures::devices::sources::{FailsAfter, OneByOne};
+use minisign_fixtures::outcomes::Outcome::{self, Accepted, Refused};
 use minisign_fixtures::outcomes::{comes_to, is_text};
 use minisign_fixtures::prompts::bytes_left;
 use std::alloc::{AllocError, Global};
 use std::io;
 use std::io::Write;
-
-const TOO_LONG: &str = "Misc: passphrase can't exceed 1024 bytes length";
-
-const NO_TEXT: &str = "Io: stream did not contain valid UTF-8";
-
-const ENDED: &str = "Io: unexpected end of input";
 
 // A writer that counts its flushes, and the bytes that wait for one.
 #[derive(Drop)]
@@ -43,7 +41,7 @@ impl Write for Screen {
 fn comes_so<R: Source + Drop>(
     alloc: Global,
     reader: R,
-    expected: &str,
+    expected: Outcome,
     count: usize,
     unread: usize,
 ) -> bool {
@@ -53,7 +51,7 @@ fn comes_so<R: Source + Drop>(
         Ok(password) => password.len() == count,
         Err(_) => true,
     };
-    let told = comes_to(alloc, &answer, expected);
+    let told = comes_to(&answer, expected);
     let (mut reader, writer) = prompt.into_parts();
     right
         && told
@@ -65,7 +63,7 @@ fn comes_so<R: Source + Drop>(
 fn both_come_so(
     alloc: Global,
     line: &std::result::Result<Vec<u8>, AllocError>,
-    expected: &str,
+    expected: Outcome,
     count: usize,
     unread: usize,
 ) -> bool {
@@ -92,20 +90,20 @@ fn line(
 #[test]
 fn long_lines_are_cut_and_refused(rt: HostRuntime) {
     for (count, letter, tail, expected, unread) in [
-        (1024usize, b'a', "\n", "accepted", 0usize),
-        (1024, b'a', "\r\n", "accepted", 0),
-        (1024, b'a', "", "accepted", 0),
-        (1025, b'a', "\n", TOO_LONG, 0),
-        (1025, b'a', "\r\n", TOO_LONG, 1),
-        (1024, b'a', "\r", TOO_LONG, 0),
-        (1024, b'a', "\rb\n", TOO_LONG, 1),
-        (1027, b'a', "\n", TOO_LONG, 2),
-        (1026, 0xff, "", TOO_LONG, 0),
-        (1025, 0xff, "", NO_TEXT, 0),
-        (1025, 0xff, "\n", NO_TEXT, 0),
-        (1, 0xff, "\n", NO_TEXT, 0),
-        (0, b'a', "", ENDED, 0),
-        (8, b'p', "\nmore", "accepted", 4),
+        (1024usize, b'a', "\n", Accepted, 0usize),
+        (1024, b'a', "\r\n", Accepted, 0),
+        (1024, b'a', "", Accepted, 0),
+        (1025, b'a', "\n", Refused(PasswordTooLong), 0),
+        (1025, b'a', "\r\n", Refused(PasswordTooLong), 1),
+        (1024, b'a', "\r", Refused(PasswordTooLong), 0),
+        (1024, b'a', "\rb\n", Refused(PasswordTooLong), 1),
+        (1027, b'a', "\n", Refused(PasswordTooLong), 2),
+        (1026, 0xff, "", Refused(PasswordTooLong), 0),
+        (1025, 0xff, "", Refused(NotUtf8), 0),
+        (1025, 0xff, "\n", Refused(NotUtf8), 0),
+        (1, 0xff, "\n", Refused(NotUtf8), 0),
+        (0, b'a', "", Refused(EndOfInput), 0),
+        (8, b'p', "\nmore", Accepted, 4),
     ] {
         let line = line(rt.alloc(), letter, count, tail);
         let right = both_come_so(rt.alloc(), &line, expected, count, unread);
@@ -141,20 +139,20 @@ fn line_ends_are_no_part_of_a_password(rt: HostRuntime) {
 #[test]
 fn failing_readers_are_named(rt: HostRuntime) {
     for (reads, expected) in [
-        (0u64, "Io: reading failed"),
-        (3, "Io: reading failed"),
-        (4, "accepted"),
+        (0u64, Refused(ReadingFailed)),
+        (3, Refused(ReadingFailed)),
+        (4, Accepted),
     ] {
         assert!(rt; fails_so(rt.alloc(), reads, expected), "at {reads}");
     }
 }
 
 // Whether asking comes to this where the reader fails behind so many reads.
-fn fails_so(alloc: Global, reads: u64, expected: &str) -> bool {
+fn fails_so(alloc: Global, reads: u64, expected: Outcome) -> bool {
     let reader = FailsAfter::new(b"abc\n", reads);
     let mut prompt = Prompt::new(reader, VecSink::new(alloc));
     let answer = get_password(alloc, &mut prompt, "Password: ");
-    comes_to(alloc, &answer, expected) && prompt.writer.as_slice() == b"Password: ".as_slice()
+    comes_to(&answer, expected) && prompt.writer.as_slice() == b"Password: ".as_slice()
 }
 
 #[test]
@@ -170,7 +168,7 @@ fn is_unread(alloc: Global, room: usize, taken: &str) -> bool {
     let writer = LimitedSink::new(alloc, room).flushed(0);
     let mut prompt = Prompt::new(SliceSource::new(b"\n"), writer);
     let answer = get_password(alloc, &mut prompt, "Password: ");
-    let told = comes_to(alloc, &answer, "Io: writing failed");
+    let told = comes_to(&answer, Refused(WritingFailed));
     let left = prompt.reader.read(&mut [0; 2]);
     told && prompt.writer.as_slice() == taken.as_bytes() && left == Ok(1)
 }

@@ -1,7 +1,8 @@
 use Rattle.std.proofs.Common.{◌≢◌, ◌∙◌, Err, IfErr, ap, subst, sym}
 use Rattle.std.specs.Prelude.{⊤}
 use Rattle.std.proofs.lemmas.Result.{err_from_is_err_and}
-use Rattle.minisign_base.specs.Faults.{out_of_memory}
+use Rattle.minisign_base.specs.Fault.{Named}
+use Rattle.minisign_base.specs.declared.faults.NamedFault.TheVariants.{OutOfMemory}
 use Rattle.minisign_base.specs.Passages.{rereader_passage, sink_passage}
 use Rattle.minisign.specs.Headline.{IsVerdict}
 use Rattle.minisign.proofs.VouchedTexts.{read_verdict, text_verdict}
@@ -22,4 +23,4 @@ returns-in_err-verify-clause-headline g c = λ message told memory calm status_c
     (rereader_passage g.R.Source g.R.Rereader.steady c.args.data_reader.now c.verify.new.data_reader)
     (sink_passage g.W.Sink c.args.status.now c.verify.new.status) (sink_passage g.O.Sink c.args.out.now c.verify.new.out)
     _ _ c.in_ok-pk.ensures.read message told calm status_calm out_calm again {T = ⊤} (Err c.in_err-verify.field-0.0) tt c.in_err-verify.ensures.refused
-    (subst (λ r. IfErr r (λ e. e ≢ out_of_memory)) is memory))
+    (subst (λ r. IfErr r (λ e. e ≢ Named OutOfMemory)) is memory))

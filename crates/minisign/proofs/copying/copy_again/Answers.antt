@@ -31,7 +31,7 @@ returns-then-ne-clause-refused g c =
       inr (inl (record {
         given = since;
         all = all;
-        fault = c.data_changed.ensures;
+        fault = c.into.ensures;
         changed = λ same. different _ _ c.if-ne.ensures (digest ∙ same);
       })),
     )

@@ -1,7 +1,8 @@
 use Rattle.std.proofs.Common.{◌≡◌, ◌≢◌, ◌⊎◌, ◌∙◌, string_bytes, ap, inl, inr, subst, sym, ⊎_elim, MatchResult}
 use Rattle.std.proofs.lemmas.Bool.{true≢false}
 use Rattle.std.proofs.lemmas.Slice.Eq.{bytes_eq-Decides}
-use Rattle.minisign_base.specs.Faults.{out_of_memory}
+use Rattle.minisign_base.specs.Fault.{Named}
+use Rattle.minisign_base.specs.declared.faults.NamedFault.TheVariants.{OutOfMemory}
 use Rattle.minisign.specs.Calls.{GivesKeyWith, GivesNoKeyWith}
 use Rattle.minisign.specs.Sealing.{no_kdf}
 use Rattle.minisign.specs.SecretKeyText.{SecretKeyText}
@@ -25,7 +26,7 @@ returns-clause-opens c =
     let key = c.in_ok-sk.sk in
     let read : SecretKeyText c.args.sk_text.now key = c.in_ok-sk.ensures.outcome in
     let differs : key.kdf ≢ no_kdf = λ same. true≢false (sym ((bytes_eq-Decides c.sk.inside.kdf_alg no_kdf).1 (ap (λ k. k.kdf) c.sk.view_is ∙ same)) ∙ sym c.if-eq.ensures) in
-    subst (λ password. MatchResult c.open.result (GivesKeyWith c.args.sk_text.now password) (λ e. (e ≡ out_of_memory) ⊎ GivesNoKeyWith c.args.sk_text.now password e)) c.in_ok-from_str.ensures.ok
+    subst (λ password. MatchResult c.open.result (GivesKeyWith c.args.sk_text.now password) (λ e. (e ≡ Named OutOfMemory) ⊎ GivesNoKeyWith c.args.sk_text.now password e)) c.in_ok-from_str.ensures.ok
     (sealed_key c.args.sk_text.now (string_bytes c.in_ok-from_str.field-0) key c.open.result read differs (c.open.ensures.opens c.args.sk_text.now read).1)
 
 pub returns-in_err-sk-clause-one_key : goal.returns-in_err-sk-clause-one_key

@@ -50,7 +50,7 @@ returns-then-ne-clause-refused g c =
         second = c.in_ok-again.ensures.asked.1;
       };
       differ = λ e. let same : string_eq c.in_ok-password.password c.in_ok-again.again ≡ true = (bytes_eq-Decides _ _).1 e in let differs = rw same at c.if-ne.ensures in cc;
-      fault = c.passwords_differ.ensures;
+      fault = c.into.ensures;
     })))
 
 pub returns-clause-chosen : goal.returns-clause-chosen

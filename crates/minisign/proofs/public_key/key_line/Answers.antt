@@ -5,11 +5,11 @@ use Rattle.minisign.proofs.public_key.key_line.Goals as goal
 
 pub returns-in_default-clause-refused : goal.returns-in_default-clause-refused
 returns-in_default-clause-refused c =
-    rw c.missing_public_key_comment.ensures (texts.no_comment_line c.args.text.now (ap lines (sym c.lines-lines.ensures.rest) ∙ c.in_default.ensures.none))
+    rw c.into.ensures (texts.no_comment_line c.args.text.now (ap lines (sym c.lines-lines.ensures.rest) ∙ c.in_default.ensures.none))
 
 pub returns-in-None-clause-refused : goal.returns-in-None-clause-refused
 returns-in-None-clause-refused c =
-    rw c.missing_encoded_public_key.ensures (texts.no_key_line c.args.text.now _
+    rw c.into-in-None.ensures (texts.no_key_line c.args.text.now _
     (ap lines (sym c.lines-lines.ensures.rest) ∙ c.in-Some.ensures.some ∙ ap (λ l. c.in-Some.field-0.now ∷ l) c.in-None.ensures.none))
 
 pub returns-in-Some-next_line-clause-line : goal.returns-in-Some-next_line-clause-line

@@ -7,7 +7,7 @@ use Rattle.minisign.proofs.public_key.read_bare.Goals as goal
 pub returns-then-trim-ne-ENCODED_BYTES-clause-refused : goal.returns-then-trim-ne-ENCODED_BYTES-clause-refused
 returns-then-trim-ne-ENCODED_BYTES-clause-refused c =
     let differs = subst (λ (l : List ℕ). length l ≢ 56) c.trim.ensures.trim c.if-trim-ne-ENCODED_BYTES.true in
-    rw c.bare_public_key_length.ensures (inr (texts.other_bare_length c.args.text.now differs))
+    rw c.into.ensures (inr (texts.other_bare_length c.args.text.now differs))
 
 pub returns-in_err-key-clause-refused : goal.returns-in_err-key-clause-refused
 returns-in_err-key-clause-refused c =
@@ -20,4 +20,4 @@ returns-in-None-clause-refused c =
     let text : List ℕ = c.args.text.now in
     let same = ap length (sym c.trim.ensures.trim) ∙ c.if-trim-ne-ENCODED_BYTES.false in
     let none = subst (λ o. IfNone o (is_base64 text ≡ false)) c.in-None.is c.in_ok-key.ensures.none in
-    rw c.bare_public_key_not_base64.ensures (inr (texts.no_bare_base64 text same none))
+    rw c.into-in-None.ensures (inr (texts.no_bare_base64 text same none))

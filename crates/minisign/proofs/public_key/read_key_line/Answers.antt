@@ -6,7 +6,7 @@ use Rattle.minisign.proofs.public_key.read_key_line.Goals as goal
 
 pub returns-then-line-ne-ENCODED_BYTES-clause-refused : goal.returns-then-line-ne-ENCODED_BYTES-clause-refused
 returns-then-line-ne-ENCODED_BYTES-clause-refused c =
-    rw c.public_key_line_length.ensures (inr (λ text second. texts.other_length text _ second c.if-line-ne-ENCODED_BYTES.true))
+    rw c.into.ensures (inr (λ text second. texts.other_length text _ second c.if-line-ne-ENCODED_BYTES.true))
 
 pub returns-in_err-key-clause-refused : goal.returns-in_err-key-clause-refused
 returns-in_err-key-clause-refused c =
@@ -19,5 +19,5 @@ returns-in_err-key-clause-refused c =
 pub returns-in-None-clause-refused : goal.returns-in-None-clause-refused
 returns-in-None-clause-refused c =
     let none = subst (λ o. IfNone o (is_base64 c.trim.result.now ≡ false)) c.in-None.is c.in_ok-key.ensures.none in
-    rw c.public_key_line_not_base64.ensures (inr (λ text second. texts.no_base64 text _ second c.if-line-ne-ENCODED_BYTES.false
+    rw c.into-in-None.ensures (inr (λ text second. texts.no_base64 text _ second c.if-line-ne-ENCODED_BYTES.false
     (ap is_base64 (sym c.trim.ensures.trim) ∙ none)))

@@ -6,20 +6,20 @@ use Rattle.minisign.proofs.signature_box.four_lines.Goals as goal
 pub returns-in_default-clause-refused : goal.returns-in_default-clause-refused
 returns-in_default-clause-refused c =
     let start = ap lines (sym c.lines-lines.ensures.rest) in
-    rw c.missing_untrusted_comment.ensures (texts.no_first_line c.args.text.now (start ∙ c.in_default.ensures.none))
+    rw c.into.ensures (texts.no_first_line c.args.text.now (start ∙ c.in_default.ensures.none))
 
 pub returns-in_default-next_line-clause-refused : goal.returns-in_default-next_line-clause-refused
 returns-in_default-next_line-clause-refused c =
     let start = ap lines (sym c.lines-lines.ensures.rest) in
     let a = c.in-Some.untrusted_comment.now in
-    rw c.missing_signature.ensures (texts.no_second_line c.args.text.now _ (start ∙ c.in-Some.ensures.some ∙ ap (λ l. a ∷ l) c.in_default-next_line.ensures.none))
+    rw c.into-in_default-next_line.ensures (texts.no_second_line c.args.text.now _ (start ∙ c.in-Some.ensures.some ∙ ap (λ l. a ∷ l) c.in_default-next_line.ensures.none))
 
 pub returns-in_default-next_line-2-clause-refused : goal.returns-in_default-next_line-2-clause-refused
 returns-in_default-next_line-2-clause-refused c =
     let start = ap lines (sym c.lines-lines.ensures.rest) in
     let a = c.in-Some.untrusted_comment.now in
     let b = c.in-Some-next_line.signature.now in
-    rw c.missing_trusted_comment.ensures (texts.no_third_line c.args.text.now _ _
+    rw c.into-in_default-next_line-2.ensures (texts.no_third_line c.args.text.now _ _
     (start ∙ c.in-Some.ensures.some ∙ ap (λ l. a ∷ l) c.in-Some-next_line.ensures.some ∙ ap (λ l. a ∷ b ∷ l) c.in_default-next_line-2.ensures.none))
 
 pub returns-in_default-next_line-3-clause-refused : goal.returns-in_default-next_line-3-clause-refused
@@ -28,7 +28,7 @@ returns-in_default-next_line-3-clause-refused c =
     let a = c.in-Some.untrusted_comment.now in
     let b = c.in-Some-next_line.signature.now in
     let d = c.in-Some-next_line-2.trusted_comment.now in
-    rw c.missing_global_signature.ensures (texts.no_fourth_line c.args.text.now _ _ _
+    rw c.into-in_default-next_line-3.ensures (texts.no_fourth_line c.args.text.now _ _ _
     (start ∙ c.in-Some.ensures.some ∙ ap (λ l. a ∷ l) c.in-Some-next_line.ensures.some ∙ ap (λ l. a ∷ b ∷ l) c.in-Some-next_line-2.ensures.some
     ∙ ap (λ l. a ∷ b ∷ d ∷ l) c.in_default-next_line-3.ensures.none))
 

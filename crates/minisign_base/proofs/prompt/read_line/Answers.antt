@@ -48,7 +48,7 @@ returns-in-None g c =
             (omega arith)
             (omega (arith, byte.2, c.bytes.invariant.left, c.if-used-eq0.true))
             (c.in_ok-next_byte.ensures.calm ∙ c.bytes.invariant.calm),
-        password_of-nothing ∙ sym (ap Err c.end_of_input.ensures),
+        password_of-nothing ∙ sym (ap Err c.into.ensures),
       );
     }
 
@@ -89,6 +89,6 @@ returns g c =
       outcome = inr (
         done ++ rest,
         read_front (source_passage g.R.Source c.args.source.now c.bytes.source) done rest ahead unread count (omega (arith, size, c.bytes.invariant.left)) c.bytes.invariant.calm,
-        password_of-long done rest unfinished (size ∙ all) ∙ sym (ap Err c.password_too_long.ensures),
+        password_of-long done rest unfinished (size ∙ all) ∙ sym (ap Err c.into-2.ensures),
       );
     }

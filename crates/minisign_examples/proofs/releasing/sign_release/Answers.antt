@@ -1,4 +1,4 @@
-use Rattle.std.proofs.Common.{◌≡◌, None, inl, inr, subst, sym, ⊎_elim}
+use Rattle.std.proofs.Common.{None, inl, inr, subst, sym, ⊎_elim}
 use Rattle.minisign.specs.Generation.{IsGenuinePair, OpensOnlyTo}
 use Rattle.minisign.specs.PublicKeyText.{PublicKeyText}
 use Rattle.minisign.specs.SignatureText.{SignatureText}

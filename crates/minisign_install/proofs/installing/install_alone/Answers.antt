@@ -1,4 +1,4 @@
-use Rattle.std.proofs.Common.{inl, inr, ◌∙◌}
+use Rattle.std.proofs.Common.{inl, inr, ◌∙◌, refl}
 use Rattle.minisign_install.specs.Installing.{terms_of}
 use Rattle.minisign_install.proofs.Installs.{installed_after, installs}
 use Rattle.minisign_install.proofs.Refused.{data_cause, record_cause, alone_refused, passed_up, record_refused}
@@ -27,7 +27,7 @@ returns-clause-installed g c =
     (λ told. clearing _ _ c.clear.result (c.clear.ensures told)) (λ told. resting_brings _ _ (c.in_ok-kept.ensures.still told).0) c.install_newer.ensures.installed
 
 pub returns-in_default-clause-refused : goal.returns-in_default-clause-refused
-returns-in_default-clause-refused g c = λ told. inl (clearing _ _ c.clear.result (c.clear.ensures told), inr (inr (inl c.writing_failed.ensures)))
+returns-in_default-clause-refused g c = λ told. inl (clearing _ _ c.clear.result (c.clear.ensures told), (_, c.into.ensures, inr (inr (inl refl))))
 
 pub returns-in_err-kept-clause-refused : goal.returns-in_err-kept-clause-refused
 returns-in_err-kept-clause-refused g c =
@@ -44,7 +44,7 @@ returns-clause-refused g c =
     c.install_newer.ensures.brings c.install_newer.ensures.refused
 
 pub returns-in_default-clause-causes : goal.returns-in_default-clause-causes
-returns-in_default-clause-causes g c = inr (inr (inl (inr (inr (inl c.writing_failed.ensures)))))
+returns-in_default-clause-causes g c = inr (inr (inl (_, c.into.ensures, inr (inr (inl refl)))))
 
 pub returns-in_err-kept-clause-causes : goal.returns-in_err-kept-clause-causes
 returns-in_err-kept-clause-causes g c =

@@ -2,7 +2,7 @@ use Rattle.minisign_install.specs.Installing.{IsBrought, terms_of}
 use Rattle.minisign_install.specs.Names.{drawn_bytes}
 use Rattle.minisign_install.proofs.Refused.{created_refused}
 use Rattle.minisign_install.proofs.Works.{brings_none, brings_nothing, brings_trans, created_brings, created_stage, installed_so, resting_brings}
-use Rattle.std.proofs.Common.{inl, inr}
+use Rattle.std.proofs.Common.{inl, inr, refl}
 use Rattle.minisign_install.proofs.installing.install_newer.Goals as goal
 
 pub returns-in_default-clause-brings : goal.returns-in_default-clause-brings
@@ -23,7 +23,7 @@ returns-in-Ok-create-clause-installed g c =
     installed_so (drawn_bytes c.in-Ok.name) (g.F.Handle.Handle.file c.in-Ok-create.handle) _ _ _ c.install_staged.result c.in-Ok-create.ensures c.install_staged.ensures.installed
 
 pub returns-in_default-clause-refused : goal.returns-in_default-clause-refused
-returns-in_default-clause-refused g c = λ told. inl (brings_none (λ _ _. ⊥) _, inr (inr (inr c.random_source_failed.ensures)))
+returns-in_default-clause-refused g c = λ told. inl (brings_none (λ _ _. ⊥) _, (_, c.into.ensures, inr (inr (inr refl))))
 
 pub returns-in-Ok-create-clause-refused : goal.returns-in-Ok-create-clause-refused
 returns-in-Ok-create-clause-refused g c =
@@ -31,10 +31,10 @@ returns-in-Ok-create-clause-refused g c =
     (drawn_bytes c.in-Ok.name) (g.F.Handle.Handle.file c.in-Ok-create.handle) _ _ _ c.install_staged.result c.in-Ok-create.ensures c.install_staged.ensures.refused
 
 pub returns-in-Err-clause-refused : goal.returns-in-Err-clause-refused
-returns-in-Err-clause-refused g c = λ told. inl (resting_brings _ _ (c.in-Err.ensures told).0, inr (inr (inl c.writing_failed.ensures)))
+returns-in-Err-clause-refused g c = λ told. inl (resting_brings _ _ (c.in-Err.ensures told).0, (_, c.into-in-Err.ensures, inr (inr (inl refl))))
 
 pub returns-in_default-clause-causes : goal.returns-in_default-clause-causes
-returns-in_default-clause-causes g c = inl (inr (inr (inr c.random_source_failed.ensures)))
+returns-in_default-clause-causes g c = inl (_, c.into.ensures, inr (inr (inr refl)))
 
 pub returns-in-Err-clause-causes : goal.returns-in-Err-clause-causes
-returns-in-Err-clause-causes g c = inl (inr (inr (inl c.writing_failed.ensures)))
+returns-in-Err-clause-causes g c = inl (_, c.into-in-Err.ensures, inr (inr (inl refl)))

@@ -1,4 +1,4 @@
-use Rattle.std.proofs.Common.{inl, inr, ◌∙◌}
+use Rattle.std.proofs.Common.{inl, inr, ◌∙◌, refl}
 use Rattle.minisign_install.specs.Installing.{terms_of}
 use Rattle.minisign_install.proofs.Installs.{after_lock, installed_locked}
 use Rattle.minisign_install.proofs.Refused.{update_refused}
@@ -26,13 +26,13 @@ returns-in-Ok-Some-clause-refused g c =
     (λ told. resting_brings _ _ (c.in-Ok-Some.ensures told).0) c.install_alone.ensures.refused
 
 pub returns-in-Ok-None-clause-refused : goal.returns-in-Ok-None-clause-refused
-returns-in-Ok-None-clause-refused g c = λ told. inl ((c.in-Ok-None.ensures told).0, c.place_in_use.ensures)
+returns-in-Ok-None-clause-refused g c = λ told. inl ((c.in-Ok-None.ensures told).0, refl)
 
 pub returns-in-Err-clause-refused : goal.returns-in-Err-clause-refused
-returns-in-Err-clause-refused g c = λ told. inr (inl (resting_brings _ _ (c.in-Err.ensures told).0, inr (inl c.reading_failed.ensures)))
+returns-in-Err-clause-refused g c = λ told. inr (inl (resting_brings _ _ (c.in-Err.ensures told).0, (_, c.into.ensures, inr (inl refl))))
 
 pub returns-in-Ok-None-clause-causes : goal.returns-in-Ok-None-clause-causes
-returns-in-Ok-None-clause-causes g c = inl c.place_in_use.ensures
+returns-in-Ok-None-clause-causes g c = inl refl
 
 pub returns-in-Err-clause-causes : goal.returns-in-Err-clause-causes
-returns-in-Err-clause-causes g c = inr (inr (inl (inr (inl c.reading_failed.ensures))))
+returns-in-Err-clause-causes g c = inr (inr (inl (_, c.into.ensures, inr (inl refl))))

@@ -42,7 +42,7 @@ returns-in_err-comment-clause-refused g c =
     judging_failed _ _ _ _ _ _ (copied_there _ _ _ message given (grown name stage) empty) (c.in_err-comment.ensures.refused first.stage.told))
 
 pub returns-in-Err-clause-refused : goal.returns-in-Err-clause-refused
-returns-in-Err-clause-refused g c = λ name stage empty. inl (inr (inr (inl c.writing_failed.ensures)))
+returns-in-Err-clause-refused g c = λ name stage empty. inl (inr (inr (inl c.into.ensures)))
 
 pub returns-in_err-fill-clause-causes : goal.returns-in_err-fill-clause-causes
 returns-in_err-fill-clause-causes g c =
@@ -53,4 +53,4 @@ returns-in_err-comment-clause-causes g c =
     passed_up _ _ _ c.from_residual-in_err-comment.ensures.1 c.in_err-comment.ensures.causes
 
 pub returns-in-Err-clause-causes : goal.returns-in-Err-clause-causes
-returns-in-Err-clause-causes g c = inl (inr (inr (inl c.writing_failed.ensures)))
+returns-in-Err-clause-causes g c = inl (inr (inr (inl c.into.ensures)))

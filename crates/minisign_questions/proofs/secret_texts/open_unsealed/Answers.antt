@@ -1,6 +1,7 @@
 use Rattle.std.proofs.Common.{◌≡◌, ◌⊎◌, ◌∙◌, ap, sym, subst, Err, IfErr}
 use Rattle.std.proofs.lemmas.Result.{err_from_is_err_and}
-use Rattle.minisign_base.specs.Faults.{out_of_memory}
+use Rattle.minisign_base.specs.Fault.{Named}
+use Rattle.minisign_base.specs.declared.faults.NamedFault.TheVariants.{OutOfMemory}
 use Rattle.minisign_questions.specs.Signing.{RefusesUnsealed}
 use Rattle.minisign_questions.proofs.UnsealedKeys.{unread, unchecked}
 use Rattle.minisign_questions.proofs.secret_texts.open_unsealed.Goals as goal
@@ -8,7 +9,7 @@ use Rattle.minisign_questions.proofs.secret_texts.open_unsealed.Goals as goal
 pub returns-in_err-key-clause-refused : goal.returns-in_err-key-clause-refused
 returns-in_err-key-clause-refused c =
     let p = err_from_is_err_and c.from_residual.result c.from_residual.ensures.1 in
-    subst (λ r. IfErr r (λ e. (e ≡ out_of_memory) ⊎ RefusesUnsealed c.args.sk_text.now e)) (sym (p.1 ∙ ap (λ e. Err e) p.2))
+    subst (λ r. IfErr r (λ e. (e ≡ Named OutOfMemory) ⊎ RefusesUnsealed c.args.sk_text.now e)) (sym (p.1 ∙ ap (λ e. Err e) p.2))
     (unread c.args.sk_text.now _ c.in_err-key.ensures.outcome)
 
 pub returns-clause-refused : goal.returns-clause-refused

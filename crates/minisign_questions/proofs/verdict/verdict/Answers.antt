@@ -6,12 +6,12 @@ use Rattle.minisign_questions.proofs.verdict.verdict.Goals.{then-not-whole-via-t
 
 pub returns-then-not-first-clause-verdict : goal.returns-then-not-first-clause-verdict
 returns-then-not-first-clause-verdict c = λ pk_text sig_text message legacy pk x d accepts asked whole answers.
-    subst (TextsRefuse accepts pk_text sig_text message legacy) (sym c.signature_refused.ensures)
+    subst (TextsRefuse accepts pk_text sig_text message legacy) (sym c.into.ensures)
     (refused_first accepts pk_text sig_text message legacy pk x d asked (answers.to_first ∙ c.if-not-first.true))
 
 pub returns-then-not-whole-clause-verdict : goal.returns-then-not-whole-clause-verdict
 returns-then-not-whole-clause-verdict c = λ pk_text sig_text message legacy pk x d accepts asked whole answers.
-    subst (TextsRefuse accepts pk_text sig_text message legacy) (sym c.comment_signature_refused.ensures)
+    subst (TextsRefuse accepts pk_text sig_text message legacy) (sym c.into-then-not-whole.ensures)
     (refused_second accepts pk_text sig_text message legacy pk x d asked (answers.to_first ∙ c.if-not-first.false)
     (elim c.then-not-whole.branch [
       | then-not-whole-via-then-not-whole w ↦ rw (sym whole ∙ w.if-not-whole.true) refl

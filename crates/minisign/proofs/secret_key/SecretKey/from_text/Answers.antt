@@ -9,7 +9,7 @@ returns-in_default-2-clause-outcome c =
     let cut : lines c.args.text.now ≡ c.in-Some._comment.now ∷ c.in-Some-next_line.encoded.now ∷ lines (lines_rest c.next_line-2.new.rest) =
     ap lines (sym c.lines-lines.ensures.rest) ∙ c.in-Some.ensures.some ∙ ap (λ (l : List (List ℕ)). c.in-Some._comment.now ∷ l) c.in-Some-next_line.ensures.some in
     let failed = rw c.in_default-2.is at c.in_ok-bytes.ensures.none in
-    inr (rw c.secret_key_not_base64.ensures (not_base64_text c.args.text.now _ _ _ cut failed))
+    inr (rw c.into-in_default-2.ensures (not_base64_text c.args.text.now _ _ _ cut failed))
 
 pub returns-clause-outcome : goal.returns-clause-outcome
 returns-clause-outcome c =

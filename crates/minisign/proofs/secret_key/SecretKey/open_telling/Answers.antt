@@ -1,7 +1,7 @@
 use Rattle.std.proofs.Common.{Option, ap, sym, ◌∙◌, inl}
 use Rattle.std.specs.Option.{option_or}
-use Rattle.minisign_base.specs.Fault.{Fault}
-use Rattle.minisign_base.specs.Faults.{wrong_password}
+use Rattle.minisign_base.specs.Fault.{Fault, Named}
+use Rattle.minisign_base.specs.declared.faults.NamedFault.TheVariants.{WrongPassword}
 use Rattle.minisign_base.specs.Passages.{prompt_passage}
 use Rattle.minisign_base.specs.Prompts.{HasNotSaid, HasSaid}
 use Rattle.minisign.specs.Sealing.{checksum_refusal, xored_key}
@@ -28,8 +28,8 @@ returns-in_err-finish_telling-clause-refused g c =
 
 pub returns-clause-opened : goal.returns-clause-opened
 returns-clause-opened g c =
-    let restored = ap (λ k. checksum_refusal k wrong_password) (sym c.in_ok-apply_stream.ensures.xored) ∙ c.in_ok-finish_telling.ensures.restored in (
+    let restored = ap (λ k. checksum_refusal k (Named WrongPassword)) (sym c.in_ok-apply_stream.ensures.xored) ∙ c.in_ok-finish_telling.ensures.restored in (
       c.in_ok-apply_stream.ensures.xored,
-      ap (λ (o : Option Fault). option_or o (checksum_refusal (xored_key c.args.self c.args.password.now) wrong_password)) c.in_ok-apply_stream.ensures.allowed ∙ restored,
+      ap (λ (o : Option Fault). option_or o (checksum_refusal (xored_key c.args.self c.args.password.now) (Named WrongPassword))) c.in_ok-apply_stream.ensures.allowed ∙ restored,
       said_both (prompt_passage g.R.Source g.W.Sink c.args.prompt.now c.finish_telling.new.prompt) c.say_deriving.new.prompt _ _ c.in_ok-say_deriving.ensures.said c.in_ok-finish_telling.ensures.said,
     )

@@ -7,7 +7,7 @@ returns-then-ne-2-clause-refused c =
     let reads = c.in_ok-signature.ensures in
     let algorithm : take 2 c.args.bytes.now ≡ c.signature.inside.sig_alg = stored_algorithm _ _ reads ∙ sym (ap (λ s. s.algorithm) c.signature.view_is) in
     inr (
-      c.unsupported_signature_algorithm.ensures,
+      c.into.ensures,
       stored_length _ _ reads,
       λ known. unknown_algorithm _ c.if-ne.ensures c.if-ne-2.ensures (rw algorithm at known),
     )

@@ -1,8 +1,8 @@
 use Rattle.std.proofs.Common.{rules, ◌≡◌, ◌⊎◌, ◌∙◌, inl, inr, ap, sym, subst, ℕ, List, Bool, Err, IfErr}
 use Rattle.std.specs.Str.{IsUtf8}
 use Rattle.std.proofs.lemmas.Result.{err_from_is_err_and}
-use Rattle.minisign_base.specs.Fault.{Fault}
-use Rattle.minisign_base.specs.Faults.{out_of_memory, not_utf8}
+use Rattle.minisign_base.specs.Fault.{Fault, Named}
+use Rattle.minisign_base.specs.declared.faults.NamedFault.TheVariants.{OutOfMemory, NotUtf8}
 use Rattle.minisign_questions.specs.Questions.{IsRefusedUnasked}
 use Rattle.minisign_questions.specs.States.{IsAskingRefusal}
 use Rattle.minisign_questions.specs.declared.state.State.{State}
@@ -11,7 +11,7 @@ use Rattle.minisign_questions.proofs.state.State.ask.Goals as goal
 
 -- texts that cannot be read are a reason
 unread : (s : State) (pk sig : List ℕ) (legacy : Bool) (bytes : List ℕ) (e : Fault)
-    → (e ≡ out_of_memory) ⊎ ((e ≡ not_utf8) × ¬ (IsUtf8 pk × IsUtf8 sig)) ⊎ ((l : Bool) → IsRefusedUnasked pk sig l e)
+    → (e ≡ Named OutOfMemory) ⊎ ((e ≡ Named NotUtf8) × ¬ (IsUtf8 pk × IsUtf8 sig)) ⊎ ((l : Bool) → IsRefusedUnasked pk sig l e)
     → IsAskingRefusal s pk sig legacy bytes (Refused e)
 unread s pk sig legacy bytes e (inl memory) = inl memory
 unread s pk sig legacy bytes e (inr (inl utf8)) = inr (inl utf8)

@@ -1,0 +1,10 @@
+use Rattle.std.proofs.Common.{◌≡◌, ◌≤◌, [], length, drop}
+use Rattle.minisign_base.specs.Identifiers.{last_digits}
+use Rattle.minisign_base.proofs.identifiers.sixteen_digits.Given as goal
+
+abbrev pub invariant-places : goal.invariant-places
+invariant-places l = (l.place ≤ 16) × (length l.digits ≡ 16)
+    × (last_digits l.place l.left (drop l.place l.digits) ≡ last_digits 16 l.fn.number [])
+
+abbrev pub decreases-places : goal.decreases-places
+decreases-places l = l.place

@@ -1,0 +1,29 @@
+-- Asking for a password again, by how often it may still be asked.
+use Rattle.std.proofs.Common.{◌≡◌, ◌≢◌, ◌-◌, ℕ, zero, suc, List, Err, arith, inl, inr, subst, sym}
+use Rattle.std.specs.declared.result.Result.{Result}
+use Rattle.minisign_base.specs.Fault.{Fault, Named}
+use Rattle.minisign_base.specs.Members.{SinkOf, SourceOf}
+use Rattle.minisign_base.specs.declared.faults.NamedFault.TheVariants.{WrongPassword}
+use Rattle.minisign_base.specs.declared.prompt.Prompt.{Prompt}
+use Rattle.minisign.specs.Records.{SecretKeyRecord}
+use Rattle.minisign_examples.specs.Asking.{IsOpeningAgain}
+
+pub last_time : {R W : Type 0} (source : SourceOf R) (sink : SinkOf W) (more : ℕ) (old new : Prompt R W) (text : List ℕ) (answer : Result SecretKeyRecord Fault)
+    → more ≡ 0 → IsOpeningAgain source sink 0 old new text answer → IsOpeningAgain source sink more old new text answer
+last_time source sink more old new text answer none opening = subst (λ n. IsOpeningAgain source sink n old new text answer) (sym none) opening
+
+pub answered : {R W : Type 0} (source : SourceOf R) (sink : SinkOf W) (more : ℕ) (old new : Prompt R W) (text : List ℕ) (answer : Result SecretKeyRecord Fault)
+    → IsOpeningAgain source sink 0 old new text answer → answer ≢ Err (Named WrongPassword) → IsOpeningAgain source sink more old new text answer
+answered source sink zero old new text answer opening other = opening
+answered source sink (suc more) old new text answer opening other = inl (opening, other)
+
+pub asked_again : {R W : Type 0} (source : SourceOf R) (sink : SinkOf W) (more : ℕ) (old asked new : Prompt R W) (text : List ℕ) (first answer : Result SecretKeyRecord Fault)
+    → (more ≡ 0 → ⊥) → IsOpeningAgain source sink 0 old asked text first → first ≡ Err (Named WrongPassword) → IsOpeningAgain source sink (more - 1) asked new text answer
+    → IsOpeningAgain source sink more old new text answer
+asked_again source sink zero old asked new text first answer some opening wrong again = absurd (some (λ i. 0))
+asked_again source sink (suc more) old asked new text first answer some opening wrong again =
+    inr (
+      asked,
+      subst (λ a. IsOpeningAgain source sink 0 old asked text a) wrong opening,
+      subst (λ n. IsOpeningAgain source sink n asked new text answer) (omega arith) again,
+    )

@@ -1,0 +1,56 @@
+//! A caller that asks for a password again where it was wrong.
+
+ghost use Rattle.std.specs.Prelude.{◌≡◌, ◌≢◌, Err, true, false};
+ghost use Rattle.minisign_base.specs.Fault.{Named};
+ghost use Rattle.minisign_base.specs.declared.faults.NamedFault.TheVariants.{WrongPassword};
+ghost use Rattle.minisign_examples.specs.Asking.{IsOpeningAgain};
+
+use minisign::{NamedFault, Result, SecretKey, SecretKeyBox};
+use minisign_base::devices::sinks::Sink;
+use minisign_base::devices::sources::Source;
+use minisign_base::prompt::Prompt;
+use std::alloc::Global;
+
+/// Opens the sealed secret key of a text with the password that is typed, and asks again, up to
+/// `more` times, where it was wrong, and nowhere else: what another password cannot mend is
+/// returned at once.
+pub fn open_asking<R: Source, W: Sink>(
+    alloc: Global,
+    sk_text: &str,
+    prompt: &mut Prompt<R, W>,
+    more: u32,
+) -> Result<SecretKey>
+    ensures { IsOpeningAgain R.Source W.Sink more prompt.old prompt.new sk_text.now result }
+{
+    if more == 0 {
+        return open_once(alloc, sk_text, prompt);
+    }
+    let opened = open_once(alloc, sk_text, prompt);
+    if !is_password_wrong(&opened) {
+        return opened;
+    }
+    open_asking(alloc, sk_text, prompt, more - 1)
+}
+
+// Whether a key was refused for its password, and for nothing else.
+fn is_password_wrong(opened: &Result<SecretKey>) -> bool
+    ensures wrong { result ≡ true → opened.now ≡ Err (Named WrongPassword) }
+    ensures other { result ≡ false → opened.now ≢ Err (Named WrongPassword) }
+{
+    match opened {
+        Ok(_) => false,
+        Err(fault) => fault.named() == Some(NamedFault::WrongPassword),
+    }
+}
+
+// Asks once.
+fn open_once<R: Source, W: Sink>(
+    alloc: Global,
+    sk_text: &str,
+    prompt: &mut Prompt<R, W>,
+) -> Result<SecretKey>
+    ensures { IsOpeningAgain R.Source W.Sink 0 prompt.old prompt.new sk_text.now result }
+{
+    let sk_box = SecretKeyBox::from_string(alloc, sk_text)?;
+    SecretKey::from_box(alloc, sk_box, None, prompt)
+}

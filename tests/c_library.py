@@ -1,0 +1,105 @@
+#!/usr/bin/env python3
+"""Compiles and runs what calls the static library of the crate minisign_c through `include/minisign.h` alone.
+
+    tests/c_library.py [ARCHIVE]
+
+The layout of its structs as C and as C++ (`layout.c`), wrong use (`wrong_use.c`), the text of each number
+(`error_texts.c`), and each request for memory refused (`out_of_memory.c`); each program also with what finds wrong use of
+memory, where the compiler has it. ARCHIVE is the library, which is proved and built where it is not there
+(`static_library.py`). It prints a line for each failure; the last line is `N passed, M failed`.
+
+Needs Python 3.9 or later, a C compiler and a C++ compiler, and installs what is not there where it may.
+"""
+
+import os
+import subprocess
+import sys
+import tempfile
+
+import needs
+import static_library
+
+HERE = os.path.dirname(os.path.realpath(__file__))
+INCLUDE = os.path.join(HERE, "..", "include")
+SECONDS = 300
+STRICT = ["-Wall", "-Wextra", "-Wpedantic", "-Werror"]
+SANITIZED = ["-fsanitize=address,undefined", "-fno-sanitize-recover=all"]
+WRAPPED = ["-Wl,--wrap=malloc", "-Wl,--wrap=realloc", "-Wl,--wrap=free"]
+
+# The programs, with what each is linked with.
+PROGRAMS = {"wrong_use": [], "error_texts": [], "out_of_memory": WRAPPED}
+
+
+def run(command):
+    """Runs a command: its status, and all that it said."""
+    ran = subprocess.run(command, stdin=subprocess.DEVNULL, stdout=subprocess.PIPE, stderr=subprocess.STDOUT,
+                         timeout=SECONDS)
+    return ran.returncode, ran.stdout.decode(errors="replace")
+
+
+def layout_failures(compiler, cpp):
+    """What the compilers say of the layout, as C and as C++."""
+    source = os.path.join(HERE, "layout.c")
+    failures = []
+    for command in ([compiler, "-x", "c", "-std=c11"], [cpp, "-x", "c++", "-std=c++11"]):
+        status, said = run([*command, *STRICT, "-I", INCLUDE, "-fsyntax-only", source])
+        if status != 0:
+            failures.append(f"layout.c by {command[-1]}: {said[-1000:]}")
+    return failures, 2
+
+
+def program_failures(compiler, archives, name, flags, room):
+    """What is wrong with a program, and how many of its checks hold."""
+    program = os.path.join(room, name)
+    source = os.path.join(HERE, f"{name}.c")
+    status, said = run([compiler, "-std=c11", *STRICT, "-g", "-O1", *flags, "-I", INCLUDE, "-o", program, source,
+                        *archives, *PROGRAMS[name]])
+    if status != 0:
+        return [f"{name}.c was not built: {said[-1000:]}"], 0
+    status, said = run([program])
+    if status != 0:
+        return [f"{name}: status {status}: {said[-2000:]}"], 0
+    return [], int(said.splitlines()[-1].split()[0])
+
+
+def has_sanitizers(compiler, room):
+    source = os.path.join(room, "empty.c")
+    with open(source, "w", encoding="utf-8") as file:
+        file.write(needs.HELLO)
+    return run([compiler, *SANITIZED, "-o", os.path.join(room, "empty"), source])[0] == 0
+
+
+def run_all(archive, room):
+    """Runs everything: the failures, and how many checks hold."""
+    compiler, cpp = needs.c_compiler(), needs.cpp_compiler()
+    archives = [archive, os.path.join(static_library.folder_of_kit(), "c", "liblibc_c.a")]
+    failures, count = layout_failures(compiler, cpp)
+    count -= len(failures)
+    kinds = [[]]
+    if has_sanitizers(compiler, room):
+        kinds.append(SANITIZED)
+    else:
+        print("skipped: the programs with sanitizers, which the compiler lacks")
+    for name in PROGRAMS:
+        for flags in kinds:
+            some, ran = program_failures(compiler, archives, name, flags, room)
+            failures += some
+            count += ran
+    return failures, count
+
+
+def main():
+    with tempfile.TemporaryDirectory(prefix="c-library-") as room:
+        try:
+            archive = os.path.realpath(sys.argv[1]) if len(sys.argv) > 1 else static_library.built()
+            failures, count = run_all(archive, room)
+        except (needs.Missing, static_library.NotBuilt) as why:
+            failures, count = [str(why)], 0
+    for failure in failures:
+        print(f"FAILED: {failure}")
+    print(f"{count} passed, {len(failures)} failed")
+    return 1 if failures else 0
+
+
+if __name__ == "__main__":
+    sys.exit(main())
