@@ -19,7 +19,7 @@ use crate::verifying::verify;
 use minisign_base::devices::sinks::Sink;
 use minisign_base::devices::sources::{FileSource, Rereader};
 use minisign_base::scheme::Scheme;
-use minisign_base::{Result, NamedFault};
+use minisign_base::{NamedFault, Result};
 use std::alloc::Global;
 use std::fs;
 use std::rt::Files;

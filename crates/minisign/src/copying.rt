@@ -16,7 +16,7 @@ use crate::reading::piece_buffer;
 use crate::signed_data::SignedData;
 use minisign_base::devices::sinks::{Sink, put_all};
 use minisign_base::devices::sources::{Rereader, Source};
-use minisign_base::{Result, NamedFault};
+use minisign_base::{NamedFault, Result};
 use minisign_hash::blake2b::Blake2b;
 use std::alloc::Global;
 

@@ -6,7 +6,7 @@ ghost use Rattle.minisign_base.specs.Passages.{random_passage};
 ghost use Rattle.minisign.specs.Signing.{DrawFails, HasDrawn};
 
 use minisign_base::devices::random_sources::RandomSource;
-use minisign_base::{Result, NamedFault};
+use minisign_base::{NamedFault, Result};
 
 // The next `N` random bytes.
 pub(crate) fn draw<const N: usize, Z: RandomSource>(random: &mut Z) -> Result<[u8; N]>

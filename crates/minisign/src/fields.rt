@@ -4,7 +4,7 @@ ghost use Rattle.std.specs.Prelude.{◌≡◌, ◌+◌, ◌<◌, ◌++◌, lengt
 ghost use Rattle.minisign_base.specs.Fault.{Named};
 ghost use Rattle.minisign_base.specs.declared.faults.NamedFault.TheVariants.{OutOfMemory, RecordTooShort};
 
-use minisign_base::{Result, NamedFault};
+use minisign_base::{NamedFault, Result};
 
 // The first `A` bytes, the next `B` and the next `C`, and the bytes behind them.
 pub(crate) fn split_three<const A: usize, const B: usize, const C: usize>(

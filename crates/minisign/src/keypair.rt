@@ -27,7 +27,7 @@ use minisign_base::devices::sources::Source;
 use minisign_base::helpers::get_password;
 use minisign_base::prompt::Prompt;
 use minisign_base::scheme::Scheme;
-use minisign_base::{Result, NamedFault};
+use minisign_base::{NamedFault, Result};
 use std::alloc::Global;
 
 /// A public key and the secret key that belongs to it.

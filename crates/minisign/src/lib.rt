@@ -45,9 +45,9 @@ pub use keypair::KeyPair;
 pub use minisign_base;
 pub use minisign_base as base;
 pub use minisign_base::{
-    DeviceFault, ErrorKind, FileSource, FixedRandom, NamedFault, PError, Params, Prompt, RandomSource,
-    ReaderSource, Rereader, Result, Scheme, Sink, SliceSource, Source, SourceRandom, ToyScheme,
-    Triple, VecSink, WriterSink,
+    DeviceFault, ErrorKind, FileSource, FixedRandom, NamedFault, PError, Params, Prompt,
+    RandomSource, ReaderSource, Rereader, Result, Scheme, Sink, SliceSource, Source, SourceRandom,
+    ToyScheme, Triple, VecSink, WriterSink,
 };
 pub use minisign_hash;
 pub use minisign_hash as hash;

@@ -21,7 +21,7 @@ use minisign_base::devices::sinks::Sink;
 use minisign_base::devices::sources::Source;
 use minisign_base::helpers::get_password;
 use minisign_base::prompt::Prompt;
-use minisign_base::{Result, NamedFault};
+use minisign_base::{NamedFault, Result};
 use std::alloc::Global;
 use std::rt::Files;
 

@@ -18,7 +18,7 @@ use crate::public_key_box::PublicKeyBox;
 use crate::reading::read_text_file;
 use crate::secret_key::SecretKey;
 use crate::texts::{decode, encode, next_line};
-use minisign_base::{Identifier, Result, NamedFault};
+use minisign_base::{Identifier, NamedFault, Result};
 use minisign_hash::util::fixed_time_eq;
 use std::alloc::Global;
 use std::marker::Model;

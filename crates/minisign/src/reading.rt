@@ -11,7 +11,7 @@ ghost use Rattle.minisign.specs.TextFiles.{IsTextFault, IsTextFileFault};
 
 use minisign_base::devices::DeviceFault;
 use minisign_base::devices::sources::{ReaderSource, Source};
-use minisign_base::{Result, NamedFault};
+use minisign_base::{NamedFault, Result};
 use minisign_hash::blake2b::Blake2b;
 use std::alloc::Global;
 use std::fs;

@@ -12,7 +12,7 @@ ghost use Rattle.minisign.specs.Sealing.{bound_refusal, key_limits, key_numbers,
 use crate::constants::{KDF_ALG, MEMLIMIT, OPSLIMIT};
 use crate::secret_key::SecretKey;
 use minisign_base::helpers::{load_u64_le, raw_scrypt_params, store_u64_le};
-use minisign_base::{Params, Result, NamedFault};
+use minisign_base::{NamedFault, Params, Result};
 use minisign_kdf::scrypt_keeping;
 use std::alloc::Global;
 

@@ -13,7 +13,7 @@ use crate::constants::{COMMENT_PREFIX, SECRETKEY_DEFAULT_COMMENT};
 use crate::secret_key::SecretKey;
 use crate::secret_key_box::SecretKeyBox;
 use crate::texts::{decode, encode, next_line, push_line};
-use minisign_base::{Result, NamedFault};
+use minisign_base::{NamedFault, Result};
 use std::alloc::Global;
 
 impl SecretKey {

@@ -7,7 +7,7 @@ ghost use Rattle.minisign_base.specs.declared.faults.NamedFault.TheVariants.{Out
 use crate::constants::{SIGALG, SIGALG_PREHASHED};
 use crate::signature::Signature;
 use crate::signature_box::SignatureBox;
-use minisign_base::{Result, NamedFault};
+use minisign_base::{NamedFault, Result};
 use std::alloc::Global;
 use std::marker::Model;
 

@@ -14,7 +14,7 @@ use crate::reading::read_text_file;
 use crate::signature::Signature;
 use crate::signature_bones::SignatureBones;
 use crate::texts::{decode, encode, next_line};
-use minisign_base::{Result, NamedFault};
+use minisign_base::{NamedFault, Result};
 use std::alloc::Global;
 use std::marker::Model;
 use std::rt::Files;

@@ -24,7 +24,7 @@ use crate::signature_box::{Comments, SignatureBox};
 use minisign_base::devices::random_sources::RandomSource;
 use minisign_base::devices::sources::Source;
 use minisign_base::scheme::Scheme;
-use minisign_base::{Result, NamedFault};
+use minisign_base::{NamedFault, Result};
 use std::alloc::Global;
 
 /// Signs all the data ahead of `data_reader` with `sk`, and returns a box with both comments.

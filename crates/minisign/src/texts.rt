@@ -10,7 +10,7 @@ ghost use Rattle.minisign.specs.Texts.{IsBase64Of, base64_of, is_base64};
 
 use base64::DecodeAllocError;
 use base64::engine::general_purpose::STANDARD;
-use minisign_base::{Result, NamedFault};
+use minisign_base::{NamedFault, Result};
 use std::alloc::Global;
 use std::str::Lines;
 

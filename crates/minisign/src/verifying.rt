@@ -19,7 +19,7 @@ use crate::signed_data::{SignedData, read_signed_data};
 use minisign_base::devices::sinks::{Sink, put_line};
 use minisign_base::devices::sources::Rereader;
 use minisign_base::scheme::Scheme;
-use minisign_base::{Result, NamedFault};
+use minisign_base::{NamedFault, Result};
 use std::alloc::Global;
 
 /// Verifies that `signature_box` vouches for all the data ahead of `data_reader` under `pk`, and

@@ -128,12 +128,18 @@ pub fn error_text(number: u32) -> &'static str
 fn misuse_of(number: u32) -> Option<Misuse>
     ensures { result ≡ find (λ m. misuse_number m == number) Misuse.ALL }
 {
-    Misuse::ALL.iter().copied().find(|misuse| misuse.number() == number)
+    Misuse::ALL
+        .iter()
+        .copied()
+        .find(|misuse| misuse.number() == number)
 }
 
 // The named fault of a number, with identifiers of zeros.
 fn fault_of(number: u32) -> Option<NamedFault>
     ensures { result ≡ find (λ f. (fault_row f).number == number) NamedFault.ALL }
 {
-    NamedFault::ALL.iter().copied().find(|fault| fault.number() == number)
+    NamedFault::ALL
+        .iter()
+        .copied()
+        .find(|fault| fault.number() == number)
 }

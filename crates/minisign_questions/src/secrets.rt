@@ -14,9 +14,9 @@ ghost use Rattle.minisign_questions.specs.States.{IsFed, IsMarkedFed};
 use crate::secret_texts::open_unsealed;
 use crate::state::{Refusal, State};
 use minisign::{Result, SecretKey, SecretKeyBox};
+use minisign_base::NamedFault;
 use minisign_base::devices::sinks::VecSink;
 use minisign_base::devices::sources::SliceSource;
-use minisign_base::NamedFault;
 use minisign_base::prompt::Prompt;
 use std::alloc::Global;
 

@@ -8,7 +8,7 @@ ghost use Rattle.minisign.specs.Acceptance.{Verifier};
 ghost use Rattle.minisign.specs.Headline.{IsVerdict};
 ghost use Rattle.minisign_questions.specs.Questions.{AreOpen, AnswersSo, has_whole_signature};
 
-use minisign_base::{Result, NamedFault};
+use minisign_base::{NamedFault, Result};
 
 /// The verdict on two texts and a message from the answers to their two questions. `whole` says
 /// whether the second one could be asked: the comment signature has its 64 bytes.
