@@ -95,10 +95,10 @@ fn fed() -> State {
 }
 
 // The number of a refusal, 0 for none.
-fn number(alloc: Global, outcome: Result<(), Refusal>, questions: &Questions) -> u32 {
+fn number(outcome: Result<(), Refusal>) -> u32 {
     match outcome {
         Ok(()) => 0,
-        Err(refusal) => refusal.number(alloc, questions.signature_key_id, questions.public_key_id),
+        Err(refusal) => refusal.number(),
     }
 }
 
@@ -120,7 +120,7 @@ fn told(
         questions,
         message,
     );
-    number(alloc, result, questions)
+    number(result)
 }
 
 // The number alone.
@@ -131,9 +131,9 @@ fn asked(alloc: Global, state: &mut State, texts: (&str, &str), legacy: bool) ->
 }
 
 // The number that the verdict of two answers returns.
-fn judged(alloc: Global, state: &mut State, first: bool, second: bool) -> u32 {
+fn judged(state: &mut State, first: bool, second: bool) -> u32 {
     let result = state.verdict(first, second);
-    number(alloc, result, &no_questions())
+    number(result)
 }
 
 // Whether the questions are about the key and the data.
@@ -180,8 +180,8 @@ fn the_questions_are_those_of_the_texts(rt: HostRuntime) {
 fn decide(alloc: Global, first: bool, second: bool, wanted: u32) -> bool {
     let mut state = fed();
     let asked = asked(alloc, &mut state, (KEY, SIGNATURE), false);
-    let result = judged(alloc, &mut state, first, second);
-    let again = judged(alloc, &mut state, first, second);
+    let result = judged(&mut state, first, second);
+    let again = judged(&mut state, first, second);
     asked == 0 && result == wanted && again == Misuse::NotBegun.number()
 }
 
@@ -240,12 +240,12 @@ fn is_not_fed(state: &mut State, misuse: Misuse) -> bool {
 fn a_wrong_use_is_refused_and_changes_nothing(rt: HostRuntime) {
     let alloc = rt.alloc();
     let mut state = fed();
-    let early = judged(alloc, &mut state, true, true);
+    let early = judged(&mut state, true, true);
     assert!(rt; early == Misuse::NotAsked.number());
     assert!(rt; asked(alloc, &mut state, (KEY, SIGNATURE), false) == 0);
     assert!(rt; is_not_fed(&mut state, Misuse::AlreadyAsked));
     assert!(rt; asked(alloc, &mut state, (KEY, SIGNATURE), false) == 2);
-    assert!(rt; judged(alloc, &mut state, true, true) == 0);
+    assert!(rt; judged(&mut state, true, true) == 0);
     assert!(rt; is_not_fed(&mut state, Misuse::NotBegun));
 }
 
@@ -259,7 +259,7 @@ fn asked_to_sign(
     let mut state = fed();
     match state.ask_signing(alloc, sk_text.as_bytes(), password, questions) {
         Ok(()) => 0,
-        Err(refusal) => refusal.number(alloc, [0; 8], [0; 8]),
+        Err(refusal) => refusal.number(),
     }
 }
 
@@ -349,7 +349,7 @@ fn written(
     );
     match made {
         Ok(len) => Ok(len),
-        Err(refusal) => Err(refusal.number(alloc, [0; 8], [0; 8])),
+        Err(refusal) => Err(refusal.number()),
     }
 }
 
