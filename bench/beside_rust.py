@@ -1,14 +1,14 @@
 #!/usr/bin/env python3
 """Times the same jobs over the Rust crate minisign 0.10.0 and over this library, in turns.
 
-    beside_rust.py UPSTREAM ORACLE [ROUNDS]
+    beside_rust.py UPSTREAM [ROUNDS]
 
-UPSTREAM is the folder of the crate's own files, ORACLE the folder with build.sh, which builds it with plain
-stand-ins for scrypt and base64 (so `open` compares with plain Rust and not with the crate `scrypt`). The jobs
-are those of crates/library_bench (`rt run` there leaves the program) and of beside_rust.rs, which is built
-here with full optimization for the processor that `rt run` builds for. The time is processor time, of the
-program and of the system for it, the least of ROUNDS runs (5 where it is left out) that take turns. It stops
-where the two programs print other results.
+UPSTREAM is the folder of the crate's own files. compare/oracle/build.sh builds it with plain stand-ins for
+scrypt and base64 (so `open` compares with plain Rust and not with the crate `scrypt`). The jobs are those of
+crates/library_bench (`rt run` there leaves the program) and of beside_rust.rs, which is built here with full
+optimization for the processor that `rt run` builds for. The time is processor time, of the program and of the
+system for it, the least of ROUNDS runs (5 where it is left out) that take turns. It stops where the two
+programs print other results.
 """
 
 import base64
@@ -26,10 +26,10 @@ TARGET = "-C opt-level=3 -C target-cpu=x86-64-v2"
 MEGABYTE = 1 << 20
 
 
-def built(upstream, oracle, folder):
+def built(upstream, folder):
     """The Rust program over the crate."""
     environment = dict(os.environ, OPT=TARGET)
-    build = os.path.join(oracle, "build.sh")
+    build = os.path.join(HERE, "..", "compare", "oracle", "build.sh")
     subprocess.run(["sh", build, upstream, folder], check=True, env=environment, stdout=subprocess.DEVNULL)
     lib = os.path.join(folder, "lib")
     program = os.path.join(folder, "beside_rust")
@@ -97,9 +97,9 @@ def job(program, arguments, folder):
 
 
 def main():
-    rounds = int(sys.argv[3]) if len(sys.argv) > 3 else 5
+    rounds = int(sys.argv[2]) if len(sys.argv) > 2 else 5
     with tempfile.TemporaryDirectory() as build, tempfile.TemporaryDirectory() as folder:
-        theirs = built(sys.argv[1], sys.argv[2], build)
+        theirs = built(sys.argv[1], build)
         prepare(folder)
         print("| Job | Rust crate | Here | Ratio |\n|---|---|---|---|")
         for name, arguments, most in JOBS:

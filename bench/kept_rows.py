@@ -2,9 +2,8 @@
 """Measures scrypt with every k-th row kept, and draws its time and memory as docs/kept_rows.png.
 
 Needs: Python 3.9 or later with matplotlib (else it goes on with the system's python3 and Debian's package
-python3-matplotlib, which it installs as root), 1.1 GB of memory, and the program `scrypt_bench`, built by
-`rt run -- password NaCl 10 8 16` in crates/scrypt_bench (which proves it, and leaves it in that crate's
-folder out). All derive 64 bytes with r 8 and p 1, each in a process of its own and in turn; the keys are
+python3-matplotlib, which it installs as root), 1.1 GB of memory, and the program `library_bench`, which
+`rt run` in crates/library_bench proves, builds and leaves in that crate's folder out. All derive 64 bytes with r 8 and p 1, each in a process of its own and in turn; the keys are
 compared with those of hashlib. `kept_rows.py 15 3` takes 15 rounds at N 2^15 and 3 at N 2^20, as it does
 without arguments. The time is the least processor time of the whole process, its own and the system's for
 it, beside the least time of the call by the clock; the memory is the greatest resident memory.
@@ -58,8 +57,8 @@ class Least:
 
 
 def derive(n_log2, k):
-    """Derives by scrypt_bench, and returns both times in seconds, the memory in MiB and the key."""
-    processor, memory, output = processor_timed([SCRYPT, PASSWORD, SALT, str(n_log2), "8", "1", str(k)])
+    """Derives by library_bench, and returns both times in seconds, the memory in MiB and the key."""
+    processor, memory, output = processor_timed([*SCRYPT, PASSWORD, SALT, str(n_log2), "8", "1", str(k)])
     microseconds, key = output.split()
     return processor, int(microseconds) / 1e6, memory, key
 

@@ -1,9 +1,8 @@
 #!/usr/bin/env python3
-"""Times `minisign_tool keygen` beside the one derivation that it does, by Python's hashlib and by `scrypt_bench`.
+"""Times `minisign_tool keygen` beside the one derivation that it does, by Python's hashlib and by `library_bench`.
 
-Needs Python 3.9 or later whose hashlib has scrypt (OpenSSL's), and the programs `minisign_tool`, built by
-`rt run` in crates/minisign_tool, and `scrypt_bench`, built by `rt run -- password NaCl 15 8 1` in
-crates/scrypt_bench. All derive with N 2^15, r 8 and p 1, each in a process of its own and in turn. The least
+Needs Python 3.9 or later whose hashlib has scrypt (OpenSSL's), and the programs `minisign_tool` and
+`library_bench`, each built by `rt run` in its crate. All derive with N 2^15, r 8 and p 1, each in a process of its own and in turn. The least
 processor time counts, of `hashlib.scrypt` that of the call alone.
 """
 
@@ -35,7 +34,7 @@ def main():
         runs = [
             ("minisign_tool keygen", lambda: processor_timed([TOOL, "keygen", pk, sk], typed)),
             ("hashlib.scrypt (OpenSSL)", of_hashlib),
-            ("scrypt_bench", lambda: processor_timed([SCRYPT, "p", "salt", "15", "8", "1"])),
+            ("library_bench scrypt", lambda: processor_timed([*SCRYPT, "p", "salt", "15", "8", "1"])),
         ]
         compare(runs, rounds=25)
 

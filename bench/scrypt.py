@@ -2,8 +2,8 @@
 """Times `minisign_kdf`'s scrypt beside OpenSSL's, libsodium's and libscrypt-kdf's.
 
 Needs: Python 3.9 or later whose hashlib has scrypt (OpenSSL's), 1.1 GB of memory, and the program
-`scrypt_bench`, built by `rt run -- password NaCl 10 8 16` in crates/scrypt_bench (which proves it, and
-leaves it in that crate's folder out); for the other two the packages libsodium23 and libscrypt-kdf1, which it
+`library_bench`, which `rt run` in crates/library_bench proves, builds and leaves in that crate's folder out;
+for the other two the packages libsodium23 and libscrypt-kdf1, which it
 installs as root on Debian. All derive 64 bytes with r 8 and p 1, each in a process of its own and in turn; the
 keys are compared. Of each the call alone is timed, and the least time counts. On a machine that does other work at the same time take
 `scrypt.py cpu`: it takes the processor time, of ours that of the whole process.
@@ -49,8 +49,8 @@ call = of_library(ctypes.CDLL(sys.argv[4]).crypto_scrypt)
 
 
 def ours(n_log2):
-    """Derives by scrypt_bench, and answers the seconds of the call, the process's memory and the key."""
-    seconds, memory, output = processor_timed([SCRYPT, PASSWORD, SALT, n_log2, "8", "1"])
+    """Derives by library_bench, and answers the seconds of the call, the process's memory and the key."""
+    seconds, memory, output = processor_timed([*SCRYPT, PASSWORD, SALT, n_log2, "8", "1"])
     microseconds, key = output.split()
     return seconds if CPU else int(microseconds) / 1e6, memory, key
 

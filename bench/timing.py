@@ -9,7 +9,7 @@ from dataclasses import dataclass
 
 HERE = os.path.dirname(os.path.realpath(__file__))
 # The texts of the toy scheme, and what finds or installs what a script needs, are those of the tests.
-sys.path.insert(0, os.path.join(HERE, "..", "tests"))
+sys.path[:0] = [os.path.join(HERE, "..", "tests", it) for it in ("shared", "whole")]
 import needs
 import toy
 
@@ -20,7 +20,8 @@ def program(name):
 
 
 TOOL = program("minisign_tool")
-SCRYPT = program("scrypt_bench")
+# The job of a derivation, before its arguments.
+SCRYPT = (program("library_bench"), "scrypt")
 
 
 def installed(find, *arguments):

@@ -1,39 +1,35 @@
 #!/usr/bin/env python3
-"""Times `examples/c/minisign-verify` over a file of 1 GB, in processor time, beside `minisign -V` of the same file and
+"""Times `c/minisign-verify` over a file of 1 GB, in processor time, beside `minisign -V` of the same file and
 the same signature, and prints the size of the archive and of the program.
 
-    bench/verifying.py [ARCHIVE ..]
+    bench/verifying.py
 
-Each ARCHIVE is a build of the library as a static one; where none is named it is the one that `rt lib` leaves in
-crates/minisign_c/out. One for newer processors is built by `rt lib --cpu=x86-64-v3` there and then copied, under a
-name of its own.
+The program is built twice: over the library as it is installed, which takes the copy of the proved calls that is built for
+x86-64-v3 where the processor has that, and over one whose two copies are both for x86-64-v2.
 
 Needs: Python 3.9 or later, make, a C compiler, libsodium with its header, minisign and coreutils' b2sum. It makes its
 own input in a temporary folder that it removes; the disk needs 1 GB of room.
 """
 
 import os
-import subprocess
-import sys
 import tempfile
 
 from commands import write_input
-from timing import HERE, compare, processor_timed
+from timing import compare, processor_timed
 
 # Of the tests, whose folder `timing` adds.
 import needs
-
-ARCHIVE = os.path.join(HERE, "..", "crates", "minisign_c", "out", "libminisign_c.a")
-EXAMPLES = os.path.join(HERE, "..", "examples", "c")
+import static_library
 
 
-def build(archive, folder):
-    """Builds the program over an archive, and answers its path."""
-    made = os.path.join(folder, os.path.basename(archive).removesuffix(".a"))
-    subprocess.run(["make", "-s", "-C", EXAMPLES, f"OUT={made}", f"LIBRARY={os.path.realpath(archive)}",
-                    f"CC={needs.libsodium()}"], check=True)
+
+def build(name, v2, v3, folder):
+    """Builds the program over these two archives, and answers its path."""
+    made = os.path.join(folder, name)
+    static_library.run_make(f"OUT={made}", f"V2={v2}", f"V3={v3}", f"CC={needs.libsodium()}")
     program = os.path.join(made, "minisign-verify")
-    print(f"{archive}: {os.path.getsize(archive)} bytes, and the program {os.path.getsize(program)} bytes")
+    library = os.path.join(made, "libminisign.a")
+    print(f"{name}: the library {os.path.getsize(library)} bytes, and the program {os.path.getsize(program)} bytes")
     return program
 
 
@@ -46,10 +42,10 @@ def main():
         processor_timed([minisign, "-G", "-W", "-p", pk, "-s", sk])
         processor_timed([minisign, "-S", "-s", sk, "-m", data, "-x", sig])
         arguments = ["-V", "-q", "-p", pk, "-x", sig, "-m", data]
-        programs = [build(archive, folder) for archive in sys.argv[1:] or [ARCHIVE]]
+        v2, v3 = static_library.built()
+        programs = {name: build(name, v2, of_v3, folder) for name, of_v3 in (("chosen", v3), ("x86-64-v2", v2))}
         compare(
-            [(f"over {os.path.basename(os.path.dirname(it))}", lambda it=it: processor_timed([it, *arguments]))
-             for it in programs]
+            [(name, lambda it=it: processor_timed([it, *arguments])) for name, it in programs.items()]
             + [("b2sum", lambda: processor_timed(["b2sum", data])),
                ("minisign -V", lambda: processor_timed([minisign, *arguments]))],
             rounds=15,

@@ -1,11 +1,11 @@
 #!/usr/bin/env python3
 """Compares this library with the Rust crate minisign 0.10.0.
 
-    compare.py run UPSTREAM ORACLE [--seed N] [--count N] [--program FILE]
-    compare.py list UPSTREAM ORACLE [--program FILE]
+    compare.py run UPSTREAM [--seed N] [--count N] [--program FILE]
+    compare.py list UPSTREAM [--program FILE]
 
-UPSTREAM is the folder of the crate's own files, ORACLE the folder with build.sh, which builds the crate and a
-program over it that answers requests; the build goes into a folder of its own, which is deleted again. `run`
+UPSTREAM is the folder of the crate's own files. oracle/build.sh builds the crate and a program over it that
+answers requests; the build goes into a folder of its own, which is deleted again. `run`
 makes requests by seed, has both programs answer them, and prints each difference that known.py does not name,
 the shortest request of its kind first. `list` makes the stored run of crates/minisign_compare anew from the
 crate's answers: stdin, stdout and data/. Wants a Rust compiler; README.md says more.
@@ -40,7 +40,7 @@ TYPED = ('get_password', 'sk_open', 'gen_sealed', 'gen_write_sealed')
 
 def built_oracle(arguments, folder):
     """Builds the crate and the program over it."""
-    build = os.path.join(arguments.oracle, 'build.sh')
+    build = os.path.join(HERE, 'oracle', 'build.sh')
     made = subprocess.run(['sh', build, arguments.upstream, folder], capture_output=True, text=True)
     if made.returncode:
         sys.exit(f'{build} ended with status {made.returncode}:\n{made.stderr[-2000:]}')
@@ -158,7 +158,6 @@ def main():
     parser = argparse.ArgumentParser(description=__doc__, formatter_class=argparse.RawDescriptionHelpFormatter)
     parser.add_argument('what', choices=('run', 'list'))
     parser.add_argument('upstream', help="the folder of the crate's own files")
-    parser.add_argument('oracle', help='the folder with build.sh')
     parser.add_argument('--seed', type=int, default=1)
     parser.add_argument('--count', type=int, default=5000, help='of each kind of random request, about')
     parser.add_argument('--program', default=os.path.join(CRATE, 'out', 'minisign_compare'))

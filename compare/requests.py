@@ -1,6 +1,6 @@
 """Requests for the comparison: short inputs exhaustively, and others around each boundary, by seed.
 
-Texts and records are those of the toy scheme (tests/toy.py). A request is one line; README.md lists them.
+Texts and records are those of the toy scheme (tests/shared/toy.py). A request is one line; oracle/README.md lists them.
 """
 
 import hashlib
@@ -9,7 +9,7 @@ import os
 import random
 import sys
 
-sys.path.insert(0, os.path.join(os.path.dirname(os.path.abspath(__file__)), '..', 'tests'))
+sys.path.insert(0, os.path.join(os.path.dirname(os.path.abspath(__file__)), '..', 'tests', 'shared'))
 import base64  # noqa: E402
 import toy  # noqa: E402
 

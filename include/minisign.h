@@ -1,40 +1,287 @@
 /*
  * minisign.h: verifying and making minisign signatures with an Ed25519 of your own.
  *
+ * SPDX-License-Identifier: MIT
+ *
  * The library does all of it but Ed25519: it reads the texts of keys and signatures, hashes the data, and says
  * what has to be asked of Ed25519. You ask a library that you trust, and pass its answers back; the library
- * gives the verdict. Every function here is proved to do what this page says, for a caller that keeps
- * "What you owe" below. What Ed25519 answers is yours.
+ * gives the verdict. What Ed25519 answers is yours.
  *
- * Verifying, in full, with libsodium:
+ * What is proved, for a caller that keeps "What you owe" below: what each call answers and writes, as the contract of
+ * its export says in crates/minisign_c/src/lib.rt of the sources. By tests alone is shown: that what was taken from
+ * malloc is given back; that MINISIGN_TEXT_BYTES is room enough; what c/boundary.c does, which stands between this page
+ * and the proved calls; and that the English of this page says what the contracts say.
  *
- *     minisign_state state;
- *     minisign_questions q;
- *     minisign_init(&state);
- *     while ((n = fread(piece, 1, sizeof piece, file)) > 0)
- *         minisign_update(&state, piece, n);
- *     // A buffer of sig_text_len bytes always has room for the second message.
- *     error = minisign_ask(&state, pk_text, pk_text_len, sig_text, sig_text_len, 0, &q, message, sig_text_len);
- *     if (error == MINISIGN_OK) {
- *         first = crypto_sign_verify_detached(q.signature, q.digest, 64, q.public_key) == 0;
- *         second = crypto_sign_verify_detached(q.comment_signature, message, q.message_len, q.public_key) == 0;
- *         error = minisign_verdict(&state, first, second);
+ * Only for x86-64 with 64-bit pointers: any processor since 2009 (x86-64-v2). On one with AVX2 (x86-64-v3) a second
+ * copy of the calls is used, built for it.
+ *
+ * Compile and link with the flags that `pkg-config --cflags --libs minisign` tells. There is no more to link.
+ *
+ * ---- Verifying, in full, with libsodium ----
+ *
+ * The example, made by tools/header.py from c/examples/verify.c.
+ *
+ *     // verify PUBLIC_KEY DATA SIGNATURE: ends with 0, and prints the trusted comment, exactly where the texts vouch for the data.
+ *     #include <stdio.h>
+ *
+ *     #include <sodium.h>
+ *
+ *     #include <minisign.h>
+ *
+ *     enum { TEXT_BYTES = 65536 };
+ *
+ *     static uint8_t key[TEXT_BYTES], signature[TEXT_BYTES], message[TEXT_BYTES];
+ *
+ *     static int fails(const char *what)
+ *     {
+ *         fprintf(stderr, "verify: %s\n", what);
+ *         return 1;
  *     }
- *     // MINISIGN_OK: the texts vouch for the data, and the trusted comment is the message_len - 64 bytes at
- *     // message + 64. Any other number: nothing is vouched for, and this is the first reason.
  *
- * Signing is further down. There the secret key leaves the library.
+ *     // Reads a text of fewer than TEXT_BYTES bytes; returns its length, and 0 where that is not possible.
+ *     static size_t read_text(const char *name, uint8_t *text)
+ *     {
+ *         FILE *file = fopen(name, "rb");
+ *         size_t len = 0;
  *
- * Only 64-bit machines.
+ *         if (file != NULL) {
+ *             len = fread(text, 1, TEXT_BYTES, file);
+ *             if (ferror(file) || len == TEXT_BYTES) {
+ *                 len = 0;
+ *             }
+ *             fclose(file);
+ *         }
+ *         return len;
+ *     }
  *
- * Linking: libminisign_c.a, which `rt lib` leaves in crates/minisign_c/out, and the archive of the kit that
- * hands its calls for memory to malloc, realloc and free, c/liblibc_c.a in the kit's folder.
+ *     // Feeds all of a file.
+ *     static int feed(minisign_state *state, const char *name)
+ *     {
+ *         static uint8_t piece[65536];
+ *         FILE *file = fopen(name, "rb");
+ *         int good = file != NULL;
+ *
+ *         while (good && !feof(file)) {
+ *             size_t len = fread(piece, 1, sizeof piece, file);
+ *             good = !ferror(file) && minisign_update(state, piece, len) == MINISIGN_OK;
+ *         }
+ *         if (file != NULL) {
+ *             fclose(file);
+ *         }
+ *         return good;
+ *     }
+ *
+ *     // What Ed25519 answers: libsodium's 0 is a yes.
+ *     static enum minisign_answer answer(const uint8_t *signed_by, const uint8_t *bytes, size_t len, const uint8_t *public_key)
+ *     {
+ *         return crypto_sign_verify_detached(signed_by, bytes, len, public_key) == 0 ? MINISIGN_ANSWER_YES : MINISIGN_ANSWER_NO;
+ *     }
+ *
+ *     int main(int argc, char **argv)
+ *     {
+ *         minisign_state state;
+ *         minisign_external q;
+ *         enum minisign_error error;
+ *         size_t key_len, signature_len;
+ *
+ *         if (argc != 4 || sodium_init() < 0) {
+ *             return fails("usage: verify PUBLIC_KEY DATA SIGNATURE");
+ *         }
+ *         key_len = read_text(argv[1], key);
+ *         signature_len = read_text(argv[3], signature);
+ *         if (key_len == 0 || signature_len == 0) {
+ *             return fails("a text cannot be read");
+ *         }
+ *         minisign_init(&state);
+ *         if (!feed(&state, argv[2])) {
+ *             return fails("the data cannot be read");
+ *         }
+ *         // 0: no legacy signatures, which are over the data itself. The message is never longer than the signature's text.
+ *         error = minisign_ask(&state, key, key_len, signature, signature_len, 0, &q, message, sizeof message);
+ *         if (error == MINISIGN_OK) {
+ *             error = minisign_verdict(&state, answer(q.signature, q.digest, sizeof q.digest, q.public_key),
+ *                                      answer(q.comment_signature, message, q.message_len, q.public_key));
+ *         }
+ *         if (error != MINISIGN_OK) {
+ *             char why[MINISIGN_ERROR_TEXT_BYTES];
+ *
+ *             minisign_error_text(error, why, sizeof why);
+ *             return fails(why);
+ *         }
+ *         // The texts vouch for the data. The trusted comment is the message without the 64 bytes of the first signature.
+ *         if (fwrite(message + 64, 1, q.message_len - 64, stdout) != q.message_len - 64 || putchar('\n') == EOF || fflush(stdout) != 0) {
+ *             return fails("the comment cannot be written");
+ *         }
+ *         return 0;
+ *     }
+ *
+ * The end of the example.
+ *
+ * ---- Signing, in full, with libsodium ----
+ *
+ * The secret key leaves the library here, into your memory and your Ed25519. The library itself clears neither the
+ * stack nor what it gives back to free, and both have held the secret, the text of the key and the password.
+ *
+ * The example, made by tools/header.py from c/examples/sign.c.
+ *
+ *     // sign SECRET_KEY DATA SIGNATURE COMMENT [PASSWORD_FILE]: signs the data with a key that `minisign -G` made, with -W where there is
+ *     // no file of its password, and writes the text of the signature.
+ *     #include <stdio.h>
+ *     #include <string.h>
+ *
+ *     #include <sodium.h>
+ *
+ *     #include <minisign.h>
+ *
+ *     enum { TEXT_BYTES = 65536 };
+ *
+ *     static const char UNTRUSTED[] = "signature from the example of minisign.h";
+ *
+ *     static uint8_t key[TEXT_BYTES], password[TEXT_BYTES], message[TEXT_BYTES], text[TEXT_BYTES];
+ *     static minisign_signing s;
+ *
+ *     static int fails(const char *what)
+ *     {
+ *         fprintf(stderr, "sign: %s\n", what);
+ *         return 1;
+ *     }
+ *
+ *     static int refuses(enum minisign_error error)
+ *     {
+ *         char why[MINISIGN_ERROR_TEXT_BYTES];
+ *
+ *         minisign_error_text(error, why, sizeof why);
+ *         return fails(why);
+ *     }
+ *
+ *     // Reads a text of fewer than TEXT_BYTES bytes; returns its length, and 0 where that is not possible.
+ *     static size_t read_text(const char *name, uint8_t *to)
+ *     {
+ *         FILE *file = fopen(name, "rb");
+ *         size_t len = 0;
+ *
+ *         if (file != NULL) {
+ *             setvbuf(file, NULL, _IONBF, 0);
+ *             len = fread(to, 1, TEXT_BYTES, file);
+ *             if (ferror(file) || len == TEXT_BYTES) {
+ *                 len = 0;
+ *             }
+ *             fclose(file);
+ *         }
+ *         return len;
+ *     }
+ *
+ *     // Feeds all of a file.
+ *     static int feed(minisign_state *state, const char *name)
+ *     {
+ *         static uint8_t piece[65536];
+ *         FILE *file = fopen(name, "rb");
+ *         int good = file != NULL;
+ *
+ *         while (good && !feof(file)) {
+ *             size_t len = fread(piece, 1, sizeof piece, file);
+ *             good = !ferror(file) && minisign_update(state, piece, len) == MINISIGN_OK;
+ *         }
+ *         if (file != NULL) {
+ *             fclose(file);
+ *         }
+ *         return good;
+ *     }
+ *
+ *     static int write_text(const char *name, size_t len)
+ *     {
+ *         FILE *file = fopen(name, "wb");
+ *         int good = file != NULL && fwrite(text, 1, len, file) == len;
+ *
+ *         return file != NULL && fclose(file) == 0 && good;
+ *     }
+ *
+ *     // Signs: all that is secret stands in static variables, which main clears.
+ *     static int sign(char **argv, const char *password_file)
+ *     {
+ *         const uint8_t *trusted = (const uint8_t *) argv[4], *untrusted = (const uint8_t *) UNTRUSTED;
+ *         size_t trusted_len = strlen(argv[4]), key_len = read_text(argv[1], key), password_len = 0, text_len;
+ *         uint8_t first[64], second[64];
+ *         minisign_state state;
+ *         enum minisign_error error;
+ *
+ *         if (password_file != NULL) {
+ *             // The password is the first line.
+ *             password_len = read_text(password_file, password);
+ *             if (password_len == 0 || memchr(password, '\n', password_len) == NULL) {
+ *                 return fails("the password cannot be read");
+ *             }
+ *             password_len = (size_t) ((uint8_t *) memchr(password, '\n', password_len) - password);
+ *         }
+ *         if (key_len == 0) {
+ *             return fails("the key cannot be read");
+ *         }
+ *         minisign_init(&state);
+ *         if (!feed(&state, argv[2])) {
+ *             return fails("the data cannot be read");
+ *         }
+ *         error = minisign_ask_signing(&state, key, key_len, password_file != NULL, password, password_len,
+ *                                      MINISIGN_KEEP_EVERY_ROW, MINISIGN_USUAL_WORK, &s);
+ *         if (error != MINISIGN_OK) {
+ *             return refuses(error);
+ *         }
+ *         if (crypto_sign_detached(first, NULL, s.digest, sizeof s.digest, s.secret_key) != 0) {
+ *             return fails("the data was not signed");
+ *         }
+ *         error = minisign_comment_message(first, trusted, trusted_len, message, sizeof message);
+ *         if (error != MINISIGN_OK) {
+ *             return refuses(error);
+ *         }
+ *         if (crypto_sign_detached(second, NULL, message, 64 + trusted_len, s.secret_key) != 0) {
+ *             return fails("the comment was not signed");
+ *         }
+ *         // Only a state that has told a key makes a text, and under the identifier of that key.
+ *         error = minisign_signed_text(&state, first, second, trusted, trusted_len, untrusted, strlen(UNTRUSTED), text,
+ *                                      sizeof text, &text_len);
+ *         if (error != MINISIGN_OK) {
+ *             return refuses(error);
+ *         }
+ *         return write_text(argv[3], text_len) ? 0 : fails("the signature cannot be written");
+ *     }
+ *
+ *     int main(int argc, char **argv)
+ *     {
+ *         int status;
+ *
+ *         if ((argc != 5 && argc != 6) || sodium_init() < 0) {
+ *             return fails("usage: sign SECRET_KEY DATA SIGNATURE COMMENT [PASSWORD_FILE]");
+ *         }
+ *         status = sign(argv, argc == 6 ? argv[5] : NULL);
+ *         sodium_memzero(&s, sizeof s);
+ *         sodium_memzero(key, sizeof key);
+ *         sodium_memzero(password, sizeof password);
+ *         return status;
+ *     }
+ *
+ * The end of the example.
  */
 #ifndef MINISIGN_H
 #define MINISIGN_H
 
 #include <stddef.h>
 #include <stdint.h>
+
+/* The version of this header; minisign_version tells that of the library. */
+#define MINISIGN_VERSION_MAJOR 0
+#define MINISIGN_VERSION_MINOR 1
+#define MINISIGN_VERSION_PATCH 0
+#define MINISIGN_VERSION_TEXT "0.1.0"
+#define MINISIGN_VERSION \
+    ((uint32_t) MINISIGN_VERSION_MAJOR << 16 | (uint32_t) MINISIGN_VERSION_MINOR << 8 | (uint32_t) MINISIGN_VERSION_PATCH)
+
+/* On a call whose result has to be looked at: the compiler warns where it is not. */
+#if defined(__cplusplus) && __cplusplus >= 201703L
+#define MINISIGN_MUST_USE [[nodiscard]]
+#elif defined(__GNUC__)
+#define MINISIGN_MUST_USE __attribute__((warn_unused_result))
+#else
+#define MINISIGN_MUST_USE
+#endif
 
 #ifdef __cplusplus
 extern "C" {
@@ -43,17 +290,17 @@ extern "C" {
 /*
  * What you owe. The library cannot test these; where one is broken, nothing is promised.
  *
- * - No pointer is NULL, even where its length is 0. A pointer with a length points to so many bytes, at most
- *   2^63 - 1, that you may read, and where it is not const also write. A pointer to a struct points to one,
- *   aligned as your compiler aligns it.
+ * - A pointer with a length points to so many bytes, at most 2^63 - 1, that you may read, and where it is not const
+ *   also write; where the length is 0 it may be NULL. No other pointer is NULL: one to a struct points to one,
+ *   aligned as your compiler aligns it, and one to an array to all of it.
  * - What a call may write overlaps nothing else that the call was given. No other thread touches what a call
  *   was given before the call has returned. Different states may be used by different threads at once: the
- *   library has no variables of its own.
+ *   library has no variables that change, but what the processor can is found out once, before main.
  * - All memory is yours. The library keeps no pointer beyond a call, and what it takes from malloc during
  *   one it has given back when the call returns. malloc, realloc and free belong together, and align a
- *   block of n bytes to every power of two up to 16 that divides n. The calls that take memory, minisign_ask,
- *   minisign_ask_signing and minisign_signed_text, are not made in a signal handler or in the forked child of a
- *   process with threads.
+ *   block of n bytes to every power of two up to 16 that divides n. Verifying takes no memory. The calls that
+ *   take it, minisign_ask_signing, minisign_signed_text and those that make keys, are not made in a signal
+ *   handler or in the forked child of a process with threads.
  * - The bytes of a state are written by the library alone, beginning with minisign_init. A state may be copied
  *   by assignment or memcpy, to go on from one point twice. It needs no clearing at the end, but holds up to
  *   256 of the last bytes of the data.
@@ -63,6 +310,9 @@ extern "C" {
  * eight bytes are not those of minisign_init), an update or a question after the questions were asked, a
  * verdict before.
  */
+
+/* The version of the library, as MINISIGN_VERSION of the header that it came with. */
+uint32_t minisign_version(void);
 
 /* Numbers of errors: up to 15 of wrong use, of memory and of bytes that are no text, from 16 on of what the texts
  * say. */
@@ -75,20 +325,22 @@ enum minisign_error {
     MINISIGN_ALREADY_ASKED = 2,
     /* The questions were not asked. */
     MINISIGN_NOT_ASKED = 3,
-    /* An answer is neither 0 nor 1. */
-    MINISIGN_NO_ANSWER = 4,
+    /* An answer is neither MINISIGN_ANSWER_YES nor MINISIGN_ANSWER_NO. */
+    MINISIGN_BAD_ANSWER = 4,
     /* A buffer is too short. */
     MINISIGN_NO_ROOM = 5,
     /* allow_legacy is neither 0 nor 1. */
-    MINISIGN_NO_LEGACY = 6,
+    MINISIGN_BAD_LEGACY_FLAG = 6,
     /* A growth was refused, or a size that no allocation can have was asked for. */
     MINISIGN_OUT_OF_MEMORY = 7,
     /* A text, a typed line, a password or a comment is not UTF-8. */
     MINISIGN_NOT_UTF8 = 8,
     /* A comment of a signature would not be read back as it is. */
-    MINISIGN_NO_COMMENT = 9,
+    MINISIGN_BAD_COMMENT = 9,
     /* with_password is neither 0 nor 1. */
-    MINISIGN_NO_PASSWORD = 10,
+    MINISIGN_BAD_PASSWORD_FLAG = 10,
+    /* A comment of a signature is one that Minisign would not read back: too long, or with a zero byte or a carriage return. */
+    MINISIGN_UNREADABLE_COMMENT = 11,
     /* A public key text has no first line. */
     MINISIGN_MISSING_PUBLIC_KEY_COMMENT = 16,
     /* A public key text has no second line. */
@@ -142,7 +394,13 @@ enum minisign_error {
     /* The limits lead to parameters that scrypt does not take. */
     MINISIGN_INVALID_PARAMETERS = 41,
     /* The checksum of an opened key does not match. */
-    MINISIGN_WRONG_PASSWORD = 42
+    MINISIGN_WRONG_PASSWORD = 42,
+    /* The limits lead to more parallel work than the caller allows. */
+    MINISIGN_WORK_TOO_HIGH = 43,
+    /* A public key given as base64 alone has not 56 bytes. */
+    MINISIGN_BARE_PUBLIC_KEY_LENGTH = 44,
+    /* A public key given as base64 alone is not base64. */
+    MINISIGN_BARE_PUBLIC_KEY_NOT_BASE64 = 45
 };
 /* The end of the numbers. */
 
@@ -152,7 +410,7 @@ enum minisign_error {
  * is written. MINISIGN_ERROR_TEXT_BYTES is room enough for each.
  */
 #define MINISIGN_ERROR_TEXT_BYTES 128
-size_t minisign_error_text(uint32_t error, uint8_t *text, size_t room);
+size_t minisign_error_text(uint32_t error, char *text, size_t room);
 
 /* A state, for one file: yours, of fixed size, its bytes the library's. */
 typedef struct minisign_state {
@@ -168,12 +426,12 @@ void minisign_init(minisign_state *state);
  *
  * MINISIGN_NOT_BEGUN, MINISIGN_ALREADY_ASKED: the state stays as it was.
  */
-uint32_t minisign_update(minisign_state *state, const uint8_t *data, size_t len);
+MINISIGN_MUST_USE enum minisign_error minisign_update(minisign_state *state, const uint8_t *data, size_t len);
 
 /* ---- Verifying ---- */
 
 /* What has to be asked of Ed25519, both times under public_key. */
-typedef struct minisign_questions {
+typedef struct minisign_external {
     uint8_t public_key[32];
     /* The first question: does Ed25519 accept the signature for this message? Its message is the digest, or,
      * where legacy is 1, all of the data itself, which you hold. */
@@ -185,13 +443,15 @@ typedef struct minisign_questions {
     uint8_t comment_signature[64];
     uint64_t message_len;
     /* The identifiers, 8 bytes each, shown by minisign as one little endian number. Equal where the
-     * questions were asked; also filled in with MINISIGN_DIFFERENT_KEY_IDS. */
+     * questions were asked; also filled in where both texts read and the questions were not, as with
+     * MINISIGN_DIFFERENT_KEY_IDS. */
     uint8_t public_key_id[8];
     uint8_t signature_key_id[8];
     /* 1 where the signature is over the data itself ("Ed"), 0 where it is over the digest ("ED"). */
     uint32_t legacy;
+    /* 0. */
     uint32_t reserved;
-} minisign_questions;
+} minisign_external;
 
 /*
  * Asks, once all of the data was fed: from the text of the public key (both lines of a file such as
@@ -205,19 +465,37 @@ typedef struct minisign_questions {
  * is legacy, ask with another state that was fed nothing.
  *
  * After an error the state and the message stay as they were, and you may ask again. The errors, in this order:
- * MINISIGN_NO_LEGACY; MINISIGN_NOT_BEGUN, MINISIGN_ALREADY_ASKED; MINISIGN_NOT_UTF8 of either text; those of
+ * MINISIGN_BAD_LEGACY_FLAG; MINISIGN_NOT_BEGUN, MINISIGN_ALREADY_ASKED; MINISIGN_NOT_UTF8 of either text; those of
  * the text of the public key; those of the text of the signature; MINISIGN_DIFFERENT_KEY_IDS,
- * MINISIGN_LEGACY_NOT_ACCEPTED; MINISIGN_NO_ROOM. MINISIGN_OUT_OF_MEMORY may come at any time, and in place of
- * any of those between.
+ * MINISIGN_LEGACY_NOT_ACCEPTED; MINISIGN_NO_ROOM. Takes no memory.
  */
-uint32_t minisign_ask(minisign_state *state, const uint8_t *pk_text, size_t pk_text_len,
-                      const uint8_t *sig_text, size_t sig_text_len, uint32_t allow_legacy,
-                      minisign_questions *questions, uint8_t *message, size_t room);
+MINISIGN_MUST_USE enum minisign_error minisign_ask(
+    minisign_state *state, const uint8_t *pk_text, size_t pk_text_len, const uint8_t *sig_text, size_t sig_text_len,
+    uint32_t allow_legacy, minisign_external *questions, uint8_t *message, size_t room);
 
-/* Your answers: any other number is an error, so that a library's "0 for success" is never taken for a yes
- * or a "-1 for failure" for one. */
-#define MINISIGN_REFUSED 0
-#define MINISIGN_ACCEPTED 1
+/*
+ * Reads the text of a public key, both lines of a file such as minisign.pub, or, for an updater that has the key
+ * built in, its base64 alone: the 56 letters that stand in the second line and behind minisign -P. Tells the 32
+ * bytes of the key and its identifier. Takes no memory.
+ *
+ * The errors, in this order: MINISIGN_NOT_UTF8; of two lines those of the text of the public key
+ * (MINISIGN_MISSING_PUBLIC_KEY_COMMENT, MINISIGN_MISSING_PUBLIC_KEY, MINISIGN_PUBLIC_KEY_LENGTH,
+ * MINISIGN_PUBLIC_KEY_NOT_BASE64, MINISIGN_RECORD_TOO_SHORT); of the base64 alone MINISIGN_BARE_PUBLIC_KEY_LENGTH,
+ * MINISIGN_BARE_PUBLIC_KEY_NOT_BASE64, MINISIGN_RECORD_TOO_SHORT. Then the key and the identifier stay as they were.
+ */
+MINISIGN_MUST_USE enum minisign_error minisign_read_public_key(
+    const uint8_t *pk_text, size_t pk_text_len, uint8_t public_key[32], uint8_t key_id[8]);
+MINISIGN_MUST_USE enum minisign_error minisign_read_bare_public_key(
+    const uint8_t *base64, size_t base64_len, uint8_t public_key[32], uint8_t key_id[8]);
+
+/* Your answers: the letters "yes" and "no" as numbers. Any other number is an error, so that no truth value, no
+ * "0 for success" or "-1 for failure" of another library, and no error number is taken for one. */
+/* Answers, made by tools/header.py. */
+enum minisign_answer {
+    MINISIGN_ANSWER_YES = 0x796573,
+    MINISIGN_ANSWER_NO = 0x6e6f
+};
+/* The end of the answers. */
 
 /*
  * The verdict, from what Ed25519 answered to the two questions; it ends the state. Takes no memory.
@@ -228,27 +506,12 @@ uint32_t minisign_ask(minisign_state *state, const uint8_t *pk_text, size_t pk_t
  * Otherwise MINISIGN_SIGNATURE_REFUSED or MINISIGN_COMMENT_SIGNATURE_REFUSED: the first of these that
  * fails.
  *
- * MINISIGN_NO_ANSWER, then MINISIGN_NOT_BEGUN, MINISIGN_NOT_ASKED: the state stays as it was.
+ * MINISIGN_BAD_ANSWER, then MINISIGN_NOT_BEGUN, MINISIGN_NOT_ASKED: the state stays as it was.
  */
-uint32_t minisign_verdict(minisign_state *state, uint32_t first, uint32_t second);
+MINISIGN_MUST_USE enum minisign_error minisign_verdict(minisign_state *state, enum minisign_answer first,
+                                                       enum minisign_answer second);
 
-/* ---- Signing ----
- *
- * In full, with libsodium, for a key that was never sealed:
- *
- *     minisign_init(&state);
- *     minisign_update(&state, piece, n);                       // as for verifying
- *     error = minisign_ask_signing(&state, sk_text, sk_text_len, 0, sk_text, 0, &s);
- *     crypto_sign_detached(first, NULL, s.digest, sizeof s.digest, s.secret_key);
- *     error = minisign_comment_message(first, trusted, trusted_len, message, room);
- *     crypto_sign_detached(second, NULL, message, 64 + trusted_len, s.secret_key);
- *     error = minisign_signed_text(s.key_id, first, second, trusted, trusted_len, untrusted, untrusted_len,
- *                                  text, room, &text_len);
- *
- * The secret key leaves the library here, into your memory and your Ed25519: clear it when you are done
- * (sodium_memzero). The library itself clears neither the stack nor what it gives back to free, and both have
- * held the secret, the text of the key and the password.
- */
+/* ---- Signing ---- */
 
 /* What has to be signed first, and with what. */
 typedef struct minisign_signing {
@@ -259,19 +522,34 @@ typedef struct minisign_signing {
 
 /*
  * Asks for signatures, once all of the data was fed: opens the secret key of a text (both lines of a file such as
- * minisign.key), and tells its secret, its identifier and the digest. It ends the state.
+ * minisign.key), and tells its secret, its identifier and the digest. The state then knows the identifier, for
+ * minisign_signed_text; it is fed and asked no more.
  *
  * with_password is 0 for a key that was never sealed (minisign -G -W), whatever password holds, and 1 for a sealed
- * one, which the password opens. Ask without one first: MINISIGN_KEY_SEALED says that the key wants one. A
- * sealed key takes the memory that its limits ask for, which may be 1 GiB, and the time of scrypt.
+ * one, which the password opens. Ask without one first: MINISIGN_KEY_SEALED says that the key wants one.
+ *
+ * A sealed key takes the memory and the time of scrypt, for which the key's own limits ask: rows of 1 KiB, of which
+ * there are at most 2^20, made once or more often. You bound both:
+ *
+ * - Every keep_every-th row is kept in memory, and the others are made again when they are named. 0 and 1 keep them
+ *   all, which is the fastest and takes 1 GiB with the limits of minisign -G; MINISIGN_KEEP_FEW_ROWS, which is 16, takes
+ *   65 MiB at most, and some three times the time. What is opened does not depend on it.
+ * - greatest_work is how often all rows may be made: scrypt's parallelization (RFC 7914), from 1 on.
+ *   MINISIGN_USUAL_WORK, which is 1, is enough for the keys of minisign -G; with MINISIGN_ANY_WORK a stranger's key may
+ *   run for hours. A key that asks for more is MINISIGN_WORK_TOO_HIGH, before anything is derived.
  *
  * After an error the state and the questions stay as they were, and you may ask again. The errors, in this order:
- * MINISIGN_NO_PASSWORD; MINISIGN_NOT_BEGUN, MINISIGN_ALREADY_ASKED; MINISIGN_NOT_UTF8; those of the text of the
- * secret key; and those of a key without a password, or with one. MINISIGN_OUT_OF_MEMORY may come at any time.
+ * MINISIGN_BAD_PASSWORD_FLAG; MINISIGN_NOT_BEGUN, MINISIGN_ALREADY_ASKED, before anything is read; MINISIGN_NOT_UTF8; those of
+ * the text of the secret key; and those of a key without a password, or with one. MINISIGN_OUT_OF_MEMORY may come at
+ * any time once the state was looked at.
  */
-uint32_t minisign_ask_signing(minisign_state *state, const uint8_t *sk_text, size_t sk_text_len,
-                              uint32_t with_password, const uint8_t *password, size_t password_len,
-                              minisign_signing *signing);
+#define MINISIGN_KEEP_EVERY_ROW 1
+#define MINISIGN_KEEP_FEW_ROWS 16
+#define MINISIGN_USUAL_WORK 1
+#define MINISIGN_ANY_WORK UINT32_MAX
+MINISIGN_MUST_USE enum minisign_error minisign_ask_signing(
+    minisign_state *state, const uint8_t *sk_text, size_t sk_text_len, uint32_t with_password, const uint8_t *password,
+    size_t password_len, uint64_t keep_every, uint32_t greatest_work, minisign_signing *signing);
 
 /*
  * Writes the message of the second question to the front of message, of room bytes: the first signature followed
@@ -279,30 +557,95 @@ uint32_t minisign_ask_signing(minisign_state *state, const uint8_t *sk_text, siz
  *
  * MINISIGN_NO_ROOM: the message stays as it was.
  */
-uint32_t minisign_comment_message(const uint8_t first[64], const uint8_t *trusted, size_t trusted_len,
-                                  uint8_t *message, size_t room);
+MINISIGN_MUST_USE enum minisign_error minisign_comment_message(
+    const uint8_t first[64], const uint8_t *trusted, size_t trusted_len, uint8_t *message, size_t room);
 
 /* Room enough for the text of a signature with comments of these lengths. */
 #define MINISIGN_TEXT_BYTES(trusted_len, untrusted_len) (240 + (size_t) (trusted_len) + (size_t) (untrusted_len))
 
 /*
  * Writes the text of the signature that your two signatures make, four lines of UTF-8 as minisign -V reads them,
- * to the front of text, of room bytes, and its length to text_len.
+ * to the front of text, of room bytes, and its length to text_len. The state is one that has told a secret key: it knows
+ * that key's identifier, which the text repeats, and stays as it is.
  *
  * The text reads as a signature with exactly this identifier, these comments and these two signatures. So it
  * vouches for the data under every public key of this identifier under which Ed25519 accepts your signatures of
  * the digest and of the message of the second question: minisign_verdict is then MINISIGN_OK.
  *
- * minisign -V refuses a carriage return inside the trusted comment, which the library takes: sign none.
+ * After an error the text and its length stay as they were. The errors, in this order: MINISIGN_NOT_BEGUN,
+ * MINISIGN_NOT_ASKED, where the state has told no key; MINISIGN_NOT_UTF8; MINISIGN_BAD_COMMENT, where a comment has a
+ * line feed, the trusted one white space at either end, or the untrusted one a carriage return at its end;
+ * MINISIGN_UNREADABLE_COMMENT, where minisign -V (of version 0.11) would not read a comment back: an untrusted one of
+ * 1,004 bytes or more, a trusted one of 8,174 bytes or more, one with a zero byte or a carriage return; MINISIGN_NO_ROOM.
+ * MINISIGN_OUT_OF_MEMORY may come at any time once the state was looked at.
+ */
+MINISIGN_MUST_USE enum minisign_error minisign_signed_text(
+    const minisign_state *state, const uint8_t first[64], const uint8_t second[64], const uint8_t *trusted,
+    size_t trusted_len, const uint8_t *untrusted, size_t untrusted_len, uint8_t *text, size_t room, size_t *text_len);
+
+/* ---- Making keys ---- */
+
+/*
+ * A new key takes 8 random bytes of an identifier, a pair of Ed25519, such as crypto_sign_keypair of libsodium makes,
+ * and 32 random bytes of a salt. With the limits and the comments of minisign -G the texts of a sealed key and of its
+ * public key are those that it would have written. A password is changed by opening a key, with minisign_ask_signing, and making it again with a new salt; a lost public key is written
+ * again from the secret one.
+ */
+
+/* How a secret key is sealed: the limits are those of libsodium's scrypt. */
+typedef struct minisign_sealing {
+    uint8_t salt[32];          /* random bytes, of no other key */
+    uint64_t operations_limit; /* how much work scrypt is */
+    uint64_t memory_limit;     /* in bytes, at most 2^30 */
+} minisign_sealing;
+
+/* The limits of minisign -G: 1 GiB of memory, unless few rows are kept. */
+#define MINISIGN_OPERATIONS_LIMIT 33554432
+#define MINISIGN_MEMORY_LIMIT 1073741824
+
+/* The comments that minisign -G writes; behind that of a public key stands its identifier as one little endian number,
+ * as printf writes it by "%" PRIX64. */
+#define MINISIGN_SECRET_KEY_COMMENT "minisign encrypted secret key"
+#define MINISIGN_PUBLIC_KEY_COMMENT "minisign public key "
+
+/* The size of the text of a key with a comment of this length. */
+#define MINISIGN_SECRET_KEY_BYTES(comment_len) (233 + (size_t) (comment_len))
+#define MINISIGN_PUBLIC_KEY_BYTES(comment_len) (77 + (size_t) (comment_len))
+
+/*
+ * Writes the text of a secret key, both lines of a file such as minisign.key, to the front of text, of room bytes, and
+ * its length to text_len: of the key with this identifier and these 64 secret bytes, the 32 of the seed and the 32 of its
+ * public key.
+ *
+ * with_password is 1 where the key is sealed under the password, with the salt and the limits of sealing; and 0 where it
+ * is not, whatever password and sealing hold: the text then has the key's checksum, where minisign -G -W writes
+ * zeros. The text opens under that password, or without one, to exactly this key. Sealing takes the memory and the time of scrypt; keep_every is that of minisign_ask_signing, and
+ * the text does not depend on it. Minisign takes passwords of at most 1023 bytes, with no line break and no zero byte: the
+ * library seals under any UTF-8.
+ *
+ * Whether the 64 bytes belong together is not tested: that takes an Ed25519.
+ *
+ * After an error the text and its length stay as they were. The errors, in this order: MINISIGN_BAD_PASSWORD_FLAG;
+ * MINISIGN_NOT_UTF8 of the comment or the password; MINISIGN_BAD_COMMENT, where the comment has a line feed;
+ * MINISIGN_UNREADABLE_COMMENT, where it has a carriage return or a zero byte, or more than 1003 bytes; MINISIGN_NO_ROOM; with a
+ * password MINISIGN_PARAMETERS_TOO_HIGH or MINISIGN_INVALID_PARAMETERS of the limits; MINISIGN_OUT_OF_MEMORY.
+ */
+MINISIGN_MUST_USE enum minisign_error minisign_make_secret_key(
+    const uint8_t key_id[8], const uint8_t secret_key[64], uint32_t with_password, const uint8_t *password,
+    size_t password_len, const minisign_sealing *sealing, uint64_t keep_every, const uint8_t *comment, size_t comment_len,
+    uint8_t *text, size_t room, size_t *text_len);
+
+/*
+ * Writes the text of the public key of a secret key, both lines of a file such as minisign.pub, to the front of text, of
+ * room bytes, and its length to text_len: the last 32 of the 64 secret bytes, under the identifier. It takes the secret
+ * key, so that no seed is published where a public key was meant.
  *
  * After an error the text and its length stay as they were. The errors, in this order: MINISIGN_NOT_UTF8;
- * MINISIGN_NO_COMMENT, where a comment has a line feed, the trusted one white space at either end, or the untrusted
- * one a carriage return at its end; MINISIGN_NO_ROOM. MINISIGN_OUT_OF_MEMORY may come at any time.
+ * MINISIGN_BAD_COMMENT, MINISIGN_UNREADABLE_COMMENT, as above; MINISIGN_NO_ROOM; MINISIGN_OUT_OF_MEMORY.
  */
-uint32_t minisign_signed_text(const uint8_t key_id[8], const uint8_t first[64], const uint8_t second[64],
-                              const uint8_t *trusted, size_t trusted_len,
-                              const uint8_t *untrusted, size_t untrusted_len,
-                              uint8_t *text, size_t room, size_t *text_len);
+MINISIGN_MUST_USE enum minisign_error minisign_make_public_key(
+    const uint8_t key_id[8], const uint8_t secret_key[64], const uint8_t *comment, size_t comment_len, uint8_t *text,
+    size_t room, size_t *text_len);
 
 #ifdef __cplusplus
 }

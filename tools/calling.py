@@ -1,6 +1,6 @@
 #!/usr/bin/env python3
-"""Makes the second half of CALLING.md of each library: a caller, and the contracts of the public calls as they
-stand in the source. What stands above `## A caller` is written by hand and kept; its line
+"""Makes the second half of CALLING.md of each library: a caller, and the public calls with their comments and
+contracts as they stand in the source, of which long lines are broken. What stands above `## A caller` is written by hand and kept; its line
 `<!-- caller: NAMES; without: MODULES -->` names the functions that are shown as callers, which are proved where
 they stand, and the modules whose calls are left out.
 
@@ -10,6 +10,7 @@ they stand, and the modules whose calls are left out.
 Needs Python 3.9 or later.
 """
 
+import itertools
 import os
 import re
 import sys
@@ -20,6 +21,9 @@ from sources import ROOT
 LIBRARIES = ("minisign_hash", "minisign_kdf", "minisign_base", "minisign", "minisign_install")
 HEAD = "\n## A caller\n"
 NAMES = re.compile(r"<!-- caller: (?P<callers>[^;>]+?)(?:; without: (?P<without>[^>]+?))? -->")
+# Letters in a line of a contract, and the signs in front of which a longer one is broken.
+WIDTH = 120
+SIGNS = "→×⊎"
 # Members of implementations that say nothing to a caller.
 UNSAID = ("laws",)
 
@@ -51,69 +55,97 @@ class Calls:
         reached = all("::".join(parts[:count]) in self.public_modules for count in range(1, len(parts) + 1))
         return item.public and (reached or item.name in self.passed_on)
 
-    def lines(self):
-        """The calls with their contracts, file by file."""
+    def files(self):
+        """The files with their calls: the path of each, and what a caller reads of it."""
         for source in self.sources:
             nested = {id(member) for item in source.items for member in item.members}
-            made = [line for item in sorted(source.items, key=lambda it: it.line) if id(item) not in nested
-                    for line in self.of_item(item)]
+            made = [it for item in sorted(source.items, key=lambda it: it.line) if id(item) not in nested
+                    for it in self.of_item(item)]
             if made:
-                yield ""
-                yield "src/" + os.path.relpath(source.file, self.folder)
-                yield from made
+                yield "src/" + os.path.relpath(source.file, self.folder), "\n\n".join(made)
 
     def of_item(self, item):
         if item.what == "trait" and item.public:
-            yield from self.of_trait(item)
-        elif item.what == "impl" and item.owner in self.types:
+            yield self.of_trait(item)
+        elif item.what == "impl" and (item.owner in self.types or item.trait in self.types):
             yield from self.of_impl(item)
-        elif item.what == "impl" and item.trait in self.types:
-            yield item.header
         elif item.what == "fn" and not item.owner and self.is_visible(item):
-            yield from self.of_function(item)
+            yield shown(item.contract)
         elif item.what in ("struct", "enum") and self.is_visible(item):
             yield from self.of_type(item)
         elif item.what in ("const", "type") and self.is_visible(item):
-            yield sources.in_one_line(without_comments(item.text)).rstrip(";")
+            yield shown(item.text)
 
     def of_type(self, item):
-        """A type that a caller takes apart or makes."""
-        body = sources.in_one_line(without_comments(item.text))
-        body = re.sub(r"#\[[^\]]*\] ?", "", body).replace(", }", " }").rstrip(";")
+        """A type that a caller takes apart or makes; fields that a caller does not see are left out."""
+        comment, body = doc_of(item.text), sources.in_one_line(without_comments(item.text))
+        body = re.sub(r"#\[[^\]]*\] ?", "", body).replace(", }", " }")
         if item.what == "enum":
-            yield body
+            yield shown(item.text)
         elif re.search(r"[{(,] ?pub (?!ghost)", body):
-            # Fields that a caller does not see are left out.
-            yield re.sub(r"(?<=[{,])(?: (?!pub )\w+: [^,{}]+(?:,(?= )|(?= })))+", " ..", body)
+            yield comment + re.sub(r"(?<=[{,])(?: (?!pub )\w+: [^,{}]+(?:,(?= )|(?= })))+", " ..", body)
 
     def of_trait(self, item):
-        yield item.header.removeprefix("pub ")
-        for member in sorted(item.members, key=lambda it: it.line):
-            if member.what == "ghost":
-                yield "  " + sources.in_one_line(without_comments(member.text)).rstrip(";")
-        for member in sorted(item.members, key=lambda it: it.line):
-            if member.what == "fn":
-                yield from self.of_function(member)
+        members = sorted(item.members, key=lambda it: it.line)
+        ghosts = [in_block(member.text) for member in members if member.what == "ghost"]
+        return block(item, ghosts, [in_block(member.contract) for member in members if member.what == "fn"])
 
     def of_impl(self, item):
         """The public calls of a type's own block; of a trait's one the members and clauses that it adds."""
-        made = []
-        for member in sorted(item.members, key=lambda it: it.line):
-            if item.trait and member.what == "ghost" and member.name not in UNSAID:
-                made.append("  " + sources.in_one_line(without_comments(member.text)).rstrip(";"))
-            elif member.what == "fn" and (member.public if not item.trait else member.clauses):
-                made += self.of_function(member)
-        if item.trait and (made or item.trait in self.types):
-            yield item.header
-        yield from made
+        members = sorted(item.members, key=lambda it: it.line)
+        ghosts = [in_block(member.text) for member in members
+                  if item.trait and member.what == "ghost" and member.name not in UNSAID]
+        calls = [in_block(member.contract) for member in members
+                 if member.what == "fn" and (member.public if not item.trait else member.clauses)]
+        if ghosts or calls or item.trait in self.types:
+            yield block(item, ghosts, calls)
 
-    def of_function(self, item):
-        header = item.header.removeprefix("pub ").replace("fn ", f"fn {item.owner}::" if item.owner else "fn ", 1)
-        yield header
-        for clause in item.clauses:
-            if clause.kind != "decreases":
-                name = f" {clause.name}" if clause.name else ""
-                yield f"  {clause.kind}{name}: {sources.in_one_line(clause.text)}"
+
+def block(item, ghosts, calls):
+    """A block of a type or a trait around what is shown of it."""
+    head = doc_of(item.text) + item.header
+    inside = "\n\n".join(["\n".join(ghosts), *calls] if ghosts else calls)
+    return f"{head} {{\n{inside}\n}}" if inside else f"{head} {{}}"
+
+
+def in_block(text):
+    return "\n".join("    " + line if line else "" for line in shown(text).split("\n"))
+
+
+def shown(text):
+    """A text of the sources from the left, without attributes, in lines that can be read."""
+    lines = re.sub(r"(?m)^\s*#\[.*?\]\n", "", text.strip("\n"), flags=re.S).split("\n")
+    indents = [len(line) - len(line.lstrip()) for line in lines[1:] if line.strip()]
+    indent = min(indents, default=0)
+    if lines[0].startswith(("///", "//")) or len(lines) == 1 or not lines[-1].startswith(" " * (indent + 1)):
+        lines[1:] = [line[indent:] for line in lines[1:]]
+    return "\n".join(piece for line in lines for piece in broken(line.rstrip()))
+
+
+def broken(line, outermost=1):
+    """A line of a contract in pieces. A long one is broken in front of the outermost arrow, product or sum that lets it be
+    short, and where it has none at an outermost space, which in a first piece is one inside of brackets."""
+    if len(line) <= WIDTH or line.lstrip().startswith("//"):
+        return [line]
+    indent = len(line) - len(line.lstrip())
+    depth, signs, spaces = 0, [], []
+    for at, letter in enumerate(line[:WIDTH]):
+        depth += (letter in "([{⟦") - (letter in ")]}⟧")
+        if at > indent + 4 and letter in SIGNS:
+            signs.append((depth, -at))
+        elif at > indent + 4 and letter == " " and depth >= outermost:
+            spaces.append((depth, -at))
+    if not (signs or spaces):
+        return [line]
+    at = -min(signs or spaces)[1]
+    indent += 0 if line[indent] in SIGNS else 4
+    return [line[:at].rstrip(), *broken(" " * indent + line[at:].lstrip(), 0)]
+
+
+def doc_of(text):
+    """The `///` above an item."""
+    above = itertools.takewhile(lambda line: line.startswith(("//", "#")), map(str.strip, text.strip().split("\n")))
+    return "".join(f"{line}\n" for line in above if line.startswith("///"))
 
 
 def module_of(folder, file):
@@ -192,11 +224,11 @@ def document(library, crate):
         file, block = caller(library, name.strip())
         parts.append(f"\n`{name.strip()}` of `{file}`:\n\n```rust\n{block}\n```\n")
     without = [name.strip() for name in (names["without"] or "").split(",")]
-    lines = "\n".join(Calls(library, crate, without).lines()).strip("\n")
-    parts.append("\n## Contracts\n\nThe public types, calls and traits with their contracts as they stand in `src/`, "
-                 "each clause in one line. `specs/` defines the words; what stands under another name comes from the "
-                 "`ghost use` lines of the file that is quoted.\n")
-    parts.append(f"\n```text\n{lines}\n```\n")
+    parts.append("\n## Contracts\n\nThe public types, calls and traits with their comments and contracts as they stand in `src/`, "
+                 "without attributes, bodies and fields that a caller does not see. `specs/` defines the words; what stands under another "
+                 "name comes from the `ghost use` lines of the file that is quoted.\n")
+    for file, calls in Calls(library, crate, without).files():
+        parts.append(f"\n### `{file}`\n\n```text\n{calls}\n```\n")
     return path, "".join(parts)
 
 

@@ -1,6 +1,8 @@
 #!/usr/bin/env python3
-"""Makes what `include/minisign.h` and docs/FORMATS.md say of numbers, and `tests/layout.c`, from the sources of the
+"""Makes what `include/minisign.h` and docs/FORMATS.md say of numbers, and `tests/c/layout.c`, from the sources of the
 crates: the numbers, names and comments of wrong uses and faults, the texts, and the sizes and offsets of the structs.
+From the header and the exports of the crate `minisign_c` it makes the boundary between them (`boundary.py`), and it
+copies the examples of `c/examples` into the header. From the header it makes its manual page (`manual.py`).
 
     tools/header.py            writes them
     tools/header.py --check    fails where one is not up to date; the last line is `N passed, M failed`
@@ -14,21 +16,29 @@ import os
 import re
 import sys
 
+import boundary
+import manual
 import sources
 from sources import ROOT
 
 HEADER = os.path.join(ROOT, "include", "minisign.h")
 FORMATS = os.path.join(ROOT, "docs", "FORMATS.md")
-LAYOUT = os.path.join(ROOT, "tests", "layout.c")
+LAYOUT = os.path.join(ROOT, "tests", "c", "layout.c")
+BOUNDARY = os.path.join(ROOT, "c", "boundary.c")
+NAMES_FILE = os.path.join(ROOT, "c", "names")
+MANUAL = os.path.join(ROOT, "c", "man", "minisign.3")
+EXAMPLES = os.path.join("c", "examples")
 
 FAULTS = "crates/minisign_base/src/faults.rt"
-STATE = "crates/minisign_questions/src/state.rt"
-NUMBERS = "crates/minisign_questions/src/numbers.rt"
-SECRETS = "crates/minisign_questions/src/secrets.rt"
+STATE = "crates/minisign_external/src/state.rt"
+NUMBERS = "crates/minisign_external/src/numbers.rt"
+SECRETS = "crates/minisign_external/src/secrets.rt"
 STORED = "crates/minisign_hash/src/blake2b/stored.rt"
+EXPORTS = "crates/minisign_c/src/lib.rt"
+MAKING = "crates/minisign/src/making.rt"
 
 # Faults with this number or a greater one are answered by no call of the header.
-UNANSWERED = 43
+UNANSWERED = 46
 
 # Where C has a better name than the source.
 NAMES = {
@@ -45,8 +55,8 @@ NAMES = {
 }
 
 # The structs of C, with those of the crate; the fields of the first are the library's.
-STRUCTS = (("minisign_state", "State", False), ("minisign_questions", "Questions", True),
-           ("minisign_signing", "SigningQuestions", True))
+STRUCTS = (("minisign_state", "State", False), ("minisign_external", "Questions", True),
+           ("minisign_signing", "SigningQuestions", True), ("minisign_sealing", "Sealing", True))
 
 SIZES = {"u8": 1, "u32": 4, "u64": 8}
 
@@ -127,6 +137,28 @@ def faults():
             for variant, comment in comments.items() if int(rows[variant][0]) < UNANSWERED]
 
 
+ROW = re.compile(r'^fault_row \(?(\w+).*? = record \{ number = (\d+); kind = (?:kind\.)?(\w+); summary = codes "([^"]*)" \}', re.M)
+
+
+def faults_of_specs(library):
+    """The named faults in their order: their names, numbers, kinds and texts, with A and B for identifiers."""
+    file = os.path.join(library.crates["minisign_base"], "specs", "Faults.antt")
+    longer = {}
+    for name, body in re.findall(r"^named_text \(?(\w+)[^=]*=\s*(.*(?:\n    .*)*)", read_text(file), re.M):
+        letters = iter("AB")
+        longer[name] = "".join(piece or next(letters) for piece, _ in re.findall(r'codes "([^"]*)"|(identifier_text)', body))
+    for name, number, kind, summary in ROW.findall(read_text(file)):
+        yield name, number, kind, longer.get(name, summary)
+
+
+def faults_text():
+    """The table of all named faults."""
+    comments = comments_of(FAULTS, "NamedFault")
+    rows = [f"| `{name}` | {number} | {kind} | `{text}` | {comments[name]} |"
+            for name, number, kind, text in faults_of_specs(sources.Library(own=True))]
+    return "\n".join(["", "| Name | Number | Kind | Text | When |", "|---|---|---|---|---|", *rows, "", ""])
+
+
 def all_numbers():
     numbers = sorted(misuses() + faults(), key=lambda it: it.number)
     if len({it.number for it in numbers}) != len(numbers) or len({it.name for it in numbers}) != len(numbers):
@@ -146,6 +178,26 @@ def enum_text(numbers):
     return "\n".join([*lines, "};", ""])
 
 
+def answers_text(numbers):
+    """The answers of the header, which are the number of no error."""
+    lines = []
+    for name in ("ANSWER_YES", "ANSWER_NO"):
+        found = re.search(rf"^pub const {name}: u32 = (\d+);$", source_text(NUMBERS), re.M)
+        if found is None or int(found[1]) < 256 or int(found[1]) in {it.number for it in numbers}:
+            raise Unreadable(f"{NUMBERS} has no {name} that is no other number")
+        lines.append(f"    MINISIGN_{name} = {int(found[1]):#x}")
+    return "enum minisign_answer {\n" + ",\n".join(lines) + "\n};\n"
+
+
+def example_text(name):
+    """An example in the comment at the head of the header."""
+    with open(os.path.join(ROOT, EXAMPLES, name), encoding="utf-8") as opened:
+        text = opened.read()
+    if "/*" in text or "*/" in text:
+        raise Unreadable(f"{name} has a comment that would end that of the header")
+    return "".join(" *" + (f"     {line}" if line else "") + "\n" for line in ["", *text.rstrip("\n").split("\n"), ""])
+
+
 def table_text(numbers):
     """The table of the formats."""
     rows = [f"| {it.number} | `{it.name}` | {it.comment} | `{it.text}` |" for it in numbers]
@@ -158,7 +210,7 @@ def table_text(numbers):
 
 def fields_of(struct):
     """The fields of a struct of the crates with the layout of C, with their types."""
-    for file in (STATE, SECRETS, STORED):
+    for file in (STATE, SECRETS, STORED, MAKING):
         if f"struct {struct} " in source_text(file):
             text = item_text(file, "struct", struct)
             if "#[repr(C)]" not in text:
@@ -221,10 +273,14 @@ def layout_text():
 # ---------------------------------------------------------------------------------------------------------------
 
 
-def between(file, begin, end, made):
-    """The text of a file with this between the two lines."""
+def read_text(file):
     with open(file, encoding="utf-8") as opened:
-        text = opened.read()
+        return opened.read()
+
+
+def between(file, begin, end, made, text=None):
+    """The text of a file, or this one of it, with what is made between the two lines."""
+    text = read_text(file) if text is None else text
     before, found, rest = text.partition(begin + "\n")
     _, closed, after = rest.partition(end + "\n")
     if not found or not closed:
@@ -235,10 +291,18 @@ def between(file, begin, end, made):
 def documents():
     """The files that are made, in whole or in part, with their texts."""
     numbers = all_numbers()
-    yield HEADER, between(HEADER, "/* Numbers, made by tools/header.py. */", "/* The end of the numbers. */",
-                          enum_text(numbers))
-    yield FORMATS, between(FORMATS, "<!-- numbers, made by tools/header.py -->", "<!-- the end of the numbers -->",
-                           table_text(numbers))
+    header = between(HEADER, "/* Numbers, made by tools/header.py. */", "/* The end of the numbers. */", enum_text(numbers))
+    header = between(HEADER, "/* Answers, made by tools/header.py. */", "/* The end of the answers. */",
+                     answers_text(numbers), header)
+    for name in ("verify.c", "sign.c"):
+        header = between(HEADER, f" * The example, made by tools/header.py from {EXAMPLES}/{name}.",
+                         " * The end of the example.", example_text(name), header)
+    yield HEADER, header
+    yield BOUNDARY, boundary.boundary_text(header, source_text(EXPORTS))
+    yield MANUAL, manual.manual_text(header)
+    yield NAMES_FILE, boundary.names_text(header, source_text(EXPORTS))
+    formats = between(FORMATS, "<!-- numbers, made by tools/header.py -->", "<!-- the end of the numbers -->", table_text(numbers))
+    yield FORMATS, between(FORMATS, "<!-- faults, made by tools/header.py -->", "<!-- the end of the faults -->", faults_text(), formats)
     yield LAYOUT, layout_text()
 
 
@@ -261,7 +325,7 @@ def main():
                 failed += 1
                 continue
             passed += 1
-    except (Unreadable, KeyError) as why:
+    except (Unreadable, boundary.Unfit, KeyError) as why:
         print(f"FAILED: {why}")
         failed += 1
     print(f"{passed} passed, {failed} failed")

@@ -34,6 +34,9 @@ class Clause:
     kind: str
     name: str
     text: str
+    # The comment right above it, and whether a blank line stands above both.
+    comment: str = ""
+    is_apart: bool = False
 
 
 @dataclass(eq=False)
@@ -51,6 +54,8 @@ class Item:
     comment: str = ""
     # From the comment to the end.
     text: str = ""
+    # The same without the body, and of what has no contract without its members.
+    contract: str = ""
     # The name of the type, or of the trait, whose item it is, and of the trait that is implemented.
     owner: str = ""
     trait: str = ""
@@ -193,6 +198,11 @@ class Reader:
                 break
         return at, (at if begun is None else begun)
 
+    def above(self, at):
+        """The comment right above a clause, and whether a blank line stands above both."""
+        found = re.search(r"(?P<blank>\n[ \t]*)?(?:\n[ \t]*//[^\n]*)*\n[ \t]*$", self.text[:at])
+        return (found[0][len(found["blank"] or ""):].strip(), bool(found["blank"])) if found else ("", False)
+
     def items(self, at, end, owner, trait, block, parent):
         while True:
             at, begun = self.skip_above(at, end)
@@ -221,8 +231,10 @@ class Reader:
                     owner=owner, trait=trait, block=block)
         name = NAME.search(text, found.end())
         item.name = name[0] if name else ""
+        self.body = stop
         end = getattr(self, "read_" + word.replace(" ", "_"), self.read_other)(item, stop)
         item.text = text[begun:end]
+        item.contract = text[begun:self.body if word == "fn" else stop].rstrip()
         self.source.items.append(item)
         if parent is not None:
             parent.members.append(item)
@@ -236,8 +248,9 @@ class Reader:
                 break
             end = after_brackets(self.text, found.end())
             text = self.text[found.end() + 1:end - 1].strip()
-            item.clauses.append(Clause(found["kind"] + found["star"], found["name"], text))
+            item.clauses.append(Clause(found["kind"] + found["star"], found["name"], text, *self.above(at)))
             at = end
+        self.body = at
         return after_brackets(self.text, at) if self.text.startswith("{", at) else at + 1
 
     def read_block(self, item, at, owner, trait):

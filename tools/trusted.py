@@ -1,6 +1,7 @@
 #!/usr/bin/env python3
-"""Makes docs/TRUSTED.md: everything that the three headlines rest on, in the order in which to read it, as the
-definitions' own text with file and line. What the clauses reach is found by following their names.
+"""Makes docs/TRUSTED.md: everything that the promise of the whole rests on, in the order in which to read it, as the
+definitions' own text with their files: first for a caller with data in memory, then over devices. What the clauses
+reach is found by following their names.
 
     tools/trusted.py            writes the document
     tools/trusted.py --check    fails where it is not up to date; the last line is `N passed, M failed`
@@ -17,30 +18,33 @@ from sources import ROOT, Definition, Item
 
 DOCUMENT = os.path.join(ROOT, "docs", "TRUSTED.md")
 
-# The functions of `minisign` whose clauses `headline` are the three parts of the headline.
-HEADLINES = ("verify_texts", "SecretKey::from_box", "sign_texts")
-CLAUSE = "headline"
+# The functions of `minisign` whose clauses are the three parts of the promise, and the names of these clauses: of the
+# calls for callers, which have no device, and of those over devices.
+CALLERS = (("verify_bytes", ""), ("open_with_password", "opens"), ("sign_bytes", "headline"))
+OVER_DEVICES = (("verify_texts", "headline"), ("SecretKey::from_box", "headline"), ("sign_texts", "headline"))
 HEADLINE_FILE = "crates/minisign/specs/Headline.antt"
 LIMITS_FILE = "crates/minisign_base/specs/Limits.antt"
+# Theorems that compute known values of the definitions of the hash and the derivation.
+KNOWN_FILES = ("crates/minisign_hash/proofs/Facts.antt", "crates/minisign_kdf/proofs/Facts.antt")
 
-# The first part is what a reader has to believe who knows the hash and the derivation by their standards.
+# The first part is what a caller has to believe who knows the hash and the derivation by their standards.
 FIRST_PART_LINES = 350
 # A definition of the kit is shown where it has at most so many lines.
 SHOWN_LINES = 5
 
-RELATIONS, FAULTS, DEVICES, PRIMITIVES, KIT = range(5)
+RELATIONS, FAULTS, PRIMITIVES, DEVICES, KIT = range(5)
 TITLES = (
     "What is accepted, opened and vouched for",
     "Which case fails first, and what it is called",
-    "Devices, prompts, and the views of types",
     "Hash, key derivation, and its parameters",
+    "The same over devices",
     "Words of the kit",
 )
 ABOUT = (
-    "The three clauses, and all that they name but faults, devices, the hash and the derivation, which stand in the parts below.",
+    "What the calls for callers promise over data in memory, and all that these three clauses name but faults, the hash and the derivation, which stand in the two parts below. No device is among it.",
     "What is returned when a text is refused, a key does not open or a box does not vouch.",
-    "What the members of a device say, what is asked for and read where no password is handed in, and which record a value of a type stands for.",
     "Blake2b of RFC 7693, and scrypt of RFC 7914 over HMAC and PBKDF2, each by the sections of its standard; SHA-256 is the kit's. No standard has the file `Limits`: which parameters of scrypt the limits of a sealed key lead to, and which of them are allowed.",
+    "The three clauses over any source, sink, prompt and random source, and what they name beyond the parts above: what the members of a device say, and which premises they make.",
     "What the definitions above name of the kit's libraries and of its logic, by their files in the kit; short ones with their text.",
 )
 
@@ -60,65 +64,59 @@ NOTATION = """\
 
 
 class Trusted:
-    """What the headlines reach, by parts."""
+    """What the clauses reach, by parts."""
 
     def __init__(self):
         self.library = sources.Library()
-        self.functions = [self.function(path) for path in HEADLINES]
+        self.callers = [(self.function(*named), named[1]) for named in CALLERS]
+        self.over_devices = [(self.function(*named), named[1]) for named in OVER_DEVICES]
         # By what stands for a definition: its part. In the order in which it was reached.
         self.parts = {}
         # What the logic has without a definition, and what is found nowhere.
         self.built_in, self.unknown = set(), set()
         self.follow()
 
-    def function(self, path):
+    def function(self, path, clause):
         found = [item for source in self.library.crate_sources("minisign") for item in source.items
-                 if item.what == "fn" and item.path == path and item.clause(CLAUSE)]
+                 if item.what == "fn" and item.path == path and item.clause(clause)]
         if len(found) != 1:
-            print(f"FAILED: {len(found)} functions {path} of minisign with a clause {CLAUSE}\n0 passed, 1 failed")
+            print(f"FAILED: {len(found)} functions {path} of minisign with a clause {clause or 'without a name'}\n0 passed, 1 failed")
             raise SystemExit(1)
         return found[0]
 
     def follow(self):
-        """Follows the names, so that what is in an earlier part and reached through it comes first; in each part
-        headline by headline, and of each the definitions before the traits and the types around them."""
-        roots = []
-        for function in self.functions:
-            source = sources.read_source(function.file)
-            for clause in function.clause(CLAUSE):
-                roots.append(list(self.found(self.library.named_in(clause.text, source.imports, {}))))
-                roots.append(list(self.traits_named(clause.text, function)))
-            roots.append(list(self.models(function)))
+        """Follows the names of the clauses for callers, and then of those over devices, so that what is in an
+        earlier part and reached through it comes first; in each part clause by clause, and of each the definitions
+        before the traits and the types around them."""
+        roots = list(self.roots(self.callers))
         for part in range(len(TITLES)):
+            roots += list(self.roots(self.over_devices)) if part == DEVICES else []
             later = []
             for root in roots:
                 later.append([])
                 self.follow_within(part, root, later[-1])
             roots = later
 
+    def roots(self, functions):
+        """What the clauses of these functions name, each in lists of its own."""
+        for function, name in functions:
+            source = sources.read_source(function.file)
+            for clause in function.clause(name):
+                yield list(self.found(self.library.named_in(clause.text, source.imports, {})))
+                yield list(self.traits_named(clause.text, function))
+            yield list(self.models(function))
+
     def follow_within(self, part, waiting, later):
-        """Follows names as long as they stay in a part or an earlier one; what is in a later one waits. What the
-        library says over devices leads to what it says of texts and keys, which belongs to the first part."""
+        """Follows names as long as they stay in a part or an earlier one; what is in a later one waits."""
         while waiting:
             definition = waiting.pop(0)
             if definition in self.parts:
                 continue
-            own_part = self.part_of(definition)
-            if own_part <= part:
+            if self.part_of(definition) <= part:
                 self.parts[definition] = part
                 waiting += self.named_by(definition)
-            elif part == RELATIONS and own_part == DEVICES and self.is_relation_over_devices(definition):
-                self.parts[definition] = DEVICES
-                named = self.named_by(definition)
-                waiting += [other for other in named if is_relation(other)]
-                later += [other for other in named if not is_relation(other)]
             else:
                 later.append(definition)
-
-    def is_relation_over_devices(self, definition):
-        """Whether it is a definition of the library that says, over devices, what succeeds."""
-        is_of_library = self.library.shown(definition.file).startswith("crates/minisign/specs/")
-        return is_of_library and isinstance(definition, Definition) and not speaks_of_faults(definition)
 
     def found(self, names):
         for name, module, source, definition in names:
@@ -187,7 +185,7 @@ class Trusted:
         is_word = isinstance(definition, Definition)
         if shown == HEADLINE_FILE:
             return FAULTS if speaks_of_faults(definition) else RELATIONS
-        if is_of_devices(shown) or is_view(definition) or (is_word and self.takes_devices(definition)):
+        if is_of_devices(shown) or (is_word and self.takes_devices(definition)):
             return DEVICES
         if is_of_faults(shown) or (is_word and speaks_of_faults(definition)):
             return FAULTS
@@ -205,19 +203,9 @@ class Trusted:
         return False
 
 
-def is_relation(definition):
-    """Whether it says that something holds."""
-    return isinstance(definition, Definition) and bool(re.search(r"(?:→|:) Type 0(?: where)?$", definition.signature.rstrip(), re.M))
-
-
 def is_of_devices(shown):
     """Whether a file has devices or prompts."""
     return bool(re.search(r"/src/(?:devices|prompt)\b|/specs/(?:Devices|Prompts|Passages)\b", shown))
-
-
-def is_view(definition):
-    """Whether it says which value of a clause a value of a type stands for."""
-    return isinstance(definition, Item) and definition.trait == "Model"
 
 
 def is_of_faults(shown):
@@ -252,15 +240,6 @@ def dedented(text):
     return "\n".join([lines[0].lstrip()] + [line[indent:] for line in lines[1:]])
 
 
-def first_line_of(definition):
-    """The line on which a definition's text begins."""
-    if isinstance(definition, Item):
-        head = definition.text.lstrip("\n")
-        above = re.match(r"(?:\s*(?://[^\n]*|#\[[^\n]*)\n)*", head)[0]
-        return definition.line - above.count("\n")
-    return definition.line
-
-
 def name_of(definition):
     if isinstance(definition, Item) and definition.what == "impl":
         return f"{definition.trait} for {definition.owner}"
@@ -276,21 +255,27 @@ def by_file(definitions):
         yield file, sorted(of_file, key=lambda it: it.line)
 
 
-def clause_text(function):
-    """The clause of a headline as it stands in its contract, moved to the margin."""
+def clause_text(function, name):
+    """The clause of a function as it stands in its contract, moved to the margin."""
     with open(function.file, encoding="utf-8") as opened:
         lines = opened.read().split("\n")
-    begun = next(number for number, line in enumerate(lines, 1)
-                 if number >= function.line and re.match(rf"\s*ensures {CLAUSE} \{{", line))
+    begins = rf"\s*ensures {name} \{{" if name else r"\s*ensures \{"
+    begun = next(number for number, line in enumerate(lines, 1) if number >= function.line and re.match(begins, line))
     text = "\n".join(lines[begun - 1:])
-    text = text[:sources.after_brackets(text, text.index("{"))]
-    return begun, dedented_clause(text)
+    return dedented_clause(text[:sources.after_brackets(text, text.index("{"))])
 
 
 def dedented_clause(text):
     lines = text.split("\n")
     indent = len(lines[0]) - len(lines[0].lstrip())
     return "\n".join(line[indent:] if line[:indent].isspace() else line for line in lines)
+
+
+def about_known(theorem):
+    """What a theorem computes: the function, and the comment where it has one."""
+    function = re.search(r":\s+\(?(\w+)", theorem.text)
+    about = " ".join(line.removeprefix("-- ") for line in theorem.comment)
+    return f" of `{function[1]}`" + (f" ({about})" if about else "")
 
 
 class Writer:
@@ -300,28 +285,36 @@ class Writer:
         self.trusted, self.library = trusted, trusted.library
         self.counts = {}
 
-    def link(self, shown, line):
-        return f"[{line}](../{shown}#L{line})"
+    def link(self, shown):
+        return f"[{shown}](../{shown})"
 
-    def headlines(self):
-        """The three clauses."""
+    def clauses(self, functions):
+        """The three clauses of these functions."""
         yield "### The three clauses", 0
-        for function in self.trusted.functions:
-            begun, text = clause_text(function)
-            shown = self.library.shown(function.file)
-            path = f"{function.owner}::{function.name}" if function.owner else function.name
-            yield f"`{path}` in `{shown}`, line {self.link(shown, begun)}:", 0
+        for function, name in functions:
+            text = clause_text(function, name)
+            yield f"`{function.path}` in {self.link(self.library.shown(function.file))}:", 0
             yield f"```rust\n{text}\n```", text.count("\n") + 1
+
+    def known(self):
+        """The theorems that compute known values, by their names."""
+        yield "### Known values", 0
+        yield ("That these definitions give values which are known from outside is proved by computation, so a wrong constant or step in "
+               "one of them does not check. The theorems:"), 0
+        for shown in KNOWN_FILES:
+            module = sources.read_module(os.path.join(ROOT, shown))
+            theorems = [it for it in module.definitions.values() if it.text.startswith("pub ")]
+            yield f"In {self.link(shown)}: " + ", ".join(f"`{it.name}`{about_known(it)}" for it in theorems) + ".", 0
 
     def own(self, definitions):
         """Definitions of the repository, with their text."""
         for file, of_file in by_file(definitions):
             shown = self.library.shown(file)
-            names = ", ".join(f"`{name_of(it)}` {self.link(shown, first_line_of(it))}" for it in of_file)
+            names = ", ".join(f"`{name_of(it)}`" for it in of_file)
             language = "antt" if file.endswith(".antt") else "rust"
             text = "\n\n".join(text_of(it) for it in of_file)
-            yield f"### {shown}", 0
-            yield f"At line: {names}.", 0
+            yield f"### {self.link(shown)}", 0
+            yield f"{names}.", 0
             yield f"```{language}\n{text}\n```", len([line for line in text.split("\n") if line.strip()])
 
     def kit(self, definitions):
@@ -346,35 +339,36 @@ class Writer:
     def part(self, number):
         definitions = [it for it, part in self.trusted.parts.items() if part == number]
         pieces = []
-        if number == RELATIONS:
-            pieces += self.headlines()
+        clauses = {RELATIONS: self.trusted.callers, DEVICES: self.trusted.over_devices}.get(number, [])
+        pieces += self.clauses(clauses) if clauses else []
         pieces += (self.kit if number == KIT else self.own)(definitions)
-        if number == KIT:
-            pieces += self.built_in()
-        self.counts[number] = (len(definitions) + (len(HEADLINES) if number == RELATIONS else 0),
-                               sum(lines for _, lines in pieces))
+        pieces += {PRIMITIVES: self.known, KIT: self.built_in}.get(number, list)()
+        self.counts[number] = (len(definitions) + len(clauses), sum(lines for _, lines in pieces))
         return [text for text, _ in pieces]
 
     def document(self):
         parts = [self.part(number) for number in range(len(TITLES))]
-        lines = ["# What the headlines rest on", "", *self.opening(), "", "## Notation", "", NOTATION]
+        lines = ["# What the promise rests on", "", *self.opening(), "", "## Notation", "", NOTATION]
         for number, pieces in enumerate(parts):
             lines += ["", f"## {number + 1}. {TITLES[number]}", "", ABOUT[number]]
             for piece in pieces:
                 lines += ["", piece]
         return "\n".join(lines) + "\n"
 
+    def total(self, parts):
+        return f"{sum(self.counts[part][0] for part in parts)} definitions on {sum(self.counts[part][1] for part in parts)} lines"
+
     def opening(self):
         first = self.counts[RELATIONS]
-        own = [self.counts[number] for number in range(KIT)]
-        yield (f"What the three clauses `{CLAUSE}` say, which [PROMISES.md](PROMISES.md) puts into one sentence, is said by the definitions "
-               "that stand here, and by no others: whoever trusts the toolchain has these to read. `tools/trusted.py` made this document. "
+        yield ("Whoever trusts the toolchain has the definitions to read that stand here, and no others. They say what `verify_bytes`, "
+               "`open_with_password` and `sign_bytes` promise to a caller with data in memory, and then what the three clauses `headline` "
+               "say over devices, which [PROMISES.md](PROMISES.md) puts into one sentence. `tools/trusted.py` made this document. "
                "It follows every name of the clauses through the definitions, and fails where it finds none for a name; the gate fails "
                "where the document is not up to date.")
         yield ""
         yield (f"The first part has {first[0]} definitions on {first[1]} lines. Whoever knows Blake2b, HMAC, PBKDF2 and scrypt by their standards "
-               f"needs of the fourth only `{LIMITS_FILE}`. All of the repository's own are {sum(count for count, _ in own)} definitions on {sum(lines for _, lines in own)} lines; "
-               f"below them stand {self.counts[KIT][0]} of the kit. Comments are counted, empty lines are not.")
+               f"needs of the third only `{LIMITS_FILE}`. A caller with data in memory reads the first three parts, {self.total((RELATIONS, FAULTS, PRIMITIVES))}; "
+               f"with devices it is {self.total(range(KIT))}. Below them stand {self.counts[KIT][0]} definitions of the kit. Comments are counted, empty lines are not.")
         yield ""
         yield "| Part | Definitions | Lines |"
         yield "|---|---|---|"

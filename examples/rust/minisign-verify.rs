@@ -11,6 +11,8 @@ use std::process::ExitCode;
 /// What minisign.h declares.
 mod minisign {
     pub const OK: u32 = 0;
+    pub const ANSWER_YES: u32 = 0x796573;
+    pub const ANSWER_NO: u32 = 0x6e6f;
     pub const ERROR_TEXT_BYTES: usize = 128;
 
     #[repr(C)]
@@ -30,8 +32,10 @@ mod minisign {
     /// What is written to a state is fed to it.
     impl std::io::Write for State {
         fn write(&mut self, data: &[u8]) -> std::io::Result<usize> {
-            unsafe { minisign_update(self, data.as_ptr(), data.len()) };
-            Ok(data.len())
+            match unsafe { minisign_update(self, data.as_ptr(), data.len()) } {
+                OK => Ok(data.len()),
+                _ => Err(std::io::Error::new(std::io::ErrorKind::Other, "the data could not be fed")),
+            }
         }
 
         fn flush(&mut self) -> std::io::Result<()> {
@@ -73,7 +77,7 @@ fn accepts(signature: &[u8; 64], message: &[u8], public_key: &[u8; 32]) -> u32 {
     let refused = unsafe {
         crypto_sign_verify_detached(signature.as_ptr(), message.as_ptr(), message.len() as u64, public_key.as_ptr())
     };
-    (refused == 0) as u32
+    if refused == 0 { minisign::ANSWER_YES } else { minisign::ANSWER_NO }
 }
 
 /// The trusted comment where the texts vouch for all of the data, otherwise the number of the first error.

@@ -1,5 +1,5 @@
-//! Runs one job of the library for a benchmark, and prints what came of it. The same jobs run over
-//! the Rust crate, in `bench/beside_rust.rs`:
+//! Runs one job of the library for a benchmark, and prints what came of it. All but the last run
+//! over the Rust crate, too, in `bench/beside_rust.rs`:
 //!
 //!     hash FILE ROUNDS         digests of the file's bytes, so many times
 //!     verify PK SIG FILE       a file with the texts of a public key and of a signature
@@ -8,8 +8,12 @@
 //!     keys PK ROUNDS           reads a public key's text so many times
 //!     signatures SIG ROUNDS    reads a signature's text so many times
 //!     small PK SIG ROUNDS      verifies the files 0, 1, .. 999 of this folder so many times
+//!     scrypt PASSWORD SALT N_LOG2 R P [K]
+//!                              derives a key with every K-th row kept, and times the call
 
 #![tactic(auto)]
+
+mod scrypt;
 
 use minisign::base::devices::random_sources::FixedRandom;
 use minisign::base::devices::sinks::VecSink;
@@ -19,6 +23,7 @@ use minisign::base::toy::ToyScheme;
 use minisign::hash::blake2b::Blake2b;
 use minisign::reading::{read_text, read_to_end};
 use minisign::{PublicKey, PublicKeyBox, SecretKey, SecretKeyBox, SignatureBox, sign, verify};
+use scrypt::time_scrypt;
 use std::process::ExitCode;
 use std::{env, fs, io};
 
@@ -50,7 +55,17 @@ impl From<io::Error> for Stopped {
 
 fn main(rt: HostRuntime) -> io::Result<ExitCode> {
     let mut arguments = env::args(&rt)?;
-    match run(&rt, &mut arguments) {
+    let _program = arguments.next();
+    let Some(job) = arguments.next() else {
+        return tell_usage(&rt);
+    };
+    if job.as_str() == "scrypt" {
+        return match time_scrypt(&rt, &mut arguments)? {
+            Some(ended) => Ok(ended),
+            None => tell_usage(&rt),
+        };
+    }
+    match run(&rt, &job, &mut arguments) {
         Ok(result) => {
             println!(rt; "{result}")?;
             Ok(ExitCode::SUCCESS)
@@ -63,18 +78,18 @@ fn main(rt: HostRuntime) -> io::Result<ExitCode> {
             eprintln!(rt; "error: {error}")?;
             Ok(ExitCode::FAILURE)
         }
-        Err(Stopped::Usage) => {
-            eprintln!(rt; "usage: library_bench JOB ARGUMENTS")?;
-            Ok(ExitCode::from(2))
-        }
+        Err(Stopped::Usage) => tell_usage(&rt),
     }
 }
 
-// Runs the job that the arguments name.
-fn run(rt: &HostRuntime, arguments: &mut env::Args) -> Result<u64, Stopped> {
-    let _program = arguments.next();
-    let job = next(arguments)?;
-    match job.as_str() {
+fn tell_usage(rt: &HostRuntime) -> io::Result<ExitCode> {
+    eprintln!(rt; "usage: library_bench JOB ARGUMENTS")?;
+    Ok(ExitCode::from(2))
+}
+
+// Runs a job.
+fn run(rt: &HostRuntime, job: &str, arguments: &mut env::Args) -> Result<u64, Stopped> {
+    match job {
         "hash" => hash(rt, &next(arguments)?, rounds(arguments)?),
         "verify" => {
             let (pk, sig) = (next(arguments)?, next(arguments)?);

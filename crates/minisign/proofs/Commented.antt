@@ -118,30 +118,36 @@ ahead_vouched bytes accepts pk sig reader status out (Err e) ok said = tt
 -- why it is refused
 pub ahead_refused : {T R W O : Type 0} (accepts : Verifier) (pk sig : List ℕ) (reader : RereaderPassage R) (status : SinkPassage W) (out : SinkPassage O) (r : Result T Fault)
     → IfErr r (VerifyingTextsFails accepts pk sig (silently false) reader status out)
-    → IfErr r (λ e. (e ≡ Named OutOfMemory) ⊎ (e ≡ Named ReadingFailed)
+    → IfErr r (λ e. (e ≡ Named OutOfMemory) ⊎ ReadingFails reader.source reader.old reader.new e
     ⊎ ((message : List ℕ) × IsAhead (reader.source.ahead reader.old) message × TextsRefuse accepts pk sig message false e))
 ahead_refused accepts pk sig reader status out (Ok t) err = tt
 ahead_refused accepts pk sig reader status out (Err e) err =
     ⊎_elim
     (λ (same, why). ⊎_elim inl
     (λ more. inr (⊎_elim (λ (wanted, mark). absurd (true≢false (sym wanted)))
-    (λ rest. ⊎_elim (λ failed. inl failed.fault) inr rest) more)) why)
+    (λ rest. rest) more)) why)
     (λ (key, box, read, copying). absurd (true≢false (sym copying.wanted)))
     (silent_failure accepts pk sig false reader status out e err)
 
 -- the verdict on a file's data
-pub file_verdict : {T : Type 0} (bytes : T → List ℕ) (accepts : Verifier) (pk sig : List ℕ) (ahead : Option (List ℕ)) (r : Result T Fault)
-    → IfOk r (λ t. (message : List ℕ) × IsAhead ahead message × TextsVouchWith accepts pk sig message false (bytes t))
-    → IfErr r (λ e. (e ≡ Named OutOfMemory) ⊎ (e ≡ Named ReadingFailed) ⊎ ((message : List ℕ) × IsAhead ahead message × TextsRefuse accepts pk sig message false e))
+pub file_verdict : {T R : Type 0} (bytes : T → List ℕ) (accepts : Verifier) (pk sig : List ℕ) (reader : RereaderPassage R) (r : Result T Fault)
+    → IfOk r (λ t. (message : List ℕ) × IsAhead (reader.source.ahead reader.old) message × TextsVouchWith accepts pk sig message false (bytes t))
+    → IfErr r (λ e. (e ≡ Named OutOfMemory) ⊎ ReadingFails reader.source reader.old reader.new e
+    ⊎ ((message : List ℕ) × IsAhead (reader.source.ahead reader.old) message × TextsRefuse accepts pk sig message false e))
     → IsFileVerdict bytes accepts pk r
-file_verdict bytes accepts pk sig ahead (Ok t) (message, given, vouched) refused = (sig, message, vouched)
-file_verdict bytes accepts pk sig ahead (Err e) vouched refused =
+file_verdict bytes accepts pk sig reader (Ok t) (message, given, vouched) refused = (sig, message, vouched)
+file_verdict bytes accepts pk sig reader (Err e) vouched refused =
     ⊎_elim (λ memory. inl (inl memory))
-    (λ more. ⊎_elim (λ failed. inl (inr (inl failed))) (λ (message, given, why). inr (sig, message, why)) more) refused
+    (λ more. ⊎_elim (λ failed. inl (inr (inl failed.fault))) (λ (message, given, why). inr (sig, message, why)) more) refused
 
 same_ahead : (known : Option (List ℕ)) (message copy : List ℕ) → IsAhead known message → (IsSome known → copy ≡ message) → IfSome known (λ xs. copy ≡ xs)
 same_ahead None message copy given same = tt
 same_ahead (Some xs) message copy given same = same refl ∙ sym given
+
+-- where nothing but a digest may be signed, the box is prehashed
+prehashed : (accepts : Verifier) (key : PublicKeyRecord) (box : SignatureBoxRecord) (message : List ℕ) → Vouches accepts key box message false → is_prehashed box.signature ≡ true
+prehashed accepts key box message vouches =
+    ⊎_elim (bytes_eq-Decides box.signature.algorithm prehashed_algorithm).1 (λ legacy. absurd (true≢false (sym legacy))) vouches.allowed
 
 -- what was copied is vouched for, with the comment
 pub copied_with : {T R W O : Type 0} (bytes : T → List ℕ) (accepts : Verifier) (pk sig : List ℕ) (reader : RereaderPassage R) (status : SinkPassage W) (out : SinkPassage O) (r : Result T Fault)
@@ -152,16 +158,14 @@ copied_with bytes accepts pk sig reader status out (Ok t) ok said =
     record {
       copy = copied.copy;
       taken = copied.all;
+      flushed = copied.flushed;
+      message = ok.verified.message;
+      read_twice = copied.read_twice (prehashed accepts ok.key ok.box ok.verified.message ok.verified.vouches);
       vouched = signed_comment accepts pk sig copied.copy false (bytes t)
           (record { key = ok.key; box = ok.box; key_read = ok.read.key_read; box_read = ok.read.box_read; vouches = copied.vouched }) said;
       same = λ steady. same_ahead (reader.source.ahead reader.old) ok.verified.message copied.copy ok.verified.given (copied.steady_same steady);
     }
 copied_with bytes accepts pk sig reader status out (Err e) ok said = tt
-
--- where nothing but a digest may be signed, the box is prehashed
-prehashed : (accepts : Verifier) (key : PublicKeyRecord) (box : SignatureBoxRecord) (message : List ℕ) → Vouches accepts key box message false → is_prehashed box.signature ≡ true
-prehashed accepts key box message vouches =
-    ⊎_elim (bytes_eq-Decides box.signature.algorithm prehashed_algorithm).1 (λ legacy. absurd (true≢false (sym legacy))) vouches.allowed
 
 -- why nothing, or not all, was copied
 pub copy_refused : {T R W O : Type 0} (accepts : Verifier) (pk sig : List ℕ) (reader : RereaderPassage R) (status : SinkPassage W) (out : SinkPassage O) (r : Result T Fault)

@@ -4,7 +4,7 @@ use Rattle.std.specs.Fmt.{decimal}
 use Rattle.std.specs.Str.Parse.{AllDigits}
 use Rattle.std.proofs.lemmas.Fmt.{decimal_is_IsNumeral}
 use Rattle.std.proofs.lemmas.Str.Parse.{digit_from_value}
-use Rattle.minisign.specs.Signing.{AreKept, comments_or_defaults, default_trusted_comment, default_untrusted_comment}
+use Rattle.minisign.specs.Signing.{AreChosenReadBack, comments_or_defaults, default_trusted_comment, default_untrusted_comment}
 use Rattle.minisign.proofs.Letters.{AllGraphic, all_append, trim_graphic}
 use Rattle.minisign.proofs.WrittenLines.{shown_codes, shown_graphic, shown_one_line}
 
@@ -18,15 +18,17 @@ graphic_moment moment small =
     let label : AllGraphic (codes "timestamp:") = ((omega arith, omega arith), ((omega arith, omega arith), ((omega arith, omega arith), ((omega arith, omega arith), ((omega arith, omega arith), ((omega arith, omega arith), ((omega arith, omega arith), ((omega arith, omega arith), ((omega arith, omega arith), ((omega arith, omega arith), tt)))))))))) in
     all_append (codes "timestamp:") (decimal moment) label (graphic_digits (decimal moment) (decimal_is_IsNumeral moment small).0.1)
 
-pub defaults_kept : (moment : ℕ) → moment < 2 ^ 64 → AreKept (comments_or_defaults None None moment)
+pub defaults_kept : (moment : ℕ) → moment < 2 ^ 64 → AreChosenReadBack (comments_or_defaults None None moment)
 unfolding default_untrusted_comment
 defaults_kept moment small =
     let graphic = graphic_moment moment small in
     let trusted = shown_one_line (default_trusted_comment moment) (shown_graphic _ graphic) in
     let untrusted = shown_one_line default_untrusted_comment (shown_codes default_untrusted_comment refl) in
     record {
-      untrusted_one_line = untrusted.no_feed;
+      one_line = record {
+        untrusted_one_line = untrusted.no_feed;
+        trusted_one_line = trusted.no_feed;
+        trusted_trimmed = trim_graphic (default_trusted_comment moment) graphic;
+      };
       untrusted_end = untrusted.no_return;
-      trusted_one_line = trusted.no_feed;
-      trusted_trimmed = trim_graphic (default_trusted_comment moment) graphic;
     }

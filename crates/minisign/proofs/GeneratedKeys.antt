@@ -11,7 +11,7 @@ use Rattle.minisign_base.specs.Limits.{cost_log2, limits}
 use Rattle.minisign.specs.Records.{PublicKeyRecord, SecretKeyRecord}
 use Rattle.minisign.specs.Sealing.{IsUnencrypted, IsWithin, Opens, checksum_of, is_encrypted, key_limits, key_numbers, key_xor, scrypt_kdf, work_refusal, xored_key}
 use Rattle.minisign.specs.SecretKeyText.{SecretKeyText}
-use Rattle.minisign.specs.Generation.{AreSeedAndKeynum, IsGenuinePair, IsSealedOf, IsSealedPair, OpensOnlyTo, OpensToPair, opened_key, public_key_of, sealed_key, sealing_memory, sealing_operations, secret_of, unsealed_key}
+use Rattle.minisign.specs.Generation.{AreSeedAndKeynum, IsGenuinePair, IsSealedOf, IsSealedPair, OpensOnlyTo, OpensToPair, key_to_seal, opened_key, public_key_of, sealed_key, sealing_memory, sealing_operations, secret_of, unsealed_key}
 use Rattle.minisign.proofs.SecretKeyTexts.{one_key_text}
 use Rattle.minisign.proofs.SealingLimits.{allowed_numbers, within_bound}
 
@@ -20,7 +20,7 @@ pub unsealed_is_unencrypted : (keynum secret : List ℕ) → IsUnencrypted (unse
 unfolding unsealed_key
 unsealed_is_unencrypted keynum secret = record { kdf = refl; checksum = refl }
 
-unsealed_is_open : (keynum secret : List ℕ) → is_encrypted (unsealed_key keynum secret) ≡ false
+pub unsealed_is_open : (keynum secret : List ℕ) → is_encrypted (unsealed_key keynum secret) ≡ false
 unfolding unsealed_key
 unsealed_is_open keynum secret = refl
 
@@ -59,39 +59,40 @@ only_memory k bound e operations memory one (inr refused) = let allowed = defaul
 no_mismatch : (xs : List ℕ) → not (bytes_eq xs xs) ≡ false
 no_mismatch xs = let same : bytes_eq xs xs ≡ true = (bytes_eq-Decides xs xs).1 refl in rw same refl
 
-opened_is_open : (keynum secret salt : List ℕ) → is_encrypted (opened_key keynum secret salt) ≡ false
-unfolding opened_key unsealed_key
-opened_is_open keynum secret salt = no_mismatch (checksum_of (unsealed_key keynum secret))
+pub opened_is_open : (keynum secret salt : List ℕ) (operations memory : ℕ) → is_encrypted (key_to_seal keynum secret salt operations memory) ≡ false
+unfolding key_to_seal unsealed_key
+opened_is_open keynum secret salt operations memory = no_mismatch (checksum_of (unsealed_key keynum secret))
 
 -- what opening gives of a sealed pair belongs together
 opened_pair : (public_of : List ℕ → List ℕ) (seed keynum salt : List ℕ) (pk : PublicKeyRecord) (sk : SecretKeyRecord) → AreSeedAndKeynum seed keynum
     → pk ≡ public_key_of public_of seed keynum → sk ≡ opened_key keynum (secret_of public_of seed) salt → IsGenuinePair public_of pk sk
-unfolding opened_key unsealed_key
+unfolding key_to_seal unsealed_key
 opened_pair public_of seed keynum salt pk sk lengths public secret = record {
   seed = seed;
   genuine = record {
     seed_length = lengths.seed_length;
     seed_bytes = lengths.seed_bytes;
     secret = ap (λ k. k.secret) secret;
-    opened = ap is_encrypted secret ∙ opened_is_open keynum (secret_of public_of seed) salt;
+    opened = ap is_encrypted secret ∙ opened_is_open keynum (secret_of public_of seed) salt sealing_operations sealing_memory;
   };
   key = ap (λ k. k.key) public;
   keynum = ap (λ k. k.keynum) public ∙ sym (ap (λ k. k.keynum) secret);
 }
 
 -- what sealing leaves as it is
-sealed_kdf : (keynum secret salt password : List ℕ) → (sealed_key keynum secret salt password).kdf ≡ scrypt_kdf
-unfolding key_xor opened_key
-sealed_kdf keynum secret salt password = refl
+pub sealed_kdf : (keynum secret salt password : List ℕ) (operations memory : ℕ) → (xored_key (key_to_seal keynum secret salt operations memory) password).kdf ≡ scrypt_kdf
+unfolding key_xor key_to_seal
+sealed_kdf keynum secret salt password operations memory = refl
 
 sealed_limits : (keynum secret salt password : List ℕ)
     → ((sealed_key keynum secret salt password).operations_limit ≡ to_le_bytes w64 sealing_operations) × ((sealed_key keynum secret salt password).memory_limit ≡ to_le_bytes w64 sealing_memory)
-unfolding key_xor opened_key
+unfolding key_xor key_to_seal
 sealed_limits keynum secret salt password = (refl, refl)
 
-opened_checksum : (keynum secret salt : List ℕ) → (opened_key keynum secret salt).checksum ≡ checksum_of (opened_key keynum secret salt)
-unfolding opened_key unsealed_key
-opened_checksum keynum secret salt = refl
+pub opened_checksum : (keynum secret salt : List ℕ) (operations memory : ℕ)
+    → (key_to_seal keynum secret salt operations memory).checksum ≡ checksum_of (key_to_seal keynum secret salt operations memory)
+unfolding key_to_seal unsealed_key
+opened_checksum keynum secret salt operations memory = refl
 
 -- a key that opens, with the limits by default, opens within each bound
 opens_within : (sk : SecretKeyRecord) (password : List ℕ) (bound : Option ℕ) → Opens sk password None → (key_numbers sk).p ≡ 1 → IsWithin bound 1 → Opens sk password bound
@@ -117,10 +118,10 @@ sealed_pair public_of password z pk sk pair =
     let allowed : key_limits sk ≡ Ok (record { n_log2 = 15; r = 8; p = 1 }) = default_limits sk (ap (λ k. k.operations_limit) sealed.secret ∙ limits.0) (ap (λ k. k.memory_limit) sealed.secret ∙ limits.1) in
     let numbers = allowed_numbers sk _ allowed in
     let opens : Opens sk password None = record {
-      kdf = ap (λ k. k.kdf) sealed.secret ∙ sealed_kdf pair.keynum secret pair.salt password;
+      kdf = ap (λ k. k.kdf) sealed.secret ∙ sealed_kdf pair.keynum secret pair.salt password sealing_operations sealing_memory;
       allowed = allowed ∙ ap (λ (v : Numbers). Ok v) (sym numbers);
       bounded = tt;
-      restored = ap (λ k. k.checksum) sealed.opened ∙ opened_checksum pair.keynum secret pair.salt ∙ sym (ap checksum_of sealed.opened);
+      restored = ap (λ k. k.checksum) sealed.opened ∙ opened_checksum pair.keynum secret pair.salt sealing_operations sealing_memory ∙ sym (ap checksum_of sealed.opened);
     } in
     record {
       opens = opens;

@@ -1,5 +1,5 @@
 -- Which key a text gives for signing.
-use Rattle.std.proofs.Common.{◌≡◌, ◌≢◌, List, ℕ, Option, None, Some, Result, Ok, Err, IfSome, inr}
+use Rattle.std.proofs.Common.{◌≡◌, ◌≢◌, List, ℕ, Option, None, Some, Result, Ok, Err, IfSome, [], inl, inr}
 use Rattle.std.specs.Option.{option_map}
 use Rattle.minisign_base.specs.Fault.{Fault}
 use Rattle.minisign_base.specs.Passages.{PromptPassage}
@@ -7,7 +7,7 @@ use Rattle.minisign.specs.Records.{SecretKeyRecord}
 use Rattle.minisign.specs.SecretKeyText.{SecretKeyText}
 use Rattle.minisign.specs.Sealing.{no_kdf}
 use Rattle.minisign.specs.Opening.{IsOpening}
-use Rattle.minisign.specs.SigningTexts.{IsGiving}
+use Rattle.minisign.specs.SigningTexts.{GivesKey, IsGiving, IsKeyOf}
 
 -- one that is sealed: it is opened
 pub opened_key : {R W : Type 0} (p : PromptPassage R W) (given : Option (List ℕ)) (text : List ℕ) (k : SecretKeyRecord) (r : Result SecretKeyRecord Fault)
@@ -20,3 +20,11 @@ pub untouched_opening : {P R W : Type 0} (p : PromptPassage R W) (bytes : P → 
     → IsOpening p (option_map bytes given) text bound r → IfSome given (λ _. p.new ≡ p.old)
 untouched_opening p bytes None text bound r h = tt
 untouched_opening p bytes (Some password) text bound r h = h.0
+
+-- a key that was given with a prompt or a password is one of the text
+pub key_of_given : {R W : Type 0} (p : PromptPassage R W) (password : Option (List ℕ)) (text : List ℕ) (key : SecretKeyRecord)
+    → GivesKey p password text key → IsKeyOf text key
+key_of_given p (Some given) text key (inl h) = ([], inl h.0)
+key_of_given p (Some given) text key (inr h) = (given, inr h.1)
+key_of_given p None text key (inl h) = ([], inl h.0)
+key_of_given p None text key (inr h) = (h.password, inr h.opens)

@@ -16,8 +16,10 @@ pub mod Facts
 pub mod SecretKeyTexts
 pub mod GeneratedKeys
 pub mod Openings
-mod GivenKeys
+pub mod GivenKeys
 pub mod Asking
+pub mod Choosing
+pub mod Conversations
 pub mod WrittenKeys
 pub mod SignatureTexts
 pub mod SignedTexts
@@ -26,3 +28,6 @@ pub mod Passes
 pub mod VouchedTexts
 pub mod Commented
 pub mod PasswordKeys
+pub mod MadeKeys
+pub mod Base64Pieces
+pub mod InPlace

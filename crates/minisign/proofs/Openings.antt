@@ -42,6 +42,13 @@ unencrypted_none k h =
     let same : bytes_eq k.kdf no_kdf ≡ true = (bytes_eq-Decides k.kdf no_kdf).1 h.kdf in
     rw same (checksum_none k (Named CorruptedKey) h.checksum)
 
+-- what the tests of a key that was never sealed say of it
+pub unencrypted_verdict : {T : Type 0} (k : SecretKeyRecord) (r : Result T Fault)
+    → MatchResult r (λ _. unencrypted_refusal k ≡ None) (λ e. unencrypted_refusal k ≡ Some e)
+    → MatchResult r (λ _. IsUnencrypted k) (λ e. (unencrypted_refusal k ≡ Some e) × ¬ (IsUnencrypted k))
+unencrypted_verdict k (Ok t) h = unencrypted_held k h
+unencrypted_verdict k (Err e) h = (h, λ held. let none : unencrypted_refusal k ≡ None = unencrypted_none k held in absurd (cc))
+
 -- a key that is refused is not one that is not
 not_refused : (text : List ℕ) (refusal : SecretKeyRecord → Option Fault) (e : Fault) (k : SecretKeyRecord)
     → RefusesKey text refusal e → SecretKeyText text k → ¬ (refusal k ≡ None)
@@ -131,13 +138,19 @@ any_password text password bound e (inr refused) = inr (record {
   closed = λ k read h. not_refused text kdf_refusal e k refused read (kdf_none k h.kdf);
 })
 
+-- a key of which nothing is refused opens
+pub key_opens : (sealed : SecretKeyRecord) (password : List ℕ) (bound : Option ℕ) → kdf_refusal sealed ≡ None → password_refusal sealed password bound ≡ None
+    → Opens sealed password bound
+key_opens sealed password bound kdf none =
+    opening_held sealed password bound (ap (λ (o : Option Fault). option_or o (password_refusal sealed password bound)) kdf ∙ none)
+
 -- a key that was opened
 pub opened_text : (text password : List ℕ) (bound : Option ℕ) (sealed k : SecretKeyRecord) → SecretKeyText text sealed → kdf_refusal sealed ≡ None
     → k ≡ xored_key sealed password → password_refusal sealed password bound ≡ None → IsOpened text password bound k
 opened_text text password bound sealed k read kdf is none = record {
   sealed = sealed;
   read = read;
-  opens = opening_held sealed password bound (ap (λ (o : Option Fault). option_or o (password_refusal sealed password bound)) kdf ∙ none);
+  opens = key_opens sealed password bound kdf none;
   key = is;
 }
 

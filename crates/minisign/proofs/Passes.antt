@@ -10,7 +10,7 @@ use Rattle.minisign_base.specs.Devices.{Rose, HasGiven}
 use Rattle.minisign_base.specs.Fault.{Fault, Named}
 use Rattle.minisign_base.specs.declared.faults.NamedFault.TheVariants.{GoingBackFailed, OutOfMemory, ReadingFailed}
 use Rattle.minisign_base.specs.Members.{SourceOf}
-use Rattle.minisign_base.specs.Passages.{RereaderPassage, SinkIsCalm, SinkPassage, SourceGives, Takes, TakesFront, rereader_passage}
+use Rattle.minisign_base.specs.Passages.{IsUnflushed, RereaderPassage, SinkIsCalm, SinkPassage, SourceGives, Takes, TakesFront, rereader_passage}
 use Rattle.minisign.specs.declared.signed_data.SignedData.{SignedData}
 use Rattle.minisign.specs.declared.signed_data.SignedData.TheVariants.{Digest, Kept, Unkept}
 use Rattle.minisign.specs.Reading.{IsAhead, IsReturned, IsReadFault}
@@ -118,9 +118,9 @@ module _ {R : Type 0} (source : SourceOf R) (steady : R → Type 0) (old mid new
       (λ (second, pass, ended). inr (
         second,
         seen second pass,
-        ⊎_elim (λ broken. inl (record { front = broken.front; read = broken.read; given = broken.given; read_front = broken.read_front; failed = ⊎_elim (λ failed. inl (read_fault e calm failed)) inr broken.failed; marked = broken.marked }))
+        ⊎_elim (λ broken. inl (record { front = broken.front; read = broken.read; given = broken.given; read_front = broken.read_front; unflushed = broken.unflushed; failed = ⊎_elim (λ failed. inl (read_fault e calm failed)) inr broken.failed; marked = broken.marked }))
             (λ copied. inr (⊎_elim
-            (λ other. inl (record { given = other.given; all = other.all; fault = other.fault; changed = subst (λ d. blake2b_digest 64 second ≢ d) equal other.changed }))
+            (λ other. inl (record { given = other.given; all = other.all; unflushed = other.unflushed; fault = other.fault; changed = subst (λ d. blake2b_digest 64 second ≢ d) equal other.changed }))
             (λ flushed. inr (record { given = flushed.given; all = flushed.all; unchanged = flushed.unchanged ∙ equal; failed = flushed.failed }))
             copied))
             ended,
@@ -131,10 +131,10 @@ module _ {R W O : Type 0} (accepts : Verifier) (pk : PublicKeyRecord) (x : Signa
   -- what was to be copied is copied
   copied : (output : Bool) (signed : SignedData) → HoldsSigned signed x legacy message
       → FirstPass (is_reread output x) (rereader_passage source steady old mid) message
-      → Vouches accepts pk x message legacy → Takes status (wanted_status quiet x) → SinkIsCalm status
+      → Vouches accepts pk x message legacy → Takes status (wanted_status quiet x) → SinkIsCalm status → IsUnflushed status
       → source.faults new ≡ source.faults mid → SinkIsCalm out → CopyingSucceeds output signed (rereader_passage source steady mid new) out
       → VerifyingSucceeds accepts pk x (record { quiet = quiet; output = output; legacy = legacy }) (rereader_passage source steady old new) status out
-  copied false signed holds pass vouches said status_calm calm out_calm done = record {
+  copied false signed holds pass vouches said status_calm status_unflushed calm out_calm done = record {
     message = message;
     given = pass.given;
     vouches = vouches;
@@ -143,25 +143,38 @@ module _ {R W O : Type 0} (accepts : Verifier) (pk : PublicKeyRecord) (x : Signa
     mark = λ once. ap source.behind done.0 ∙ pass.mark once;
     said = said;
     status_calm = status_calm;
+    status_unflushed = status_unflushed;
     copied = λ wanted. absurd (true≢false (sym wanted));
     uncopied = λ unwanted. done.1;
     out_calm = out_calm;
   }
-  copied true (Digest digest) holds pass vouches said status_calm calm out_calm (second, returned, taken, same, end) =
-      let equal : signed_bytes x second ≡ signed_bytes x message = rw holds.0 (same ∙ holds.1) in
-      let again = second_pass source steady old mid new (pass.marked holds.0) second returned in
+  copied true (Digest digest) holds pass vouches said status_calm status_unflushed calm out_calm done =
+      let second : List ℕ = done.second in
+      let equal : signed_bytes x second ≡ signed_bytes x message = rw holds.0 (done.unchanged ∙ holds.1) in
+      let again = second_pass source steady old mid new (pass.marked holds.0) second done.returned in
       record {
         message = message;
         given = pass.given;
         vouches = vouches;
-        end = end;
+        end = done.end;
         calm = calm ∙ pass.calm;
         mark = λ once. absurd (true≢false (sym holds.0 ∙ once));
         said = said;
         status_calm = status_calm;
+        status_unflushed = status_unflushed;
         copied = λ wanted. record {
           copy = second;
-          all = taken;
+          all = done.all;
+          flushed = done.flushed;
+          read_twice = λ hashed. record {
+            between = mid;
+            first = rw holds.0 at pass;
+            returned = done.returned;
+            given = done.given;
+            end = done.end;
+            marked = done.marked;
+            unchanged = done.unchanged ∙ holds.1;
+          };
           vouched = vouches_alike accepts pk x message second legacy equal vouches;
           signed_same = equal;
           legacy_same = λ kept. absurd (true≢false (sym holds.0 ∙ kept));
@@ -170,7 +183,7 @@ module _ {R W O : Type 0} (accepts : Verifier) (pk : PublicKeyRecord) (x : Signa
         uncopied = λ unwanted. absurd (true≢false unwanted);
         out_calm = out_calm;
       }
-  copied true (Kept bytes) holds pass vouches said status_calm calm out_calm done =
+  copied true (Kept bytes) holds pass vouches said status_calm status_unflushed calm out_calm done =
       let equal : signed_bytes x bytes.items ≡ signed_bytes x message = ap (signed_bytes x) holds.1 in
       record {
         message = message;
@@ -181,9 +194,12 @@ module _ {R W O : Type 0} (accepts : Verifier) (pk : PublicKeyRecord) (x : Signa
         mark = λ once. ap source.behind done.0 ∙ pass.mark once;
         said = said;
         status_calm = status_calm;
+        status_unflushed = status_unflushed;
         copied = λ wanted. record {
           copy = bytes.items;
           all = done.1;
+          flushed = done.2;
+          read_twice = λ hashed. absurd (true≢false (sym hashed ∙ holds.0));
           vouched = vouches_alike accepts pk x message bytes.items legacy equal vouches;
           signed_same = equal;
           legacy_same = λ kept. holds.1;
@@ -192,7 +208,7 @@ module _ {R W O : Type 0} (accepts : Verifier) (pk : PublicKeyRecord) (x : Signa
         uncopied = λ unwanted. absurd (true≢false unwanted);
         out_calm = out_calm;
       }
-  copied true Unkept holds pass vouches said status_calm calm out_calm done = absurd (unallowed accepts pk x message legacy holds.0 holds.1 vouches)
+  copied true Unkept holds pass vouches said status_calm status_unflushed calm out_calm done = absurd (unallowed accepts pk x message legacy holds.0 holds.1 vouches)
 
   -- what was to be copied is not
   uncopied : (output : Bool) (signed : SignedData) → HoldsSigned signed x legacy message
@@ -227,11 +243,11 @@ module _ {R W O : Type 0} (accepts : Verifier) (pk : PublicKeyRecord) (x : Signa
   module _ (output : Bool) (signed : SignedData) (holds : HoldsSigned signed x legacy message)
       (pass : FirstPass (is_reread output x) (rereader_passage source steady old mid) message)
       (vouches : Vouches accepts pk x message legacy) (said : Takes status (wanted_status quiet x)) where
-    pub copying_succeeds : {T : Type 0} (r : Result T Fault) → SinkIsCalm status → OnOk r (source.faults new ≡ source.faults mid) → OnOk r (SinkIsCalm out)
+    pub copying_succeeds : {T : Type 0} (r : Result T Fault) → SinkIsCalm status → IsUnflushed status → OnOk r (source.faults new ≡ source.faults mid) → OnOk r (SinkIsCalm out)
         → OnOk r (CopyingSucceeds output signed (rereader_passage source steady mid new) out)
         → OnOk r (VerifyingSucceeds accepts pk x (record { quiet = quiet; output = output; legacy = legacy }) (rereader_passage source steady old new) status out)
-    copying_succeeds (Ok v) status_calm calm out_calm done = copied output signed holds pass vouches said status_calm calm out_calm done
-    copying_succeeds (Err e) status_calm calm out_calm done = tt
+    copying_succeeds (Ok v) status_calm status_unflushed calm out_calm done = copied output signed holds pass vouches said status_calm status_unflushed calm out_calm done
+    copying_succeeds (Err e) status_calm status_unflushed calm out_calm done = tt
 
     pub copying_fails : {T : Type 0} (r : Result T Fault) → IfErr r (CopyingFails output signed (rereader_passage source steady mid new) out)
         → IfErr r (VerifyingFails accepts pk x (record { quiet = quiet; output = output; legacy = legacy }) (rereader_passage source steady old new) status out)

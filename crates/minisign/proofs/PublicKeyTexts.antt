@@ -160,10 +160,10 @@ written_base64 k text bytes base64 same reads =
 
 -- the text that is written for a key reads as the key
 module _ (k : PublicKeyRecord) (bare : BarePublicKey (base64_of (public_key_bytes k)) k) where
-  graphic : AllGraphic (base64_of (public_key_bytes k))
+  pub graphic : AllGraphic (base64_of (public_key_bytes k))
   graphic = graphic_base64 (public_key_bytes k) (front_bytes (public_key_bytes k) _ (subst IsBytes bare.key.reads.front.1 bare.key.base64.each))
 
-  stays : trim (base64_of (public_key_bytes k)) ≡ base64_of (public_key_bytes k)
+  pub stays : trim (base64_of (public_key_bytes k)) ≡ base64_of (public_key_bytes k)
   stays = trim_graphic _ graphic
 
   first_line : IsOneLine (untrusted_comment_label ++ public_key_label ++ identifier_text k.keynum)

@@ -44,3 +44,15 @@ module _ {V : Type 0} (reads : List ℕ → V → Type 0) (first : List ℕ → 
       let none : first t ≡ None = (decided t).none_fails.1 (v, read) in
       let no = sym none ∙ ap first (sym same) ∙ fails in
       cc no
+
+  -- the same where no memory is wanted
+  pub plainly_refused : {W : Type 0} (t : List ℕ) (r : Result W Fault) → IfErr r (λ e. first t ≡ Some e) → IfErr r (IsRefused (reads t) (first t))
+  plainly_refused t (Ok w) h = tt
+  plainly_refused t (Err e) fails = refused_at (reads t) (first t) e (decided t) fails
+
+  pub plainly_exact : (t : List ℕ) (r : Result V Fault) → IfOk r (reads t) → IfErr r (λ e. first t ≡ Some e) → (v : V) → reads t v → r ≡ Ok v
+  plainly_exact t (Ok w) ok err v read = ap (λ x. Ok x) ((decided t).one_value w v ok read)
+  plainly_exact t (Err e) ok fails v read =
+      let none : first t ≡ None = (decided t).none_fails.1 (v, read) in
+      let no = sym none ∙ fails in
+      cc no

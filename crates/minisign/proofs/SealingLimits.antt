@@ -24,7 +24,7 @@ limits_numbers : (memlimit opslimit n : ℕ) (v : Numbers) → limits memlimit o
 unfolding limits
 limits_numbers memlimit opslimit n v h = both_passed _ _ _ v _ _ h
 
-sealing_numbers : (memlimit opslimit : ℕ) (v : Numbers) → sealing_limits memlimit opslimit ≡ Ok v → numbers memlimit opslimit ≡ v
+pub sealing_numbers : (memlimit opslimit : ℕ) (v : Numbers) → sealing_limits memlimit opslimit ≡ Ok v → numbers memlimit opslimit ≡ v
 sealing_numbers memlimit opslimit v h = limits_numbers memlimit opslimit 20 v (one_passed _ _ v _ h)
 
 -- the limits that are allowed are the numbers that they lead to

@@ -14,7 +14,7 @@ use Rattle.minisign_base.specs.Fault.{Named}
 use Rattle.minisign_base.specs.declared.faults.NamedFault.TheVariants.{MissingUntrustedComment, MissingSignature, MissingTrustedComment, MissingGlobalSignature, UntrustedCommentPrefix, SignatureNotBase64, RecordTooShort, TrustedCommentPrefix, UnsupportedSignatureAlgorithm}
 use Rattle.minisign.specs.Records.{CommentsRecord, SignatureRecord, SignatureBoxRecord, ReadsSignature, IsKnownAlgorithm, signature_bytes, legacy_algorithm, prehashed_algorithm}
 use Rattle.minisign.specs.Texts.{IsBase64Of, IsDecided, base64_of, base64_bytes, is_base64, line_at, untrusted_comment_label}
-use Rattle.minisign.specs.SignatureText.{AreOneLine, EncodesSignature, SignatureText, HasFourLines, KeepsComments, comments_read_back, signature_text, is_known_algorithm, signature_tests, signature_refusal, trusted_comment_label}
+use Rattle.minisign.specs.SignatureText.{AreOneLine, EncodesSignature, SignatureText, HasFourLines, AreReadBack, comments_read_back, signature_text, is_known_algorithm, signature_tests, signature_refusal, trusted_comment_label}
 use Rattle.minisign.proofs.Base64Texts.{bytes_read, is_read, reads, one_decoding}
 use Rattle.base64.specs.GeneralPurpose.{IsBytes}
 use Rattle.base64.proofs.EngineFacts.{front_bytes}
@@ -242,7 +242,7 @@ some_trusted = lit< tt
 
 -- a written text reads as its signature and comments, but for a carriage return at the end of the untrusted one
 module _ (s : SignatureRecord) (c : CommentsRecord) (encodes : EncodesSignature (base64_of (signature_bytes s)) s) (signed : IsBase64Of (base64_of c.signature) c.signature)
-    (one : AreOneLine c) (algorithm : IsKnownAlgorithm s.algorithm) where
+    (one : AreOneLine c.untrusted c.trusted) (algorithm : IsKnownAlgorithm s.algorithm) where
   graphic : AllGraphic (base64_of (signature_bytes s))
   graphic = graphic_base64 (signature_bytes s) (front_bytes (signature_bytes s) _ (subst IsBytes encodes.reads.front.1 encodes.base64.each))
 
@@ -271,13 +271,6 @@ module _ (s : SignatureRecord) (c : CommentsRecord) (encodes : EncodesSignature 
         box = refl;
       }
 
--- comments that are kept stand in lines of their own, and nothing goes of them
-pub one_line : (c : CommentsRecord) → KeepsComments c → AreOneLine c
-one_line c keeps = record {
-  untrusted_one_line = keeps.untrusted_one_line;
-  trusted_one_line = keeps.trusted_one_line;
-  trusted_trimmed = keeps.trusted_trimmed;
-}
-
-pub same_comments : (c : CommentsRecord) → KeepsComments c → comments_read_back c ≡ c
+-- nothing goes of comments that are read back as they were written
+pub same_comments : (c : CommentsRecord) → AreReadBack c.untrusted c.trusted → comments_read_back c ≡ c
 same_comments c keeps = ap (λ (u : List ℕ). record c { untrusted = u }) (strip_none c.untrusted keeps.untrusted_end)

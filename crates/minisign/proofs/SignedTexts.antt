@@ -5,30 +5,22 @@ use Rattle.minisign_base.specs.declared.faults.NamedFault.TheVariants.{OutOfMemo
 use Rattle.minisign.specs.Records.{CommentsRecord, PublicKeyRecord, SignatureBoxRecord}
 use Rattle.minisign.specs.SignatureText.{AreOneLine, SignatureText, box_read_back, signature_text}
 use Rattle.minisign.specs.Acceptance.{Verifier, Vouches, VouchesUnderEachKey}
-use Rattle.minisign.specs.Signing.{AreLines, ChosenComments}
+use Rattle.minisign.specs.Signing.{ChosenComments}
 
 -- the chosen comments and a comment signature
 abbrev pub with_signature : ChosenComments → List ℕ → CommentsRecord
 with_signature chosen global = record { untrusted = chosen.untrusted; trusted = chosen.trusted; signature = global }
 
--- chosen comments that stand in lines of their own do so with their signature
-lines_with : (chosen : ChosenComments) (global : List ℕ) → AreLines chosen → AreOneLine (with_signature chosen global)
-lines_with chosen global one = record {
-  untrusted_one_line = one.untrusted_one_line;
-  trusted_one_line = one.trusted_one_line;
-  trusted_trimmed = one.trusted_trimmed;
-}
-
 -- what writing answers of a box with comments
 pub written_text : {T : Type 0} (bytes : T → List ℕ) (r : Result T Fault) (x : SignatureBoxRecord) (chosen : ChosenComments) (global : List ℕ)
     → x.comments ≡ Some (with_signature chosen global)
     → MatchOption x.comments (r ≡ Err (Named SignatureBoxIncomplete)) (λ c. MatchResult r (λ t. bytes t ≡ signature_text x.signature c) (λ e. e ≡ Named OutOfMemory))
-    → (IfSome x.comments AreOneLine → IfOk r (λ t. SignatureText (bytes t) (box_read_back x)))
-    → IfOk r (λ t. (bytes t ≡ signature_text x.signature (with_signature chosen global)) × (AreLines chosen → SignatureText (bytes t) (box_read_back x)))
+    → (IfSome x.comments (λ c. AreOneLine c.untrusted c.trusted) → IfOk r (λ t. SignatureText (bytes t) (box_read_back x)))
+    → IfOk r (λ t. (bytes t ≡ signature_text x.signature (with_signature chosen global)) × (AreOneLine chosen.untrusted chosen.trusted → SignatureText (bytes t) (box_read_back x)))
 written_text bytes (Err e) x chosen global both written back = tt
 written_text bytes (Ok t) x chosen global both written back = (
   subst (λ (o : Option CommentsRecord). MatchOption o (Ok t ≡ Err (Named SignatureBoxIncomplete)) (λ c. bytes t ≡ signature_text x.signature c)) both written,
-  λ one. back (subst (λ (o : Option CommentsRecord). IfSome o AreOneLine) (sym both) (lines_with chosen global one)),
+  λ one. back (subst (λ (o : Option CommentsRecord). IfSome o (λ c. AreOneLine c.untrusted c.trusted)) (sym both) one),
 )
 
 -- the untrusted comment does not matter for what a box vouches for

@@ -45,6 +45,7 @@ copy_vouched accepts pk sig flags reader status out (Ok v) h wanted =
     record {
       copy = copied.copy;
       taken = copied.all;
+      flushed = copied.flushed;
       vouched = record { key = h.key; box = h.box; key_read = h.read.key_read; box_read = h.read.box_read; vouches = copied.vouched };
     }
 copy_vouched accepts pk sig flags reader status out (Err e) h wanted = tt

@@ -1,5 +1,5 @@
--- A secret key's text that is written and read back.
-use Rattle.std.proofs.Common.{◌≡◌, ℕ, ◌-◌, List, [], ◌∷◌, ◌++◌, length, refl, ap, ◌∙◌, inl, inr, arith, false}
+-- Texts of keys that are written and read back, and their sizes.
+use Rattle.std.proofs.Common.{◌≡◌, ℕ, ◌-◌, ◌+◌, List, [], ◌∷◌, ◌++◌, length, Some, refl, ap, sym, subst, ◌∙◌, inl, inr, arith, false}
 use Rattle.std.proofs.Math.Dec.{eqb}
 use Rattle.std.proofs.Math.Seq.{get_or-append_right}
 use Rattle.std.proofs.lemmas.Bool.{cases_lt, ne_eqb}
@@ -8,13 +8,15 @@ use Rattle.std.specs.List.{All}
 use Rattle.std.specs.Str.Iter.{LacksByte}
 use Rattle.std.specs.Str.Lines.{lines, strip_carriage_return}
 use Rattle.minisign.specs.Lines.{line}
-use Rattle.minisign.specs.Records.{SecretKeyRecord, ReadsSecretKey}
-use Rattle.minisign.specs.SecretKeyText.{SecretKeyText, default_secret_key_comment}
-use Rattle.minisign.specs.Texts.{IsBase64Of, untrusted_comment_label}
+use Rattle.minisign.specs.Records.{PublicKeyRecord, SecretKeyRecord, ReadsSecretKey, public_key_bytes, secret_key_bytes}
+use Rattle.minisign.specs.SecretKeyText.{SecretKeyText, default_secret_key_comment, secret_key_text}
+use Rattle.minisign.specs.Texts.{IsBase64Of, base64_of, untrusted_comment_label}
+use Rattle.minisign.specs.PublicKeyText.{BarePublicKey, EncodesPublicKey, PublicKeyText, commented_public_key_text}
+use Rattle.minisign.proofs.PublicKeyTexts.{graphic, stays}
 use Rattle.minisign.proofs.FirstLine.{lines-cut}
 use Rattle.minisign.proofs.Letters.{graphic_base64}
 use Rattle.minisign.proofs.SecretKeyTexts.{read_text}
-use Rattle.minisign.proofs.WrittenLines.{IsOneLine, lines_last, shown_codes, shown_graphic, shown_one_line}
+use Rattle.minisign.proofs.WrittenLines.{IsOneLine, length_base64_secret, lines_last, shown_codes, shown_graphic, shown_one_line}
 
 -- two lists without line feeds
 both_lack : (a b : List ℕ) → LacksByte 10 a → LacksByte 10 b → LacksByte 10 (a ++ b)
@@ -34,13 +36,67 @@ pub default_lacks : LacksByte 10 default_secret_key_comment
 unfolding default_secret_key_comment
 default_lacks = (shown_one_line default_secret_key_comment (shown_codes default_secret_key_comment refl)).no_feed
 
+-- the lines of a comment without line feed, and of letters
+commented_lines : (comment encoded text : List ℕ) → LacksByte 10 comment → IsOneLine encoded → text ≡ line (untrusted_comment_label ++ comment) ++ line encoded
+    → lines text ≡ strip_carriage_return (untrusted_comment_label ++ comment) ∷ encoded ∷ []
+commented_lines comment encoded text lacks one written =
+    let x : List ℕ = untrusted_comment_label ++ comment in
+    ap lines (written ∙ append_assoc x (10 ∷ []) (line encoded)) ∙ lines-cut x (line encoded) (each_lacks x (both_lack untrusted_comment_label comment label_lacks lacks))
+    ∙ ap (λ (l : List (List ℕ)). strip_carriage_return x ∷ l) (lines_last encoded one)
+
 -- a comment without line feed, and the base64 of a key, on a line each
 pub written_secret_key : (comment encoded bytes text : List ℕ) (k : SecretKeyRecord) → LacksByte 10 comment → IsBase64Of encoded bytes → ReadsSecretKey bytes k
     → text ≡ line (untrusted_comment_label ++ comment) ++ line encoded → SecretKeyText text k
 written_secret_key comment encoded bytes text k lacks base64 stored written =
-    let x : List ℕ = untrusted_comment_label ++ comment in
     let one : IsOneLine encoded = rw base64.encoded (shown_one_line _ (shown_graphic _ (graphic_base64 bytes base64.each))) in
-    let cut : lines text ≡ strip_carriage_return x ∷ encoded ∷ [] =
-    ap lines (written ∙ append_assoc x (10 ∷ []) (line encoded)) ∙ lines-cut x (line encoded) (each_lacks x (both_lack untrusted_comment_label comment label_lacks lacks))
-    ∙ ap (λ (l : List (List ℕ)). strip_carriage_return x ∷ l) (lines_last encoded one) in
-    read_text text _ encoded bytes [] k cut base64 stored
+    read_text text _ encoded bytes [] k (commented_lines comment encoded text lacks one written) base64 stored
+
+-- a comment without line feed, and the base64 of a public key, on a line each
+pub commented_public_key : (k : PublicKeyRecord) (comment text : List ℕ) → BarePublicKey (base64_of (public_key_bytes k)) k → LacksByte 10 comment
+    → text ≡ commented_public_key_text comment k → PublicKeyText text k
+commented_public_key k comment text bare lacks written =
+    let encoded : List ℕ = base64_of (public_key_bytes k) in
+    record {
+      key_line = encoded;
+      second = record {
+        first = strip_carriage_return (untrusted_comment_label ++ comment);
+        later = [];
+        cut = commented_lines comment encoded text lacks (shown_one_line _ (shown_graphic _ (graphic k bare))) written;
+      };
+      key_line_length = ap length (sym (stays k bare)) ∙ bare.trimmed_length;
+      key = subst (λ (t : List ℕ). EncodesPublicKey t k) (sym (stays k bare)) bare.key;
+    }
+
+label_size : length untrusted_comment_label ≡ 19
+unfolding untrusted_comment_label
+label_size = refl
+
+two_lines : (a b : List ℕ) → length (line (untrusted_comment_label ++ a) ++ line b) ≡ length a + length b + 21
+two_lines a b =
+    length-append (line (untrusted_comment_label ++ a)) (line b)
+    ∙ omega (arith, length-append (untrusted_comment_label ++ a) (10 ∷ []), length-append untrusted_comment_label a, length-append b (10 ∷ []), label_size)
+
+-- the sizes of the texts of keys
+pub secret_key_size : (comment text : List ℕ) (k : SecretKeyRecord) → ReadsSecretKey (secret_key_bytes k) k → text ≡ secret_key_text (Some comment) k
+    → length text ≡ length comment + 233
+unfolding secret_key_text
+secret_key_size comment text k reads written =
+    let long : length (secret_key_bytes k) ≡ 158 = simp length-append (omega (
+      arith,
+      reads.algorithm_length,
+      reads.kdf_length,
+      reads.checksum_algorithm_length,
+      reads.salt_length,
+      reads.operations_limit_length,
+      reads.memory_limit_length,
+      reads.keynum_length,
+      reads.secret_length,
+      reads.checksum_length,
+    )) in
+    ap length written ∙ two_lines comment (base64_of (secret_key_bytes k)) ∙ omega (arith, length_base64_secret (secret_key_bytes k) long)
+
+pub public_key_size : (comment text : List ℕ) (k : PublicKeyRecord) → BarePublicKey (base64_of (public_key_bytes k)) k → text ≡ commented_public_key_text comment k
+    → length text ≡ length comment + 77
+public_key_size comment text k bare written =
+    let long : length (base64_of (public_key_bytes k)) ≡ 56 = ap length (sym (stays k bare)) ∙ bare.trimmed_length in
+    ap length written ∙ two_lines comment (base64_of (public_key_bytes k)) ∙ omega (arith, long)

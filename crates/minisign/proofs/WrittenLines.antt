@@ -63,11 +63,18 @@ shown_one_line (x ∷ xs) h = record {
   no_return = λ e. absurd (omega (arith, e, shown_at (x ∷ xs) (length (x ∷ xs) - 1) h (omega arith)));
 }
 
--- the length of 42 bytes in base64
-pub length_base64_key : (m : List ℕ) → length m ≡ 42 → length (base64_of m) ≡ 56
+-- the length of bytes in base64
+length_base64 : (m : List ℕ) (n : ℕ) → length m ≡ n → length (base64_of m) ≡ unpadded_len n + padding_len n
 unfolding base64_of
-length_base64_key m h =
-    length-append _ _ ∙ (λ i. length-encode_symbols standard.encode_table m i + length-replicate {A = ℕ} (padding_len (length m)) 61 i) ∙ ap (λ (n : ℕ). unpadded_len n + padding_len n) h
+length_base64 m n h =
+    length-append _ _ ∙ (λ i. length-encode_symbols standard.encode_table m i + length-replicate {A = ℕ} (padding_len (length m)) 61 i) ∙ ap (λ (k : ℕ). unpadded_len k + padding_len k) h
+
+-- the length of 42 bytes in base64, and of 158
+pub length_base64_key : (m : List ℕ) → length m ≡ 42 → length (base64_of m) ≡ 56
+length_base64_key m h = length_base64 m 42 h
+
+pub length_base64_secret : (m : List ℕ) → length m ≡ 158 → length (base64_of m) ≡ 212
+length_base64_secret m h = length_base64 m 158 h
 
 -- letters that are written out
 abbrev pub all_shown : List ℕ → Bool

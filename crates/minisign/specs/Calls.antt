@@ -1,24 +1,25 @@
 -- What the calls for callers promise: data is vouched for and this is the comment that was signed with it, or the
 -- first reason why it is not; a text gives a key under a password, or the first reason why it gives none.
-use Rattle.std.specs.Prelude.{◌≡◌, ℕ, Bool, true, false, ◌⊎◌, if◌then◌else◌, bytes_eq, List, Option, None, Some, IfSome, MatchResult}
+use Rattle.std.specs.Prelude.{◌≡◌, ℕ, ◌<◌, ◌≤◌, Bool, true, false, ◌⊎◌, if◌then◌else◌, bytes_eq, List, length, Option, None, Some, IfSome, MatchResult}
 use Rattle.std.specs.declared.result.Result.{Result}
 use Rattle.minisign_base.specs.Fault.{Fault, Named}
 use Rattle.minisign_hash.specs.Blake2b.{blake2b_digest}
-use Rattle.minisign_base.specs.declared.faults.NamedFault.TheVariants.{EncryptedKeyRefused, OutOfMemory}
-use Rattle.minisign_base.specs.Passages.{IsSteady, RandomPassage, RereaderPassage, SinkFails, SinkPassage, SourceFails, Takes}
+use Rattle.minisign_base.specs.declared.faults.NamedFault.TheVariants.{EncryptedKeyRefused, OutOfMemory, PasswordTooLong, ReadingFailed}
+use Rattle.minisign_base.specs.Passages.{IsFlushed, IsSteady, RandomPassage, RereaderPassage, SinkFails, SinkPassage, SourceFails, SourcePassage, Takes}
 use Rattle.minisign.specs.Records.{CommentsRecord, SecretKeyRecord, SignatureBoxRecord}
 use Rattle.minisign.specs.Acceptance.{Verifier}
 use Rattle.minisign.specs.Copying.{SecondPassFails}
+use Rattle.minisign.specs.Generation.{AllDrawn}
 use Rattle.minisign.specs.Headline.{TextsRefuse, TextsVouchFor}
 use Rattle.minisign.specs.Opening.{IsOpened, IsUnencryptedText}
 use Rattle.minisign.specs.Reading.{IsAhead, ReadingFails}
 use Rattle.minisign.specs.Sealing.{is_encrypted, no_kdf, opening_refusal, unencrypted_refusal}
 use Rattle.minisign.specs.SecretKeyText.{SecretKeyText, secret_key_refusal}
 use Rattle.minisign.specs.SignatureText.{SignatureText}
-use Rattle.minisign.specs.Signing.{DrawFails}
+use Rattle.minisign.specs.Signing.{DrawFails, KeyIsSealed, OpenedSigningFails}
 use Rattle.minisign.specs.TextFiles.{IsTextFileFault}
 use Rattle.minisign.specs.Texts.{IsRefused}
-use Rattle.minisign.specs.Verifying.{MarkFails, SecondPass}
+use Rattle.minisign.specs.Verifying.{MarkFails, ReadsTwice, SecondPass}
 
 -- the text reads as a box whose trusted comment this is
 pub record IsCommentOf (sig_text comment : List ℕ) : Type 0 where
@@ -49,18 +50,27 @@ IsFileVerdict bytes accepts pk_text r =
     MatchResult r (λ t. (sig_text : List ℕ) × (message : List ℕ) × TextsVouchWith accepts pk_text sig_text message false (bytes t))
     (λ e. IsTextFileFault e ⊎ ((sig_text : List ℕ) × (message : List ℕ) × TextsRefuse accepts pk_text sig_text message false e))
 
+-- over data that is told, where the source does not fail: the answer is the verdict on the data
+abbrev pub ReadsExactly : {T R : Type 0} → (T → List ℕ) → Verifier → List ℕ → List ℕ → RereaderPassage R → Result T Fault → Type 0
+ReadsExactly bytes accepts pk_text sig_text reader answer =
+    (message : List ℕ) → reader.source.ahead reader.old ≡ Some message → ¬ (SourceFails reader)
+    → IsCommentVerdict bytes accepts pk_text sig_text message false answer
+
 -- over data that is told, where no device fails and the source is steady: the answer is the verdict on the data
 abbrev pub CopiesExactly : {T R O : Type 0} → (T → List ℕ) → Verifier → List ℕ → List ℕ → RereaderPassage R → SinkPassage O → Result T Fault → Type 0
 CopiesExactly bytes accepts pk_text sig_text reader out answer =
     (message : List ℕ) → reader.source.ahead reader.old ≡ Some message → ¬ (SourceFails reader) → ¬ (SinkFails out) → IsSteady reader
     → IsCommentVerdict bytes accepts pk_text sig_text message false answer
 
--- what the output took is vouched for, and this is the comment that was signed with it; it is what was ahead, of a
--- steady source that tells it
+-- what the output took and flushed is vouched for, and this is the comment that was signed with it; a second reading
+-- gave it, with the digest of the first; it is what was ahead, of a steady source that tells it
 pub record CopyIsVouchedWith {R O : Type 0} (accepts : Verifier) (pk_text sig_text : List ℕ) (reader : RereaderPassage R) (out : SinkPassage O) (comment : List ℕ) : Type 0 where
   pub copy : List ℕ
   pub taken : Takes out copy
+  pub flushed : IsFlushed out
   pub vouched : TextsVouchWith accepts pk_text sig_text copy false comment
+  pub message : List ℕ
+  pub read_twice : ReadsTwice reader message copy
   pub same : IsSteady reader → IfSome (reader.source.ahead reader.old) (λ xs. copy ≡ xs)
 
 -- nothing was copied: memory ran out, the source failed, or the texts do not vouch for what it gave
@@ -103,3 +113,21 @@ abbrev pub BytesSigningFails : {Z : Type 0} → SecretKeyRecord → RandomPassag
 BytesSigningFails sk z e =
     ((e ≡ Named EncryptedKeyRefused) × (is_encrypted sk ≡ true) × (z.new ≡ z.old))
     ⊎ ((is_encrypted sk ≡ false) × ((e ≡ Named OutOfMemory) ⊎ DrawFails z e))
+
+-- signing what a reader has ahead fails: the key is sealed, with nothing read or drawn; or it is opened, and memory
+-- runs out, the reader fails, or all was read and the random source fails
+abbrev pub ReaderSigningFails : {R Z : Type 0} → SecretKeyRecord → SourcePassage R → RandomPassage Z → Fault → Type 0
+ReaderSigningFails sk r z e = KeyIsSealed sk r z e ⊎ ((is_encrypted sk ≡ false) × OpenedSigningFails r z e)
+
+-- signing the data of a file fails: as signing bytes does; or the key is opened, and the file could not be opened
+-- or read, with nothing drawn
+abbrev pub PathSigningFails : {Z : Type 0} → SecretKeyRecord → RandomPassage Z → Fault → Type 0
+PathSigningFails sk z e =
+    BytesSigningFails sk z e ⊎ ((is_encrypted sk ≡ false) × (e ≡ Named ReadingFailed) × (z.new ≡ z.old))
+
+-- no pair is made under the password: it has more than 1024 bytes, with nothing drawn; or it does not, and the
+-- random source failed, or all was drawn and memory ran out
+abbrev pub PasswordPairFails : {Z : Type 0} → List ℕ → RandomPassage Z → Fault → Type 0
+PasswordPairFails password z e =
+    ((e ≡ Named PasswordTooLong) × (1024 < length password) × (z.new ≡ z.old))
+    ⊎ ((length password ≤ 1024) × (DrawFails z e ⊎ (AllDrawn z × (e ≡ Named OutOfMemory))))

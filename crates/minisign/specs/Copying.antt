@@ -5,7 +5,7 @@ use Rattle.minisign_hash.specs.Blake2b.{blake2b_digest}
 use Rattle.minisign_base.specs.Fault.{Fault, Named}
 use Rattle.minisign_base.specs.declared.faults.NamedFault.TheVariants.{WritingFailed, GoingBackFailed}
 use Rattle.minisign_base.specs.declared.faults.NamedFault.TheVariants as named
-use Rattle.minisign_base.specs.Passages.{RereaderPassage, SinkFails, SinkPassage, SourceFails, Takes, TakesFront}
+use Rattle.minisign_base.specs.Passages.{IsFlushed, IsUnflushed, RereaderPassage, SinkFails, SinkPassage, SourceFails, Takes, TakesFront}
 use Rattle.minisign.specs.declared.signed_data.SignedData.{SignedData}
 use Rattle.minisign.specs.declared.signed_data.SignedData.TheVariants.{Digest, Kept, Unkept}
 use Rattle.minisign.specs.Reading.{IsReadFault, IsReturned, WereGiven}
@@ -22,8 +22,8 @@ pub record ReturnFails {R O : Type 0} (reader : RereaderPassage R) (out : SinkPa
   pub unmarked : reader.source.is_marked reader.new ≡ false
   pub uncopied : out.new ≡ out.old
 
--- the data was copied in part, which is a beginning of what the second pass gave: memory ran out, the source
--- failed at a read, which leaves its place marked, or the output did
+-- the data was copied in part, which is a beginning of what the second pass gave, and none of it was flushed:
+-- memory ran out, the source failed at a read, which leaves its place marked, or the output did
 pub record CopyBreaksOff {R O : Type 0} (reader : RereaderPassage R) (out : SinkPassage O) (second : List ℕ) (e : Fault) : Type 0 where
   pub front : TakesFront out second
   pub read : List ℕ
@@ -31,11 +31,13 @@ pub record CopyBreaksOff {R O : Type 0} (reader : RereaderPassage R) (out : Sink
   pub read_front : TakesFront out read
   pub failed : IsReadFault reader.source reader.old reader.new e ⊎ OutputFails out e
   pub marked : reader.source.is_marked reader.new ≡ true
+  pub unflushed : IsUnflushed out
 
--- what the second pass gave was copied whole, and it is other data: it has another digest
+-- what the second pass gave was copied whole, and it is other data: it has another digest; nothing was flushed
 pub record DataChanged {R O : Type 0} (reader : RereaderPassage R) (out : SinkPassage O) (digest second : List ℕ) (e : Fault) : Type 0 where
   pub given : WereGiven (reader.source.since reader.new) second
   pub all : Takes out second
+  pub unflushed : IsUnflushed out
   pub fault : e ≡ Named named.DataChanged
   pub changed : blake2b_digest 64 second ≢ digest
 
@@ -58,13 +60,23 @@ pub record KeptFails {O : Type 0} (out : SinkPassage O) (message : List ℕ) (e 
   pub front : TakesFront out message
   pub failed : OutputFails out e
 
--- what was to be copied is copied: the kept data, or a second pass with the digest of the first
+-- a second pass was made from the mark to the end, which stays marked: what it gave has the digest of the first,
+-- and was copied and flushed
+pub record SecondPassSucceeds {R O : Type 0} (reader : RereaderPassage R) (out : SinkPassage O) (digest : List ℕ) : Type 0 where
+  pub second : List ℕ
+  pub returned : IsReturned reader.source reader.old reader.new second
+  pub given : WereGiven (reader.source.since reader.new) second
+  pub end : IsAtEnd (reader.source.ahead reader.new)
+  pub marked : reader.source.is_marked reader.new ≡ true
+  pub all : Takes out second
+  pub flushed : IsFlushed out
+  pub unchanged : blake2b_digest 64 second ≡ digest
+
+-- what was to be copied is copied and flushed: the kept data, or a second pass with the digest of the first
 abbrev pub CopyingSucceeds : {R O : Type 0} → Bool → SignedData → RereaderPassage R → SinkPassage O → Type 0
 CopyingSucceeds false signed reader out = (reader.new ≡ reader.old) × (out.new ≡ out.old)
-CopyingSucceeds true (Digest digest) reader out =
-    (second : List ℕ) × IsReturned reader.source reader.old reader.new second × Takes out second
-    × (blake2b_digest 64 second ≡ digest) × IsAtEnd (reader.source.ahead reader.new)
-CopyingSucceeds true (Kept bytes) reader out = (reader.new ≡ reader.old) × Takes out bytes.items
+CopyingSucceeds true (Digest digest) reader out = SecondPassSucceeds reader out digest
+CopyingSucceeds true (Kept bytes) reader out = (reader.new ≡ reader.old) × Takes out bytes.items × IsFlushed out
 CopyingSucceeds true Unkept reader out = (reader.new ≡ reader.old) × (out.new ≡ out.old)
 
 -- what was to be copied is not

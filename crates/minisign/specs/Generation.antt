@@ -3,7 +3,7 @@ use Rattle.std.specs.Prelude.{◌≡◌, ℕ, ◌⊎◌, List, [], ◌++◌, len
 use Rattle.std.specs.Int.{w64, to_le_bytes}
 use Rattle.std.specs.Io.KnownBytes.{Appends}
 use Rattle.minisign_base.specs.Devices.{AppendsFront, Rose}
-use Rattle.minisign_base.specs.Passages.{PromptPassage, RandomPassage, SinkPassage}
+use Rattle.minisign_base.specs.Passages.{IsFlushed, PromptPassage, RandomPassage, SinkPassage}
 use Rattle.minisign_base.specs.Fault.{Fault, Named}
 use Rattle.minisign_base.specs.declared.faults.NamedFault.TheVariants.{OutOfMemory, WritingFailed}
 use Rattle.minisign_base.specs.Scheme.{IsBytes}
@@ -57,14 +57,18 @@ unsealed_key keynum secret = key_with_checksum (record {
   checksum = [];
 })
 
--- the one that is to be sealed with a salt of 32 bytes, as it is before, and again once it is opened
-unfoldable pub opened_key : List ℕ → List ℕ → List ℕ → SecretKeyRecord
-opened_key keynum secret salt = record (unsealed_key keynum secret) {
+-- the one that is to be sealed with a salt of 32 bytes and these limits, as it is before, and again once it is opened
+unfoldable pub key_to_seal : List ℕ → List ℕ → List ℕ → ℕ → ℕ → SecretKeyRecord
+key_to_seal keynum secret salt operations memory = record (unsealed_key keynum secret) {
   kdf = scrypt_kdf;
   salt = salt;
-  operations_limit = to_le_bytes w64 sealing_operations;
-  memory_limit = to_le_bytes w64 sealing_memory;
+  operations_limit = to_le_bytes w64 operations;
+  memory_limit = to_le_bytes w64 memory;
 }
+
+-- the same with the limits by default
+abbrev pub opened_key : List ℕ → List ℕ → List ℕ → SecretKeyRecord
+opened_key keynum secret salt = key_to_seal keynum secret salt sealing_operations sealing_memory
 
 -- that key sealed under a password: the xor of sealing is that of opening
 abbrev pub sealed_key : List ℕ → List ℕ → List ℕ → List ℕ → SecretKeyRecord
@@ -123,18 +127,19 @@ pub record OpensToPair (public_of : List ℕ → List ℕ) (password : List ℕ)
   pub pair : IsGenuinePair public_of pk (xored_key sk password)
   pub texts : (text : List ℕ) → SecretKeyText text sk → OpensOnlyTo text password (xored_key sk password)
 
--- a sink took all of a part and passed it on
+-- a sink took all of a part, and flushed it
 pub record TakesPart {W : Type 0} (w : SinkPassage W) (part : List ℕ) : Type 0 where
   pub bytes : Appends (w.sink.taken w.old) (w.sink.taken w.new) part
+  pub flushed : IsFlushed w
   pub calm : w.sink.sink_faults w.new ≡ w.sink.sink_faults w.old
 
--- a sink took a beginning of a part, and failed there or at passing it on
+-- a sink took a beginning of a part, and failed there or at its flush
 pub record FailsAtPart {W : Type 0} (w : SinkPassage W) (part : List ℕ) : Type 0 where
   pub front : AppendsFront (w.sink.taken w.old) (w.sink.taken w.new) part
   pub rose : Rose (w.sink.sink_faults w.old) (w.sink.sink_faults w.new)
 
 -- the two parts could not be written: the public sink failed at the public part, with the secret sink as it
--- was, or took it, and the secret sink failed at the secret part
+-- was, or took and flushed it, and the secret sink failed at the secret part
 pub record WritingFails {P K : Type 0} (pk_sink : SinkPassage P) (sk_sink : SinkPassage K) (public secret : List ℕ) (e : Fault) : Type 0 where
   pub fault : e ≡ Named WritingFailed
   pub part : (FailsAtPart pk_sink public × (sk_sink.new ≡ sk_sink.old)) ⊎ (TakesPart pk_sink public × FailsAtPart sk_sink secret)

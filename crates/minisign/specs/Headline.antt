@@ -6,14 +6,14 @@ use Rattle.std.specs.Prelude.{◌≡◌, ◌≢◌, ℕ, Bool, true, ◌⊎◌, 
 use Rattle.std.specs.declared.result.Result.{Result}
 use Rattle.minisign_base.specs.Fault.{Fault, Named}
 use Rattle.minisign_base.specs.declared.faults.NamedFault.TheVariants.{OutOfMemory}
-use Rattle.minisign_base.specs.Passages.{IsSteady, RereaderPassage, SinkFails, SinkPassage, SourceFails, Takes}
+use Rattle.minisign_base.specs.Passages.{IsFlushed, IsSteady, RereaderPassage, SinkFails, SinkPassage, SourceFails, Takes}
 use Rattle.minisign.specs.Records.{PublicKeyRecord, SecretKeyRecord, SignatureBoxRecord}
 use Rattle.minisign.specs.Acceptance.{Flags, Verifier, Vouches, VouchesUnderEachKey, first_refusal}
 use Rattle.minisign.specs.Sealing.{Opens, password_refusal, scrypt_kdf, xored_key}
 use Rattle.minisign.specs.SecretKeyText.{SecretKeyText}
-use Rattle.minisign.specs.Signing.{AreLines, ChosenComments, IsGenuine}
+use Rattle.minisign.specs.Signing.{ChosenComments, IsGenuine}
 use Rattle.minisign.specs.PublicKeyText.{PublicKeyText, public_key_refusal}
-use Rattle.minisign.specs.SignatureText.{SignatureText, signature_refusal}
+use Rattle.minisign.specs.SignatureText.{AreOneLine, SignatureText, signature_refusal}
 
 -- == Verifying ==
 
@@ -54,10 +54,11 @@ VerifiesExactly accepts pk_text sig_text flags reader status out answer =
     → ¬ (SourceFails reader) → ¬ (SinkFails status) → ¬ (SinkFails out) → (flags.output ≡ true → IsSteady reader)
     → IsVerdict accepts pk_text sig_text message flags.legacy answer
 
--- what the output took, where it tells this, is itself vouched for by the texts
+-- what the output took, where it tells this, is itself vouched for by the texts, and was flushed
 pub record CopyIsVouchedFor {O : Type 0} (accepts : Verifier) (pk_text sig_text : List ℕ) (legacy : Bool) (out : SinkPassage O) : Type 0 where
   pub copy : List ℕ
   pub taken : Takes out copy
+  pub flushed : IsFlushed out
   pub vouched : TextsVouchFor accepts pk_text sig_text copy legacy
 
 -- opening: with a password that is passed in, a text that reads as a key sealed by scrypt gives that key opened
@@ -73,5 +74,5 @@ OpeningHeadline password text bound answer =
 -- the text reads as a box that every public key of its seed and identifier vouches for the message with
 abbrev pub SigningHeadline : Verifier → (List ℕ → List ℕ) → SecretKeyRecord → List ℕ → ChosenComments → List ℕ → Type 0
 SigningHeadline accepts public_of sk message chosen text =
-    (seed : List ℕ) → IsGenuine public_of sk seed → AreLines chosen
+    (seed : List ℕ) → IsGenuine public_of sk seed → AreOneLine chosen.untrusted chosen.trusted
     → (x : SignatureBoxRecord) × SignatureText text x × VouchesUnderEachKey accepts (public_of seed) sk.keynum message x

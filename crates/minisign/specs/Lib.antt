@@ -6,6 +6,7 @@ pub mod TextFiles
 pub mod Acceptance
 pub mod PublicKeyText
 pub mod SignatureText
+pub mod InPlace
 pub mod Sealing
 pub mod Signing
 pub mod SignedData
@@ -18,4 +19,5 @@ pub mod Generation
 pub mod NewPassword
 pub mod Opening
 pub mod SigningTexts
+pub mod Making
 pub mod Calls

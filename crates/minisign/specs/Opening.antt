@@ -1,12 +1,10 @@
 -- What a secret key's text gives, with a password where the key is sealed: the key, or the first reason
 -- why there is none.
 use Rattle.std.specs.Prelude.{◌≡◌, ◌⊎◌, ℕ, List, [], ◌∷◌, ◌++◌, Option, None, Some, Result, Ok, IsErrAnd, MatchResult, codes}
-use Rattle.std.specs.Io.KnownBytes.{Appends}
-use Rattle.minisign_base.specs.Devices.{AppendsFront, Rose}
 use Rattle.minisign_base.specs.Fault.{Fault, Named}
 use Rattle.minisign_base.specs.Passages.{PromptPassage}
-use Rattle.minisign_base.specs.declared.faults.NamedFault.TheVariants.{OutOfMemory, WritingFailed, WrongPassword}
-use Rattle.minisign_base.specs.Prompts.{HasReadLine, IsAskingFault, password_of, reader_passage, written_after}
+use Rattle.minisign_base.specs.declared.faults.NamedFault.TheVariants.{OutOfMemory, WrongPassword}
+use Rattle.minisign_base.specs.Prompts.{Allocate, HasHeld, HasStopped, Say, Step, Test, asking, password_of, typed}
 use Rattle.minisign.specs.Records.{SecretKeyRecord}
 use Rattle.minisign.specs.SecretKeyText.{SecretKeyText, secret_key_refusal}
 use Rattle.minisign.specs.Texts.{IsRefused}
@@ -49,53 +47,32 @@ deriving_text = codes "Deriving a key from the password and decrypting the secre
 unfoldable pub done_text : List ℕ
 done_text = codes "done" ++ 10 ∷ []
 
--- a prompt asked for the password of the bytes that its reader had ahead, and said a text behind it
-pub record HasAskedAndSaid {R W : Type 0} (p : PromptPassage R W) (bytes password text : List ℕ) : Type 0 where
-  pub read : HasReadLine (reader_passage p) bytes
+-- the derivation is told to be done, and then the checksum is to be restored
+abbrev pub ending : SecretKeyRecord → List Step
+ending opened = Say done_text ∷ Test (checksum_refusal opened (Named WrongPassword)) ∷ []
+
+-- the derivation is told of, which the limits and the bound are to allow, and for which memory is to be found
+abbrev pub telling : SecretKeyRecord → List ℕ → Option ℕ → List Step
+telling k password bound = Say deriving_text ∷ Test (work_refusal k bound) ∷ Allocate ∷ ending (xored_key k password)
+
+-- a sealed key is opened with the password that is typed in these bytes
+abbrev pub opening : SecretKeyRecord → Option ℕ → List ℕ → List Step
+opening k bound bytes = asking asking_text bytes ++ telling k (typed bytes) bound
+
+-- a password was asked for, and the text's key opened with it
+pub record IsOpenedAsking {R W : Type 0} (p : PromptPassage R W) (text : List ℕ) (bound : Option ℕ) (opened : SecretKeyRecord) : Type 0 where
+  pub bytes : List ℕ
+  pub password : List ℕ
   pub typed : password_of bytes ≡ Ok password
-  pub written : Appends (p.sink.taken p.old.writer) (p.sink.taken p.new.writer) (asking_text ++ written_after (Ok password) ++ text)
-  pub calm : p.sink.sink_faults p.new.writer ≡ p.sink.sink_faults p.old.writer
+  pub opens : IsOpened text password bound opened
+  pub held : HasHeld p (opening opens.sealed bound bytes)
 
--- a prompt asked for it, and its writer failed at the text behind it
-pub record HasAskedAndNotSaid {R W : Type 0} (p : PromptPassage R W) (bytes password text : List ℕ) : Type 0 where
-  pub read : HasReadLine (reader_passage p) bytes
-  pub typed : password_of bytes ≡ Ok password
-  pub fault : Rose (p.sink.sink_faults p.old.writer) (p.sink.sink_faults p.new.writer)
-  pub front : AppendsFront (p.sink.taken p.old.writer) (p.sink.taken p.new.writer) (asking_text ++ written_after (Ok password) ++ text)
-
--- why a sealed key was not opened with a password that is known, told by what a prompt said and what it did
--- not: a writer that failed at the text before the derivation; out of memory; the limits and the bound; a
--- writer that failed at the line behind the derivation; a checksum that was not restored
-abbrev pub IsToldRefusal : (List ℕ → Type 0) → (List ℕ → Type 0) → SecretKeyRecord → List ℕ → Option ℕ → Fault → Type 0
-IsToldRefusal Said NotSaid k password bound e =
-    ((e ≡ Named WritingFailed) × NotSaid deriving_text)
-    ⊎ (((e ≡ Named OutOfMemory) × (work_refusal k bound ≡ None) × Said deriving_text)
-    ⊎ (((work_refusal k bound ≡ Some e) × Said deriving_text)
-    ⊎ (((e ≡ Named WritingFailed) × (work_refusal k bound ≡ None) × NotSaid (deriving_text ++ done_text))
-    ⊎ ((work_refusal k bound ≡ None) × (checksum_refusal (xored_key k password) (Named WrongPassword) ≡ Some e)
-    × Said (deriving_text ++ done_text)))))
-
--- why a sealed key was not opened where a password is asked for: no password, or what refuses the key with it
-abbrev pub IsAskedRefusal : {R W : Type 0} → PromptPassage R W → SecretKeyRecord → Option ℕ → Fault → Type 0
-IsAskedRefusal p k bound e =
-    IsAskingFault p asking_text e
-    ⊎ ((bytes : List ℕ) × (password : List ℕ)
-    × IsToldRefusal (HasAskedAndSaid p bytes password) (HasAskedAndNotSaid p bytes password) k password bound e)
-
--- a password was asked for and the text's key opened with it
-abbrev pub IsOpenedAsking : {R W : Type 0} → PromptPassage R W → List ℕ → Option ℕ → SecretKeyRecord → Type 0
-IsOpenedAsking p text bound opened =
-    (bytes : List ℕ) × (password : List ℕ) × IsOpened text password bound opened
-    × HasAskedAndSaid p bytes password (deriving_text ++ done_text)
-
--- why the text's key was not opened where a password is asked for: out of memory, or a text that no
--- password opens, with the prompt untouched; or what refuses the key then
+-- why the text's key was not opened where a password is asked for: out of memory, or a text that no password
+-- opens, with the prompt untouched; or the opening stopped
 abbrev pub RefusesAsking : {R W : Type 0} → PromptPassage R W → List ℕ → Option ℕ → Fault → Type 0
 RefusesAsking p text bound e =
-    ((e ≡ Named OutOfMemory) × (p.new ≡ p.old))
-    ⊎ ((RefusesKey text kdf_refusal e × (p.new ≡ p.old))
-    ⊎ ((k : SecretKeyRecord) × SecretKeyText text k × (k.kdf ≡ scrypt_kdf)
-    × IsAskedRefusal p k bound e))
+    (((e ≡ Named OutOfMemory) ⊎ RefusesKey text kdf_refusal e) × (p.new ≡ p.old))
+    ⊎ ((k : SecretKeyRecord) × (bytes : List ℕ) × SecretKeyText text k × (k.kdf ≡ scrypt_kdf) × HasStopped p (opening k bound bytes) e)
 
 -- how opening the key of a text ends, within a bound on the parallelization, where there is one: with a
 -- password that is passed in the prompt is as it was; otherwise the prompt is asked for one

@@ -57,3 +57,7 @@ public_key_label = codes "minisign public key: "
 abbrev pub public_key_text : PublicKeyRecord → List ℕ
 public_key_text k =
     line (untrusted_comment_label ++ public_key_label ++ identifier_text k.keynum) ++ line (base64_of (public_key_bytes k))
+
+-- the text that is written with a comment of the caller's
+abbrev pub commented_public_key_text : List ℕ → PublicKeyRecord → List ℕ
+commented_public_key_text comment k = line (untrusted_comment_label ++ comment) ++ line (base64_of (public_key_bytes k))

@@ -63,10 +63,10 @@ signature_text s c =
     ++ (line (trusted_comment_label ++ c.trusted) ++ line (base64_of c.signature)))
 
 -- comments that each stand in a line of their own, and a trusted one that is trimmed
-pub record AreOneLine (c : CommentsRecord) : Type 0 where
-  pub untrusted_one_line : LacksByte 10 c.untrusted
-  pub trusted_one_line : LacksByte 10 c.trusted
-  pub trusted_trimmed : trim c.trusted ≡ c.trusted
+pub record AreOneLine (untrusted trusted : List ℕ) : Type 0 where
+  pub untrusted_one_line : LacksByte 10 untrusted
+  pub trusted_one_line : LacksByte 10 trusted
+  pub trusted_trimmed : trim trusted ≡ trusted
 
 -- how a box with such comments is read back: one carriage return at the end of the untrusted comment goes
 abbrev pub comments_read_back : CommentsRecord → CommentsRecord
@@ -75,12 +75,10 @@ comments_read_back c = record c { untrusted = strip_carriage_return c.untrusted 
 abbrev pub box_read_back : SignatureBoxRecord → SignatureBoxRecord
 box_read_back x = record x { comments = option_map comments_read_back x.comments }
 
--- comments that are read back as they were written
-pub record KeepsComments (c : CommentsRecord) : Type 0 where
-  pub untrusted_one_line : LacksByte 10 c.untrusted
-  pub untrusted_end : slice_index c.untrusted (length c.untrusted - 1) ≢ 13
-  pub trusted_one_line : LacksByte 10 c.trusted
-  pub trusted_trimmed : trim c.trusted ≡ c.trusted
+-- comments that are read back as they were written: besides, the untrusted one ends in no carriage return
+pub record AreReadBack (untrusted trusted : List ℕ) : Type 0 where
+  pub one_line : AreOneLine untrusted trusted
+  pub untrusted_end : slice_index untrusted (length untrusted - 1) ≢ 13
 
 -- a text has these four lines at its front
 pub record HasFourLines (text first second third fourth : List ℕ) : Type 0 where

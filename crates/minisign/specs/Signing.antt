@@ -16,7 +16,7 @@ use Rattle.minisign.specs.Records.{PublicKeyRecord, SecretKeyRecord, SignatureBo
 use Rattle.minisign.specs.Acceptance.{Verifier, VouchesUnderEachKey, accepts_comments}
 use Rattle.minisign.specs.Reading.{ReadsWhole, ReadingFails}
 use Rattle.minisign.specs.Sealing.{is_encrypted}
-use Rattle.minisign.specs.SignatureText.{KeepsComments}
+use Rattle.minisign.specs.SignatureText.{AreReadBack}
 
 -- what a scheme signs: a message, with a secret key of 64 bytes and 64 random bytes or none
 abbrev pub Signer : Type 0
@@ -83,16 +83,9 @@ abbrev pub VouchesWhereGenuine : Verifier → (List ℕ → List ℕ) → Secret
 VouchesWhereGenuine accepts public_of sk message x =
     (seed : List ℕ) → IsGenuine public_of sk seed → VouchesUnderEachKey accepts (public_of seed) sk.keynum message x
 
--- comments that each stand in a line of their own, and a trusted one that is trimmed
-pub record AreLines (chosen : ChosenComments) : Type 0 where
-  pub untrusted_one_line : LacksByte 10 chosen.untrusted
-  pub trusted_one_line : LacksByte 10 chosen.trusted
-  pub trusted_trimmed : trim chosen.trusted ≡ chosen.trusted
-
--- comments that are read back as they were written: neither has a line feed, the untrusted one ends in no
--- carriage return, and the trusted one equals its trim
-abbrev pub AreKept : ChosenComments → Type 0
-AreKept chosen = KeepsComments (record { untrusted = chosen.untrusted; trusted = chosen.trusted; signature = [] })
+-- the chosen comments are read back as they were written
+abbrev pub AreChosenReadBack : ChosenComments → Type 0
+AreChosenReadBack chosen = AreReadBack chosen.untrusted chosen.trusted
 
 -- the key is sealed; nothing was read or drawn
 pub record KeyIsSealed {R Z : Type 0} (sk : SecretKeyRecord) (r : SourcePassage R) (z : RandomPassage Z) (e : Fault) : Type 0 where

@@ -9,7 +9,12 @@ use Rattle.minisign.specs.Sealing.{no_kdf, checksum_refusal}
 use Rattle.minisign.specs.SecretKeyText.{SecretKeyText, secret_key_refusal}
 use Rattle.minisign.specs.SignatureText.{signature_text}
 use Rattle.minisign.specs.Signing.{ChosenComments, IsSigned, OpenedSigningFails, Signer}
+use Rattle.minisign.specs.Calls.{GivesKeyWith}
 use Rattle.minisign.specs.Opening.{IsOpening, IsUnencryptedText}
+
+-- the text is that of this key: it gives the key under some password, and the key that was never sealed under all
+abbrev pub IsKeyOf : List ℕ → SecretKeyRecord → Type 0
+IsKeyOf text key = (password : List ℕ) × GivesKeyWith text password key
 
 -- the text gives this key: it was never sealed, its checksum matches, and the prompt is as it was; or it was opened
 abbrev pub GivesKey : {R W : Type 0} → PromptPassage R W → Option (List ℕ) → List ℕ → SecretKeyRecord → Type 0

@@ -5,11 +5,11 @@ use Rattle.minisign_hash.specs.Blake2b.{blake2b_digest}
 use Rattle.minisign_base.specs.Devices.{StaysOrHides}
 use Rattle.minisign_base.specs.Fault.{Fault, Named}
 use Rattle.minisign_base.specs.declared.faults.NamedFault.TheVariants.{WritingFailed, ReadingFailed, GoingBackFailed}
-use Rattle.minisign_base.specs.Passages.{IsSteady, RereaderPassage, SinkFails, SinkIsCalm, SinkPassage, SourceFails, SourceGives, SourceIsCalm, Takes}
+use Rattle.minisign_base.specs.Passages.{IsFlushed, IsSteady, IsUnflushed, RereaderPassage, SinkFails, SinkIsCalm, SinkPassage, SourceFails, SourceGives, SourceIsCalm, Takes}
 use Rattle.minisign.specs.Records.{PublicKeyRecord, SignatureBoxRecord, is_prehashed}
 use Rattle.minisign.specs.Acceptance.{Flags, Refuses, Verifier, Vouches, signed_bytes, status_lines}
 use Rattle.minisign.specs.Copying.{KeptFails, SecondPassFails}
-use Rattle.minisign.specs.Reading.{IsAhead, IsReadFault}
+use Rattle.minisign.specs.Reading.{IsAhead, IsReadFault, IsReturned, WereGiven}
 
 -- what is to be said of a box that was accepted
 abbrev pub wanted_status : Bool → SignatureBoxRecord → List ℕ
@@ -36,19 +36,33 @@ pub record SecondPass {R : Type 0} (reader : RereaderPassage R) (second : List �
   pub same : IsSteady reader → IfSome (reader.source.ahead reader.old) (λ xs. second ≡ xs)
   pub left : IsSteady reader → SourceGives reader
 
+-- the data was read twice: to its end, which gave the message, and from its mark to its end again, which gave the
+-- copy; both have one digest
+pub record ReadsTwice {R : Type 0} (reader : RereaderPassage R) (message copy : List ℕ) : Type 0 where
+  pub between : R
+  pub first : FirstPass true (record reader { new = between }) message
+  pub returned : IsReturned reader.source between reader.new copy
+  pub given : WereGiven (reader.source.since reader.new) copy
+  pub end : IsAtEnd (reader.source.ahead reader.new)
+  pub marked : reader.source.is_marked reader.new ≡ true
+  pub unchanged : blake2b_digest 64 copy ≡ blake2b_digest 64 message
+
 -- the output holds a copy that the box vouches for, as it does for the message: the two have one digest, or are
--- the same where the data itself is signed and over a steady source that tells its bytes
+-- the same where the data itself is signed and over a steady source that tells its bytes; it was flushed, and for
+-- a box over the digest it is what a second reading gave
 pub record HasCopy {R O : Type 0} (accepts : Verifier) (pk : PublicKeyRecord) (x : SignatureBoxRecord) (legacy : Bool)
     (reader : RereaderPassage R) (out : SinkPassage O) (message : List ℕ) : Type 0 where
   pub copy : List ℕ
   pub all : Takes out copy
+  pub flushed : IsFlushed out
+  pub read_twice : is_prehashed x.signature ≡ true → ReadsTwice reader message copy
   pub vouched : Vouches accepts pk x copy legacy
   pub signed_same : signed_bytes x copy ≡ signed_bytes x message
   pub legacy_same : is_prehashed x.signature ≡ false → copy ≡ message
   pub steady_same : IsSteady reader → IsSome (reader.source.ahead reader.old) → copy ≡ message
 
 -- verifying succeeds: all the data was read to its end without a fault, the box vouches for it, what is to be
--- said was said, and the output holds a copy where one is wanted
+-- said was said and not flushed, and the output holds a copy where one is wanted
 pub record VerifyingSucceeds {R W O : Type 0} (accepts : Verifier) (pk : PublicKeyRecord) (x : SignatureBoxRecord) (flags : Flags)
     (reader : RereaderPassage R) (status : SinkPassage W) (out : SinkPassage O) : Type 0 where
   pub message : List ℕ
@@ -59,6 +73,7 @@ pub record VerifyingSucceeds {R W O : Type 0} (accepts : Verifier) (pk : PublicK
   pub mark : is_reread flags.output x ≡ false → reader.source.behind reader.new ≡ reader.source.behind reader.old
   pub said : Takes status (wanted_status flags.quiet x)
   pub status_calm : SinkIsCalm status
+  pub status_unflushed : IsUnflushed status
   pub copied : flags.output ≡ true → HasCopy accepts pk x flags.legacy reader out message
   pub uncopied : flags.output ≡ false → out.new ≡ out.old
   pub out_calm : SinkIsCalm out

@@ -2,21 +2,21 @@
 
 ghost use Rattle.std.specs.Prelude.{◌≡◌, ◌⊎◌, ℕ, List, true, false, string_bytes, IfOk, IfErr, OnOk};
 ghost use Rattle.minisign_base.specs.Fault.{Named};
-ghost use Rattle.minisign_base.specs.declared.faults.NamedFault.TheVariants.{OutOfMemory, ReadingFailed};
+ghost use Rattle.minisign_base.specs.declared.faults.NamedFault.TheVariants.{OutOfMemory};
 ghost use Rattle.minisign_base.specs.Passages.{rereader_passage, sink_passage};
-ghost use Rattle.minisign.specs.Calls.{CopiesExactly, CopyIsVouchedWith, CopyingFails, IsCommentOf, IsCommentVerdict, IsFileVerdict, TextsVouchWith};
+ghost use Rattle.minisign.specs.Calls.{CopiesExactly, CopyIsVouchedWith, CopyingFails, IsCommentOf, IsCommentVerdict, IsFileVerdict, ReadsExactly, TextsVouchWith};
 ghost use Rattle.minisign.specs.Headline.{TextsRefuse, VerifiesExactly};
-ghost use Rattle.minisign.specs.Reading.{IsAhead};
+ghost use Rattle.minisign.specs.Reading.{IsAhead, ReadingFails};
 ghost use Rattle.minisign.specs.VerifyingTexts.{ReadTexts, TextsFail, VerifyingTextsFails, VerifyingTextsSucceeds};
 
-use crate::memory::{MemorySource, NoSink};
+use crate::memory::MemorySource;
 use crate::options::VerifyOptions;
 use crate::public_key::PublicKey;
 use crate::public_key_box::PublicKeyBox;
 use crate::reading::read_text_file;
 use crate::signature_box::SignatureBox;
 use crate::verifying::verify;
-use minisign_base::devices::sinks::Sink;
+use minisign_base::devices::sinks::{NoSink, Sink};
 use minisign_base::devices::sources::{FileSource, Rereader};
 use minisign_base::scheme::Scheme;
 use minisign_base::{NamedFault, Result};
@@ -40,29 +40,27 @@ pub fn verify_with<S: Scheme, R: Rereader, W: Sink, O: Sink>(
     status: &mut W,
     out: &mut O,
 ) -> Result<String>
-    // Over data that is told, where memory is found and no device fails, and over a steady source
-    // where the data is copied: success exactly where the texts vouch for the data, and otherwise
-    // the first failing case.
+    // Over any devices, by its options: the verdict of `verify_texts`, under the same premises.
     ensures headline { VerifiesExactly (S.accepts scheme.now) pk_text.now sig_text.now
         (record { quiet = options.quiet; output = options.output; legacy = options.allow_legacy })
         (rereader_passage R.Source R.steady data_reader.old data_reader.new)
         (sink_passage W.Sink status.old status.new) (sink_passage O.Sink out.old out.new) result }
 
-    // The comment is the one that the signature text holds.
+    // What is returned is the comment that the signature text holds.
     ensures comment { IfOk result (λ t. IsCommentOf sig_text.now (string_bytes t)) }
 
-    // What is accepted is vouched for, this was said of it, and it was copied where that is wanted.
+    // What is said of success and of a refusal is what the clauses `accepted` and `refused` of
+    // `verify_texts` say.
     ensures accepted { OnOk result (VerifyingTextsSucceeds (S.accepts scheme.now) pk_text.now sig_text.now
         (record { quiet = options.quiet; output = options.output; legacy = options.allow_legacy })
         (rereader_passage R.Source R.steady data_reader.old data_reader.new)
         (sink_passage W.Sink status.old status.new) (sink_passage O.Sink out.old out.new)) }
-
-    // Why it was refused.
     ensures refused { IfErr result (VerifyingTextsFails (S.accepts scheme.now) pk_text.now sig_text.now
         (record { quiet = options.quiet; output = options.output; legacy = options.allow_legacy })
         (rereader_passage R.Source R.steady data_reader.old data_reader.new)
         (sink_passage W.Sink status.old status.new) (sink_passage O.Sink out.old out.new)) }
 
+    // With quiet the status is untouched, and without `output` the output.
     ensures quiet { options.quiet ≡ true → status.new ≡ status.old }
     ensures out { options.output ≡ false → out.new ≡ out.old }
 {
@@ -101,11 +99,10 @@ fn read_texts(
 /// Verifies that the texts of a public key and of a signature vouch for the data in memory, and
 /// returns the trusted comment, which was signed with the data.
 ///
-/// Refused are, in this order: the text of the public key, as `PublicKey::from_box` says; the text
-/// of the signature, as `SignatureBox::from_string` says; an identifier other than the public
-/// key's, a signature over the data itself, a signature that the scheme does not accept, a comment
-/// signature that has under 64 bytes or is not accepted. It may run out of memory at any time; the
-/// data is not copied.
+/// Refused are the text of the public key, as `PublicKey::from_box` says, the text of the
+/// signature, as `SignatureBox::from_string` says, and then what `verify` refuses of the data; a
+/// signature over the data itself is never taken. It may run out of memory at any time; the data is
+/// not copied.
 ///
 /// ```
 /// let comment = verify_bytes(alloc, &scheme, PUBLIC_KEY, signature, update)?;
@@ -117,6 +114,8 @@ pub fn verify_bytes<S: Scheme>(
     sig_text: &str,
     message: &[u8],
 ) -> Result<String>
+    // Of data in memory: the comment that was signed with it is returned exactly when the two texts
+    // vouch for the data, and otherwise the first reason, or memory ran out. No device can fail.
     ensures { IsCommentVerdict string_bytes (S.accepts scheme.now) pk_text.now sig_text.now message.now false result }
 {
     verify_with(
@@ -152,6 +151,11 @@ pub fn verify_file<F: Files, S: Scheme>(
     sig_path: &str,
     data_path: &str,
 ) -> Result<String>
+    // Of files by name: on success the text of the key and some signature text vouch for some data,
+    // and the comment is the one that was signed with it; otherwise it is out of memory, `reading
+    // failed` or the fault of a text that is not UTF-8, and no contract says when; or the first
+    // reason for which some texts do not vouch for some data. That the named files are the ones
+    // that are read, the code and tests show.
     ensures { IsFileVerdict string_bytes (S.accepts scheme.now) pk_text.now result }
 {
     let sig_text = read_text_file(files, alloc, sig_path)?;
@@ -172,8 +176,8 @@ pub fn verify_file<F: Files, S: Scheme>(
 /// in pieces of 64 KiB, so that memory does not grow with it, and it is not copied.
 ///
 /// Refused are, in this order: a text, as `verify_bytes` says; data that cannot be read,
-/// `reading_failed`; and what `verify_bytes` refuses of the data. It may run out of memory at any
-/// time.
+/// `reading_failed`, which comes only where `data_reader` failed; and what `verify_bytes` refuses of
+/// the data. It may run out of memory at any time.
 ///
 /// ```
 /// let comment = verify_reader(alloc, &scheme, PUBLIC_KEY, signature, &mut ReaderSource::new(reader))?;
@@ -185,22 +189,30 @@ pub fn verify_reader<S: Scheme, R: Rereader>(
     sig_text: &str,
     data_reader: &mut R,
 ) -> Result<String>
-    // The texts vouch for the data ahead, with this comment.
+    // Over a source that tells its bytes, if it does not fail: the comment is returned exactly when
+    // the texts vouch for the data, and otherwise the first reason, or memory ran out.
+    ensures headline { ReadsExactly string_bytes (S.accepts scheme.now) pk_text.now sig_text.now
+        (rereader_passage R.Source R.steady data_reader.old data_reader.new) result }
+
+    // Whether the source tells its bytes or not: on success the texts vouch for what was ahead,
+    // with the comment that is returned.
     ensures vouched { IfOk result (λ t. (message : List ℕ) × IsAhead (R.ahead data_reader.old) message
         × TextsVouchWith (S.accepts scheme.now) pk_text.now sig_text.now message false (string_bytes t)) }
 
-    // Why it was refused.
-    ensures refused { IfErr result (λ e. (e ≡ Named OutOfMemory) ⊎ (e ≡ Named ReadingFailed)
+    // Otherwise out of memory; or `reading failed`, only if the reader's count of faults rose; or
+    // the first reason.
+    ensures refused { IfErr result (λ e. (e ≡ Named OutOfMemory) ⊎ ReadingFails R.Source data_reader.old data_reader.new e
         ⊎ ((message : List ℕ) × IsAhead (R.ahead data_reader.old) message
         × TextsRefuse (S.accepts scheme.now) pk_text.now sig_text.now message false e)) }
 {
+    let silent = VerifyOptions::SILENT;
     verify_with(
         alloc,
         scheme,
         pk_text,
         sig_text,
         data_reader,
-        VerifyOptions::SILENT,
+        silent,
         &mut NoSink,
         &mut NoSink,
     )
@@ -242,16 +254,20 @@ pub fn copy_verified<S: Scheme, R: Rereader, O: Sink>(
     data_reader: &mut R,
     out: &mut O,
 ) -> Result<String>
-    // Over data that a steady source tells, where no device fails, memory aside: success exactly
-    // where the texts vouch for the data, and otherwise the first failing case.
+    // Over a steady source that tells its bytes, if no device fails: the comment is returned
+    // exactly when the texts vouch for the data, and otherwise the first reason, or memory ran out.
     ensures headline { CopiesExactly string_bytes (S.accepts scheme.now) pk_text.now sig_text.now
         (rereader_passage R.Source R.steady data_reader.old data_reader.new) (sink_passage O.Sink out.old out.new) result }
 
-    // What the output took is itself vouched for, whatever a second reading gave.
+    // What the output took and flushed is itself vouched for, with the comment that is returned; a
+    // second reading gave it, with the digest of the first; and it is what was ahead of a steady
+    // source that tells it.
     ensures copied { IfOk result (λ t. CopyIsVouchedWith (S.accepts scheme.now) pk_text.now sig_text.now
         (rereader_passage R.Source R.steady data_reader.old data_reader.new) (sink_passage O.Sink out.old out.new) (string_bytes t)) }
 
-    // Why it was refused.
+    // After a refusal nothing was copied, or the texts vouch for what was read first and the
+    // copying failed: going back, memory, the second reading or the output did, or the second
+    // reading had another digest.
     ensures refused { IfErr result (CopyingFails (S.accepts scheme.now) pk_text.now sig_text.now
         (rereader_passage R.Source R.steady data_reader.old data_reader.new) (sink_passage O.Sink out.old out.new)) }
 {

@@ -5,11 +5,11 @@ ghost use Rattle.std.specs.Prelude.{◌≡◌, ℕ, ◌<◌, ◌++◌, ◌⊎◌
 ghost use Rattle.std.specs.Io.KnownBytes.{Appends, IsAtEnd, Keeps};
 ghost use Rattle.minisign_hash.specs.Blake2b.{blake2b_digest};
 ghost use Rattle.minisign_hash.specs.Fed.{IsFed, has_finalized, output_length};
-ghost use Rattle.minisign_base.specs.Devices.{Rose, HasGiven, AppendsFront, BeginsAnew};
+ghost use Rattle.minisign_base.specs.Devices.{AllFlushed, Rose, HasGiven, AppendsFront, BeginsAnew};
 ghost use Rattle.minisign_base.specs.Fault.{Named};
 ghost use Rattle.minisign_base.specs.declared.faults.NamedFault.TheVariants.{GoingBackFailed};
-ghost use Rattle.minisign_base.specs.Passages.{rereader_passage, sink_passage};
-ghost use Rattle.minisign.specs.Copying.{CopyingFails, CopyingSucceeds, KeptFails, OutputFails, SecondPassFails};
+ghost use Rattle.minisign_base.specs.Passages.{IsFlushed, rereader_passage, sink_passage};
+ghost use Rattle.minisign.specs.Copying.{CopyingFails, CopyingSucceeds, KeptFails, OutputFails, SecondPassFails, SecondPassSucceeds};
 ghost use Rattle.minisign.specs.Reading.{IsAhead, IsReadFault, IsReturned, ReadsWhole, WereGiven};
 
 use crate::reading::piece_buffer;
@@ -48,6 +48,7 @@ pub(crate) fn copy_out<R: Rereader, O: Sink>(
 // Writes all of the bytes and flushes.
 fn put_out<O: Sink>(out: &mut O, bytes: &[u8]) -> Result<()>
     ensures all { OnOk result (Appends (O.taken out.old) (O.taken out.new) bytes.now) }
+    ensures flushed { OnOk result (IsFlushed (sink_passage O.Sink out.old out.new)) }
     ensures calm { OnOk result (O.sink_faults out.new ≡ O.sink_faults out.old) }
     ensures refused { IfErr result (KeptFails (sink_passage O.Sink out.old out.new) bytes.now) }
 {
@@ -62,9 +63,8 @@ fn copy_again<R: Rereader, O: Sink>(
     data_reader: &mut R,
     out: &mut O,
 ) -> Result<()>
-    ensures copied { OnOk result ((second : List ℕ) × IsReturned R.Source data_reader.old data_reader.new second
-        × Appends (O.taken out.old) (O.taken out.new) second × (blake2b_digest 64 second ≡ digest.now)) }
-    ensures end { OnOk result (IsAtEnd (R.ahead data_reader.new)) }
+    ensures copied { OnOk result (SecondPassSucceeds
+        (rereader_passage R.Source R.steady data_reader.old data_reader.new) (sink_passage O.Sink out.old out.new) digest.now) }
     ensures calm { OnOk result (R.faults data_reader.new ≡ R.faults data_reader.old) }
     ensures out_calm { OnOk result (O.sink_faults out.new ≡ O.sink_faults out.old) }
     ensures refused { IfErr result (SecondPassFails (IsReturned R.Source data_reader.old data_reader.new)
@@ -78,7 +78,7 @@ fn copy_again<R: Rereader, O: Sink>(
     flush(out)
 }
 
-// Copies all that is ahead, and returns its Blake2b digest of 64 bytes.
+// Copies all that is ahead, and returns its Blake2b digest of 64 bytes. Nothing is flushed.
 fn copy_hashed<S: Source, O: Sink>(alloc: Global, source: &mut S, out: &mut O) -> Result<[u8; 64]>
     requires { BeginsAnew (S.since source.old) }
     ensures copied { IfOk result (λ d. (message : List ℕ) × ReadsWhole S.Source source.old source.new message
@@ -92,6 +92,7 @@ fn copy_hashed<S: Source, O: Sink>(alloc: Global, source: &mut S, out: &mut O) -
         × AppendsFront (O.taken out.old) (O.taken out.new) read) }
     ensures given { HasGiven (S.ahead source.old) (S.ahead source.new) }
     ensures marked { S.is_marked source.new ≡ S.is_marked source.old }
+    ensures unflushed { O.flushed out.new ≡ O.flushed out.old }
 {
     let mut buf = piece_buffer(alloc)?;
     let mut hasher = Blake2b::new(64);
@@ -101,7 +102,7 @@ fn copy_hashed<S: Source, O: Sink>(alloc: Global, source: &mut S, out: &mut O) -
     Ok(digest)
 }
 
-// Copies all that is ahead through the buffer, and feeds it to the hash.
+// Copies all that is ahead through the buffer, and feeds it to the hash. Nothing is flushed.
 fn copy_pieces<S: Source, O: Sink>(
     source: &mut S,
     buf: &mut [u8],
@@ -124,6 +125,7 @@ fn copy_pieces<S: Source, O: Sink>(
         × AppendsFront (O.taken out.old) (O.taken out.new) read) }
     ensures given { HasGiven (S.ahead source.old) (S.ahead source.new) }
     ensures marked { S.is_marked source.new ≡ S.is_marked source.old }
+    ensures unflushed { O.flushed out.new ≡ O.flushed out.old }
 {
     'pieces: loop {
         match source.read(buf) {
@@ -160,6 +162,7 @@ fn put_bytes<O: Sink>(out: &mut O, bytes: &[u8]) -> Result<()>
     ensures calm { OnOk result (O.sink_faults out.new ≡ O.sink_faults out.old) }
     ensures refused { IfErr result (OutputFails (sink_passage O.Sink out.old out.new)) }
     ensures front { OnErr result (AppendsFront (O.taken out.old) (O.taken out.new) bytes.now) }
+    ensures unflushed { O.flushed out.new ≡ O.flushed out.old }
 {
     match put_all(out, bytes) {
         Ok(()) => Ok(()),
@@ -170,6 +173,7 @@ fn put_bytes<O: Sink>(out: &mut O, bytes: &[u8]) -> Result<()>
 // Passes on what was written.
 fn flush<O: Sink>(out: &mut O) -> Result<()>
     ensures bytes { Keeps (O.taken out.old) (O.taken out.new) }
+    ensures flushed { OnOk result (AllFlushed (O.flushed out.new) (O.taken out.new)) }
     ensures calm { OnOk result (O.sink_faults out.new ≡ O.sink_faults out.old) }
     ensures refused { IfErr result (OutputFails (sink_passage O.Sink out.old out.new)) }
 {

@@ -1,29 +1,36 @@
-//! Calls for callers: opening a key with a password, and signing bytes in memory.
+//! Calls for callers: opening a key with a password, making a pair under one, and signing bytes in
+//! memory, what a reader has ahead, or a file.
 
-ghost use Rattle.std.specs.Prelude.{◌≡◌, ◌⊎◌, List, ℕ, false, None, Some, string_bytes, IfOk, IfErr, OnOk, MatchResult};
+ghost use Rattle.std.specs.Prelude.{◌≡◌, ◌≤◌, ◌⊎◌, List, ℕ, false, None, Some, length, string_bytes, IfOk, IfErr, OnOk, MatchResult};
 ghost use Rattle.std.specs.Option.{option_map};
 ghost use Rattle.minisign_base.specs.Devices.{HasGiven};
 ghost use Rattle.minisign_base.specs.Fault.{Named};
 ghost use Rattle.minisign_base.specs.declared.faults.NamedFault.TheVariants.{OutOfMemory};
-ghost use Rattle.minisign_base.specs.Passages.{random_passage};
-ghost use Rattle.minisign.specs.Calls.{BytesSigningFails, GivesKeyWith, GivesNoKeyWith};
+ghost use Rattle.minisign_base.specs.Passages.{random_passage, source_passage};
+ghost use Rattle.minisign.specs.Calls.{BytesSigningFails, GivesKeyWith, GivesNoKeyWith, PasswordPairFails, PathSigningFails, ReaderSigningFails};
+ghost use Rattle.minisign.specs.Generation.{IsSealedPair, OpensToPair};
 ghost use Rattle.minisign.specs.Headline.{SigningHeadline};
 ghost use Rattle.minisign.specs.Opening.{IsUnencryptedText, RefusesUnencrypted};
+ghost use Rattle.minisign.specs.Reading.{ReadsWhole};
 ghost use Rattle.minisign.specs.Sealing.{is_encrypted};
 ghost use Rattle.minisign.specs.Records.{SecretKeyRecord};
 ghost use Rattle.minisign.specs.SecretKeyText.{SecretKeyText};
-ghost use Rattle.minisign.specs.Signing.{AreKept, comments_or_defaults, given_comments};
+ghost use Rattle.minisign.specs.Signing.{given_comments};
 ghost use Rattle.minisign.specs.SigningTexts.{IsSignedText};
 
 use crate::constants::KDF_NONE;
-use crate::memory::{MemorySource, NoSink};
+use crate::keypair::{KeyPair, draw_with_salt, make_sealed_pair};
+use crate::memory::MemorySource;
 use crate::secret_key::SecretKey;
-use crate::signing::sign;
-use minisign_base::Result;
+use crate::signing_texts::sign_opened;
 use minisign_base::devices::random_sources::RandomSource;
-use minisign_base::prompt::Prompt;
+use minisign_base::devices::sources::{ReaderSource, Source};
+use minisign_base::prompt::{PASSWORD_BYTES, Prompt};
 use minisign_base::scheme::Scheme;
+use minisign_base::{NamedFault, Result};
 use std::alloc::Global;
+use std::fs;
+use std::rt::Files;
 
 /// The secret key that a text gives: a key that was never sealed as it stands, and any other opened
 /// with the password. Nothing is asked for and nothing is said.
@@ -37,6 +44,8 @@ use std::alloc::Global;
 /// let sk = open_with_password(alloc, sk_text, password)?;
 /// ```
 pub fn open_with_password(alloc: Global, sk_text: &str, password: &str) -> Result<SecretKey>
+    // A text gives a key under a password exactly when the key was never sealed and its checksum
+    // matches, or it is sealed and opens; otherwise the first reason, or memory ran out.
     ensures opens { MatchResult result (GivesKeyWith sk_text.now password.now)
         (λ e. (e ≡ Named OutOfMemory) ⊎ GivesNoKeyWith sk_text.now password.now e) }
 
@@ -48,8 +57,7 @@ pub fn open_with_password(alloc: Global, sk_text: &str, password: &str) -> Resul
         return unsealed(sk);
     }
     let passed_in = Some(String::from_str(alloc, password)?);
-    let mut unasked = Prompt::new(MemorySource::new(b""), NoSink);
-    sk.open(alloc, passed_in, &mut unasked, None, 1)
+    sk.open(alloc, passed_in, &mut Prompt::silent(), None, 1)
 }
 
 // The key, where it was never sealed and its checksum matches.
@@ -59,6 +67,55 @@ fn unsealed(sk: SecretKey) -> Result<SecretKey>
 {
     sk.check_unencrypted()?;
     Ok(sk)
+}
+
+impl KeyPair {
+    /// Makes a pair whose secret key is sealed under the password, as `generate_encrypted_keypair`
+    /// does where one is passed in: of 32 random bytes of a seed, then 8 of an identifier, and then
+    /// 32 of a salt. Nothing is asked for and nothing is said.
+    ///
+    /// Refused are, in this order: a password of more than 1024 bytes, which could not be typed
+    /// when the key is opened (`password_too_long`), with nothing drawn; a failing `random`; memory
+    /// for the derivation, some 32 MiB. An empty password is taken.
+    ///
+    /// ```
+    /// let pair = KeyPair::generate_with_password(alloc, &scheme, &mut random, password)?;
+    /// let sk_text = pair.sk.to_box(alloc, None)?.into_string();
+    /// ```
+    pub fn generate_with_password<S: Scheme, Z: RandomSource>(
+        alloc: Global,
+        scheme: &S,
+        random: &mut Z,
+        password: &str,
+    ) -> Result<KeyPair>
+        // The pair is the one that the definition makes of random bytes that were drawn, sealed
+        // under the password.
+        ensures made { IfOk result (λ pair. IsSealedPair (S.public_of scheme.now) password.now
+            (random_passage Z.RandomSource random.old random.new) pair.pk pair.sk) }
+
+        // The secret key opens under the password, and then belongs to the public key; each text
+        // that reads as it opens under the password to that key, and to no other.
+        ensures opens { IfOk result
+            (λ pair. OpensToPair (S.public_of scheme.now) password.now pair.pk pair.sk) }
+
+        // On success the password has 1024 bytes at most, and the random source did not fail.
+        ensures typed { OnOk result (length password.now ≤ 1024) }
+        ensures calm { OnOk result (Z.random_faults random.new ≡ Z.random_faults random.old) }
+
+        // The refusals: a password of more than 1024 bytes, with nothing drawn; and with any other
+        // a failing random source, and out of memory once all was drawn.
+        ensures refused { IfErr result
+            (PasswordPairFails password.now (random_passage Z.RandomSource random.old random.new)) }
+
+        // Whatever the result, the random source lost at most some bytes at its front.
+        ensures given { HasGiven (Z.random_ahead random.old) (Z.random_ahead random.new) }
+    {
+        if password.len() > PASSWORD_BYTES {
+            return Err(NamedFault::PasswordTooLong.into());
+        }
+        let drawn = draw_with_salt(random)?;
+        make_sealed_pair(alloc, scheme, &drawn, password.as_bytes())
+    }
 }
 
 /// Signs the message in memory, and returns the text of the signature. Without a trusted comment it
@@ -82,36 +139,187 @@ pub fn sign_bytes<S: Scheme, Z: RandomSource>(
     random: &mut Z,
     moment: u64,
 ) -> Result<String>
-    // What a genuine key signed verifies after being written and read back.
+    // What a genuine key signed is read back as a box that vouches for the data, if neither comment
+    // has a line feed and the trusted one is trimmed.
     ensures headline { IfOk result (λ t. SigningHeadline (S.accepts scheme.now) (S.public_of scheme.now) sk.now message.now
         (given_comments trusted_comment.entry None moment) (string_bytes t)) }
 
-    // The text of the box that the definition of signing makes, with an opened key.
+    // The text is that of the box that signing makes of the data, with an opened key.
     ensures signed { IfOk result (λ t. IsSignedText (S.signature_of scheme.now) sk.now message.now
         (given_comments trusted_comment.entry None moment)
         (random_passage Z.RandomSource random.old random.new) (string_bytes t)) }
     ensures opened { OnOk result (is_encrypted sk.now ≡ false) }
 
-    // The comments by default are read back as they were written.
-    ensures defaults { AreKept (comments_or_defaults None None moment) }
+    // On success the random source did not fail.
     ensures random_calm { OnOk result (Z.random_faults random.new ≡ Z.random_faults random.old) }
 
-    // Whatever the result, random bytes were taken from the front or not at all.
+    // Whatever the result, the random source lost at most some bytes at its front.
     ensures drawn { HasGiven (Z.random_ahead random.old) (Z.random_ahead random.new) }
 
-    // Why it was refused.
+    // The refusals: a sealed key, with nothing drawn; and with an opened one out of memory and a
+    // failing random source.
     ensures refused { IfErr result (BytesSigningFails sk.now (random_passage Z.RandomSource random.old random.new)) }
 {
-    let signature_box = sign(
+    let mut data = MemorySource::new(message);
+    sign_reader(
         alloc,
         scheme,
-        None,
         sk,
-        &mut MemorySource::new(message),
+        &mut data,
+        trusted_comment,
+        random,
+        moment,
+    )
+}
+
+/// Signs all the data ahead of `data_reader`, as `sign_bytes` signs data in memory. The data is
+/// read in pieces of 64 KiB, so that memory does not grow with it.
+///
+/// Refused are, in this order: a sealed key, `encrypted_key_refused`, with nothing read or drawn; a
+/// failing `data_reader`, `reading_failed`, with nothing drawn; a failing `random`, once the data
+/// was read. It may run out of memory at any time after the key was tested. What `sign_bytes` says
+/// of the trusted comment holds here too.
+///
+/// ```
+/// let sig_text = sign_reader(alloc, &scheme, &sk, &mut data_reader, Some("update-1.2.tar"), &mut random, moment)?;
+/// ```
+pub fn sign_reader<S: Scheme, R: Source, Z: RandomSource>(
+    alloc: Global,
+    scheme: &S,
+    sk: &SecretKey,
+    data_reader: &mut R,
+    trusted_comment: Option<&str>,
+    random: &mut Z,
+    moment: u64,
+) -> Result<String>
+    // The text is that of the box that signing makes of all the data ahead, with an opened key; what
+    // a genuine key signed is read back as a box that vouches for this data, if neither comment has
+    // a line feed and the trusted one is trimmed.
+    ensures signed { IfOk result (λ t. (message : List ℕ) × ReadsWhole R.Source data_reader.old data_reader.new message
+        × IsSignedText (S.signature_of scheme.now) sk.now message
+        (given_comments trusted_comment.entry None moment)
+        (random_passage Z.RandomSource random.old random.new) (string_bytes t)
+        × SigningHeadline (S.accepts scheme.now) (S.public_of scheme.now) sk.now message
+        (given_comments trusted_comment.entry None moment) (string_bytes t)) }
+    ensures opened { OnOk result (is_encrypted sk.now ≡ false) }
+
+    // On success the random source did not fail.
+    ensures random_calm { OnOk result (Z.random_faults random.new ≡ Z.random_faults random.old) }
+
+    // The refusals: a sealed key, with nothing read or drawn; and with an opened one out of memory,
+    // a failing reader, with nothing drawn, and a failing random source, once all was read.
+    ensures refused { IfErr result (ReaderSigningFails sk.now
+        (source_passage R.Source data_reader.old data_reader.new)
+        (random_passage Z.RandomSource random.old random.new)) }
+
+    // Whatever the result, the reader and the random source lost at most some bytes at their front.
+    ensures given { HasGiven (R.ahead data_reader.old) (R.ahead data_reader.new) }
+    ensures drawn { HasGiven (Z.random_ahead random.old) (Z.random_ahead random.new) }
+{
+    if sk.is_encrypted() {
+        return Err(NamedFault::EncryptedKeyRefused.into());
+    }
+    sign_opened(
+        alloc,
+        scheme,
+        sk,
+        data_reader,
         trusted_comment,
         None,
         random,
         moment,
-    )?;
-    signature_box.into_string(alloc)
+    )
+}
+
+/// Signs the data in the file at `data_path`, as `sign_bytes` signs data in memory. The path is
+/// taken as it stands. The data is read in pieces of 64 KiB, so that memory does not grow with it.
+/// The text is returned, and no file is written.
+///
+/// Refused are, in this order: a sealed key, `encrypted_key_refused`, with nothing opened, read or
+/// drawn; a file that cannot be opened or read, `reading_failed`, with nothing drawn; a failing
+/// `random`, once the file was read. It may run out of memory at any time after the key was tested.
+/// What `sign_bytes` says of the trusted comment holds here too.
+///
+/// ```
+/// let sig_text = sign_file(&rt, rt.alloc(), &scheme, &sk, "update.tar", Some("update-1.2.tar"), &mut random, moment)?;
+/// ```
+pub fn sign_file<F: Files, S: Scheme, Z: RandomSource>(
+    files: &F,
+    alloc: Global,
+    scheme: &S,
+    sk: &SecretKey,
+    data_path: &str,
+    trusted_comment: Option<&str>,
+    random: &mut Z,
+    moment: u64,
+) -> Result<String>
+    // The text is that of the box that signing makes of some data, with an opened key; what a
+    // genuine key signed is read back as a box that vouches for this data, if neither comment has a
+    // line feed and the trusted one is trimmed. Std's files tell no bytes: that it is the data of
+    // the named file, the code and tests show.
+    ensures signed { IfOk result (λ t. (message : List ℕ)
+        × IsSignedText (S.signature_of scheme.now) sk.now message
+        (given_comments trusted_comment.entry None moment)
+        (random_passage Z.RandomSource random.old random.new) (string_bytes t)
+        × SigningHeadline (S.accepts scheme.now) (S.public_of scheme.now) sk.now message
+        (given_comments trusted_comment.entry None moment) (string_bytes t)) }
+    ensures opened { OnOk result (is_encrypted sk.now ≡ false) }
+
+    // On success the random source did not fail.
+    ensures random_calm { OnOk result (Z.random_faults random.new ≡ Z.random_faults random.old) }
+
+    // The refusals: a sealed key, with nothing drawn; and with an opened one out of memory, a file
+    // that is not opened or not read, with nothing drawn, and a failing random source.
+    ensures refused { IfErr result (PathSigningFails sk.now (random_passage Z.RandomSource random.old random.new)) }
+
+    // Whatever the result, the random source lost at most some bytes at its front.
+    ensures drawn { HasGiven (Z.random_ahead random.old) (Z.random_ahead random.new) }
+{
+    if sk.is_encrypted() {
+        return Err(NamedFault::EncryptedKeyRefused.into());
+    }
+    match fs::open(files, data_path) {
+        Ok(file) => sign_untold(
+            alloc,
+            scheme,
+            sk,
+            &mut ReaderSource::new(file),
+            trusted_comment,
+            random,
+            moment,
+        ),
+        Err(_) => Err(NamedFault::ReadingFailed.into()),
+    }
+}
+
+// Signs what a file gives, which tells no bytes, with an opened key.
+fn sign_untold<S: Scheme, R: Source, Z: RandomSource>(
+    alloc: Global,
+    scheme: &S,
+    sk: &SecretKey,
+    data_reader: &mut R,
+    trusted_comment: Option<&str>,
+    random: &mut Z,
+    moment: u64,
+) -> Result<String>
+    requires { is_encrypted sk.now ≡ false }
+    ensures signed { IfOk result (λ t. (message : List ℕ)
+        × IsSignedText (S.signature_of scheme.now) sk.now message
+        (given_comments trusted_comment.entry None moment)
+        (random_passage Z.RandomSource random.old random.new) (string_bytes t)
+        × SigningHeadline (S.accepts scheme.now) (S.public_of scheme.now) sk.now message
+        (given_comments trusted_comment.entry None moment) (string_bytes t)) }
+    ensures random_calm { OnOk result (Z.random_faults random.new ≡ Z.random_faults random.old) }
+    ensures refused { IfErr result (PathSigningFails sk.now (random_passage Z.RandomSource random.old random.new)) }
+    ensures drawn { HasGiven (Z.random_ahead random.old) (Z.random_ahead random.new) }
+{
+    sign_reader(
+        alloc,
+        scheme,
+        sk,
+        data_reader,
+        trusted_comment,
+        random,
+        moment,
+    )
 }

@@ -17,6 +17,7 @@ pub struct KeynumPK {
     pub pk: [u8; 32],
 }
 
+/// The identifier and the key bytes count. This is an equivalence.
 impl PartialEq for KeynumPK {
     ghost eq = { λ a b. bytes_eq a.keynum b.keynum && bytes_eq a.pk b.pk };
 

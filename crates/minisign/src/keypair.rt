@@ -1,6 +1,6 @@
 //! Pairs of keys, and how they are made.
 
-ghost use Rattle.std.specs.Prelude.{◌≡◌, ◌⊎◌, ℕ, List, ◌++◌, length, string_bytes, IfSome, IfOk, IfErr, OnOk, OnErr};
+ghost use Rattle.std.specs.Prelude.{◌≡◌, ℕ, List, ◌++◌, length, string_bytes, None, Ok, IfSome, IfOk, IfErr, OnOk, OnErr};
 ghost use Rattle.std.specs.Option.{option_copied, option_map};
 ghost use Rattle.std.specs.Str.Iter.{LacksByte};
 ghost use Rattle.minisign_base.specs.Devices.{HasGiven};
@@ -10,15 +10,16 @@ ghost use Rattle.minisign_base.specs.declared.faults.NamedFault.TheVariants.{Out
 ghost use Rattle.minisign.specs.Records.{public_key_bytes, secret_key_bytes};
 ghost use Rattle.minisign.specs.Sealing.{IsUnencrypted, xored_key};
 ghost use Rattle.minisign.specs.Signing.{DrawFails, HasDrawn};
-ghost use Rattle.minisign.specs.NewPassword.{HasAskedTwice, HasNotSealed, HasTold, HasTyped, IsChoosingFault, IsPassword, IsSealingFault, IsTellingFault};
+ghost use Rattle.minisign_base.specs.Prompts.{HasHeld, HasStopped, password_of};
+ghost use Rattle.minisign.specs.NewPassword.{HasTyped, IsPassword, IsSealingFault, choosing, sealing};
 ghost use Rattle.minisign.specs.PublicKeyText.{public_key_text};
 ghost use Rattle.minisign.specs.SecretKeyText.{SecretKeyText, secret_key_text};
 ghost use Rattle.minisign.specs.Opening.{IsUnencryptedText};
 ghost use Rattle.minisign.specs.Generation.{AreSeedAndKeynum, FailsAtPart, HasSealed, IsGenuinePair, IsSealedOf, IsUnsealedPair, OpensOnlyTo, OpensToPair, RawPairFails, SealedPairFails, SealedTextsFail, TakesPart, WritingFails, public_key_of, secret_of, unsealed_key};
 
-use crate::constants::{CHK_ALG, KDF_NONE, SIGALG};
+use crate::constants::SIGALG;
 use crate::drawing::draw;
-use crate::keynum::{KeynumPK, KeynumSK};
+use crate::keynum::KeynumPK;
 use crate::public_key::PublicKey;
 use crate::secret_key::SecretKey;
 use minisign_base::devices::random_sources::RandomSource;
@@ -41,7 +42,7 @@ pub struct KeyPair {
 
 // The random bytes of a sealed pair, in the order in which they are drawn.
 #[derive(Drop)]
-struct Drawn {
+pub(crate) struct Drawn {
     seed: [u8; 32],
     keynum: [u8; 8],
     salt: [u8; 32],
@@ -55,20 +56,33 @@ impl KeyPair {
         scheme: &S,
         random: &mut Z,
     ) -> Result<KeyPair>
+        // The pair is the one that its definition makes of the bytes that were drawn: 32 of a seed,
+        // 8 of an identifier, and for a sealed one 32 of a salt.
         ensures made { IfOk result
             (λ pair. IsUnsealedPair (S.public_of scheme.now)
             (random_passage Z.RandomSource random.old random.new) pair.pk pair.sk) }
+
+        // The two keys belong together: the secret one is genuine, not sealed, and the public one
+        // has its public half and its identifier.
         ensures genuine { IfOk result
             (λ pair. IsGenuinePair (S.public_of scheme.now) pair.pk pair.sk) }
         ensures unencrypted { IfOk result (λ pair. IsUnencrypted pair.sk) }
-        // Each text that reads as the secret key is one that `SecretKey::from_unencrypted_box`
-        // takes.
+
+        // Each text that reads as an unsealed pair's secret key is accepted by
+        // `SecretKey::from_unencrypted_box`.
         ensures texts { IfOk result
             (λ pair. (text : List ℕ) → SecretKeyText text pair.sk
             → IsUnencryptedText text pair.sk) }
+
+        // On success the random source did not fail.
         ensures calm { OnOk result (Z.random_faults random.new ≡ Z.random_faults random.old) }
+
+        // An unsealed pair, which takes no memory, fails only if the random source's count of
+        // faults rose.
         ensures refused { IfErr result
             (DrawFails (random_passage Z.RandomSource random.old random.new)) }
+
+        // Whatever the result, the random source lost at most some bytes at its front.
         ensures given { HasGiven (Z.random_ahead random.old) (Z.random_ahead random.new) }
     {
         let (seed, keynum) = draw_seed_and_keynum(random)?;
@@ -89,27 +103,36 @@ impl KeyPair {
         pk_sink: &mut P,
         sk_sink: &mut K,
     ) -> Result<KeyPair>
-        // The pair, and what the sinks took of it.
+        // The pair is made as `KeyPair::generate_unencrypted_keypair` says.
         ensures made { IfOk result
             (λ pair. IsUnsealedPair (S.public_of scheme.now)
             (random_passage Z.RandomSource random.old random.new) pair.pk pair.sk) }
         ensures genuine { IfOk result
             (λ pair. IsGenuinePair (S.public_of scheme.now) pair.pk pair.sk) }
         ensures unencrypted { IfOk result (λ pair. IsUnencrypted pair.sk) }
+
+        // The sinks took the raw bytes of both keys, and did not fail.
         ensures public { IfOk result
             (λ pair. TakesPart (sink_passage P.Sink pk_sink.old pk_sink.new)
             (public_key_bytes pair.pk)) }
         ensures secret { IfOk result
             (λ pair. TakesPart (sink_passage K.Sink sk_sink.old sk_sink.new)
             (secret_key_bytes pair.sk)) }
+
+        // On success the random source did not fail.
         ensures calm { OnOk result (Z.random_faults random.new ≡ Z.random_faults random.old) }
 
-        // Why it was refused.
+        // If a pair is not made, or memory runs out for its bytes or texts, neither sink is
+        // touched; otherwise a sink failed: the public one with the secret one untouched, or the
+        // secret one after the public one took everything and flushed it; a sink that failed took a
+        // beginning.
         ensures refused { IfErr result
             (RawPairFails (S.public_of scheme.now)
             (random_passage Z.RandomSource random.old random.new)
             (sink_passage P.Sink pk_sink.old pk_sink.new)
             (sink_passage K.Sink sk_sink.old sk_sink.new)) }
+
+        // Whatever the result, the random source lost at most some bytes at its front.
         ensures given { HasGiven (Z.random_ahead random.old) (Z.random_ahead random.new) }
     {
         let pair = KeyPair::generate_unencrypted_keypair(scheme, random)?;
@@ -137,16 +160,31 @@ impl KeyPair {
         password: Option<String>,
         prompt: &mut Prompt<R, W>,
     ) -> Result<KeyPair>
+        // The pair is the one that its definition makes of the bytes that were drawn: 32 of a seed,
+        // 8 of an identifier, and for a sealed one 32 of a salt.
+        //
+        // A sealed pair's secret key opens under the password that was passed in or typed, and is
+        // genuine then; each text that reads as it opens too, to this key and no other (`opens`). A
+        // password that is passed in leaves the prompt untouched; otherwise what was asked, typed
+        // and written is what docs/FORMATS.md says (`prompted`).
         ensures made { IfOk result
             (λ pair. HasSealed (S.public_of scheme.now)
             (random_passage Z.RandomSource random.old random.new)
             (prompt_passage R.Source W.Sink prompt.old prompt.new)
             (option_map string_bytes password) pair.pk pair.sk) }
+
+        // On success the random source did not fail.
         ensures calm { OnOk result (Z.random_faults random.new ≡ Z.random_faults random.old) }
+
+        // A sealed pair fails if the random source did, with nothing asked; otherwise all 72 bytes
+        // were drawn, and it ran out of memory, the prompt failed, a line gave no password, or two
+        // were typed that differ.
         ensures refused { IfErr result
             (SealedPairFails (random_passage Z.RandomSource random.old random.new)
             (prompt_passage R.Source W.Sink prompt.old prompt.new)
             (option_map string_bytes password)) }
+
+        // Whatever the result, the random source lost at most some bytes at its front.
         ensures given { HasGiven (Z.random_ahead random.old) (Z.random_ahead random.new) }
     {
         let drawn = draw_with_salt(random)?;
@@ -178,27 +216,36 @@ impl KeyPair {
         password: Option<String>,
         prompt: &mut Prompt<R, W>,
     ) -> Result<KeyPair>
-        // The pair, and what the sinks took of it.
+        // The pair is made as `KeyPair::generate_encrypted_keypair` says.
         ensures made { IfOk result
             (λ pair. HasSealed (S.public_of scheme.now)
             (random_passage Z.RandomSource random.old random.new)
             (prompt_passage R.Source W.Sink prompt.old prompt.new)
             (option_map string_bytes password) pair.pk pair.sk) }
+
+        // The sinks took the texts of both keys, and did not fail.
         ensures public { IfOk result
             (λ pair. TakesPart (sink_passage P.Sink pk_sink.old pk_sink.new)
             (public_key_text pair.pk)) }
         ensures secret { IfOk result
             (λ pair. TakesPart (sink_passage K.Sink sk_sink.old sk_sink.new)
             (secret_key_text (option_copied comment.entry) pair.sk)) }
-        // That text opens under the password, where the comment has no line feed.
+
+        // The secret key's text opens under the password, to the key of the public one, if the
+        // comment has no line feed.
         ensures opens_again { IfSome comment.entry (λ s. LacksByte 10 s.now)
             → IfOk result (λ pair. (typed : List ℕ) →
             OpensToPair (S.public_of scheme.now) typed pair.pk pair.sk →
             OpensOnlyTo (secret_key_text (option_copied comment.entry) pair.sk) typed
             (xored_key pair.sk typed)) }
+
+        // On success the random source did not fail.
         ensures calm { OnOk result (Z.random_faults random.new ≡ Z.random_faults random.old) }
 
-        // Why it was refused.
+        // If a pair is not made, or memory runs out for its bytes or texts, neither sink is
+        // touched; otherwise a sink failed: the public one with the secret one untouched, or the
+        // secret one after the public one took everything and flushed it; a sink that failed took a
+        // beginning.
         ensures refused { IfErr result
             (SealedTextsFail (S.public_of scheme.now)
             (random_passage Z.RandomSource random.old random.new)
@@ -207,6 +254,8 @@ impl KeyPair {
             (sink_passage P.Sink pk_sink.old pk_sink.new)
             (sink_passage K.Sink sk_sink.old sk_sink.new)
             (option_copied comment.entry)) }
+
+        // Whatever the result, the random source lost at most some bytes at its front.
         ensures given { HasGiven (Z.random_ahead random.old) (Z.random_ahead random.new) }
     {
         let pair = KeyPair::generate_encrypted_keypair(alloc, scheme, random, password, prompt)?;
@@ -251,8 +300,7 @@ fn ask_and_seal<S: Scheme, R: Source, W: Sink>(
         × HasTyped (prompt_passage R.Source W.Sink prompt.old prompt.new) password
         × IsSealedOf (S.public_of scheme.now) drawn.now.seed drawn.now.keynum drawn.now.salt password pair.pk pair.sk) }
     ensures refused { IfErr result
-        (λ e. IsChoosingFault (prompt_passage R.Source W.Sink prompt.old prompt.new) e
-        ⊎ HasNotSealed (prompt_passage R.Source W.Sink prompt.old prompt.new) e) }
+        (IsSealingFault (prompt_passage R.Source W.Sink prompt.old prompt.new) None) }
 {
     let password = choose_password(alloc, prompt)?;
     seal_aloud(alloc, scheme, drawn, password.as_bytes(), prompt)
@@ -261,11 +309,13 @@ fn ask_and_seal<S: Scheme, R: Source, W: Sink>(
 // Says what a password is for, and asks for it twice.
 #[tactic(auto, unfolding(crate::specs::NewPassword::purpose_line, crate::specs::Opening::asking_text, crate::specs::NewPassword::second_question))]
 fn choose_password<R: Source, W: Sink>(alloc: Global, prompt: &mut Prompt<R, W>) -> Result<String>
-    ensures chosen { IfOk result
-        (λ password. HasAskedTwice (prompt_passage R.Source W.Sink prompt.old prompt.new)
-        (string_bytes password) (string_bytes password)) }
-    ensures refused { IfErr result
-        (IsChoosingFault (prompt_passage R.Source W.Sink prompt.old prompt.new)) }
+    ensures chosen { IfOk result (λ password. (first : List ℕ) × (second : List ℕ)
+        × (password_of first ≡ Ok (string_bytes password))
+        × (password_of second ≡ Ok (string_bytes password))
+        × HasHeld (prompt_passage R.Source W.Sink prompt.old prompt.new) (choosing first second)) }
+    ensures refused { IfErr result (λ e. (first : List ℕ) × (second : List ℕ)
+        × HasStopped (prompt_passage R.Source W.Sink prompt.old prompt.new)
+        (choosing first second) e) }
 {
     prompt.say("Please enter a password to protect the secret key.\n")?;
     let password = get_password(alloc, prompt, "Password: ")?;
@@ -285,11 +335,12 @@ fn seal_aloud<S: Scheme, R: Source, W: Sink>(
     password: &[u8],
     prompt: &mut Prompt<R, W>,
 ) -> Result<KeyPair>
-    ensures told { OnOk result (HasTold (prompt_passage R.Source W.Sink prompt.old prompt.new)) }
+    ensures told { OnOk result
+        (HasHeld (prompt_passage R.Source W.Sink prompt.old prompt.new) sealing) }
     ensures sealed { IfOk result
         (λ pair. IsSealedOf (S.public_of scheme.now) drawn.now.seed drawn.now.keynum drawn.now.salt password.now pair.pk pair.sk) }
     ensures refused { IfErr result
-        (IsTellingFault (prompt_passage R.Source W.Sink prompt.old prompt.new)) }
+        (HasStopped (prompt_passage R.Source W.Sink prompt.old prompt.new) sealing) }
 {
     prompt.say("Deriving a key from the password in order to encrypt the secret key... ")?;
     let pair = make_sealed_pair(alloc, scheme, drawn, password)?;
@@ -325,7 +376,7 @@ fn write_part<W: Sink>(sink: &mut W, part: &[u8]) -> Result<()>
 }
 
 // The pair of a seed under an identifier, sealed with a salt under a password.
-fn make_sealed_pair<S: Scheme>(
+pub(crate) fn make_sealed_pair<S: Scheme>(
     alloc: Global,
     scheme: &S,
     drawn: &Drawn,
@@ -341,7 +392,7 @@ fn make_sealed_pair<S: Scheme>(
 }
 
 // The random bytes of a sealed pair: a seed, an identifier, and a salt.
-fn draw_with_salt<Z: RandomSource>(random: &mut Z) -> Result<Drawn>
+pub(crate) fn draw_with_salt<Z: RandomSource>(random: &mut Z) -> Result<Drawn>
     ensures drawn { IfOk result
         (λ z. HasDrawn (random_passage Z.RandomSource random.old random.new)
         (z.seed ++ z.keynum ++ z.salt)) }
@@ -383,28 +434,6 @@ fn make_pair<S: Scheme>(scheme: &S, seed: &[u8; 32], keynum: [u8; 8]) -> KeyPair
             sig_alg: SIGALG,
             keynum_pk: KeynumPK { keynum, pk: public },
         },
-        sk: make_secret_key(keynum, secret),
+        sk: SecretKey::from_parts(keynum, secret),
     }
-}
-
-// The secret key of these secret bytes under an identifier, not sealed.
-#[tactic(auto, unfolding(crate::specs::Generation::unsealed_key))]
-fn make_secret_key(keynum: [u8; 8], secret: [u8; 64]) -> SecretKey
-    ensures { result ≡ unsealed_key keynum secret }
-{
-    let mut sk = SecretKey {
-        sig_alg: SIGALG,
-        kdf_alg: KDF_NONE,
-        chk_alg: CHK_ALG,
-        kdf_salt: [0; 32],
-        kdf_opslimit_le: [0; 8],
-        kdf_memlimit_le: [0; 8],
-        keynum_sk: KeynumSK {
-            keynum,
-            sk: secret,
-            chk: [0; 32],
-        },
-    };
-    sk.write_checksum();
-    sk
 }

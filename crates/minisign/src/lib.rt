@@ -5,15 +5,18 @@
 
 #![tactic(auto)]
 
+mod base64_front;
 pub mod calls;
 mod comment_signature;
 mod constants;
 mod copying;
 mod drawing;
 mod fields;
+pub mod in_place;
 pub mod key_calls;
 pub mod keynum;
 pub mod keypair;
+pub mod making;
 mod memory;
 mod opening;
 pub mod options;
@@ -40,14 +43,16 @@ pub use constants::{
     DEFAULT_COMMENT, SIG_DEFAULT_CONFIG_DIR, SIG_DEFAULT_CONFIG_DIR_ENV_VAR, SIG_DEFAULT_PKFILE,
     SIG_DEFAULT_SKFILE, SIG_SUFFIX,
 };
-pub use key_calls::{open_with_password, sign_bytes};
+pub use in_place::{SignatureView, read_bare_public_key, read_public_key, read_signature};
+pub use key_calls::{open_with_password, sign_bytes, sign_file, sign_reader};
 pub use keypair::KeyPair;
+pub use making::{Sealing, make_public_key, make_secret_key};
 pub use minisign_base;
 pub use minisign_base as base;
 pub use minisign_base::{
-    DeviceFault, ErrorKind, FileSource, FixedRandom, NamedFault, PError, Params, Prompt,
-    RandomSource, ReaderSource, Rereader, Result, Scheme, Sink, SliceSource, Source, SourceRandom,
-    ToyScheme, Triple, VecSink, WriterSink,
+    DeviceFault, ErrorKind, FileSource, FixedRandom, NamedFault, NoSink, NoSource, PError, Params,
+    Prompt, RandomSource, ReaderSource, Rereader, Result, Scheme, Sink, SliceSource, Source,
+    SourceRandom, ToyScheme, Triple, VecSink, WriterSink,
 };
 pub use minisign_hash;
 pub use minisign_hash as hash;
@@ -59,7 +64,7 @@ pub use secret_key_box::SecretKeyBox;
 pub use signature::Signature;
 pub use signature_bones::SignatureBones;
 pub use signature_box::SignatureBox;
-pub use signing::sign;
+pub use signing::{default_comments_are_read_back, sign};
 pub use signing_texts::sign_texts;
 pub use verifying::verify;
 pub use verifying_texts::verify_texts;

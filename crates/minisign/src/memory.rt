@@ -1,9 +1,8 @@
-//! Devices that never fail: the bytes of a slice, and a sink that keeps nothing.
+//! A device that never fails: the bytes of a slice.
 
-ghost use Rattle.std.specs.Prelude.{◌≡◌, true, Some, None, length, ⊤};
+ghost use Rattle.std.specs.Prelude.{◌≡◌, true, Some, length, ⊤};
 
 use minisign_base::devices::DeviceFault;
-use minisign_base::devices::sinks::Sink;
 use minisign_base::devices::sources::{Rereader, Source};
 
 // The bytes of a slice, which counts no faults since it has none. Its beginning is marked at first.
@@ -55,24 +54,6 @@ impl<'a> Rereader for MemorySource<'a> {
 
     fn back(&mut self) -> Result<(), DeviceFault> {
         self.rest = self.marked;
-        Ok(())
-    }
-}
-
-// Takes all bytes, and keeps none.
-#[derive(Drop)]
-pub(crate) struct NoSink;
-
-impl Sink for NoSink {
-    ghost taken = { λ _. None };
-
-    ghost sink_faults = { λ _. 0 };
-
-    fn write(&mut self, bytes: &[u8]) -> Result<usize, DeviceFault> {
-        Ok(bytes.len())
-    }
-
-    fn flush(&mut self) -> Result<(), DeviceFault> {
         Ok(())
     }
 }

@@ -1,6 +1,6 @@
 //! The key of a text: opened with a password where it is sealed.
 
-ghost use Rattle.std.specs.Prelude.{◌≡◌, ◌≤◌, ◌⊎◌, ℕ, List, ◌++◌, None, Some, Ok, false, string_bytes, MatchResult, IfOk, IfErr, OnOk};
+ghost use Rattle.std.specs.Prelude.{◌≡◌, ◌≤◌, ◌⊎◌, ℕ, List, None, Some, Ok, false, string_bytes, MatchResult, IfOk, IfErr, OnOk};
 ghost use Rattle.std.specs.Option.{option_map};
 ghost use Rattle.minisign_base.specs.Fault.{Named};
 ghost use Rattle.minisign_base.specs.declared.faults.NamedFault.TheVariants.{OutOfMemory, WritingFailed, WrongPassword};
@@ -9,9 +9,9 @@ ghost use Rattle.minisign.specs.SecretKeyText.{SecretKeyText, secret_key_refusal
 ghost use Rattle.minisign.specs.Texts.{IsDecided};
 ghost use Rattle.minisign.specs.Headline.{OpeningHeadline};
 ghost use Rattle.minisign.specs.Sealing.{checksum_refusal, is_encrypted, kdf_refusal, password_refusal, unencrypted_refusal, work_refusal, xored_key};
-ghost use Rattle.minisign.specs.Opening.{HasAskedAndSaid, IsAskedRefusal, IsFileOpening, IsOpening, IsToldRefusal, IsUnencryptedText, RefusesKey, RefusesUnencrypted, asking_text, deriving_text, done_text};
+ghost use Rattle.minisign.specs.Opening.{IsFileOpening, IsOpening, IsUnencryptedText, RefusesKey, RefusesUnencrypted, asking_text, deriving_text, done_text, ending, opening, telling};
 ghost use Rattle.minisign_base.specs.Passages.{prompt_passage};
-ghost use Rattle.minisign_base.specs.Prompts.{HasAsked, HasNotSaid, HasSaid, IsAskingFault};
+ghost use Rattle.minisign_base.specs.Prompts.{HasHeld, HasNotSaid, HasSaid, HasStopped, asking, password_of};
 
 use crate::constants::{KDF_ALG, KDF_NONE};
 use crate::reading::read_text_file;
@@ -33,6 +33,8 @@ impl SecretKeyBox {
         password: Option<String>,
         prompt: &mut Prompt<R, W>,
     ) -> Result<SecretKey>
+        // Of the text that it holds: as `SecretKey::from_box_within` says, with no bound on the
+        // work.
         ensures opens { IsOpening (prompt_passage R.Source W.Sink prompt.old prompt.new)
             (option_map string_bytes password) self None result }
         ensures headline { OpeningHeadline
@@ -43,6 +45,7 @@ impl SecretKeyBox {
 
     /// The key, where it was never sealed: `SecretKey::from_unencrypted_box`.
     pub fn into_unencrypted_secret_key(self, alloc: Global) -> Result<SecretKey>
+        // The text that it holds is read, and refused, as `SecretKey::from_unencrypted_box` says.
         ensures outcome { MatchResult result (IsUnencryptedText self)
             (λ e. (e ≡ Named OutOfMemory) ⊎ RefusesUnencrypted self e) }
         ensures one_reading { IfOk result
@@ -67,6 +70,11 @@ impl SecretKey {
         password: Option<String>,
         prompt: &mut Prompt<R, W>,
     ) -> Result<SecretKey>
+        // What is returned is opened from some text, as `SecretKey::from_box` opens it; otherwise
+        // it ran out of memory, the file could not be opened or read, it is not UTF-8, or that call
+        // refuses a text.
+        //
+        // Until the file was read the prompt is left alone.
         ensures opens { IsFileOpening (prompt_passage R.Source W.Sink prompt.old prompt.new)
             (option_map string_bytes password) None result }
     {
@@ -82,6 +90,7 @@ impl SecretKey {
         password: Option<String>,
         prompt: &mut Prompt<R, W>,
     ) -> Result<SecretKey>
+        // As `SecretKey::from_box_within` says, with no bound on the work.
         ensures opens { IsOpening (prompt_passage R.Source W.Sink prompt.old prompt.new)
             (option_map string_bytes password) sk_box None result }
         ensures headline { OpeningHeadline
@@ -104,6 +113,8 @@ impl SecretKey {
     ) -> Result<SecretKey>
         requires kept { 1 ≤ k }
 
+        // With every k-th row of scrypt kept, for every k from 1 on: as
+        // `SecretKey::from_box_within` says, with no bound on the work.
         ensures opens { IsOpening (prompt_passage R.Source W.Sink prompt.old prompt.new)
             (option_map string_bytes password) sk_box None result }
         ensures headline { OpeningHeadline
@@ -135,12 +146,52 @@ impl SecretKey {
         prompt: &mut Prompt<R, W>,
         max_p: u32,
     ) -> Result<SecretKey>
+        // With a password that is passed in: the text reads as a key that opens under it within the
+        // bound, and what is returned is this key opened; otherwise out of memory, or the first
+        // reason, and no key that the text reads as opens in this way. The prompt is left
+        // untouched.
+        //
+        // With a password that is asked for: what was typed opens the key so, and the prompt wrote
+        // what docs/FORMATS.md says; a text that no password opens, and running out of
+        // memory for it, leave the prompt untouched; then come the prompt's faults, and what
+        // refuses the key with the password, each with what was written by then (`IsOpenedAsking`,
+        // `RefusesAsking`).
+        ensures opens { IsOpening (prompt_passage R.Source W.Sink prompt.old prompt.new)
+            (option_map string_bytes password) sk_box (Some max_p) result }
+
+        // In one piece, for a key that the text reads as and that is sealed by scrypt: it opens
+        // exactly when its limits are allowed and the stream of RFC 7914 restores its checksum.
+        ensures headline { OpeningHeadline (option_map string_bytes password) sk_box
+            (Some max_p) result }
+    {
+        SecretKey::open_box(alloc, sk_box, password, prompt, Some(max_p), 1)
+    }
+
+    /// Reads a sealed key and opens it with the password, within a bound on the work and in a
+    /// fraction of the memory: `from_box_within` with only every k-th of scrypt's rows kept, for k
+    /// from 1 on, as `from_box_keeping` keeps them. N is at most 2^20, so that with k 16 no key
+    /// takes more than 64 MiB of rows.
+    ///
+    /// What is opened and what is refused, and in which order, is that of `from_box_within`, for
+    /// every k.
+    pub fn from_box_keeping_within<R: Source, W: Sink>(
+        alloc: Global,
+        sk_box: SecretKeyBox,
+        password: Option<String>,
+        prompt: &mut Prompt<R, W>,
+        k: u64,
+        max_p: u32,
+    ) -> Result<SecretKey>
+        requires kept { 1 ≤ k }
+
+        // With every k-th row of scrypt kept, for every k from 1 on: as
+        // `SecretKey::from_box_within` says.
         ensures opens { IsOpening (prompt_passage R.Source W.Sink prompt.old prompt.new)
             (option_map string_bytes password) sk_box (Some max_p) result }
         ensures headline { OpeningHeadline (option_map string_bytes password) sk_box
             (Some max_p) result }
     {
-        SecretKey::open_box(alloc, sk_box, password, prompt, Some(max_p), 1)
+        SecretKey::open_box(alloc, sk_box, password, prompt, Some(max_p), k)
     }
 
     /// Reads a key that was never sealed. Its text is read as two lines: one of comment, and one
@@ -151,12 +202,16 @@ impl SecretKey {
     /// line that is not base64, or of fewer than 158 bytes; a key derivation other than two zero
     /// bytes; a checksum that does not match.
     pub fn from_unencrypted_box(alloc: Global, sk_box: SecretKeyBox) -> Result<SecretKey>
+        // A key that was never sealed is read exactly when its text reads as a key, names no key
+        // derivation and has a matching checksum, and it is the only key that the text reads as;
+        // otherwise out of memory or the first reason.
         ensures outcome { MatchResult result (IsUnencryptedText sk_box)
             (λ e. (e ≡ Named OutOfMemory) ⊎ RefusesUnencrypted sk_box e) }
         ensures one_reading { IfOk result
             (λ v. (other : SecretKeyRecord) → SecretKeyText sk_box other → other ≡ v) }
 
-        // Whether a text reads as a key, sealed or not, and as which.
+        // No test fails exactly when the text of a secret key reads as some key, and it reads as
+        // one at most.
         ensures decided { IsDecided (SecretKeyText sk_box) (secret_key_refusal sk_box) }
     {
         SecretKey::unencrypted_from_text(alloc, sk_box.as_str())
@@ -255,13 +310,14 @@ impl SecretKey {
         k: u64,
     ) -> Result<SecretKey>
         requires { 1 ≤ k }
-        ensures opened { IfOk result
-            (λ v. (bytes : List ℕ) × (password : List ℕ) × (v ≡ xored_key self password)
+        ensures opened { IfOk result (λ v. (bytes : List ℕ) × (password : List ℕ)
+            × (password_of bytes ≡ Ok password) × (v ≡ xored_key self password)
             × (password_refusal self password bound ≡ None)
-            × HasAskedAndSaid (prompt_passage R.Source W.Sink prompt.old prompt.new) bytes password
-            (deriving_text ++ done_text)) }
-        ensures refused { IfErr result
-            (IsAskedRefusal (prompt_passage R.Source W.Sink prompt.old prompt.new) self bound) }
+            × HasHeld (prompt_passage R.Source W.Sink prompt.old prompt.new)
+            (opening self bound bytes)) }
+        ensures refused { IfErr result (λ e. (bytes : List ℕ)
+            × HasStopped (prompt_passage R.Source W.Sink prompt.old prompt.new)
+            (opening self bound bytes) e) }
     {
         let password = ask_password(alloc, prompt)?;
         self.open_telling(alloc, password.as_bytes(), prompt, bound, k)
@@ -280,11 +336,11 @@ impl SecretKey {
         ensures opened { IfOk result
             (λ v. (v ≡ xored_key self password.now)
             × (password_refusal self password.now bound ≡ None)
-            × HasSaid (prompt_passage R.Source W.Sink prompt.old prompt.new)
-            (deriving_text ++ done_text)) }
+            × HasHeld (prompt_passage R.Source W.Sink prompt.old prompt.new)
+            (telling self password.now bound)) }
         ensures refused { IfErr result
-            (λ e. IsToldRefusal (HasSaid (prompt_passage R.Source W.Sink prompt.old prompt.new))
-            (HasNotSaid (prompt_passage R.Source W.Sink prompt.old prompt.new)) self password.now bound e) }
+            (HasStopped (prompt_passage R.Source W.Sink prompt.old prompt.new)
+            (telling self password.now bound)) }
     {
         say_deriving(prompt)?;
         let mut sk = self;
@@ -295,14 +351,11 @@ impl SecretKey {
 
     // Says that the key was derived, and only then tests that opening restored the checksum.
     fn finish_telling<R: Source, W: Sink>(&self, prompt: &mut Prompt<R, W>) -> Result<()>
-        ensures said { OnOk result
-            (HasSaid (prompt_passage R.Source W.Sink prompt.old prompt.new) done_text) }
+        ensures held { OnOk result
+            (HasHeld (prompt_passage R.Source W.Sink prompt.old prompt.new) (ending self.now)) }
         ensures restored { OnOk result (checksum_refusal self.now (Named WrongPassword) ≡ None) }
-        ensures refused { IfErr result (λ e.
-            ((e ≡ Named WritingFailed)
-            × HasNotSaid (prompt_passage R.Source W.Sink prompt.old prompt.new) done_text)
-            ⊎ ((checksum_refusal self.now (Named WrongPassword) ≡ Some e)
-            × HasSaid (prompt_passage R.Source W.Sink prompt.old prompt.new) done_text)) }
+        ensures refused { IfErr result
+            (HasStopped (prompt_passage R.Source W.Sink prompt.old prompt.new) (ending self.now)) }
     {
         say_done(prompt)?;
         self.check_restored()
@@ -346,10 +399,12 @@ impl SecretKey {
 #[tactic(auto, unfolding(crate::specs::Opening::asking_text))]
 fn ask_password<R: Source, W: Sink>(alloc: Global, prompt: &mut Prompt<R, W>) -> Result<String>
     ensures asked { IfOk result (λ password. (bytes : List ℕ)
-        × HasAsked (prompt_passage R.Source W.Sink prompt.old prompt.new) asking_text bytes
-        (Ok (string_bytes password))) }
-    ensures refused { IfErr result
-        (IsAskingFault (prompt_passage R.Source W.Sink prompt.old prompt.new) asking_text) }
+        × (password_of bytes ≡ Ok (string_bytes password))
+        × HasHeld (prompt_passage R.Source W.Sink prompt.old prompt.new)
+        (asking asking_text bytes)) }
+    ensures refused { IfErr result (λ e. (bytes : List ℕ)
+        × HasStopped (prompt_passage R.Source W.Sink prompt.old prompt.new)
+        (asking asking_text bytes) e) }
 {
     get_password(alloc, prompt, "Password: ")
 }

@@ -1,12 +1,14 @@
 //! The parts of keys and boxes that a caller needs whose signature scheme stands outside.
 
-ghost use Rattle.std.specs.Prelude.{◌≡◌, None, Some, IfOk, IfErr, MatchOption, IsSomeAnd};
+ghost use Rattle.std.specs.Prelude.{◌≡◌, None, Some, IfOk, IfErr, MatchOption, MatchResult, IsSomeAnd};
 ghost use Rattle.minisign_base.specs.Fault.{Named};
 ghost use Rattle.minisign_base.specs.declared.faults.NamedFault.TheVariants.{OutOfMemory};
 ghost use Rattle.minisign.specs.Records.{prehashed_algorithm};
+ghost use Rattle.minisign.specs.Sealing.{IsUnencrypted, unencrypted_refusal};
 
 use crate::constants::SIGALG_PREHASHED;
 use crate::public_key::PublicKey;
+use crate::secret_key::SecretKey;
 use crate::signature::Signature;
 use crate::signature_box::{Comments, SignatureBox};
 use minisign_base::Result;
@@ -28,6 +30,48 @@ impl PublicKey {
     }
 }
 
+impl SecretKey {
+    /// The identifier, as an array, as it stands: of a sealed key the sealed one.
+    pub fn key_id(&self) -> &[u8; 8]
+        ensures { result.now ≡ self.now.keynum }
+    {
+        &self.keynum_sk.keynum
+    }
+
+    /// The 64 secret bytes, as they stand: of an opened key the 32 bytes of the seed and the 32 of
+    /// its public key, of a sealed key the sealed ones.
+    pub fn secret(&self) -> &[u8; 64]
+        ensures { result.now ≡ self.now.secret }
+    {
+        &self.keynum_sk.sk
+    }
+
+    /// The key derivation that the key names: two zeros where it was never sealed.
+    pub fn key_derivation(&self) -> &[u8; 2]
+        ensures { result.now ≡ self.now.kdf }
+    {
+        &self.kdf_alg
+    }
+
+    /// The 32 bytes of the checksum, as they stand: of a sealed key the sealed ones.
+    pub fn checksum(&self) -> &[u8; 32]
+        ensures { result.now ≡ self.now.checksum }
+    {
+        &self.keynum_sk.chk
+    }
+
+    /// Tests that the key was never sealed (otherwise `key_might_be_encrypted`), and then that its
+    /// checksum matches (otherwise `corrupted_key`). Takes no memory.
+    pub fn test_unencrypted(&self) -> Result<()>
+        // A key is taken exactly if it was never sealed and its checksum matches; otherwise it is
+        // the first reason.
+        ensures { MatchResult result (λ _. IsUnencrypted self.now)
+            (λ e. (unencrypted_refusal self.now ≡ Some e) × ¬ (IsUnencrypted self.now)) }
+    {
+        self.check_unencrypted()
+    }
+}
+
 impl SignatureBox {
     /// The box of a signature over the digest of the data, under the identifier of the key that
     /// signed, with both comments and the signature of that signature followed by the trusted one.
@@ -40,6 +84,7 @@ impl SignatureBox {
         trusted_comment: &str,
         comment_signature: &[u8; 64],
     ) -> Result<SignatureBox>
+        // A box of parts is the box of these parts; the only refusal is out of memory.
         ensures parts { IfOk result (λ x. x ≡ record {
           signature = record { algorithm = prehashed_algorithm; keynum = key_id.now; signature = signature.now };
           comments = Some (record { untrusted = untrusted_comment.now; trusted = trusted_comment.now; signature = comment_signature.now });

@@ -1,6 +1,6 @@
 //! A public key, which vouches for what was signed with its secret key.
 
-ghost use Rattle.std.specs.Prelude.{◌≡◌, ◌<◌, ◌⊎◌, List, ℕ, true, false, Some, length, string_bytes, MatchResult, IsOk, IfOk, IfErr, IfSome, IfNone, bytes_eq};
+ghost use Rattle.std.specs.Prelude.{◌≡◌, ◌<◌, ◌+◌, ◌⊎◌, List, ℕ, true, false, Some, length, string_bytes, MatchResult, IsOk, IfOk, IfErr, IfSome, IfNone, bytes_eq};
 ghost use Rattle.std.specs.Cmp.{on_per, on_equiv, partial_equiv_from_equiv};
 ghost use Rattle.std.specs.Cmp.Lexicographic.{nat_list_eq_equiv};
 ghost use Rattle.minisign_base.specs.Fault.{Named};
@@ -8,16 +8,18 @@ ghost use Rattle.minisign_base.specs.declared.faults.NamedFault.TheVariants.{Out
 ghost use Rattle.minisign.specs.Texts.{IsRefused, IsDecided, base64_of, is_base64, base64_bytes};
 ghost use Rattle.std.specs.Str.{trim};
 ghost use Rattle.minisign.specs.Records.{own_public_key};
-ghost use Rattle.minisign.specs.PublicKeyText.{EncodesPublicKey, PublicKeyText, BarePublicKey, public_key_refusal, bare_public_key_refusal, public_key_text};
+ghost use Rattle.minisign.specs.PublicKeyText.{EncodesPublicKey, PublicKeyText, BarePublicKey, public_key_refusal, bare_public_key_refusal, commented_public_key_text, public_key_text};
+ghost use Rattle.std.specs.Str.Iter.{LacksByte};
 ghost use Rattle.minisign.specs.TextFiles.{IsTextFileFault};
 ghost use Rattle.minisign.specs.Texts.{HasSecondLine};
 
+use crate::constants::COMMENT_PREFIX;
 use crate::fields::{push_three, split_three};
 use crate::keynum::KeynumPK;
 use crate::public_key_box::PublicKeyBox;
 use crate::reading::read_text_file;
 use crate::secret_key::SecretKey;
-use crate::texts::{decode, encode, next_line};
+use crate::texts::{decode, encode, next_line, push_line};
 use minisign_base::{Identifier, NamedFault, Result};
 use minisign_hash::util::fixed_time_eq;
 use std::alloc::Global;
@@ -25,7 +27,7 @@ use std::marker::Model;
 use std::rt::Files;
 
 // The length of a public key in base64.
-const ENCODED_BYTES: usize = 56;
+pub(crate) const ENCODED_BYTES: usize = 56;
 
 /// A public key: an algorithm of 2 bytes, an identifier of 8 and a key of 32. The algorithm is kept
 /// as it was read and never tested.
@@ -56,6 +58,8 @@ impl PublicKey {
     /// Reads the 42 bytes at the front: algorithm, identifier, key. Fewer bytes are refused, and
     /// later ones are ignored. Takes no memory.
     pub fn from_bytes(bytes: &[u8]) -> Result<PublicKey>
+        // The lists that begin with a record are read as that record; exactly those that are too
+        // short are refused.
         ensures { MatchResult result (ReadsPublicKey bytes.now)
             (λ e. (e ≡ Named RecordTooShort) × (length bytes.now < 42)) }
     {
@@ -73,11 +77,18 @@ impl PublicKey {
     /// another length of that line, what is not base64, fewer than 42 bytes. It may run out of
     /// memory at any time.
     pub fn from_box(alloc: Global, public_key_box: PublicKeyBox) -> Result<PublicKey>
+        // A public key text is read as the key that its grammar gives it; a text that reads as a
+        // key gives this key or out of memory.
         ensures read { IfOk result (PublicKeyText public_key_box) }
         ensures exact { (k : PublicKeyRecord) → PublicKeyText public_key_box k →
             MatchResult result (λ v. v ≡ k) (λ e. e ≡ Named OutOfMemory) }
+
+        // A refusal is out of memory, or the first test that fails, and in the second case the text
+        // reads as no key.
         ensures refused { IfErr result (λ e. (e ≡ Named OutOfMemory)
             ⊎ IsRefused (PublicKeyText public_key_box) (public_key_refusal public_key_box) e) }
+
+        // No test fails exactly when the text reads as some key, and it reads as one at most.
         ensures decided { IsDecided (PublicKeyText public_key_box)
             (public_key_refusal public_key_box) }
     {
@@ -91,6 +102,10 @@ impl PublicKey {
     /// one that is not UTF-8, `not_utf8`; and what `from_box` refuses. It may run out of memory at
     /// any time. Std's files tell no bytes, so of the text it is only said that there is one.
     pub fn from_file<F: Files>(files: &F, alloc: Global, path: &str) -> Result<PublicKey>
+        // What is returned is read from some text, as the calls over texts read it; otherwise it
+        // ran out of memory, the file could not be opened or read, it is not UTF-8, or these calls
+        // refuse a text. Std's files tell no byte, so that it is the text of this file no contract
+        // says.
         ensures read { IfOk result (λ k. (text : List ℕ) × PublicKeyText text k) }
         ensures refused { IfErr result (λ e. IsTextFileFault e
             ⊎ ((text : List ℕ) × IsRefused (PublicKeyText text) (public_key_refusal text) e)) }
@@ -104,11 +119,18 @@ impl PublicKey {
     /// These are refused, in this order: a text that, trimmed of white space, has another length,
     /// what is not base64 as it stands, fewer than 42 bytes. It may run out of memory at any time.
     pub fn from_base64(alloc: Global, text: &str) -> Result<PublicKey>
+        // The bare base64 of a key is read as the key that its grammar gives it; a text that is one
+        // gives this key or out of memory.
         ensures read { IfOk result (BarePublicKey text.now) }
         ensures exact { (k : PublicKeyRecord) → BarePublicKey text.now k →
             MatchResult result (λ v. v ≡ k) (λ e. e ≡ Named OutOfMemory) }
+
+        // A refusal is out of memory, or the first test that fails, and in the second case the text
+        // reads as no key.
         ensures refused { IfErr result (λ e. (e ≡ Named OutOfMemory)
             ⊎ IsRefused (BarePublicKey text.now) (bare_public_key_refusal text.now) e) }
+
+        // No test fails exactly when the text reads as some key, and it reads as one at most.
         ensures decided { IsDecided (BarePublicKey text.now) (bare_public_key_refusal text.now) }
     {
         read_bare(alloc, text)
@@ -117,6 +139,8 @@ impl PublicKey {
     /// The public key of a secret key: its algorithm, its identifier and the last 32 bytes of its
     /// secret, as they stand in a sealed key too. Never refuses, and takes no memory.
     pub fn from_secret_key(sk: &SecretKey) -> Result<PublicKey>
+        // A public key made from a secret one has its algorithm, its identifier as it stands, and
+        // the last 32 of its secret bytes; making it never fails.
         ensures succeeds { IsOk result }
         ensures key { IfOk result (λ v. v ≡ own_public_key sk.now) }
     {
@@ -136,6 +160,8 @@ impl PublicKey {
     /// identifier, read little endian, in 16 upper hexadecimal digits; the base64 of the 42 bytes.
     /// Only running out of memory is refused.
     pub fn to_box(&self, alloc: Global) -> Result<PublicKeyBox>
+        // The text of a key, and its base64, are the ones by definition, and read as this key; the
+        // only refusal is out of memory.
         ensures text { IfOk result (λ b. b ≡ public_key_text self.now) }
         ensures reads_back { IfOk result (λ b. PublicKeyText b self.now) }
         ensures refused { IfErr result (λ e. e ≡ Named OutOfMemory) }
@@ -149,8 +175,31 @@ impl PublicKey {
         Ok(PublicKeyBox::from(text))
     }
 
+    /// The text of the key with a comment of the caller's, two lines: `untrusted comment: ` and the
+    /// comment; the base64 of the 42 bytes. It has 77 bytes more than the comment. Where no line
+    /// feed stands in the comment, the text reads as the key again. Only running out of memory is
+    /// refused.
+    #[tactic(auto, unfolding(crate::specs::Texts::untrusted_comment_label))]
+    pub fn to_box_with_comment(&self, alloc: Global, comment: &str) -> Result<PublicKeyBox>
+        // The text of a public key with a comment of the caller's is the one by definition, and if
+        // the comment has no line feed it reads as this key; it has 77 bytes more than the comment;
+        // the only refusal is out of memory.
+        ensures text { IfOk result (λ b. b ≡ commented_public_key_text comment.now self.now) }
+        ensures reads_back { LacksByte 10 comment.now → IfOk result (λ b. PublicKeyText b self.now) }
+        ensures size { IfOk result (λ b. length b ≡ length comment.now + 77) }
+        ensures refused { IfErr result (λ e. e ≡ Named OutOfMemory) }
+    {
+        let encoded = self.to_base64(alloc)?;
+        let mut text = String::new(alloc);
+        push_line(&mut text, COMMENT_PREFIX, comment)?;
+        push_line(&mut text, "", encoded.as_str())?;
+        Ok(PublicKeyBox::from(text))
+    }
+
     /// The base64 of the 42 bytes, 56 characters. Only running out of memory is refused.
     pub fn to_base64(&self, alloc: Global) -> Result<String>
+        // The text of a key, and its base64, are the ones by definition, and read as this key; the
+        // only refusal is out of memory.
         ensures text { IfOk result (λ t. string_bytes t ≡ base64_of (public_key_bytes self.now)) }
         ensures reads_back { IfOk result (λ t. BarePublicKey (string_bytes t) self.now) }
         ensures refused { IfErr result (λ e. e ≡ Named OutOfMemory) }
@@ -162,6 +211,8 @@ impl PublicKey {
 
     /// The 42 bytes that `from_bytes` reads as this key. Only running out of memory is refused.
     pub fn to_bytes(&self, alloc: Global) -> Result<Vec<u8>>
+        // The bytes are those of the record, and are read as this record and no other; the only
+        // refusal is out of memory.
         ensures bytes { IfOk result (λ v. v.items ≡ public_key_bytes self.now) }
         ensures reads_back { IfOk result (λ v. ReadsPublicKey v.items self.now) }
         ensures one_reading { IfOk result
@@ -201,7 +252,7 @@ fn read_bare(alloc: Global, text: &str) -> Result<PublicKey>
 }
 
 // The second line of a text that may hold a public key.
-fn key_line(text: &str) -> Result<&str>
+pub(crate) fn key_line(text: &str) -> Result<&str>
     ensures line { IfOk result (λ l. HasSecondLine text.now l.now) }
     ensures refused { IfErr result (λ e. public_key_refusal text.now ≡ Some e) }
 {

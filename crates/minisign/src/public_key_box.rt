@@ -61,6 +61,7 @@ impl PublicKeyBox {
 
     /// The public key that the text holds: `PublicKey::from_box` of this box.
     pub fn into_public_key(self, alloc: Global) -> Result<PublicKey>
+        // The text that it holds is read, and refused, as `PublicKey::from_box` says.
         ensures read { IfOk result (PublicKeyText self) }
         ensures exact { (k : PublicKeyRecord) → PublicKeyText self k →
             MatchResult result (λ v. v ≡ k) (λ e. e ≡ Named OutOfMemory) }
@@ -78,7 +79,7 @@ impl PublicKeyBox {
     }
 }
 
-/// Takes no memory.
+/// A box of this text. Takes no memory.
 impl From<String> for PublicKeyBox {
     ghost from_gives = { λ text b. b ≡ string_bytes text };
 
@@ -87,7 +88,7 @@ impl From<String> for PublicKeyBox {
     }
 }
 
-/// Takes no memory.
+/// The text of the box. Takes no memory.
 impl From<PublicKeyBox> for String {
     ghost from_gives = { λ b text. string_bytes text ≡ b };
 
@@ -96,6 +97,7 @@ impl From<PublicKeyBox> for String {
     }
 }
 
+/// The text.
 impl fmt::Display for PublicKeyBox {
     ghost output = { λ b. Some b };
 

@@ -5,9 +5,8 @@ ghost use Rattle.std.specs.Int.{to_le_bytes, w64};
 ghost use Rattle.std.specs.Simd.Lanes.{zip2};
 ghost use Rattle.minisign_base.specs.Fault.{Named};
 ghost use Rattle.minisign_base.specs.declared.faults.NamedFault.TheVariants.{OutOfMemory};
-ghost use Rattle.minisign_base.specs.Limits.{sealing_limits};
-ghost use Rattle.minisign.specs.Generation.{opened_key, sealed_key, sealing_memory, sealing_operations, unsealed_key};
-ghost use Rattle.minisign.specs.Sealing.{bound_refusal, key_limits, key_numbers, key_xor, stream_of, work_refusal, xored_key};
+ghost use Rattle.minisign.specs.Generation.{key_to_seal, opened_key, sealed_key, unsealed_key};
+ghost use Rattle.minisign.specs.Sealing.{key_limits, key_numbers, key_xor, stream_of, work_refusal, xored_key};
 
 use crate::constants::{KDF_ALG, MEMLIMIT, OPSLIMIT};
 use crate::secret_key::SecretKey;
@@ -31,24 +30,24 @@ impl SecretKey {
             → IfOk result (λ k. xored_key k password.now ≡ opened_key keynum secret salt) }
         ensures refused { IfErr result (λ e. e ≡ Named OutOfMemory) }
     {
-        let mut sk = self.with_limits(salt);
+        let mut sk = self.with_limits(salt, OPSLIMIT, MEMLIMIT);
         sk.apply_stream(alloc, password, None, 1)?;
         Ok(sk)
     }
 
-    // Names the key derivation, its salt and the limits by default.
-    #[tactic(auto, unfolding(crate::specs::Generation::opened_key))]
-    fn with_limits(self, salt: [u8; 32]) -> SecretKey
+    // Names the key derivation, its salt and its limits.
+    #[tactic(auto, unfolding(crate::specs::Generation::key_to_seal))]
+    pub(crate) fn with_limits(self, salt: [u8; 32], opslimit: u64, memlimit: u64) -> SecretKey
         ensures named { (keynum secret : List ℕ) → self ≡ unsealed_key keynum secret
-            → result ≡ opened_key keynum secret salt }
-        ensures memory { result.memory_limit ≡ to_le_bytes w64 sealing_memory }
-        ensures operations { result.operations_limit ≡ to_le_bytes w64 sealing_operations }
+            → result ≡ key_to_seal keynum secret salt opslimit memlimit }
+        ensures memory { result.memory_limit ≡ to_le_bytes w64 memlimit }
+        ensures operations { result.operations_limit ≡ to_le_bytes w64 opslimit }
     {
         let mut sk = self;
         sk.kdf_alg = KDF_ALG;
         sk.kdf_salt = salt;
-        sk.kdf_opslimit_le = store_u64_le(OPSLIMIT);
-        sk.kdf_memlimit_le = store_u64_le(MEMLIMIT);
+        sk.kdf_opslimit_le = store_u64_le(opslimit);
+        sk.kdf_memlimit_le = store_u64_le(memlimit);
         sk
     }
 
@@ -123,45 +122,32 @@ fn derive_stream(
     Ok(stream)
 }
 
-// The parameters that the key's limits lead to, where these are allowed and p is within the bound.
+// The parameters that the key's limits lead to, where these are allowed and p is within the bound,
+// where there is one.
+#[tactic(auto, using(crate::proofs::SealingLimits::allowed_numbers))]
 fn bounded_params(sk: &SecretKey, bound: Option<u32>) -> Result<Params>
     ensures { MatchResult result
         (λ v. (key_numbers sk.now ≡ v) × (work_refusal sk.now bound ≡ None))
         (λ e. work_refusal sk.now bound ≡ Some e) }
 {
     let params = key_params(sk)?;
-    check_bound(&params, bound)?;
-    Ok(params)
-}
-
-// Tests that p is within the bound, where there is one.
-fn check_bound(params: &Params, bound: Option<u32>) -> Result<()>
-    ensures { MatchResult result
-        (λ _. bound_refusal (Ok params.now) bound ≡ None)
-        (λ e. bound_refusal (Ok params.now) bound ≡ Some e) }
-{
-    if let Some(max_p) = bound {
-        if params.p() > max_p {
-            return Err(NamedFault::WorkTooHigh.into());
+    match bound {
+        Some(max_p) => {
+            if params.p() > max_p {
+                return Err(NamedFault::WorkTooHigh.into());
+            }
+            Ok(params)
         }
+        None => Ok(params),
     }
-    Ok(())
 }
 
-// The parameters that the key's limits lead to, where these are allowed.
+// The parameters that the key's limits lead to, where sealing and opening allow them.
 fn key_params(sk: &SecretKey) -> Result<Params>
     ensures { result ≡ key_limits sk.now }
 {
     let memlimit = load_u64_le(&sk.kdf_memlimit_le);
     let opslimit = load_u64_le(&sk.kdf_opslimit_le);
-    sealing_params(memlimit, opslimit)
-}
-
-// The parameters that a memory limit in bytes and an operations limit lead to, where sealing and
-// opening allow them.
-fn sealing_params(memlimit: u64, opslimit: u64) -> Result<Params>
-    ensures { result ≡ sealing_limits memlimit opslimit }
-{
     if memlimit > MEMLIMIT_MAX {
         return Err(NamedFault::ParametersTooHigh.into());
     }

@@ -83,6 +83,8 @@ impl SecretKey {
     /// Whether the key is sealed and has to be opened before it signs: it names a key derivation,
     /// and its checksum does not match. Takes no memory.
     pub fn is_encrypted(&self) -> bool
+        // A secret key is taken as sealed exactly when it names a key derivation and its checksum
+        // does not match.
         ensures { result ≡ is_encrypted self.now }
     {
         self.kdf_alg != KDF_NONE && self.keynum_sk.chk != self.read_checksum()
@@ -91,6 +93,8 @@ impl SecretKey {
     /// Reads the 158 bytes at the front. Fewer bytes are refused, and later ones are ignored. The
     /// bytes are kept as they stand: nothing is opened or tested. Takes no memory.
     pub fn from_bytes(bytes: &[u8]) -> Result<SecretKey>
+        // The lists that begin with a record are read as that record; exactly those that are too
+        // short are refused.
         ensures { MatchResult result (ReadsSecretKey bytes.now)
             (λ e. (e ≡ Named RecordTooShort) × (length bytes.now < 158)) }
     {
@@ -110,6 +114,8 @@ impl SecretKey {
 
     /// The 158 bytes that `from_bytes` reads as this key. Only running out of memory is refused.
     pub fn to_bytes(&self, alloc: Global) -> Result<Vec<u8>>
+        // The bytes are those of the record, and are read as this record and no other; the only
+        // refusal is out of memory.
         ensures bytes { IfOk result (λ v. v.items ≡ secret_key_bytes self.now) }
         ensures reads_back { IfOk result (λ v. ReadsSecretKey v.items self.now) }
         ensures one_reading { IfOk result

@@ -64,6 +64,7 @@ impl SecretKeyBox {
     }
 }
 
+/// A box of this text. Takes no memory.
 impl From<String> for SecretKeyBox {
     ghost from_gives = { λ s b. b ≡ string_bytes s };
 
@@ -72,6 +73,7 @@ impl From<String> for SecretKeyBox {
     }
 }
 
+/// The text of the box. Takes no memory.
 impl From<SecretKeyBox> for String {
     ghost from_gives = { λ b s. string_bytes s ≡ b };
 

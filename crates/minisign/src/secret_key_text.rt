@@ -1,6 +1,6 @@
 //! A secret key read from its text, and written to it.
 
-ghost use Rattle.std.specs.Prelude.{◌≡◌, ◌⊎◌, Some, MatchResult, IfOk, IfErr, IfSome};
+ghost use Rattle.std.specs.Prelude.{◌≡◌, ◌⊎◌, ◌+◌, Some, length, MatchResult, IfOk, IfErr, IfSome};
 ghost use Rattle.std.specs.Str.Iter.{LacksByte};
 ghost use Rattle.std.specs.Option.{option_copied};
 ghost use Rattle.minisign_base.specs.Fault.{Named};
@@ -24,6 +24,8 @@ impl SecretKey {
     /// Refused are, in this order: a text without a first line, without a second one, with a second
     /// line that is not base64, or of fewer than 158 bytes. It may run out of memory at any time.
     pub fn from_text(alloc: Global, text: &str) -> Result<SecretKey>
+        // The text of a secret key is read as the one key that its grammar gives it, sealed or not;
+        // otherwise out of memory or the first test that fails.
         ensures outcome { MatchResult result (SecretKeyText text.now)
             (λ e. (e ≡ Named OutOfMemory)
             ⊎ IsRefused (SecretKeyText text.now) (secret_key_refusal text.now) e) }
@@ -47,14 +49,19 @@ impl SecretKey {
     /// `rsign encrypted secret key` where none is given, on one line, and the base64 of the 158
     /// bytes on another, each ended by a line feed. The bytes are written as they stand: of an
     /// opened sealed key the opened ones, still under the name of its key derivation. Where no line
-    /// feed stands in the comment, the text reads as the key again. Only running out of memory is
-    /// refused.
+    /// feed stands in the comment, the text reads as the key again. It has 233 bytes more than the
+    /// comment. Only running out of memory is refused.
     #[tactic(auto, unfolding(crate::specs::SecretKeyText::secret_key_text, crate::specs::SecretKeyText::default_secret_key_comment))]
     pub fn to_box(&self, alloc: Global, comment: Option<&str>) -> Result<SecretKeyBox>
+        // The text of a secret key is the one by definition, and if the comment has no line feed it
+        // reads as this key; it has 233 bytes more than the comment; the only refusal is out of
+        // memory.
         ensures text { IfOk result
             (λ b. b ≡ secret_key_text (option_copied comment.entry) self.now) }
         ensures reads_back { IfSome comment.entry (λ s. LacksByte 10 s.now)
             → IfOk result (λ b. SecretKeyText b self.now) }
+        ensures size { IfSome comment.entry
+            (λ s. IfOk result (λ b. length b ≡ length s.now + 233)) }
         ensures refused { IfErr result (λ e. e ≡ Named OutOfMemory) }
     {
         match comment {
@@ -69,6 +76,7 @@ impl SecretKey {
         ensures text { IfOk result (λ b. b ≡ secret_key_text (Some comment.now) self.now) }
         ensures reads_back { LacksByte 10 comment.now
             → IfOk result (λ b. SecretKeyText b self.now) }
+        ensures size { IfOk result (λ b. length b ≡ length comment.now + 233) }
         ensures refused { IfErr result (λ e. e ≡ Named OutOfMemory) }
     {
         let bytes = self.to_bytes(alloc)?;

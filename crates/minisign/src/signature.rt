@@ -42,6 +42,8 @@ impl Signature {
     /// The 74 bytes that `from_bytes` reads as this signature. Only running out of memory is
     /// refused.
     pub fn to_bytes(&self, alloc: Global) -> Result<Vec<u8>>
+        // The bytes are those of the record, and are read as this record and no other; the only
+        // refusal is out of memory.
         ensures bytes { IfOk result (λ v. v.items ≡ signature_bytes self.now) }
         ensures reads_back { IfOk result (λ v. ReadsSignature v.items self.now) }
         ensures one_reading { IfOk result
@@ -57,6 +59,8 @@ impl Signature {
     /// Reads the 74 bytes at the front: algorithm, identifier, signature. Fewer bytes are refused,
     /// and later ones are ignored. Takes no memory.
     pub fn from_bytes(bytes: &[u8]) -> Result<Signature>
+        // The lists that begin with a record are read as that record; exactly those that are too
+        // short are refused.
         ensures { MatchResult result (ReadsSignature bytes.now)
             (λ e. (e ≡ Named RecordTooShort) × (length bytes.now < 74)) }
     {

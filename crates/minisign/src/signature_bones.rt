@@ -43,6 +43,8 @@ impl SignatureBones {
     /// Reads the 74 bytes at the front. Fewer bytes are refused, then an algorithm other than `Ed`
     /// and `ED`; later bytes are ignored. Takes no memory.
     pub fn from_bytes(bytes: &[u8]) -> Result<SignatureBones>
+        // A bare signature is read as its record if its algorithm is `Ed` or `ED`; too few bytes
+        // are refused, and then every other algorithm.
         ensures read { IfOk result
             (λ s. ReadsSignature bytes.now s × IsKnownAlgorithm s.algorithm) }
         ensures refused { IfErr result (IsBonesFault bytes.now) }
@@ -57,6 +59,8 @@ impl SignatureBones {
     /// The 74 bytes that `from_bytes` reads as this signature. Only running out of memory is
     /// refused.
     pub fn to_bytes(&self, alloc: Global) -> Result<Vec<u8>>
+        // The bytes are those of the record, and are read as this record and no other; the only
+        // refusal is out of memory.
         ensures bytes { IfOk result (λ v. v.items ≡ signature_bytes self.now) }
         ensures reads_back { IfOk result (λ v. ReadsSignature v.items self.now) }
         ensures one_reading { IfOk result

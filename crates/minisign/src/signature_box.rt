@@ -1,11 +1,11 @@
 //! A signature with its comments.
 
-ghost use Rattle.std.specs.Prelude.{◌≡◌, ◌≢◌, ◌⊎◌, ◌<◌, ◌++◌, List, ℕ, true, false, None, Some, Err, length, string_bytes, MatchOption, MatchResult, IfOk, IfErr, IfSome};
+ghost use Rattle.std.specs.Prelude.{◌≡◌, ◌≢◌, ◌⊎◌, ◌+◌, ◌≤◌, ◌<◌, ◌++◌, List, ℕ, true, false, None, Some, Err, length, string_bytes, MatchOption, MatchResult, IfOk, IfErr, IfSome};
 ghost use Rattle.std.specs.Str.{trim};
 ghost use Rattle.minisign_base.specs.Fault.{Named};
 ghost use Rattle.minisign_base.specs.declared.faults.NamedFault.TheVariants.{OutOfMemory, RecordTooShort, SignatureBoxIncomplete, SignatureNotBase64, TrustedCommentAbsent, TrustedCommentPrefix, UnsupportedSignatureAlgorithm, UntrustedCommentPrefix};
 ghost use Rattle.minisign.specs.Records.{CommentsRecord, SignatureBoxRecord, IsKnownAlgorithm};
-ghost use Rattle.minisign.specs.SignatureText.{AreOneLine, EncodesSignature, HasFourLines, SignatureText, KeepsComments, box_read_back, comments_read_back, is_known_algorithm, signature_refusal, signature_text, trusted_comment_label};
+ghost use Rattle.minisign.specs.SignatureText.{AreOneLine, EncodesSignature, HasFourLines, SignatureText, AreReadBack, box_read_back, comments_read_back, is_known_algorithm, signature_refusal, signature_text, trusted_comment_label};
 ghost use Rattle.minisign.specs.TextFiles.{IsTextFileFault};
 ghost use Rattle.minisign.specs.Texts.{IsBase64Of, IsDecided, IsRefused, base64_bytes, is_base64, untrusted_comment_label};
 
@@ -84,11 +84,18 @@ impl SignatureBox {
     /// beginning of the third line; an algorithm other than `Ed` and `ED`; a fourth line that is
     /// not base64. It may run out of memory at any time.
     pub fn from_string(alloc: Global, text: &str) -> Result<SignatureBox>
+        // A signature text is read as the box that its grammar gives it; a text that reads as a box
+        // gives this box or out of memory.
         ensures read { IfOk result (SignatureText text.now) }
         ensures exact { (x : SignatureBoxRecord) → SignatureText text.now x →
             MatchResult result (λ y. y ≡ x) (λ e. e ≡ Named OutOfMemory) }
+
+        // A refusal is out of memory, or the first test that fails, and in the second case the text
+        // reads as no box.
         ensures refused { IfErr result (λ e. (e ≡ Named OutOfMemory)
             ⊎ IsRefused (SignatureText text.now) (signature_refusal text.now) e) }
+
+        // No test fails exactly when the text reads as some box, and it reads as one at most.
         ensures decided { IsDecided (SignatureText text.now) (signature_refusal text.now) }
     {
         read_text(alloc, text)
@@ -96,6 +103,7 @@ impl SignatureBox {
 
     /// As `from_string`, of a text that is handed over.
     pub fn try_from_string(alloc: Global, text: String) -> Result<SignatureBox>
+        // The text is read, and refused, as `SignatureBox::from_string` says.
         ensures read { IfOk result (SignatureText (string_bytes text)) }
         ensures exact { (x : SignatureBoxRecord) → SignatureText (string_bytes text) x →
             MatchResult result (λ y. y ≡ x) (λ e. e ≡ Named OutOfMemory) }
@@ -113,6 +121,10 @@ impl SignatureBox {
     /// one that is not UTF-8, `not_utf8`; and what `from_string` refuses. It may run out of memory
     /// at any time. Std's files tell no bytes, so of the text it is only said that there is one.
     pub fn from_file<F: Files>(files: &F, alloc: Global, path: &str) -> Result<SignatureBox>
+        // What is returned is read from some text, as the calls over texts read it; otherwise it
+        // ran out of memory, the file could not be opened or read, it is not UTF-8, or these calls
+        // refuse a text. Std's files tell no byte, so that it is the text of this file no contract
+        // says.
         ensures read { IfOk result (λ x. (text : List ℕ) × SignatureText text x) }
         ensures refused { IfErr result (λ e. IsTextFileFault e
             ⊎ ((text : List ℕ) × IsRefused (SignatureText text) (signature_refusal text) e)) }
@@ -129,12 +141,21 @@ impl SignatureBox {
     /// at its ends. Where the untrusted one ends in a carriage return, it is read back without that
     /// one.
     pub fn to_string(&self, alloc: Global) -> Result<String>
+        // The text of a box is the one by definition; refused are a box from a bare signature, and
+        // running out of memory.
         ensures text { MatchOption self.now.comments (result ≡ Err (Named SignatureBoxIncomplete))
             (λ c. MatchResult result (λ t. string_bytes t ≡ signature_text self.now.signature c)
             (λ e. e ≡ Named OutOfMemory)) }
-        ensures reads_back { IfSome self.now.comments KeepsComments
+
+        // The text is read as the box if the untrusted comment has no line feed and does not end
+        // with a carriage return, and the trusted one has no line feed and is its own trim.
+        ensures reads_back { IfSome self.now.comments (λ c. AreReadBack c.untrusted c.trusted)
             → IfOk result (λ t. SignatureText (string_bytes t) self.now) }
-        ensures reads { IfSome self.now.comments AreOneLine
+
+        // One carriage return at the end of the untrusted comment is dropped, and everything else
+        // is read as it was written, if neither comment has a line feed and the trusted one is its
+        // own trim.
+        ensures reads { IfSome self.now.comments (λ c. AreOneLine c.untrusted c.trusted)
             → IfOk result (λ t. SignatureText (string_bytes t) (box_read_back self.now)) }
     {
         match &self.comments {
@@ -145,12 +166,13 @@ impl SignatureBox {
 
     /// As `to_string`, of a box that is handed over.
     pub fn into_string(self, alloc: Global) -> Result<String>
+        // The text, what is refused, and what is read back are as `SignatureBox::to_string` says.
         ensures text { MatchOption self.comments (result ≡ Err (Named SignatureBoxIncomplete))
             (λ c. MatchResult result (λ t. string_bytes t ≡ signature_text self.signature c)
             (λ e. e ≡ Named OutOfMemory)) }
-        ensures reads_back { IfSome self.comments KeepsComments
+        ensures reads_back { IfSome self.comments (λ c. AreReadBack c.untrusted c.trusted)
             → IfOk result (λ t. SignatureText (string_bytes t) self) }
-        ensures reads { IfSome self.comments AreOneLine
+        ensures reads { IfSome self.comments (λ c. AreOneLine c.untrusted c.trusted)
             → IfOk result (λ t. SignatureText (string_bytes t) (box_read_back self)) }
     {
         self.to_string(alloc)
@@ -158,6 +180,7 @@ impl SignatureBox {
 
     /// The bytes of the text of the box, refused as `to_string`.
     pub fn to_bytes(&self, alloc: Global) -> Result<Vec<u8>>
+        // The bytes of a box are those of its text, and what is refused is the same.
         ensures { MatchOption self.now.comments (result ≡ Err (Named SignatureBoxIncomplete))
             (λ c. MatchResult result (λ v. v.items ≡ signature_text self.now.signature c)
             (λ e. e ≡ Named OutOfMemory)) }
@@ -192,6 +215,8 @@ impl SignatureBox {
     /// The comment that nothing vouches for; a bare signature has an empty one. Only running out of
     /// memory is refused.
     pub fn untrusted_comment(&self, alloc: Global) -> Result<String>
+        // The untrusted comment, which of a bare signature is empty; the only refusal is out of
+        // memory.
         ensures comment { IfOk result (λ t. string_bytes t ≡ untrusted_comment_of self.now) }
         ensures refused { IfErr result (λ e. e ≡ Named OutOfMemory) }
     {
@@ -204,6 +229,7 @@ impl SignatureBox {
     /// The comment that the comment signature vouches for. A bare signature, which has none, is
     /// refused, and running out of memory.
     pub fn trusted_comment(&self, alloc: Global) -> Result<String>
+        // The trusted comment; a box without comments is refused, and running out of memory.
         ensures { MatchOption self.now.comments (result ≡ Err (Named TrustedCommentAbsent))
             (λ c. MatchResult result (λ t. string_bytes t ≡ c.trusted) (λ e. e ≡ Named OutOfMemory)) }
     {
@@ -237,9 +263,9 @@ impl Comments {
 // The text of a signature with comments.
 fn written(alloc: Global, signature: &Signature, comments: &Comments) -> Result<String>
     ensures text { IfOk result (λ t. string_bytes t ≡ signature_text signature.now comments.now) }
-    ensures reads_back { KeepsComments comments.now → IsKnownAlgorithm signature.now.algorithm →
+    ensures reads_back { AreReadBack comments.now.untrusted comments.now.trusted → IsKnownAlgorithm signature.now.algorithm →
         IfOk result (λ t. SignatureText (string_bytes t) (record { signature = signature.now; comments = Some comments.now })) }
-    ensures reads { AreOneLine comments.now → IsKnownAlgorithm signature.now.algorithm →
+    ensures reads { AreOneLine comments.now.untrusted comments.now.trusted → IsKnownAlgorithm signature.now.algorithm →
         IfOk result (λ t. SignatureText (string_bytes t) (record { signature = signature.now; comments = Some (comments_read_back comments.now) })) }
     ensures refused { IfErr result (λ e. e ≡ Named OutOfMemory) }
 {
@@ -255,11 +281,11 @@ fn written(alloc: Global, signature: &Signature, comments: &Comments) -> Result<
 
 // The first four lines of a signature text.
 #[derive(Clone, Copy, Drop)]
-struct TextLines<'a> {
-    untrusted_comment: &'a str,
-    signature: &'a str,
-    trusted_comment: &'a str,
-    global_sig: &'a str,
+pub(crate) struct TextLines<'a> {
+    pub(crate) untrusted_comment: &'a str,
+    pub(crate) signature: &'a str,
+    pub(crate) trusted_comment: &'a str,
+    pub(crate) global_sig: &'a str,
 }
 
 // Reads a signature text.
@@ -272,9 +298,10 @@ fn read_text(alloc: Global, text: &str) -> Result<SignatureBox>
     read_lines(alloc, lines)
 }
 
-fn four_lines(text: &str) -> Result<TextLines<'_>>
+pub(crate) fn four_lines(text: &str) -> Result<TextLines<'_>>
     ensures lines { IfOk result (λ l. HasFourLines text.now l.untrusted_comment.now l.signature.now
         l.trusted_comment.now l.global_sig.now) }
+    ensures size { IfOk result (λ l. length l.signature.now + length l.trusted_comment.now ≤ length text.now) }
     ensures refused { IfErr result (λ e. signature_refusal text.now ≡ Some e) }
 {
     let mut lines = text.lines();
@@ -326,7 +353,7 @@ fn read_lines(alloc: Global, lines: TextLines) -> Result<SignatureBox>
 
 // The comment in the first line.
 #[tactic(auto, unfolding(crate::specs::Texts::untrusted_comment_label))]
-fn untrusted_comment_in(line: &str) -> Result<&str>
+pub(crate) fn untrusted_comment_in(line: &str) -> Result<&str>
     ensures comment { IfOk result (λ c. line.now ≡ untrusted_comment_label ++ c.now) }
     ensures refused { IfErr result (λ e. (e ≡ Named UntrustedCommentPrefix)
         × ((comment : List ℕ) → line.now ≢ untrusted_comment_label ++ comment)) }
@@ -339,7 +366,7 @@ fn untrusted_comment_in(line: &str) -> Result<&str>
 
 // The comment in the third line.
 #[tactic(auto, unfolding(crate::specs::SignatureText::trusted_comment_label))]
-fn trusted_comment_in(line: &str) -> Result<&str>
+pub(crate) fn trusted_comment_in(line: &str) -> Result<&str>
     ensures comment { IfOk result (λ c. line.now ≡ trusted_comment_label ++ c.now) }
     ensures refused { IfErr result (λ e. (e ≡ Named TrustedCommentPrefix)
         × ((comment : List ℕ) → line.now ≢ trusted_comment_label ++ comment)) }
@@ -365,7 +392,7 @@ fn decode_signature(alloc: Global, text: &str) -> Result<Signature>
 }
 
 // A signature of an algorithm that is known.
-fn known(signature: Signature) -> Result<Signature>
+pub(crate) fn known(signature: Signature) -> Result<Signature>
     ensures same { IfOk result (λ s. (s ≡ signature) × IsKnownAlgorithm s.algorithm) }
     ensures refused { IfErr result (λ e. (e ≡ Named UnsupportedSignatureAlgorithm)
         × (is_known_algorithm signature.algorithm ≡ false)) }

@@ -37,7 +37,9 @@ impl SignedData {
 }
 
 // Reads all that is ahead in pieces. It is kept in memory where the signature is over the data
-// itself and that is allowed, and otherwise hashed, so that memory does not grow with it.
+// itself and that is allowed, and otherwise hashed, so that memory does not grow with it: a
+// stranger's file must not fill it. It is read to its end in any case, since a failing read comes
+// before the verdict.
 pub(crate) fn read_signed_data<R: Source>(
     alloc: Global,
     signature_box: &SignatureBox,

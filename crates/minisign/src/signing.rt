@@ -11,7 +11,7 @@ ghost use Rattle.minisign_base.specs.declared.faults.NamedFault.TheVariants.{Out
 ghost use Rattle.minisign.specs.Reading.{ReadsWhole};
 ghost use Rattle.minisign.specs.Sealing.{is_encrypted};
 ghost use Rattle.minisign.specs.Acceptance.{accepts_comments};
-ghost use Rattle.minisign.specs.Signing.{AreKept, DrawFails, HasDrawn, IsSigned, SigningFails, VouchesWhereGenuine, comments_or_defaults, default_trusted_comment, default_untrusted_comment, given_comments};
+ghost use Rattle.minisign.specs.Signing.{AreChosenReadBack, DrawFails, HasDrawn, IsSigned, SigningFails, VouchesWhereGenuine, comments_or_defaults, default_trusted_comment, default_untrusted_comment, given_comments};
 
 use crate::comment_signature::accepts_comments;
 use crate::constants::{DEFAULT_COMMENT, SIGALG_PREHASHED};
@@ -49,29 +49,40 @@ pub fn sign<S: Scheme, R: Source, Z: RandomSource>(
     random: &mut Z,
     moment: u64,
 ) -> Result<SignatureBox>
-    // The box that is returned, made with an opened key from all of the data, and what vouches for
-    // it: a genuine key's box is accepted under its own public key, whatever the comments.
+    // The box is made from all the bytes that were ahead, the comments or their defaults, and two
+    // times 64 random bytes. What a genuine key signed is accepted under its own public key with
+    // the same identifier, whatever the comments (`VouchesWhereGenuine`).
     ensures signed { IfOk result
         (λ x. (message : List ℕ) × ReadsWhole R.Source data_reader.old data_reader.new message
         × IsSigned (S.signature_of scheme.now) sk.now message
         (given_comments trusted_comment.entry untrusted_comment.entry moment)
         (random_passage Z.RandomSource random.old random.new) x
         × VouchesWhereGenuine (S.accepts scheme.now) (S.public_of scheme.now) sk.now message x) }
+
+    // On success the key is not sealed.
     ensures opened { OnOk result (is_encrypted sk.now ≡ false) }
+
+    // On success the 32 bytes of a given public key accept the comment signature; identifiers are
+    // not compared.
     ensures given_key { IfOk result
         (λ x. IfSome pk.entry (λ p. accepts_comments (S.accepts scheme.now) p.now x ≡ true)) }
+
+    // On success the random source did not fail.
     ensures random_calm { OnOk result (Z.random_faults random.new ≡ Z.random_faults random.old) }
 
-    // The comments by default are read back as they were written.
-    ensures defaults { AreKept (comments_or_defaults None None moment) }
-
-    // Why it was refused.
+    // A key is refused as sealed exactly when it is sealed, with nothing read or drawn
+    // (`KeyIsSealed`). `reading failed` comes only if the source's count of faults rose, with
+    // nothing drawn (`DataFails`); `random source failed` only if that source's count did, once all
+    // the data was read (`DrawFails`); a given public key is refused exactly when its 32 bytes do
+    // not accept the comment signature (`GivenKeyRefuses`).
     ensures refused { IfErr result
         (SigningFails (S.accepts scheme.now) (S.signature_of scheme.now)
         (option_copied pk.entry) sk.now
         (given_comments trusted_comment.entry untrusted_comment.entry moment)
         (source_passage R.Source data_reader.old data_reader.new)
         (random_passage Z.RandomSource random.old random.new)) }
+
+    // Whatever the result, the source and the random source lost at most some bytes at their front.
     ensures given { HasGiven (R.ahead data_reader.old) (R.ahead data_reader.new) }
     ensures drawn { HasGiven (Z.random_ahead random.old) (Z.random_ahead random.new) }
 {
@@ -92,6 +103,13 @@ pub fn sign<S: Scheme, R: Source, Z: RandomSource>(
     }
     Ok(signature_box)
 }
+
+/// A law, for which nothing is done: the comments that a signature gets where none are given meet
+/// what the headlines ask of comments, whatever the moment is.
+pub fn default_comments_are_read_back(moment: u64)
+    // The default comments are read back as they were written.
+    ensures { AreChosenReadBack (comments_or_defaults None None moment) }
+{}
 
 // The box over a digest with both comments: signs the digest with 64 random bytes, and then that
 // signature followed by the trusted comment with 64 more.

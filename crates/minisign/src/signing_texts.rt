@@ -7,9 +7,10 @@ ghost use Rattle.minisign_base.specs.Passages.{prompt_passage, random_passage, s
 ghost use Rattle.minisign.specs.Records.{SecretKeyRecord};
 ghost use Rattle.minisign.specs.Reading.{IsAhead, ReadsWhole};
 ghost use Rattle.minisign.specs.Sealing.{is_encrypted};
-ghost use Rattle.minisign.specs.Signing.{AreKept, OpenedSigningFails, comments_or_defaults, given_comments};
+ghost use Rattle.minisign.specs.Signing.{OpenedSigningFails, given_comments};
 ghost use Rattle.minisign.specs.Headline.{SigningHeadline};
-ghost use Rattle.minisign.specs.SigningTexts.{GivesKey, IsGiving, IsSignedText, TextSigningFails};
+ghost use Rattle.minisign.specs.SecretKeyText.{SecretKeyText};
+ghost use Rattle.minisign.specs.SigningTexts.{GivesKey, IsGiving, IsKeyOf, IsSignedText, TextSigningFails};
 
 use crate::constants::KDF_NONE;
 use crate::secret_key::SecretKey;
@@ -36,6 +37,7 @@ use std::alloc::Global;
 /// run out of memory at any time. A comment with a line feed, or a trusted one with white space at
 /// its ends, is written as it stands: the text need not verify then, or may read with another
 /// comment.
+#[tactic(auto, using(crate::proofs::GivenKeys::key_of_given))]
 pub fn sign_texts<S: Scheme, P: Source, Q: Sink, R: Source, Z: RandomSource>(
     alloc: Global,
     scheme: &S,
@@ -48,20 +50,22 @@ pub fn sign_texts<S: Scheme, P: Source, Q: Sink, R: Source, Z: RandomSource>(
     random: &mut Z,
     moment: u64,
 ) -> Result<String>
-    // What a genuine key signed verifies after being written and read back: every public key of its
-    // seed and identifier vouches for all of the data with the text.
+    // The text is that of a key, which it gives under some password, and a genuine key's text is
+    // read back as a box that every public key of its seed and identifier vouches with, if neither
+    // comment has a line feed and the trusted one is trimmed.
     ensures headline { IfOk result
         (λ t. (sk : SecretKeyRecord) × (message : List ℕ)
         × IsAhead (R.ahead data_reader.old) message
-        × GivesKey (prompt_passage P.Source Q.Sink prompt.old prompt.new)
-        (option_map string_bytes password) sk_text.now sk
+        × IsKeyOf sk_text.now sk
         × SigningHeadline (S.accepts scheme.now) (S.public_of scheme.now) sk message
         (given_comments trusted_comment.entry untrusted_comment.entry moment) (string_bytes t)) }
 
-    // The comments by default are read back as they were written.
-    ensures defaults { AreKept (comments_or_defaults None None moment) }
+    // The text of a secret key reads as one key at most.
+    ensures one_reading { (k l : SecretKeyRecord) → SecretKeyText sk_text.now k → SecretKeyText sk_text.now l → k ≡ l }
 
-    // The text of the box that the definition of signing makes.
+    // On success the text gave a key: either one that was never sealed and whose checksum matches,
+    // with the prompt untouched, or a sealed one that opened; and the result is the text of the box
+    // that signing makes with this key from all the data.
     ensures signed { IfOk result (λ t. (sk : SecretKeyRecord) × (message : List ℕ)
         × GivesKey (prompt_passage P.Source Q.Sink prompt.old prompt.new)
         (option_map string_bytes password) sk_text.now sk
@@ -69,16 +73,24 @@ pub fn sign_texts<S: Scheme, P: Source, Q: Sink, R: Source, Z: RandomSource>(
         × IsSignedText (S.signature_of scheme.now) sk message
         (given_comments trusted_comment.entry untrusted_comment.entry moment)
         (random_passage Z.RandomSource random.old random.new) (string_bytes t)) }
+
+    // On success the random source did not fail.
     ensures random_calm { OnOk result (Z.random_faults random.new ≡ Z.random_faults random.old) }
 
-    // Why it was refused: the text gives no key, with nothing read or drawn, or signing with its
-    // key failed.
+    // A text that gives no key is refused with nothing read or drawn, by the first reason;
+    // otherwise out of memory, a failing source with nothing drawn, or a failing random source once
+    // everything was read. The fault of a sealed key never comes (`GivesNoKey`,
+    // `OpenedSigningFails`).
     ensures refused { IfErr result
         (TextSigningFails (prompt_passage P.Source Q.Sink prompt.old prompt.new)
         (option_map string_bytes password) sk_text.now
         (source_passage R.Source data_reader.old data_reader.new)
         (random_passage Z.RandomSource random.old random.new)) }
+
+    // A password that is passed in leaves the prompt untouched.
     ensures untouched { IfSome password (λ _. prompt.new ≡ prompt.old) }
+
+    // Whatever the result, the source and the random source lost at most some bytes at their front.
     ensures given { HasGiven (R.ahead data_reader.old) (R.ahead data_reader.new) }
     ensures drawn { HasGiven (Z.random_ahead random.old) (Z.random_ahead random.new) }
 {
@@ -96,7 +108,7 @@ pub fn sign_texts<S: Scheme, P: Source, Q: Sink, R: Source, Z: RandomSource>(
 }
 
 // Signs with an opened key, and writes the box.
-fn sign_opened<S: Scheme, R: Source, Z: RandomSource>(
+pub(crate) fn sign_opened<S: Scheme, R: Source, Z: RandomSource>(
     alloc: Global,
     scheme: &S,
     sk: &SecretKey,

@@ -1,6 +1,6 @@
 //! Reading and writing texts: their lines one after the other, and base64.
 
-ghost use Rattle.std.specs.Prelude.{◌≡◌, [], ◌∷◌, ◌++◌, false, string_bytes, IfOk, IfErr, OnOk, IfSome, IfNone};
+ghost use Rattle.std.specs.Prelude.{◌≡◌, ◌+◌, ◌≤◌, [], ◌∷◌, ◌++◌, length, false, string_bytes, IfOk, IfErr, OnOk, IfSome, IfNone};
 ghost use Rattle.std.specs.Str.Lines.{lines};
 ghost use Rattle.std.specs.Str.Iter.{lines_rest};
 ghost use Rattle.minisign_base.specs.Fault.{Named};
@@ -20,6 +20,7 @@ pub(crate) fn next_line<'a>(rest: &mut Lines<'a>) -> Option<&'a str>
     ensures some { IfSome result
         (λ x. lines (lines_rest rest.old) ≡ x.now ∷ lines (lines_rest rest.new)) }
     ensures none { IfNone result (lines (lines_rest rest.old) ≡ []) }
+    ensures size { IfSome result (λ x. length x.now + length (lines_rest rest.new) ≤ length (lines_rest rest.old)) }
 {
     match rest.next() {
         Some(line) => Some(line),

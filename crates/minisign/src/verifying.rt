@@ -27,11 +27,9 @@ use std::alloc::Global;
 ///
 /// The data is read to its end first, in pieces of 64 KiB. It is kept in memory where the box is
 /// over the data itself and that is allowed; otherwise it is hashed, so that memory does not grow
-/// with it. Then these are refused, in this order: an identifier other than the public key's, a
-/// signature over the data itself unless `allow_legacy`, a signature that the scheme does not
-/// accept, a comment signature that has under 64 bytes or is not accepted. After such a refusal
-/// `status` and `out` are untouched; on success `status` gets a line, and another one with the
-/// trusted comment where there is one, unless `quiet`. `status` is not flushed.
+/// with it. Then the box is judged: refused is the first of the conditions below that fails, with
+/// `status` and `out` untouched. On success `status` gets a line, and another one with the trusted
+/// comment where there is one, unless `quiet`. `status` is not flushed.
 ///
 /// With `output` the data of a prehashed box is read twice: its place is marked first, and gone
 /// back to after the verdict; the second pass is hashed while it is copied. Where its digest is the
@@ -56,27 +54,87 @@ pub fn verify<S: Scheme, R: Rereader, W: Sink, O: Sink>(
     status: &mut W,
     out: &mut O,
 ) -> Result<()>
-    // What is accepted is vouched for, this was said of it, and it was copied where that is wanted.
+    // On success the box vouches for all the bytes that were ahead: the identifiers are equal; the
+    // box is prehashed or legacy ones are allowed; the scheme accepts the signature for the Blake2b
+    // digest (or the data of a legacy box); and the comment signature, if there is one, has at
+    // least 64 bytes, of which the first 64 are accepted for the signature and the trusted comment.
+    // All the data was then read without a fault (`given`, `end`, `calm`); the mark stays, except
+    // for a prehashed box with `output`, whose data is marked (`mark`).
+    //
+    // On success the status got exactly its lines, or nothing with quiet, and was not flushed;
+    // neither the status nor the output failed (`said`, `status_calm`, `status_unflushed`,
+    // `out_calm`).
+    //
+    // On success with `output` the box vouches for what the output took, whatever a second reading
+    // gave; the output took a list with the data's digest, or for a legacy box the data; and it is
+    // the data itself over a steady source that tells its bytes (`copied`: `HasCopy`, fields `all`,
+    // `vouched`, `signed_same`, `legacy_same`, `steady_same`).
+    //
+    // On success with `output` for a prehashed box, the source was gone back to its mark and read
+    // to its end again; what that gave is the copy, and it has the digest of the first reading. So
+    // data that changed is refused exactly where the second digest is another one (`read_twice` of
+    // `HasCopy`, `changed` of `DataChanged`).
+    //
+    // The copy is flushed on success, and on no refusal before the digests are compared: not where
+    // the second reading breaks off, and not where it gave other data (`flushed` of `HasCopy`;
+    // `unflushed` of `CopyBreaksOff` and `DataChanged`; `unchanged` of `FlushFails`).
     ensures accepted { OnOk result (VerifyingSucceeds (S.accepts scheme.now) pk.now signature_box.now
         (record { quiet = quiet; output = output; legacy = allow_legacy })
         (rereader_passage R.Source R.steady data_reader.old data_reader.new)
         (sink_passage W.Sink status.old status.new) (sink_passage O.Sink out.old out.new)) }
 
-    // Why it was refused.
+    // A refusal of the box is the first condition that fails, and the box then does not vouch for
+    // the data; it comes only after all the data was read without a fault, and status and output
+    // are untouched (`RefusesBox`, `FirstPass`).
+    //
+    // `going back failed` at the mark comes only for a prehashed box with `output`, whose place
+    // could not be marked, so that none is; with nothing read, said or copied (`failed` of
+    // `BreaksOff`: `MarkFails`).
+    //
+    // `reading failed` in the first reading comes only if the source's count of faults rose, and of
+    // data that is to be read again only with its place marked; with this fault and with out of
+    // memory, status and output are untouched; nothing is said of what going back would bring then
+    // (`failed`, `marked`, `unsaid` of `BreaksOff`).
+    //
+    // `writing failed` of the status comes only if its count of faults rose, only for a box that
+    // vouches, and never with quiet; the status then took a beginning of its lines, and the output
+    // is untouched (`StatusFails`).
+    //
+    // The copying fails only for a box that vouches, once the status took its lines. For a legacy
+    // box: the output failed, and took a beginning of the data (`kept` of `OutputRefused`:
+    // `KeptFails`). For another: going back failed, so that no place is marked, with nothing copied
+    // (`ReturnFails`); or memory ran out, or the source failed at a read, which leaves its place
+    // marked, or the output failed, with a beginning copied of what the second reading gave
+    // (`CopyBreaksOff`); or all that it gave was copied and has a different digest from the data,
+    // `Data changed between verification and output` (`DataChanged`); or all of it was copied and
+    // the flush failed (`FlushFails`). What it gave is what the source tells of it.
+    //
+    // With `output` of a prehashed box the source lost at most some bytes at its front until it
+    // goes back to the mark, and after that if it is steady (`left` of `SecondPass`, `kept_end` of
+    // `OutputRefused`).
     ensures refused { IfErr result (VerifyingFails (S.accepts scheme.now) pk.now signature_box.now
         (record { quiet = quiet; output = output; legacy = allow_legacy })
         (rereader_passage R.Source R.steady data_reader.old data_reader.new)
         (sink_passage W.Sink status.old status.new) (sink_passage O.Sink out.old out.new)) }
+
+    // After a refusal the status took a beginning of the lines of the box.
     ensures said_front { OnErr result (TakesFront (sink_passage W.Sink status.old status.new) (wanted_status quiet signature_box.now)) }
 
-    // What the verdict does not depend on.
+    // The verdict does not depend on the untrusted comment, the key's algorithm bytes, or bytes
+    // past the 64th of the comment signature.
     ensures unvouched { (key : PublicKeyRecord) (other : SignatureBoxRecord) (message : List ℕ) →
         SameWhereVouched pk.now key signature_box.now other →
         first_refusal (S.accepts scheme.now) key other message allow_legacy
         ≡ first_refusal (S.accepts scheme.now) pk.now signature_box.now message allow_legacy }
 
+    // Whatever the result, but for `output` of a prehashed box, the source lost at most some bytes
+    // at its front.
     ensures given { is_reread output signature_box.now ≡ false → HasGiven (R.ahead data_reader.old) (R.ahead data_reader.new) }
+
+    // With quiet the status is untouched.
     ensures quiet { quiet ≡ true → status.new ≡ status.old }
+
+    // Without `output` the output is untouched.
     ensures out { output ≡ false → out.new ≡ out.old }
 {
     let signed = read_data(alloc, signature_box, data_reader, output, allow_legacy)?;
@@ -178,6 +236,7 @@ fn say<W: Sink>(
     ensures quiet { quiet ≡ true → status.new ≡ status.old }
     ensures refused { IfErr result (λ e. ((e ≡ Named OutOfMemory) × (status.new ≡ status.old))
         ⊎ ((e ≡ Named WritingFailed) × (quiet ≡ false) × Rose (W.sink_faults status.old) (W.sink_faults status.new))) }
+    ensures unflushed { W.flushed status.new ≡ W.flushed status.old }
     ensures front { OnErr result (TakesFront (sink_passage W.Sink status.old status.new) (wanted_status quiet signature_box.now)) }
 {
     if quiet {
@@ -193,6 +252,7 @@ fn say_lines<W: Sink>(alloc: Global, status: &mut W, signature_box: &SignatureBo
     ensures calm { OnOk result (W.sink_faults status.new ≡ W.sink_faults status.old) }
     ensures refused { IfErr result (λ e. ((e ≡ Named OutOfMemory) × (status.new ≡ status.old))
         ⊎ ((e ≡ Named WritingFailed) × Rose (W.sink_faults status.old) (W.sink_faults status.new))) }
+    ensures unflushed { W.flushed status.new ≡ W.flushed status.old }
     ensures front { OnErr result (TakesFront (sink_passage W.Sink status.old status.new) (status_lines signature_box.now)) }
 {
     match &signature_box.comments {

@@ -37,35 +37,48 @@ pub fn verify_texts<S: Scheme, R: Rereader, W: Sink, O: Sink>(
     status: &mut W,
     out: &mut O,
 ) -> Result<()>
-    // Over data that is told, where memory is found and no device fails, and over a steady source
-    // where the data is copied: success exactly where the texts vouch for the data, and otherwise
-    // the first failing case.
+    // The headline's first part: over data that is told, where memory is found and no device fails,
+    // and over a steady source where the data is copied, success exactly where the texts vouch for
+    // the data, and otherwise the first failing case.
     ensures headline { VerifiesExactly (S.accepts scheme.now) pk_text.now sig_text.now
         (record { quiet = quiet; output = output; legacy = allow_legacy })
         (rereader_passage R.Source R.steady data_reader.old data_reader.new)
         (sink_passage W.Sink status.old status.new) (sink_passage O.Sink out.old out.new) result }
 
-    // What is accepted is vouched for, this was said of it, and it was copied where that is wanted.
+    // On success both texts were read by the grammar, as a key and a box for which everything holds
+    // that `verify` promises on success.
     ensures accepted { OnOk result (VerifyingTextsSucceeds (S.accepts scheme.now) pk_text.now sig_text.now
         (record { quiet = quiet; output = output; legacy = allow_legacy })
         (rereader_passage R.Source R.steady data_reader.old data_reader.new)
         (sink_passage W.Sink status.old status.new) (sink_passage O.Sink out.old out.new)) }
 
-    // What the output took is itself vouched for, whatever a second reading gave.
+    // On success with `output` the two texts vouch for what the output took, whatever a second
+    // reading gave.
     ensures vouched { output ≡ true → OnOk result (CopyIsVouchedFor (S.accepts scheme.now) pk_text.now sig_text.now allow_legacy
         (sink_passage O.Sink out.old out.new)) }
 
-    // Why it was refused.
+    // A refusal of the public key text comes before one of the signature text, and both come before
+    // anything is read, said or copied; so does running out of memory for them (`StopsAtTexts`).
+    //
+    // Otherwise verifying fails as `verify` does, with the key and the box that the texts read as
+    // (`VerifyingFails`).
     ensures refused { IfErr result (VerifyingTextsFails (S.accepts scheme.now) pk_text.now sig_text.now
         (record { quiet = quiet; output = output; legacy = allow_legacy })
         (rereader_passage R.Source R.steady data_reader.old data_reader.new)
         (sink_passage W.Sink status.old status.new) (sink_passage O.Sink out.old out.new)) }
+
+    // After a refusal the status is untouched, or took a beginning of the lines of the box.
     ensures said_front { OnErr result ((status.new ≡ status.old) ⊎ ((key : PublicKeyRecord) × (box : SignatureBoxRecord)
         × ReadTexts pk_text.now sig_text.now key box
         × TakesFront (sink_passage W.Sink status.old status.new) (wanted_status quiet box))) }
 
+    // Without `output` the source lost at most some bytes at its front.
     ensures given { output ≡ false → HasGiven (R.ahead data_reader.old) (R.ahead data_reader.new) }
+
+    // With quiet the status is untouched.
     ensures quiet { quiet ≡ true → status.new ≡ status.old }
+
+    // Without `output` the output is untouched.
     ensures out { output ≡ false → out.new ≡ out.old }
 {
     let (pk, signature_box) = read_texts(alloc, pk_text, sig_text)?;

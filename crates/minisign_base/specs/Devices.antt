@@ -28,6 +28,10 @@ HasGiven old new = IfSome new (λ ys. IfSome old (λ xs. (front : List ℕ) × (
 abbrev pub AppendsFront : Option (List ℕ) → Option (List ℕ) → List ℕ → Type 0
 AppendsFront old new bs = (n : ℕ) × IfSome old (λ xs. new ≡ Some (xs ++ take n bs))
 
+-- all that was taken was flushed; of a sink that does not tell what was flushed, nothing is said
+abbrev pub AllFlushed : Option (List ℕ) → Option (List ℕ) → Type 0
+AllFlushed flushed taken = IfSome flushed (λ xs. taken ≡ Some xs)
+
 -- a read moved the next n bytes to the front of the buffer, 0 only where there is no room or no byte is
 -- left, or failed; a place that is marked stays marked
 pub record HasRead {S E : Type 0} (ahead_of behind_of since_of : S → Option (List ℕ)) (is_marked_of : S → Bool) (left_of faults_of : S → ℕ)
@@ -59,11 +63,12 @@ pub record HasMarked {S A E : Type 0} (steady_of : S → Type 0) (ahead_of behin
   pub since : OnOk answer (BeginsAnew (since_of new))
 
 -- the bytes that were remembered are ahead again, which cannot be where no place is marked; the place stays
--- marked, or after a fault none is
+-- marked, and going back once more would bring the same bytes, or after a fault none is
 pub record HasGoneBack {S A E : Type 0} (ahead_of behind_of since_of : S → Option (List ℕ)) (is_marked_of : S → Bool) (faults_of : S → ℕ)
     (old new : S) (answer : Result A E) : Type 0 where
   pub needs_mark : is_marked_of old ≡ false → IsErr answer
   pub bytes : OnOk answer (IfSome (behind_of old) (λ xs. ahead_of new ≡ Some xs))
+  pub mark : OnOk answer (behind_of new ≡ behind_of old)
   pub calm : OnOk answer (faults_of new ≡ faults_of old)
   pub fault : OnErr answer (Rose (faults_of old) (faults_of new))
   pub marked : OnOk answer (is_marked_of new ≡ true)
@@ -78,8 +83,8 @@ pub record HasFilled {S A E : Type 0} (ahead_of : S → Option (List ℕ)) (faul
   pub fault : OnErr answer (Rose (faults_of old) (faults_of new))
   pub given : OnErr answer (HasGiven (ahead_of old) (ahead_of new))
 
--- the first n of the bytes were taken, of something at least one, or none at a fault
-pub record HasWritten {S E : Type 0} (taken_of : S → Option (List ℕ)) (faults_of : S → ℕ)
+-- the first n of the bytes were taken, of something at least one, or none at a fault; nothing was flushed
+pub record HasWritten {S E : Type 0} (taken_of flushed_of : S → Option (List ℕ)) (faults_of : S → ℕ)
     (old new : S) (due : List ℕ) (answer : Result ℕ E) : Type 0 where
   pub bound : IfOk answer (λ n. n ≤ length due)
   pub some : IfOk answer (λ n. 0 < length due → 0 < n)
@@ -87,10 +92,13 @@ pub record HasWritten {S E : Type 0} (taken_of : S → Option (List ℕ)) (fault
   pub calm : OnOk answer (faults_of new ≡ faults_of old)
   pub fault : OnErr answer (Rose (faults_of old) (faults_of new))
   pub kept : OnErr answer (Keeps (taken_of old) (taken_of new))
+  pub unflushed : flushed_of new ≡ flushed_of old
 
--- nothing was taken
-pub record HasFlushed {S A E : Type 0} (taken_of : S → Option (List ℕ)) (faults_of : S → ℕ)
+-- nothing was taken, and all that was taken before was flushed; at a fault what was flushed stays, or is told no more
+pub record HasFlushed {S A E : Type 0} (taken_of flushed_of : S → Option (List ℕ)) (faults_of : S → ℕ)
     (old new : S) (answer : Result A E) : Type 0 where
   pub bytes : Keeps (taken_of old) (taken_of new)
+  pub all : OnOk answer (AllFlushed (flushed_of new) (taken_of new))
+  pub err_flushed : OnErr answer (StaysOrHides (flushed_of old) (flushed_of new))
   pub calm : OnOk answer (faults_of new ≡ faults_of old)
   pub fault : OnErr answer (Rose (faults_of old) (faults_of new))

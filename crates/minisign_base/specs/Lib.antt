@@ -7,8 +7,11 @@ pub mod Identifiers
 pub mod Limits
 pub mod Members
 pub mod Passages
+pub mod PromptLaws
 pub mod Prompts
 pub mod Scheme
 pub mod SinkLaws
+pub mod StepLaws
+pub mod Steps
 pub mod Toy
 pub mod ToyLaw

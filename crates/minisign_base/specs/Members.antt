@@ -11,7 +11,7 @@ use Rattle.minisign_base.specs.declared.devices.sources.Source as source
 abbrev pub SourceOf : Type 0 → Type 1
 SourceOf S = source.Ghosts S
 
--- a sink: `taken` and `sink_faults`
+-- a sink: `taken`, `flushed` and `sink_faults`
 abbrev pub SinkOf : Type 0 → Type 1
 SinkOf W = sink.Ghosts W
 

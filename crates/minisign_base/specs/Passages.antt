@@ -2,7 +2,7 @@
 -- the return (new); and what is said of that.
 use Rattle.std.specs.Prelude.{◌≡◌, ℕ, List}
 use Rattle.std.specs.Io.KnownBytes.{Appends}
-use Rattle.minisign_base.specs.Devices.{AppendsFront, HasGiven, Rose}
+use Rattle.minisign_base.specs.Devices.{AllFlushed, AppendsFront, HasGiven, Rose}
 use Rattle.minisign_base.specs.Members.{RandomOf, SinkOf, SourceOf}
 use Rattle.minisign_base.specs.declared.prompt.Prompt.{Prompt}
 
@@ -57,6 +57,14 @@ Takes out bytes = Appends (out.sink.taken out.old) (out.sink.taken out.new) byte
 -- the sink took a beginning of these bytes
 abbrev pub TakesFront : {W : Type 0} → SinkPassage W → List ℕ → Type 0
 TakesFront out bytes = AppendsFront (out.sink.taken out.old) (out.sink.taken out.new) bytes
+
+-- the sink flushed all that it took; of a sink that does not tell what was flushed, nothing is said
+abbrev pub IsFlushed : {W : Type 0} → SinkPassage W → Type 0
+IsFlushed out = AllFlushed (out.sink.flushed out.new) (out.sink.taken out.new)
+
+-- the sink flushed nothing
+abbrev pub IsUnflushed : {W : Type 0} → SinkPassage W → Type 0
+IsUnflushed out = out.sink.flushed out.new ≡ out.sink.flushed out.old
 
 -- a source over a call
 pub record SourcePassage (R : Type 0) : Type 1 where

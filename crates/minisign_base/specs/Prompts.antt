@@ -1,13 +1,15 @@
--- What a prompt reads and writes when a password is asked for. The bytes of a prompt are all that its
--- reader has ahead.
-use Rattle.std.specs.Prelude.{◌≡◌, ◌⊎◌, ℕ, ◌+◌, ◌<◌, min, nat_lt, ◌==◌, not, List, [], ◌∷◌, ◌++◌, length, take, drop, Some, IfSome, Result, Ok, Err, codes, if◌then◌else◌}
+-- What a prompt reads and writes: which password is in a line, what a conversation does step by step, and the
+-- steps of asking for a password. The bytes of a prompt are all that its reader has ahead.
+use Rattle.std.specs.Prelude.{◌≡◌, ℕ, ◌+◌, ◌<◌, min, nat_lt, ◌==◌, not, List, [], ◌∷◌, ◌++◌, length, take, drop, Option, None, Some, IfSome, Result, Ok, Err, codes, if◌then◌else◌}
 use Rattle.std.specs.Io.KnownBytes.{Appends}
 use Rattle.std.specs.List.{position_or_len}
+use Rattle.std.specs.Result.{result_err, result_unwrap_or}
 use Rattle.std.specs.Str.{is_utf8}
 use Rattle.std.specs.Str.Lines.{strip_carriage_return}
-use Rattle.minisign_base.specs.Devices.{AppendsFront, Rose}
+use Rattle.minisign_base.specs.Devices.{AllFlushed, AppendsFront, Rose}
 use Rattle.minisign_base.specs.Passages.{PromptPassage, SourcePassage}
 use Rattle.minisign_base.specs.Fault.{Fault, Named}
+use Rattle.minisign_base.specs.Steps.{AllDone, StopsAtOne}
 use Rattle.minisign_base.specs.declared.faults.NamedFault.TheVariants.{EndOfInput, NotUtf8, OutOfMemory, PasswordTooLong, ReadingFailed, WritingFailed}
 
 -- how many bytes stand before the first line feed, or in all where there is none
@@ -38,15 +40,13 @@ password_of bytes =
     else (if nat_lt 1025 (line_length bytes) then Err (Named PasswordTooLong)
     else accepted_line (first_line bytes))
 
+-- what is typed: the password that the bytes hold, or nothing where they hold none
+abbrev pub typed : List ℕ → List ℕ
+typed bytes = result_unwrap_or (password_of bytes) []
+
 -- what is written where the password is empty
 abbrev pub empty_mark : List ℕ
 empty_mark = codes "<empty>" ++ 10 ∷ []
-
--- what is written behind the text that asks
-abbrev pub written_after : Result (List ℕ) Fault → List ℕ
-written_after (Ok []) = empty_mark
-written_after (Ok (b ∷ password)) = []
-written_after (Err e) = []
 
 -- a reader gave the line of these bytes, which were all that it had ahead where it tells that
 pub record HasReadLine {R : Type 0} (r : SourcePassage R) (bytes : List ℕ) : Type 0 where
@@ -65,10 +65,11 @@ pub record HasFailedInLine {R : Type 0} (r : SourcePassage R) : Type 0 where
 abbrev pub reader_passage : {R W : Type 0} → PromptPassage R W → SourcePassage R
 reader_passage p = record { source = p.source; old = p.old.reader; new = p.new.reader }
 
--- a prompt said a text: nothing was read
+-- a prompt said a text, which was flushed: nothing was read
 pub record HasSaid {R W : Type 0} (p : PromptPassage R W) (text : List ℕ) : Type 0 where
   pub reader : p.new.reader ≡ p.old.reader
   pub written : Appends (p.sink.taken p.old.writer) (p.sink.taken p.new.writer) text
+  pub flushed : AllFlushed (p.sink.flushed p.new.writer) (p.sink.taken p.new.writer)
   pub calm : p.sink.sink_faults p.new.writer ≡ p.sink.sink_faults p.old.writer
 
 -- the text could not be written: nothing was read
@@ -77,33 +78,43 @@ pub record HasNotSaid {R W : Type 0} (p : PromptPassage R W) (text : List ℕ) :
   pub fault : Rose (p.sink.sink_faults p.old.writer) (p.sink.sink_faults p.new.writer)
   pub front : AppendsFront (p.sink.taken p.old.writer) (p.sink.taken p.new.writer) text
 
--- a prompt asked with a text: what came of these bytes, which were all that the reader had ahead where it
--- tells that
-pub record HasAsked {R W : Type 0} (p : PromptPassage R W) (text bytes : List ℕ) (answer : Result (List ℕ) Fault) : Type 0 where
-  pub read : HasReadLine (reader_passage p) bytes
-  pub password : password_of bytes ≡ answer
-  pub written : Appends (p.sink.taken p.old.writer) (p.sink.taken p.new.writer) (text ++ written_after answer)
-  pub calm : p.sink.sink_faults p.new.writer ≡ p.sink.sink_faults p.old.writer
+-- a step of a conversation: memory is asked for; a text is said; a line of these bytes is heard; or something is
+-- tested, which may be refused
+pub data Step : Type 0 where
+  Allocate : Step
+  Say : List ℕ → Step
+  Hear : List ℕ → Step
+  Test : Option Fault → Step
 
--- the text was written, and the reader failed
-pub record HasNotRead {R W : Type 0} (p : PromptPassage R W) (text : List ℕ) : Type 0 where
-  pub read : HasFailedInLine (reader_passage p)
-  pub written : Appends (p.sink.taken p.old.writer) (p.sink.taken p.new.writer) text
-  pub calm : p.sink.sink_faults p.new.writer ≡ p.sink.sink_faults p.old.writer
+-- the step was done
+abbrev pub IsDone : {R W : Type 0} → PromptPassage R W → Step → Type 0
+IsDone p Allocate = p.new ≡ p.old
+IsDone p (Say text) = HasSaid p text
+IsDone p (Hear bytes) = HasReadLine (reader_passage p) bytes × (p.new.writer ≡ p.old.writer)
+IsDone p (Test refusal) = (refusal ≡ None) × (p.new ≡ p.old)
 
--- an empty password was read, and its mark could not be written
-pub record HasNotMarked {R W : Type 0} (p : PromptPassage R W) (text bytes : List ℕ) : Type 0 where
-  pub read : HasReadLine (reader_passage p) bytes
-  pub password : password_of bytes ≡ Ok []
-  pub fault : Rose (p.sink.sink_faults p.old.writer) (p.sink.sink_faults p.new.writer)
-  pub front : AppendsFront (p.sink.taken p.old.writer) (p.sink.taken p.new.writer) (text ++ empty_mark)
+-- the step stopped the conversation with this fault
+abbrev pub Stops : {R W : Type 0} → PromptPassage R W → Step → Fault → Type 0
+Stops p Allocate e = (e ≡ Named OutOfMemory) × (p.new ≡ p.old)
+Stops p (Say text) e = (e ≡ Named WritingFailed) × HasNotSaid p text
+Stops p (Hear bytes) e = (e ≡ Named ReadingFailed) × HasFailedInLine (reader_passage p) × (p.new.writer ≡ p.old.writer)
+Stops p (Test refusal) e = (refusal ≡ Some e) × (p.new ≡ p.old)
 
--- why no password came: no memory for a line, which is asked for first, a device that failed, or the
--- first fault of the line
-abbrev pub IsAskingFault : {R W : Type 0} → PromptPassage R W → List ℕ → Fault → Type 0
-IsAskingFault p text e =
-    ((e ≡ Named OutOfMemory) × (p.new ≡ p.old))
-    ⊎ (((e ≡ Named WritingFailed) × HasNotSaid p text)
-    ⊎ (((e ≡ Named ReadingFailed) × HasNotRead p text)
-    ⊎ (((bytes : List ℕ) × HasAsked p text bytes (Err e))
-    ⊎ ((e ≡ Named WritingFailed) × ((bytes : List ℕ) × HasNotMarked p text bytes)))))
+-- all the steps of a conversation were done
+abbrev pub HasHeld : {R W : Type 0} → PromptPassage R W → List Step → Type 0
+HasHeld p steps = AllDone (λ step old new. IsDone (record p { old = old; new = new }) step) steps p.old p.new
+
+-- a conversation stopped at one of its steps with this fault
+abbrev pub HasStopped : {R W : Type 0} → PromptPassage R W → List Step → Fault → Type 0
+HasStopped p steps e =
+    StopsAtOne (λ step old new. IsDone (record p { old = old; new = new }) step)
+    (λ step old new. Stops (record p { old = old; new = new }) step e) steps p.old p.new
+
+-- where a password is empty, that is said
+abbrev pub marking : List ℕ → List Step
+marking [] = Say empty_mark ∷ []
+marking (b ∷ password) = []
+
+-- a password is asked for with a text, and typed in these bytes
+abbrev pub asking : List ℕ → List ℕ → List Step
+asking text bytes = Allocate ∷ Say text ∷ Hear bytes ∷ Test (result_err (password_of bytes)) ∷ marking (typed bytes)

@@ -121,6 +121,7 @@ impl PError {
     }
 }
 
+/// Writes the text of the fault.
 impl fmt::Display for PError {
     ghost output = { λ e. Some (text_of e) };
 
@@ -133,6 +134,7 @@ impl fmt::Display for PError {
     }
 }
 
+/// The fault of this name.
 impl From<NamedFault> for PError {
     ghost from_gives = { λ f e. e ≡ Named f };
 
@@ -143,6 +145,7 @@ impl From<NamedFault> for PError {
     }
 }
 
+/// A refused growth is `out of memory`.
 impl From<AllocError> for PError {
     ghost from_gives = { λ _ e. e ≡ Named OutOfMemory };
 
@@ -151,6 +154,7 @@ impl From<AllocError> for PError {
     }
 }
 
+/// A refused growth is `out of memory`.
 impl<T: Drop> From<AllocFailed<T>> for PError {
     ghost from_gives = { λ _ e. e ≡ Named OutOfMemory };
 
@@ -159,6 +163,7 @@ impl<T: Drop> From<AllocFailed<T>> for PError {
     }
 }
 
+/// A fault of std's streams is the one that is named for it, whatever it was.
 impl From<io::Error> for PError {
     ghost from_gives = { λ _ e. e ≡ Named InputOrOutputFailed };
 
@@ -167,6 +172,7 @@ impl From<io::Error> for PError {
     }
 }
 
+/// A fault of formatting is the one that is named for it.
 impl From<fmt::Error> for PError {
     ghost from_gives = { λ _ e. e ≡ Named FormattingFailed };
 
@@ -175,6 +181,7 @@ impl From<fmt::Error> for PError {
     }
 }
 
+/// Bytes that are no text are the fault that is named for them.
 impl From<FromUtf8Error> for PError {
     ghost from_gives = { λ _ e. e ≡ Named InvalidUtf8 };
 
@@ -183,6 +190,7 @@ impl From<FromUtf8Error> for PError {
     }
 }
 
+/// Parameters that scrypt does not take are the fault that is named for them.
 impl From<InvalidParams> for PError {
     ghost from_gives = { λ _ e. e ≡ Named InvalidParameters };
 
@@ -191,6 +199,7 @@ impl From<InvalidParams> for PError {
     }
 }
 
+/// An output that scrypt does not fill is the fault that is named for it.
 impl From<InvalidOutputLen> for PError {
     ghost from_gives = { λ _ e. e ≡ Named InvalidOutputLength };
 
@@ -199,6 +208,7 @@ impl From<InvalidOutputLen> for PError {
     }
 }
 
+/// Each fault of key derivation is the one that is named for it.
 impl From<KdfError> for PError {
     ghost from_gives = { λ d e. e ≡ derivation_fault d };
 
@@ -210,6 +220,7 @@ impl From<KdfError> for PError {
     }
 }
 
+/// Each fault of decoding base64 is the one that is named for it.
 impl From<DecodeAllocError> for PError {
     ghost from_gives = { λ d e. e ≡ decoding_fault d };
 

@@ -33,7 +33,7 @@ pub enum NamedFault {
     NotUtf8,
     /// The input ended where a line was asked for.
     EndOfInput,
-    /// A typed password has more than 1024 bytes.
+    /// A password that is typed, or that a pair is made under, has more than 1024 bytes.
     PasswordTooLong,
     /// The two passwords typed at generation differ.
     PasswordsDiffer,
@@ -321,6 +321,7 @@ impl NamedFault {
     }
 }
 
+/// Writes the text of the fault.
 impl fmt::Display for NamedFault {
     ghost output = { λ f. Some (named_text f) };
 

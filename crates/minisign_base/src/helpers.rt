@@ -8,7 +8,7 @@ ghost use Rattle.minisign_base.specs.Fault.{Named};
 ghost use Rattle.minisign_base.specs.declared.faults.NamedFault.TheVariants.{ClockIncorrect, OutOfMemory};
 ghost use Rattle.minisign_base.specs.Limits.{IsCostLog2, cost_log2, greatest_cost, limits, numbers, parallelization};
 ghost use Rattle.minisign_base.specs.Passages.{prompt_passage};
-ghost use Rattle.minisign_base.specs.Prompts.{HasAsked, IsAskingFault};
+ghost use Rattle.minisign_base.specs.Prompts.{HasHeld, HasStopped, asking, password_of};
 
 use crate::devices::sinks::Sink;
 use crate::devices::sources::Source;
@@ -85,11 +85,20 @@ pub fn get_password<R: Source, W: Sink>(
     prompt: &mut Prompt<R, W>,
     text: &str,
 ) -> Result<String>
+    // The password is the one in the first line of the bytes ahead, by its definition
+    // (`specs/Prompts`); the text was written and then, if the password is empty, the mark of an
+    // empty one, and all of it was flushed; no more than the line was read, and no fault came.
     ensures asked { IfOk result (λ password. (bytes : List ℕ)
-        × HasAsked (prompt_passage R.Source W.Sink prompt.old prompt.new) text.now bytes
-        (Ok (string_bytes password))) }
-    ensures refused { IfErr result
-        (IsAskingFault (prompt_passage R.Source W.Sink prompt.old prompt.new) text.now) }
+        × (password_of bytes ≡ Ok (string_bytes password))
+        × HasHeld (prompt_passage R.Source W.Sink prompt.old prompt.new) (asking text.now bytes)) }
+
+    // Otherwise it stopped at the first of these steps that was not done: memory ran out, with
+    // nothing written or read; or the writer failed before anything was read; or the reader failed
+    // inside the line, once the text was flushed; or these bytes hold no password, with the fault
+    // of the line; or the writer failed at the mark.
+    ensures refused { IfErr result (λ e. (bytes : List ℕ)
+        × HasStopped (prompt_passage R.Source W.Sink prompt.old prompt.new)
+        (asking text.now bytes) e) }
 {
     let line = line_buffer(alloc)?;
     prompt.say(text)?;
@@ -110,6 +119,8 @@ fn line_buffer(alloc: Global) -> Result<Vec<u8>>
 /// The seconds since 1970, rounded down. Where the clock can't be read or is set before 1970, that
 /// is `clock_incorrect`. Takes no memory.
 pub fn unix_timestamp(clock: &impl Clock) -> Result<u64>
+    // The only fault of the clock is `system clock is incorrect`. The number of seconds is in no
+    // contract.
     ensures { IfErr result (λ e. e ≡ Named ClockIncorrect) }
 {
     let now = SystemTime::now(clock).map_err(|_| NamedFault::ClockIncorrect)?;
@@ -136,7 +147,11 @@ fn seconds_since_1970(now: SystemTime) -> Result<u64>
 /// Takes no memory.
 #[tactic(auto, unfolding(crate::specs::Limits::limits))]
 pub fn raw_scrypt_params(memlimit: u64, opslimit: u64, n_log2_max: u8) -> Result<Params>
+    // Limits become parameters exactly by their definition, and each fault comes exactly in its
+    // case.
     ensures outcome { result ≡ limits memlimit opslimit n_log2_max }
+
+    // The logarithm of the cost is the one that the greatest cost within the limits has.
     ensures least { IsCostLog2 (greatest_cost memlimit opslimit)
         (numbers memlimit opslimit).n_log2 }
 {

@@ -20,6 +20,7 @@ impl Identifier {
     }
 }
 
+/// Writes the number in 16 uppercase hexadecimal digits.
 impl fmt::Display for Identifier {
     ghost output = { λ id. Some (identifier_text id.0) };
 

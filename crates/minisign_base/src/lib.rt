@@ -14,8 +14,10 @@ pub mod toy;
 
 pub use devices::DeviceFault;
 pub use devices::random_sources::{FixedRandom, RandomSource, SourceRandom};
-pub use devices::sinks::{Sink, VecSink, WriterSink, put_all, put_and_flush, put_line};
-pub use devices::sources::{FileSource, ReaderSource, Rereader, SliceSource, Source, fill_from};
+pub use devices::sinks::{NoSink, Sink, VecSink, WriterSink, put_all, put_and_flush, put_line};
+pub use devices::sources::{
+    FileSource, NoSource, ReaderSource, Rereader, SliceSource, Source, fill_from,
+};
 pub use errors::{ErrorKind, PError, Result};
 pub use faults::NamedFault;
 pub use helpers::{get_password, load_u64_le, raw_scrypt_params, store_u64_le, unix_timestamp};

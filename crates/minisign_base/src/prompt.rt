@@ -6,11 +6,11 @@ ghost use Rattle.std.specs.Str.Lines.{strip_carriage_return};
 ghost use Rattle.minisign_base.specs.Devices.{Rose, StaysOrHides};
 ghost use Rattle.minisign_base.specs.Passages.{prompt_passage, source_passage};
 ghost use Rattle.minisign_base.specs.Fault.{Named};
-ghost use Rattle.minisign_base.specs.declared.faults.NamedFault.TheVariants.{ReadingFailed, WritingFailed};
-ghost use Rattle.minisign_base.specs.Prompts.{HasReadLine, HasFailedInLine, HasSaid, HasNotSaid, password_of, accepted_line, written_after, empty_mark};
+ghost use Rattle.minisign_base.specs.declared.faults.NamedFault.TheVariants.{EndOfInput, ReadingFailed, WritingFailed};
+ghost use Rattle.minisign_base.specs.Prompts.{HasFailedInLine, HasHeld, HasNotSaid, HasReadLine, HasSaid, HasStopped, accepted_line, marking, password_of};
 
-use crate::devices::sinks::{Sink, put_and_flush};
-use crate::devices::sources::Source;
+use crate::devices::sinks::{NoSink, Sink, put_and_flush};
+use crate::devices::sources::{NoSource, Source};
 use crate::errors::Result;
 use crate::faults::NamedFault;
 
@@ -18,8 +18,8 @@ use crate::faults::NamedFault;
 // feed.
 pub(crate) const LINE_BYTES: usize = 1026;
 
-// The most bytes of a typed password.
-const PASSWORD_BYTES: usize = 1024;
+/// The most bytes of a password that is typed.
+pub const PASSWORD_BYTES: usize = 1024;
 
 /// What a person types into, and what is shown: a reader and a writer, such as a terminal's two
 /// sides.
@@ -50,8 +50,12 @@ impl<R: Source, W: Sink> Prompt<R, W> {
     /// Writes a text and flushes it. After a fault the writer took a beginning of the text. Takes
     /// no memory, and leaves the reader alone.
     pub fn say(&mut self, text: &str) -> Result<()>
+        // The text is written and flushed, and the reader left alone.
         ensures said { OnOk result
             (HasSaid (prompt_passage R.Source W.Sink self.old self.new) text.now) }
+
+        // Otherwise a beginning of the text is written, and the only fault is `writing failed`; the
+        // reader is left alone.
         ensures refused { IfErr result (λ e. (e ≡ Named WritingFailed)
             × HasNotSaid (prompt_passage R.Source W.Sink self.old self.new) text.now) }
     {
@@ -62,12 +66,10 @@ impl<R: Source, W: Sink> Prompt<R, W> {
 
     // Where the password is empty, shows that.
     pub(crate) fn mark_empty(&mut self, password: &str) -> Result<()>
-        ensures reader { self.new.reader ≡ self.old.reader }
-        ensures said { OnOk result (HasSaid (prompt_passage R.Source W.Sink self.old self.new)
-            (written_after (Ok password.now))) }
-        ensures empty { OnErr result (password.now ≡ []) }
-        ensures refused { IfErr result (λ e. (e ≡ Named WritingFailed)
-            × HasNotSaid (prompt_passage R.Source W.Sink self.old self.new) empty_mark) }
+        ensures marked { OnOk result (HasHeld (prompt_passage R.Source W.Sink self.old self.new)
+            (marking password.now)) }
+        ensures refused { IfErr result
+            (HasStopped (prompt_passage R.Source W.Sink self.old self.new) (marking password.now)) }
     {
         if !password.is_empty() {
             return Ok(());
@@ -93,6 +95,20 @@ impl<R: Source, W: Sink> Prompt<R, W> {
         let length = read_line(&mut self.reader, &mut line)?;
         line.truncate(length);
         accepted_line(line)
+    }
+}
+
+impl Prompt<NoSource, NoSink> {
+    /// A silent prompt: nobody is asked and nothing is shown. What is written is dropped, and a
+    /// question is refused, `end_of_input`. Takes no memory.
+    pub fn silent() -> Prompt<NoSource, NoSink>
+        // No line that a silent prompt reads is a password: its input ends at once, and that is the
+        // fault.
+        ensures { (old new : Prompt NoSource NoSink) (bytes : List ℕ)
+            → HasReadLine (source_passage ⟦<NoSource as Source>⟧ old.reader new.reader) bytes
+            → password_of bytes ≡ Err (Named EndOfInput) }
+    {
+        Prompt::new(NoSource, NoSink)
     }
 }
 

@@ -5,25 +5,33 @@
 
 ghost use Rattle.std.specs.Prelude.{◌≡◌, ◌==◌, ◌⊎◌, ◌<◌, ◌≤◌, ◌+◌, ◌++◌, ℕ, Bool, List, [], length, take};
 ghost use Rattle.std.specs.Option.{option_map};
+ghost use Rattle.std.specs.Str.{IsUtf8};
 ghost use Rattle.minisign_hash.specs.Blake2b.{blake2b_digest};
 ghost use Rattle.minisign.specs.Records.{PublicKeyRecord, SecretKeyRecord, SignatureBoxRecord, CommentsRecord};
 ghost use Rattle.minisign.specs.Acceptance.{Verifier};
-ghost use Rattle.minisign_questions.specs.Questions.{AnswersTexts, AreOpen};
-ghost use Rattle.minisign_questions.specs.Numbers.{IsMeaning, WritesCut, misuse_number};
-ghost use Rattle.minisign_questions.specs.Signing.{GivesSecretKey, HoldsText, IsSigningNumber, IsWritingNumber, TellsKey, comments_of, passed_in};
-ghost use Rattle.minisign_questions.specs.declared.state.Misuse.TheVariants.{NoRoom};
-ghost use Rattle.minisign_questions.specs.States.{AreQuestions, GivesNumber, HasAsked, HasEnded, IsAnswer, IsAskingNumber, IsFed, IsMarkedFed, IsVerdictNumber, feeding_misuse};
+ghost use Rattle.minisign_external.specs.Questions.{AnswersTexts, AreOpen};
+ghost use Rattle.minisign_external.specs.Numbers.{IsAnswer, IsMeaning, WritesCut, answer_yes, misuse_number};
+ghost use Rattle.minisign_external.specs.PublicKeys.{IsKeyNumber, TellsPublicKey, bare, two_lines};
+ghost use Rattle.minisign_external.specs.Making.{HoldsPublicKey, HoldsSecretKey, IsMakingNumber, IsPublicKeyNumber};
+ghost use Rattle.minisign_external.specs.Signing.{AreReadByMinisign, GivesSecretKey, HoldsText, IsSigningNumber, IsWritingNumber, TellsKey, comments_of, passed_in};
+ghost use Rattle.minisign_external.specs.declared.state.Misuse.TheVariants.{NoRoom};
+ghost use Rattle.minisign_external.specs.States.{AreQuestions, GivesNumber, HasAsked, HasEnded, HasToldKey, IsAskingNumber, IsFed, IsMarkedFed, IsVerdictNumber, TellsIdentifiers, feeding_misuse};
 
-use minisign_questions::numbers::write_error_text;
-use minisign_questions::secrets::SigningQuestions;
-use minisign_questions::signed_texts::{write_comment_message, write_signed_text};
-use minisign_questions::state::{Misuse, Questions, State};
+use minisign::Sealing;
+use minisign_external::making::{write_public_key, write_secret_key};
+use minisign_external::numbers::{ANSWER_YES, is_answer, write_error_text};
+use minisign_external::public_keys::{tell_bare_public_key, tell_public_key};
+use minisign_external::secrets::SigningQuestions;
+use minisign_external::signed_texts::{write_comment_message, write_signed_text};
+use minisign_external::state::{Misuse, Questions, Refusal, State};
 use std::alloc::Global;
 
 /// Writes what an error number means: the text, cut where there is no room for more, and a 0.
 /// Returns the length of the whole text.
 #[unsafe(no_mangle)]
 pub extern "C" fn minisign_error_text(error: u32, text: &mut [u8]) -> usize
+    // The text of a number is that of the wrong use, or what the fault of this number says without its identifiers; it
+    // has less than 128 bytes, is cut to its room and ended by a 0.
     ensures written { (meaning : List ℕ) × IsMeaning error meaning × (result ≡ length meaning) × WritesCut meaning text.old text.new }
     ensures room { result < 128 }
 {
@@ -33,6 +41,7 @@ pub extern "C" fn minisign_error_text(error: u32, text: &mut [u8]) -> usize
 /// Begins: the state was fed nothing.
 #[unsafe(no_mangle)]
 pub extern "C" fn minisign_init(state: &mut State)
+    // A new state was fed nothing.
     ensures { IsFed state.new [] }
 {
     *state = State::new();
@@ -41,6 +50,8 @@ pub extern "C" fn minisign_init(state: &mut State)
 /// Feeds the next bytes of the data.
 #[unsafe(no_mangle)]
 pub extern "C" fn minisign_update(state: &mut State, piece: &[u8]) -> u32
+    // Each update appends to what the state was fed. A state that is not being fed takes no data: the wrong use has its
+    // number, and the state stays as it was.
     ensures fed { (m : List ℕ) → IsFed state.old m → (result ≡ 0) × IsFed state.new (m ++ piece.now) }
     ensures begun { result ≡ 0 → IsMarkedFed state.old }
     ensures refused { 0 < result → (result ≡ misuse_number (feeding_misuse state.old)) × (state.new ≡ state.old) }
@@ -51,10 +62,49 @@ pub extern "C" fn minisign_update(state: &mut State, piece: &[u8]) -> u32
     }
 }
 
+/// Reads the text of a public key, two lines: tells its 32 bytes and its identifier. Takes no
+/// memory.
+#[unsafe(no_mangle)]
+pub extern "C" fn minisign_read_public_key(
+    pk_text: &[u8],
+    public_key: &mut [u8; 32],
+    key_id: &mut [u8; 8],
+) -> u32
+    // The 32 bytes and the identifier of a public key are told of its text of two lines exactly if it is UTF-8 and
+    // reads as a key; otherwise the number is that of the first reason, and nothing is written.
+    ensures told { result ≡ 0 → TellsPublicKey two_lines pk_text.now public_key.new key_id.new }
+    ensures refused { 0 < result → IsKeyNumber two_lines pk_text.now result }
+    ensures kept { 0 < result → (public_key.new ≡ public_key.old) × (key_id.new ≡ key_id.old) }
+{
+    match tell_public_key(pk_text, public_key, key_id) {
+        Ok(()) => 0,
+        Err(fault) => Refusal::Refused(fault).number(),
+    }
+}
+
+/// Reads the bare base64 of a public key, as updaters embed it: tells its 32 bytes and its
+/// identifier. Takes no memory.
+#[unsafe(no_mangle)]
+pub extern "C" fn minisign_read_bare_public_key(
+    base64: &[u8],
+    public_key: &mut [u8; 32],
+    key_id: &mut [u8; 8],
+) -> u32
+    // The same is told of the base64 of a public key alone.
+    ensures told { result ≡ 0 → TellsPublicKey bare base64.now public_key.new key_id.new }
+    ensures refused { 0 < result → IsKeyNumber bare base64.now result }
+    ensures kept { 0 < result → (public_key.new ≡ public_key.old) × (key_id.new ≡ key_id.old) }
+{
+    match tell_bare_public_key(base64, public_key, key_id) {
+        Ok(()) => 0,
+        Err(fault) => Refusal::Refused(fault).number(),
+    }
+}
+
 /// Asks what Ed25519 has to answer before it is known whether the two texts vouch for the data.
+/// Takes no memory.
 #[unsafe(no_mangle)]
 pub extern "C" fn minisign_ask(
-    alloc: Global,
     state: &mut State,
     pk_text: &[u8],
     sig_text: &[u8],
@@ -62,57 +112,61 @@ pub extern "C" fn minisign_ask(
     questions: &mut Questions,
     message: &mut [u8],
 ) -> u32
-    // The questions of what the texts read as, about what the state was fed.
+    // The questions are those of what the texts read as, as `State::ask` says, and the state has then asked them.
     ensures asked { result ≡ 0 → (pk : PublicKeyRecord) × (x : SignatureBoxRecord) × (c : CommentsRecord)
         × AreOpen pk_text.now sig_text.now (allow_legacy == 1) pk x c
         × AreQuestions questions.new message.new pk x c }
     ensures digest { result ≡ 0 → (m : List ℕ) → IsFed state.old m → questions.new.digest ≡ blake2b_digest 64 m }
     ensures asking { result ≡ 0 → HasAsked state.new pk_text.now sig_text.now (allow_legacy == 1) }
 
+    // They are asked of a state that is being fed alone.
     ensures begun { result ≡ 0 → IsMarkedFed state.old }
 
-    // Why they were not asked.
+    // The identifiers are told as `State::ask` says.
+    ensures identifiers { allow_legacy < 2 → (m : List ℕ) → IsFed state.old m → IsUtf8 pk_text.now → IsUtf8 sig_text.now
+        → TellsIdentifiers pk_text.now sig_text.now questions.new }
+
+    // A number that is neither 0 nor 1 is refused first, and then the number is that of the first reason of
+    // `State::ask`. State and message buffer are then as they were.
     ensures refused { 0 < result → IsAskingNumber state.old pk_text.now sig_text.now allow_legacy message.old result }
     ensures kept { 0 < result → (state.new ≡ state.old) × (message.new ≡ message.old) }
 {
     if allow_legacy > 1 {
-        return Misuse::NoLegacy.number();
+        return Misuse::BadLegacyFlag.number();
     }
-    match state.ask(
-        alloc,
-        pk_text,
-        sig_text,
-        allow_legacy == 1,
-        questions,
-        message,
-    ) {
+    match state.ask(pk_text, sig_text, allow_legacy == 1, questions, message) {
         Ok(()) => 0,
         Err(refusal) => refusal.number(),
     }
 }
 
-/// The verdict from what Ed25519 answered to the two questions, 1 for yes and 0 for no. It ends the
-/// state.
+/// The verdict from what Ed25519 answered to the two questions, `ANSWER_YES` or `ANSWER_NO`. It
+/// ends the state.
 #[unsafe(no_mangle)]
 pub extern "C" fn minisign_verdict(state: &mut State, first: u32, second: u32) -> u32
+    // **For every relation that answers the two questions as the caller says, and every message: 0 exactly when the
+    // texts vouch for the message, otherwise the number of the first case that fails.**
     ensures verdict { (pk_text sig_text message : List ℕ) (legacy : Bool) (accepts : Verifier)
         → HasAsked state.old pk_text sig_text legacy → IsAnswer first → IsAnswer second
-        → AnswersTexts accepts pk_text sig_text message (first == 1) (second == 1)
+        → AnswersTexts accepts pk_text sig_text message (first == answer_yes) (second == answer_yes)
         → GivesNumber accepts pk_text sig_text message legacy result }
+
+    // An answer is 7955827 for yes or 28271 for no, and no other number is taken; a verdict ends the state, and a wrong
+    // use has its number and changes nothing.
     ensures ended { result ≡ 0 → HasEnded state.old state.new × IsAnswer first × IsAnswer second }
     ensures refused { 0 < result → IsVerdictNumber state.old state.new first second result }
 {
-    if first > 1 || second > 1 {
-        return Misuse::NoAnswer.number();
+    if !is_answer(first) || !is_answer(second) {
+        return Misuse::BadAnswer.number();
     }
-    match state.verdict(first == 1, second == 1) {
+    match state.verdict(first == ANSWER_YES, second == ANSWER_YES) {
         Ok(()) => 0,
         Err(refusal) => refusal.number(),
     }
 }
 
 /// Asks for signatures: tells the secret of the key that the text gives, and the digest of the
-/// data. It ends the state.
+/// data.
 #[unsafe(no_mangle)]
 pub extern "C" fn minisign_ask_signing(
     alloc: Global,
@@ -120,25 +174,37 @@ pub extern "C" fn minisign_ask_signing(
     sk_text: &[u8],
     with_password: u32,
     password: &[u8],
+    keep_every: u64,
+    greatest_work: u32,
     questions: &mut SigningQuestions,
 ) -> u32
-    // The secret and the identifier of the key that the text gives, and the digest of what the
-    // state was fed.
+    // The secret and the identifier that are told are those of the key that the text gives; the digest is that of
+    // everything the state was fed; the state then keeps the identifier, and is fed and asked no more.
     ensures asked { result ≡ 0 → (key : SecretKeyRecord)
-        × GivesSecretKey sk_text.now (passed_in with_password password.now) key × TellsKey questions.new key }
+        × GivesSecretKey sk_text.now (passed_in with_password password.now) greatest_work key × TellsKey questions.new key }
     ensures digest { result ≡ 0 → (m : List ℕ) → IsFed state.old m → questions.new.digest ≡ blake2b_digest 64 m }
     ensures begun { result ≡ 0 → IsMarkedFed state.old }
-    ensures ended { result ≡ 0 → state.new.mark ≡ 0 }
+    ensures told { result ≡ 0 → HasToldKey state.new questions.new.key_id }
     ensures number { result ≡ 0 → with_password < 2 }
 
-    // Why they were not asked.
-    ensures refused { 0 < result → IsSigningNumber state.old sk_text.now (passed_in with_password password.now) with_password result }
+    // What is refused comes in this order: a number that is neither 0 nor 1, with no state looked at; a wrong use of
+    // the state, with no text read and no key opened; a text or a password that is not UTF-8; and the first reason for
+    // which the text gives no key within the greatest work; only once the state was looked at it may run out of memory.
+    // The state and the questions are then as they were.
+    ensures refused { 0 < result → IsSigningNumber state.old sk_text.now (passed_in with_password password.now) with_password greatest_work result }
     ensures kept { 0 < result → (state.new ≡ state.old) × (questions.new ≡ questions.old) }
 {
     if with_password > 1 {
-        return Misuse::NoPassword.number();
+        return Misuse::BadPasswordFlag.number();
     }
-    match state.ask_signing(alloc, sk_text, given(with_password, password), questions) {
+    match state.ask_signing(
+        alloc,
+        sk_text,
+        given(with_password, password),
+        keep_every,
+        greatest_work,
+        questions,
+    ) {
         Ok(()) => 0,
         Err(refusal) => refusal.number(),
     }
@@ -155,6 +221,77 @@ fn given(with_password: u32, password: &[u8]) -> Option<&[u8]>
     }
 }
 
+/// Writes the text of a secret key of its parts, which is sealed where there is a password.
+#[unsafe(no_mangle)]
+pub extern "C" fn minisign_make_secret_key(
+    alloc: Global,
+    key_id: &[u8; 8],
+    secret_key: &[u8; 64],
+    with_password: u32,
+    password: &[u8],
+    sealing: &Sealing,
+    keep_every: u64,
+    comment: &[u8],
+    text: &mut [u8],
+    text_len: &mut usize,
+) -> u32
+    // The text of the secret key stands at the front of the buffer, as `write_secret_key` says.
+    ensures text { result ≡ 0 → HoldsSecretKey key_id.now secret_key.now (passed_in with_password password.now) sealing.now comment.now text.new text_len.new }
+    ensures number { result ≡ 0 → with_password < 2 }
+
+    // What is refused comes in this order: a number that is neither 0 nor 1; a comment or a password that is not UTF-8;
+    // a comment of two lines; one that Minisign does not read whole; too short a buffer; limits that sealing does not
+    // allow; out of memory. Buffer and length are then as they were.
+    ensures refused { 0 < result → IsMakingNumber (passed_in with_password password.now) with_password sealing.now comment.now text.old result }
+    ensures kept { 0 < result → (text.new ≡ text.old) × (text_len.new ≡ text_len.old) }
+{
+    if with_password >= 2 {
+        return Misuse::BadPasswordFlag.number();
+    }
+    match write_secret_key(
+        alloc,
+        key_id,
+        secret_key,
+        given(with_password, password),
+        sealing,
+        keep_every,
+        comment,
+        text,
+    ) {
+        Ok(secret_key_len) => {
+            *text_len = secret_key_len;
+            0
+        }
+        Err(refusal) => refusal.number(),
+    }
+}
+
+/// Writes the text of the public key of a secret key's parts.
+#[unsafe(no_mangle)]
+pub extern "C" fn minisign_make_public_key(
+    alloc: Global,
+    key_id: &[u8; 8],
+    secret_key: &[u8; 64],
+    comment: &[u8],
+    text: &mut [u8],
+    text_len: &mut usize,
+) -> u32
+    // The text of the public key stands at the front of the buffer, as `write_public_key` says.
+    ensures text { result ≡ 0 → HoldsPublicKey key_id.now secret_key.now comment.now text.new text_len.new }
+
+    // What is refused comes in the same order, less what concerns a password. Buffer and length are then as they were.
+    ensures refused { 0 < result → IsPublicKeyNumber comment.now text.old result }
+    ensures kept { 0 < result → (text.new ≡ text.old) × (text_len.new ≡ text_len.old) }
+{
+    match write_public_key(alloc, key_id, secret_key, comment, text) {
+        Ok(public_key_len) => {
+            *text_len = public_key_len;
+            0
+        }
+        Err(refusal) => refusal.number(),
+    }
+}
+
 /// Writes the message of the second question: the first signature followed by the trusted comment.
 #[unsafe(no_mangle)]
 pub extern "C" fn minisign_comment_message(
@@ -162,6 +299,8 @@ pub extern "C" fn minisign_comment_message(
     trusted: &[u8],
     message: &mut [u8],
 ) -> u32
+    // The message of the second question is the first signature followed by the trusted comment; where there is no room
+    // for it, it stays as it was.
     ensures message { result ≡ 0 → (64 + length trusted.now ≤ length message.new)
         × (take (64 + length trusted.now) message.new ≡ first.now ++ trusted.now) }
     ensures refused { 0 < result → (result ≡ misuse_number NoRoom)
@@ -173,11 +312,11 @@ pub extern "C" fn minisign_comment_message(
     }
 }
 
-/// Writes the text of the signature that the two signatures make.
+/// Writes the text of the signature that the two signatures make, for a state that has told a key.
 #[unsafe(no_mangle)]
 pub extern "C" fn minisign_signed_text(
     alloc: Global,
-    key_id: &[u8; 8],
+    state: &State,
     first: &[u8; 64],
     second: &[u8; 64],
     trusted: &[u8],
@@ -185,13 +324,21 @@ pub extern "C" fn minisign_signed_text(
     text: &mut [u8],
     text_len: &mut usize,
 ) -> u32
-    ensures text { result ≡ 0 → HoldsText key_id.now (comments_of trusted.now untrusted.now) first.now second.now text.new text_len.new }
+    // **The text of two signatures reads as the box with exactly the identifier of the key that the state has told,
+    // these comments and these signatures; for every scheme that answers the two questions so, that is the box that
+    // signing makes; under every public key under which the signatures are accepted it vouches for the message, and for
+    // a genuine key the headline's third part holds of it.**
+    ensures text { result ≡ 0 → HasToldKey state.now state.now.key_id
+        × HoldsText state.now.key_id (comments_of trusted.now untrusted.now) first.now second.now text.new text_len.new }
+    ensures readable { result ≡ 0 → AreReadByMinisign (comments_of trusted.now untrusted.now) }
 
-    // Why it was not written.
-    ensures refused { 0 < result → IsWritingNumber key_id.now (comments_of trusted.now untrusted.now) first.now second.now text.old result }
+    // No text is written, in this order, for a state that has told no key, for comments that are not UTF-8, that would
+    // not be read back, or that Minisign 0.11 would not read back, or where there is no room; for all others it is,
+    // unless memory runs out. Buffer and length are then as they were.
+    ensures refused { 0 < result → IsWritingNumber state.now (comments_of trusted.now untrusted.now) first.now second.now text.old result }
     ensures kept { 0 < result → (text.new ≡ text.old) × (text_len.new ≡ text_len.old) }
 {
-    match write_signed_text(alloc, key_id, first, second, trusted, untrusted, text) {
+    match write_signed_text(alloc, state, first, second, trusted, untrusted, text) {
         Ok(len) => {
             *text_len = len;
             0

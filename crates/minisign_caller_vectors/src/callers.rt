@@ -1,7 +1,9 @@
 //! The calls for callers and the examples over them, run on the worked texts under the toy.
 
+use crate::folders::{folder_path, make_empty, path_of, put};
 use minisign::{
-    Result, SecretKey, copy_verified, open_with_password, sign_bytes, verify_bytes, verify_file,
+    ErrorKind, Result, SecretKey, copy_verified, open_with_password, sign_bytes, verify_bytes,
+    verify_file,
 };
 use minisign_base::devices::random_sources::FixedRandom;
 use minisign_base::devices::sinks::VecSink;
@@ -11,16 +13,16 @@ use minisign_base::faults::NamedFault::{
     WrongPassword,
 };
 use minisign_base::toy::ToyScheme;
-use minisign_examples::commenting::is_update_named;
 use minisign_examples::rotating::{NewKey, check_with_new_key};
 use minisign_examples::small_device::open_in_little_memory;
+use minisign_examples::updating::check_update;
 use minisign_fixtures::outcomes::Outcome::{self, Accepted, Refused};
 use minisign_fixtures::outcomes::{comes_to, holds, is_text};
 use minisign_fixtures::texts::{KEY_TEXT, LEGACY_TEXT, SEALED, SECRET_TEXT, SIGNATURE_TEXT};
 use std::alloc::Global;
+use std::fs;
 use std::process::Abort;
 use std::test::Fail;
-use std::{env, fs, process};
 
 const REFUSED: Outcome = Refused(SignatureRefused);
 
@@ -63,35 +65,6 @@ fn the_comment_of_bytes_is_returned(rt: HostRuntime) {
     refuses(&rt, alloc, ("", ""), b"abc", no_key);
 }
 
-// The path of a folder in the system's one for passing files.
-fn folder_path(rt: &HostRuntime) -> std::result::Result<String, Fail> {
-    let id = process::id(rt.process());
-    let parent = env::temp_dir(rt)?;
-    let folder = format!(in rt.alloc(); "{}/minisign_callers_{id}", parent.as_str())?;
-    Ok(folder)
-}
-
-// Makes a folder that is empty.
-fn make_empty(rt: &HostRuntime, folder: &str) -> std::result::Result<(), Fail> {
-    if fs::exists(rt, folder)? {
-        fs::remove_dir_all(rt, folder)?;
-    }
-    fs::create_dir(rt, folder)?;
-    Ok(())
-}
-
-// The path of a file of the folder.
-fn path_of(rt: &HostRuntime, folder: &str, name: &str) -> std::result::Result<String, Fail> {
-    Ok(format!(in rt.alloc(); "{folder}/{name}")?)
-}
-
-// Makes a file of the folder.
-fn put(rt: &HostRuntime, folder: &str, name: &str, bytes: &[u8]) -> std::result::Result<(), Fail> {
-    let path = path_of(rt, folder, name)?;
-    fs::write(rt, path.as_str(), bytes)?;
-    Ok(())
-}
-
 // Verifies a file with key A and the text in another one.
 fn file_verified(rt: &HostRuntime, sig_path: &str, data_path: &str) -> Result<String> {
     verify_file(
@@ -128,7 +101,7 @@ fn is_file_refused(
 
 #[test]
 fn the_comment_of_files_is_returned(rt: HostRuntime) -> std::result::Result<(), Fail> {
-    let folder = folder_path(&rt)?;
+    let folder = folder_path(&rt, "callers")?;
     let folder = folder.as_str();
     make_empty(&rt, folder)?;
     put(&rt, folder, "abc.sig", SIGNATURE_TEXT.as_bytes())?;
@@ -275,30 +248,36 @@ fn keys_are_opened_alike_in_little_memory(rt: HostRuntime) {
     assert!(rt; holds(&is_opened_alike(rt.alloc())));
 }
 
-// Whether the bytes are an update of this name.
-fn named(alloc: Global, message: &[u8], name: &str) -> Result<bool> {
-    is_update_named(
+// What comes of the update under this name.
+fn checked(alloc: Global, update: &[u8], name: &str) -> Result<()> {
+    check_update(
         alloc,
         &ToyScheme::new(),
         KEY_TEXT,
         SIGNATURE_TEXT,
-        message,
+        update,
         name,
     )
 }
 
-// Whether the update has the one name and not the other.
-fn has_its_name(alloc: Global) -> Result<bool> {
-    let own = named(alloc, b"abc", "t")?;
-    let other = named(alloc, b"abc", "T")?;
-    Ok(own && !other)
+// Whether the update is refused for its name, by a fault that has no name of the library's.
+fn is_refused_for_its_name(alloc: Global, name: &str) -> bool {
+    let answer = checked(alloc, b"abc", name);
+    match &answer {
+        Ok(()) => false,
+        Err(fault) => fault.named().is_none() && *fault.kind() == ErrorKind::Verify,
+    }
 }
 
 #[test]
-fn an_update_has_the_name_that_was_signed(rt: HostRuntime) {
+fn an_update_is_taken_under_its_name_alone(rt: HostRuntime) {
     let alloc = rt.alloc();
-    assert!(rt; holds(&has_its_name(alloc)));
-    let changed = named(alloc, b"abd", "t");
+    let own = checked(alloc, b"abc", "t");
+    assert!(rt; comes_to(&own, Accepted));
+    for other in ["T", "", "t ", "tt"] {
+        assert!(rt; is_refused_for_its_name(alloc, other), "as {other:?}");
+    }
+    let changed = checked(alloc, b"abd", "t");
     assert!(rt; comes_to(&changed, REFUSED));
 }
 

@@ -1,11 +1,13 @@
 //! Updates that are installed in a folder in memory: what stands at the place and in the record
 //! after each call, and what is refused.
 //!
-//! The texts are of the toy scheme, under its key of 32 zeros; `tests/toy.py` makes such texts.
+//! The texts are of the toy scheme, under its key of 32 zeros; `tests/shared/toy.py` makes such texts.
 
-ghost use Rattle.std.specs.Prelude.{ℕ, OnOk};
-ghost use Rattle.minisign_install.specs.Installing.{InstallsOnlyUpdates, IsInstalled, terms_of};
-ghost use Rattle.minisign_install.specs.Memory.{past_of, told_run};
+ghost use Rattle.std.specs.Prelude.{OnOk};
+ghost use Rattle.minisign_install.specs.Folders.{HasLocked, Run};
+ghost use Rattle.minisign_install.specs.Installing.{HasInstalled, InstallsOnlyUpdates, terms_of};
+ghost use Rattle.minisign_install.specs.Memory.{run_of};
+ghost use Rattle.minisign_install.specs.Runs.{OwnsNoMore};
 
 use minisign::{ErrorKind, NamedFault};
 use minisign_base::devices::random_sources::{FixedRandom, RandomSource};
@@ -68,8 +70,9 @@ fn install_told<S: Scheme, Z: RandomSource, R: Source>(
     update: &mut R,
     folder: &mut MemoryFolder,
 ) -> Result<(), InstallFault>
-    ensures headline { InstallsOnlyUpdates (S.accepts scheme.now) (terms_of wanted.entry) is_first (told_run (past_of folder.old)) (told_run (past_of folder.new)) }
-    ensures installed { OnOk result ((kept : ℕ) × IsInstalled (S.accepts scheme.now) (terms_of wanted.entry) kept (told_run (past_of folder.new)).steps) }
+    ensures headline { InstallsOnlyUpdates (S.accepts scheme.now) (terms_of wanted.entry) is_first (run_of folder.old) (run_of folder.new) }
+    ensures installed { OnOk result ((locked : Run) × HasLocked (run_of folder.old) locked × HasInstalled (S.accepts scheme.now) (terms_of wanted.entry) is_first (R.ahead update.old) locked (run_of folder.new)) }
+    ensures lets_go { OwnsNoMore (run_of folder.old) (run_of folder.new) }
 {
     install_update(alloc, scheme, random, wanted, is_first, update, folder)
 }

@@ -10,8 +10,16 @@
 #[cfg(test)]
 mod callers;
 #[cfg(test)]
+mod folders;
+#[cfg(test)]
 mod installing;
+#[cfg(test)]
+mod made_keys;
 #[cfg(test)]
 mod questions;
 #[cfg(test)]
+mod reading;
+#[cfg(test)]
 mod releases;
+#[cfg(test)]
+mod unasked;

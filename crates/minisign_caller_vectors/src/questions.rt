@@ -4,9 +4,9 @@
 //! The expected bytes were read from the texts by Python's base64, and the digest is that of its
 //! hashlib.
 
-use minisign_questions::secrets::SigningQuestions;
-use minisign_questions::signed_texts::{signed_text, write_comment_message, write_signed_text};
-use minisign_questions::state::{Misuse, Questions, Refusal, State};
+use minisign_external::secrets::SigningQuestions;
+use minisign_external::signed_texts::{signed_text, write_comment_message, write_signed_text};
+use minisign_external::state::{Misuse, Questions, Refusal, State};
 use std::alloc::Global;
 use std::process::Abort;
 
@@ -48,6 +48,10 @@ const COMMENT_SIGNATURE: [u8; 64] = [
 // A key that minisign 0.11 made with `-G -W`: it has no checksum.
 const SECRET_KEY: &str =
     "untrusted comment: minisign encrypted secret key\nRWQAAEIyAAAAAAAAAAAAAAAAAAAAAAAAAAAAAAAAAAAAAAAAAAAAAAAAAAAAAAAAAAAAAAAAu82Aeu/lPqv5tw414tB2l3S0AV4BthpWrWHyA+ItsehisjsR8AROg+V8Ng82TAEWPpchqblhFFay7/kQioiXfnOLD1OmyTi9AAAAAAAAAAAAAAAAAAAAAAAAAAAAAAAAAAAAAAAAAAA=\n";
+
+// The same under the identifier of the first key.
+const SECRET_KEY_OF_SIGNATURE: &str =
+    "untrusted comment: x\nRWQAAEIyAAAAAAAAAAAAAAAAAAAAAAAAAAAAAAAAAAAAAAAAAAAAAAAAAAAAAAAAAAAAAAAAuKDvjkxr5iH5tw414tB2l3S0AV4BthpWrWHyA+ItsehisjsR8AROg+V8Ng82TAEWPpchqblhFFay7/kQioiXfnOLD1OmyTi9AAAAAAAAAAAAAAAAAAAAAAAAAAAAAAAAAAAAAAAAAAA=\n";
 
 const SECRET: [u8; 64] = [
     0xf9, 0xb7, 0x0e, 0x35, 0xe2, 0xd0, 0x76, 0x97, 0x74, 0xb4, 0x01, 0x5e, 0x01, 0xb6, 0x1a, 0x56,
@@ -105,7 +109,6 @@ fn number(outcome: Result<(), Refusal>) -> u32 {
 // The number that asking for the questions of two texts returns, with legacy signatures allowed or
 // not.
 fn told(
-    alloc: Global,
     state: &mut State,
     (pk_text, sig_text): (&str, &str),
     legacy: bool,
@@ -113,7 +116,6 @@ fn told(
     message: &mut [u8],
 ) -> u32 {
     let result = state.ask(
-        alloc,
         pk_text.as_bytes(),
         sig_text.as_bytes(),
         legacy,
@@ -124,10 +126,10 @@ fn told(
 }
 
 // The number alone.
-fn asked(alloc: Global, state: &mut State, texts: (&str, &str), legacy: bool) -> u32 {
+fn asked(state: &mut State, texts: (&str, &str), legacy: bool) -> u32 {
     let mut questions = no_questions();
     let mut message = [0u8; 512];
-    told(alloc, state, texts, legacy, &mut questions, &mut message)
+    told(state, texts, legacy, &mut questions, &mut message)
 }
 
 // The number that the verdict of two answers returns.
@@ -162,7 +164,6 @@ fn the_questions_are_those_of_the_texts(rt: HostRuntime) {
     let mut questions = no_questions();
     let mut message = [0u8; 512];
     let told = told(
-        rt.alloc(),
         &mut state,
         (KEY, SIGNATURE),
         false,
@@ -177,9 +178,9 @@ fn the_questions_are_those_of_the_texts(rt: HostRuntime) {
 
 // Whether asking succeeds, the verdict of the answers has this number, and a second one is a wrong
 // use.
-fn decide(alloc: Global, first: bool, second: bool, wanted: u32) -> bool {
+fn decide(first: bool, second: bool, wanted: u32) -> bool {
     let mut state = fed();
-    let asked = asked(alloc, &mut state, (KEY, SIGNATURE), false);
+    let asked = asked(&mut state, (KEY, SIGNATURE), false);
     let result = judged(&mut state, first, second);
     let again = judged(&mut state, first, second);
     asked == 0 && result == wanted && again == Misuse::NotBegun.number()
@@ -187,48 +188,46 @@ fn decide(alloc: Global, first: bool, second: bool, wanted: u32) -> bool {
 
 #[test]
 fn the_answers_decide(rt: HostRuntime) {
-    assert!(rt; decide(rt.alloc(), true, true, 0));
-    assert!(rt; decide(rt.alloc(), false, true, 31));
-    assert!(rt; decide(rt.alloc(), false, false, 31));
-    assert!(rt; decide(rt.alloc(), true, false, 32));
+    assert!(rt; decide(true, true, 0));
+    assert!(rt; decide(false, true, 31));
+    assert!(rt; decide(false, false, 31));
+    assert!(rt; decide(true, false, 32));
 }
 
 // Asserts that asking for the questions of two texts returns this number.
-fn asks<A: Abort>(rt: &A, alloc: Global, pk_text: &str, sig_text: &str, legacy: bool, wanted: u32) {
-    let number = asked(alloc, &mut fed(), (pk_text, sig_text), legacy);
+fn asks<A: Abort>(rt: &A, pk_text: &str, sig_text: &str, legacy: bool, wanted: u32) {
+    let number = asked(&mut fed(), (pk_text, sig_text), legacy);
     assert!(rt; number == wanted, "{number}, and not {wanted}");
 }
 
 #[test]
 fn refusals_have_their_numbers(rt: HostRuntime) {
-    let alloc = rt.alloc();
     let other_key =
         "untrusted comment: x\nRWQBAgMEBQYHCFpaWlpaWlpaWlpaWlpaWlpaWlpaWlpaWlpaWlpaWlpa\n";
-    asks(&rt, alloc, KEY, LEGACY, false, 30);
-    asks(&rt, alloc, KEY, LEGACY, true, 0);
-    asks(&rt, alloc, "", SIGNATURE, false, 16);
+    asks(&rt, KEY, LEGACY, false, 30);
+    asks(&rt, KEY, LEGACY, true, 0);
+    asks(&rt, "", SIGNATURE, false, 16);
     let no_line = "untrusted comment: x\n";
-    asks(&rt, alloc, no_line, SIGNATURE, false, 17);
+    asks(&rt, no_line, SIGNATURE, false, 17);
     let short = "untrusted comment: x\nRWS4oO+O\n";
-    asks(&rt, alloc, short, SIGNATURE, false, 18);
-    asks(&rt, alloc, other_key, SIGNATURE, false, 29);
+    asks(&rt, short, SIGNATURE, false, 18);
+    asks(&rt, other_key, SIGNATURE, false, 29);
 }
 
 #[test]
 fn refusals_of_signature_texts_have_their_numbers(rt: HostRuntime) {
-    let alloc = rt.alloc();
-    asks(&rt, alloc, KEY, "", false, 21);
-    asks(&rt, alloc, KEY, "untrusted comment: x\n", false, 22);
+    asks(&rt, KEY, "", false, 21);
+    asks(&rt, KEY, "untrusted comment: x\n", false, 22);
     let two_lines = "untrusted comment: x\nRUS4\n";
-    asks(&rt, alloc, KEY, two_lines, false, 23);
+    asks(&rt, KEY, two_lines, false, 23);
     let three_lines = "untrusted comment: x\nRUS4\ntrusted comment: y\n";
-    asks(&rt, alloc, KEY, three_lines, false, 24);
+    asks(&rt, KEY, three_lines, false, 24);
     let unlabelled = "x\nRUS4\ntrusted comment: y\nRUS4\n";
-    asks(&rt, alloc, KEY, unlabelled, false, 25);
+    asks(&rt, KEY, unlabelled, false, 25);
     let not_base64 = "untrusted comment: x\nRUS!\ntrusted comment: y\nRUS4\n";
-    asks(&rt, alloc, KEY, not_base64, false, 26);
+    asks(&rt, KEY, not_base64, false, 26);
     let too_short = "untrusted comment: x\nRUS4\ntrusted comment: y\nRUS4\n";
-    asks(&rt, alloc, KEY, too_short, false, 20);
+    asks(&rt, KEY, too_short, false, 20);
 }
 
 // Whether the state takes no more bytes, for this reason.
@@ -238,13 +237,12 @@ fn is_not_fed(state: &mut State, misuse: Misuse) -> bool {
 
 #[test]
 fn a_wrong_use_is_refused_and_changes_nothing(rt: HostRuntime) {
-    let alloc = rt.alloc();
     let mut state = fed();
     let early = judged(&mut state, true, true);
     assert!(rt; early == Misuse::NotAsked.number());
-    assert!(rt; asked(alloc, &mut state, (KEY, SIGNATURE), false) == 0);
+    assert!(rt; asked(&mut state, (KEY, SIGNATURE), false) == 0);
     assert!(rt; is_not_fed(&mut state, Misuse::AlreadyAsked));
-    assert!(rt; asked(alloc, &mut state, (KEY, SIGNATURE), false) == 2);
+    assert!(rt; asked(&mut state, (KEY, SIGNATURE), false) == 2);
     assert!(rt; judged(&mut state, true, true) == 0);
     assert!(rt; is_not_fed(&mut state, Misuse::NotBegun));
 }
@@ -257,7 +255,7 @@ fn asked_to_sign(
     questions: &mut SigningQuestions,
 ) -> u32 {
     let mut state = fed();
-    match state.ask_signing(alloc, sk_text.as_bytes(), password, questions) {
+    match state.ask_signing(alloc, sk_text.as_bytes(), password, 1, 1, questions) {
         Ok(()) => 0,
         Err(refusal) => refusal.number(),
     }
@@ -333,14 +331,14 @@ fn is_the_text(alloc: Global) -> bool {
 // the number of its refusal.
 fn written(
     alloc: Global,
-    key_id: &[u8; 8],
+    state: &State,
     trusted: &[u8],
     untrusted: &[u8],
     to: &mut [u8],
 ) -> std::result::Result<usize, u32> {
     let made = write_signed_text(
         alloc,
-        key_id,
+        state,
         &SIGNATURE_BYTES,
         &COMMENT_SIGNATURE,
         trusted,
@@ -353,11 +351,20 @@ fn written(
     }
 }
 
+// A state that has told the key of this text.
+fn with_a_key(alloc: Global, sk_text: &str) -> State {
+    let mut state = fed();
+    let mut questions = nothing_asked();
+    let _asked = state.ask_signing(alloc, sk_text.as_bytes(), None, 1, 1, &mut questions);
+    state
+}
+
 // Whether that text is written.
 fn is_written(alloc: Global) -> bool {
     let mut to = [0u8; 512];
+    let state = with_a_key(alloc, SECRET_KEY_OF_SIGNATURE);
     let trusted = b"a trusted comment";
-    let len = written(alloc, &KEY_ID, trusted, UNTRUSTED.as_bytes(), &mut to);
+    let len = written(alloc, &state, trusted, UNTRUSTED.as_bytes(), &mut to);
     len == Ok(SIGNATURE.len()) && to.starts_with(SIGNATURE.as_bytes())
 }
 
@@ -385,24 +392,19 @@ fn the_text_is_that_of_minisign(rt: HostRuntime) {
     assert!(rt; without_room == Err(Misuse::NoRoom));
 }
 
-// Asserts that writing a text with these comments into so much room returns this number, 0 where it
-// is written.
+// Asserts that writing a text of this state with these comments into so much room returns this
+// number, 0 where it is written.
 fn writes<A: Abort>(
     rt: &A,
     alloc: Global,
+    state: &State,
     trusted: &[u8],
     untrusted: &[u8],
     room: usize,
     wanted: u32,
 ) {
     let mut to = [0u8; 300];
-    let made = written(
-        alloc,
-        &SECRET_KEY_ID,
-        trusted,
-        untrusted,
-        &mut to[..room.min(300)],
-    );
+    let made = written(alloc, state, trusted, untrusted, &mut to[..room.min(300)]);
     let number = match made {
         Ok(_) => 0,
         Err(number) => number,
@@ -413,14 +415,40 @@ fn writes<A: Abort>(
 #[test]
 fn texts_are_refused_by_number(rt: HostRuntime) {
     let alloc = rt.alloc();
-    writes(&rt, alloc, b"t", b"u", 230, 0);
-    writes(&rt, alloc, b"t", b"u", 229, 5);
-    writes(&rt, alloc, b"\xff", b"u", 300, 8);
-    writes(&rt, alloc, b"t", b"\xff", 300, 8);
-    writes(&rt, alloc, b"t\nt", b"u", 300, 9);
-    writes(&rt, alloc, b"t ", b"u", 300, 9);
-    writes(&rt, alloc, b" t", b"u", 300, 9);
-    writes(&rt, alloc, b"t", b"u\nu", 300, 9);
-    writes(&rt, alloc, b"t", b"u\r", 300, 9);
-    writes(&rt, alloc, b"t", b" u ", 300, 0);
+    let state = with_a_key(alloc, SECRET_KEY);
+    writes(&rt, alloc, &state, b"t", b"u", 230, 0);
+    writes(&rt, alloc, &state, b"t", b"u", 229, 5);
+    writes(&rt, alloc, &state, b"\xff", b"u", 300, 8);
+    writes(&rt, alloc, &state, b"t", b"\xff", 300, 8);
+    writes(&rt, alloc, &state, b"t\nt", b"u", 300, 9);
+    writes(&rt, alloc, &state, b"t ", b"u", 300, 9);
+    writes(&rt, alloc, &state, b" t", b"u", 300, 9);
+    writes(&rt, alloc, &state, b"t", b"u\nu", 300, 9);
+    writes(&rt, alloc, &state, b"t", b"u\r", 300, 9);
+    writes(&rt, alloc, &state, b"t", b" u ", 300, 0);
+}
+
+// What Minisign would not read back, which `tests/c/wrong_use.c` has the lengths of.
+#[test]
+fn texts_for_minisign_are_refused_by_number(rt: HostRuntime) {
+    let alloc = rt.alloc();
+    let state = with_a_key(alloc, SECRET_KEY);
+    writes(&rt, alloc, &state, b"t\rt", b"u", 300, 11);
+    writes(&rt, alloc, &state, b"t", b"u\ru", 300, 11);
+    writes(&rt, alloc, &state, b"t\0t", b"u", 0, 11);
+    writes(&rt, alloc, &state, b"t", b"\0", 300, 11);
+}
+
+#[test]
+fn texts_want_a_key_that_was_told(rt: HostRuntime) {
+    let alloc = rt.alloc();
+    let mut state = fed();
+    writes(&rt, alloc, &state, b"t", b"u", 300, 3);
+    assert!(rt; asked(&mut state, (KEY, SIGNATURE), false) == 0);
+    writes(&rt, alloc, &state, b"\xff", b"u", 300, 3);
+    assert!(rt; judged(&mut state, true, true) == 0);
+    writes(&rt, alloc, &state, b"t", b"u", 300, 1);
+    let mut state = with_a_key(alloc, SECRET_KEY);
+    assert!(rt; is_not_fed(&mut state, Misuse::AlreadyAsked));
+    assert!(rt; judged(&mut state, true, true) == 3);
 }

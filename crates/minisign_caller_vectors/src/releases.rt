@@ -42,7 +42,8 @@ fn has_comments(alloc: Global, sig_text: &str) -> Result<bool> {
 fn is_checked(alloc: Global, texts: (&str, &str), update: &str, expected: Outcome) -> bool {
     let (pk_text, sig_text) = texts;
     let toy = ToyScheme::new();
-    let checked = check_update(alloc, &toy, pk_text, sig_text, update.as_bytes());
+    let name = "timestamp:0";
+    let checked = check_update(alloc, &toy, pk_text, sig_text, update.as_bytes(), name);
     comes_to(&checked, expected)
 }
 

@@ -10,20 +10,16 @@ use Rattle.minisign.specs.Generation.{IsGenuinePair}
 use Rattle.minisign.specs.Headline.{SigningHeadline}
 use Rattle.minisign.specs.Records.{PublicKeyRecord, SecretKeyRecord, SignatureBoxRecord}
 use Rattle.minisign.specs.SignatureText.{SignatureText}
-use Rattle.minisign.specs.Signing.{AreKept, AreLines, ChosenComments}
+use Rattle.minisign.specs.Signing.{AreChosenReadBack, ChosenComments}
 use Rattle.minisign_examples.specs.Releasing.{IsMemoryOrRandomFault}
-
--- comments that are kept stand in lines of their own
-pub lines_of : (chosen : ChosenComments) → AreKept chosen → AreLines chosen
-lines_of chosen kept = record { untrusted_one_line = kept.untrusted_one_line; trusted_one_line = kept.trusted_one_line; trusted_trimmed = kept.trusted_trimmed }
 
 -- the text vouches for the message, and only memory or random bytes may be wanting for it
 pub signed_by_pair : {T Z : Type 0} (bytes : T → List ℕ) (r : Result T Fault) (accepts : Verifier) (public_of : List ℕ → List ℕ) (pk : PublicKeyRecord) (sk : SecretKeyRecord)
-    (message : List ℕ) (chosen : ChosenComments) (z : RandomPassage Z) → IsGenuinePair public_of pk sk → AreKept chosen
+    (message : List ℕ) (chosen : ChosenComments) (z : RandomPassage Z) → IsGenuinePair public_of pk sk → AreChosenReadBack chosen
     → IfOk r (λ t. SigningHeadline accepts public_of sk message chosen (bytes t)) → IfErr r (BytesSigningFails sk z)
     → MatchResult r (λ t. (x : SignatureBoxRecord) × SignatureText (bytes t) x × Vouches accepts pk x message false) IsMemoryOrRandomFault
 signed_by_pair bytes (Ok t) accepts public_of pk sk message chosen z pair kept signed fails =
-    let (x, read, each) = signed pair.seed pair.genuine (lines_of chosen kept) in
+    let (x, read, each) = signed pair.seed pair.genuine kept.one_line in
     (x, read, each pk false pair.key pair.keynum)
 signed_by_pair bytes (Err e) accepts public_of pk sk message chosen z pair kept signed (inl (fault, sealed, undrawn)) =
     absurd (true≢false (sym sealed ∙ pair.genuine.opened))

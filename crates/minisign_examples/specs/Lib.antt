@@ -1,3 +1,4 @@
 pub mod Asking
 pub mod NewKeys
 pub mod Releasing
+pub mod Updating

@@ -1,7 +1,7 @@
 -- The texts of a pair of keys, and why a release is not made.
-use Rattle.std.specs.Prelude.{◌≡◌, ◌⊎◌, ℕ, List}
+use Rattle.std.specs.Prelude.{◌≡◌, ◌<◌, ◌⊎◌, ℕ, List, length}
 use Rattle.minisign_base.specs.Fault.{Fault, Named}
-use Rattle.minisign_base.specs.declared.faults.NamedFault.TheVariants.{OutOfMemory, RandomSourceFailed}
+use Rattle.minisign_base.specs.declared.faults.NamedFault.TheVariants.{OutOfMemory, PasswordTooLong, RandomSourceFailed}
 use Rattle.minisign.specs.Records.{PublicKeyRecord, SecretKeyRecord}
 use Rattle.minisign.specs.PublicKeyText.{PublicKeyText}
 use Rattle.minisign.specs.Generation.{IsGenuinePair, OpensOnlyTo}
@@ -15,3 +15,7 @@ pub record ArePairTexts (public_of : List ℕ → List ℕ) (password pk_text sk
 -- it ran out of memory, or the random source failed; no text and no signature was refused
 abbrev pub IsMemoryOrRandomFault : Fault → Type 0
 IsMemoryOrRandomFault e = (e ≡ Named OutOfMemory) ⊎ (e ≡ Named RandomSourceFailed)
+
+-- the same where keys are made, or the password has more than 1024 bytes
+abbrev pub IsPairFault : List ℕ → Fault → Type 0
+IsPairFault password e = IsMemoryOrRandomFault e ⊎ ((e ≡ Named PasswordTooLong) × (1024 < length password))

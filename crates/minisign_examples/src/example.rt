@@ -9,7 +9,9 @@ ghost use Rattle.minisign.specs.PublicKeyText.{public_key_text};
 ghost use Rattle.minisign.specs.Signing.{IsGenuine, comments_or_defaults};
 ghost use Rattle.minisign.specs.SigningTexts.{IsSignedText};
 
-use minisign::{PublicKey, Result, SecretKey, sign_bytes, verify_bytes};
+use minisign::{
+    PublicKey, Result, SecretKey, default_comments_are_read_back, sign_bytes, verify_bytes,
+};
 use minisign_base::devices::random_sources::RandomSource;
 use minisign_base::scheme::Scheme;
 use std::alloc::Global;
@@ -28,13 +30,20 @@ pub fn sign_and_verify<S: Scheme, Z: RandomSource>(
     random: &mut Z,
     moment: u64,
 ) -> Result<String>
+    // The text is that of the box that signing makes of the message.
     ensures signed { IfOk result (λ t. IsSignedText (S.signature_of scheme.now) secret_key.now message.now (comments_or_defaults None None moment)
         (random_passage Z.RandomSource random.old random.new) (string_bytes t)) }
+
+    // It vouches for the message under the public key.
     ensures accepted { IfOk result (λ t. TextsVouchFor (S.accepts scheme.now) (public_key_text public_key.now) (string_bytes t) message.now false) }
+
+    // With a genuine secret key and its own public key only running out of memory and a failing
+    // random source are refused, never the signature.
     ensures genuine { (seed : List ℕ) → IsGenuine (S.public_of scheme.now) secret_key.now seed
         → public_key.now.key ≡ S.public_of scheme.now seed → public_key.now.keynum ≡ secret_key.now.keynum
         → IfErr result (λ e. (e ≡ Named OutOfMemory) ⊎ (e ≡ Named RandomSourceFailed)) }
 {
+    default_comments_are_read_back(moment);
     let sig_text = sign_bytes(alloc, scheme, secret_key, message, None, random, moment)?;
     let pk_text = public_key.to_box(alloc)?.into_string();
     verify_bytes(alloc, scheme, pk_text.as_str(), sig_text.as_str(), message)?;

@@ -7,14 +7,13 @@ ghost use Rattle.minisign.specs.Acceptance.{Vouches};
 ghost use Rattle.minisign.specs.Generation.{IsGenuinePair};
 ghost use Rattle.minisign.specs.Headline.{TextsVouchFor};
 ghost use Rattle.minisign.specs.SignatureText.{SignatureText};
-ghost use Rattle.minisign_examples.specs.Releasing.{ArePairTexts, IsMemoryOrRandomFault};
+ghost use Rattle.minisign_examples.specs.Releasing.{ArePairTexts, IsMemoryOrRandomFault, IsPairFault};
 
-use crate::updating::check_update;
-use minisign::{KeyPair, Result, SecretKey, open_with_password, sign_bytes};
+use minisign::{
+    KeyPair, Result, SecretKey, default_comments_are_read_back, open_with_password, sign_bytes,
+    verify_bytes,
+};
 use minisign_base::devices::random_sources::RandomSource;
-use minisign_base::devices::sinks::VecSink;
-use minisign_base::devices::sources::SliceSource;
-use minisign_base::prompt::Prompt;
 use minisign_base::scheme::Scheme;
 use std::alloc::Global;
 
@@ -39,7 +38,8 @@ pub struct KeyTexts {
 /// Makes a pair sealed under the password, signs the update with the text of its secret key, and
 /// verifies with what is published. The trusted comment is the moment, in seconds since 1970.
 ///
-/// Only running out of memory and a failing random source are refused.
+/// Only running out of memory, a failing random source and a password of more than 1024 bytes are
+/// refused.
 pub fn sign_release<S: Scheme, Z: RandomSource>(
     alloc: Global,
     scheme: &S,
@@ -48,13 +48,18 @@ pub fn sign_release<S: Scheme, Z: RandomSource>(
     random: &mut Z,
     moment: u64,
 ) -> Result<Release>
+    // A pair is made and kept as texts, its key is opened again and signs, and what is published
+    // vouches for the update, whatever the scheme, the password, the update and the random bytes.
     ensures vouches { IfOk result (λ r. TextsVouchFor (S.accepts scheme.now) (string_bytes r.pk_text) (string_bytes r.sig_text) update.now false) }
-    ensures refused { IfErr result IsMemoryOrRandomFault }
+
+    // The only refusals are running out of memory, a failing random source, and a password of more
+    // than 1024 bytes.
+    ensures refused { IfErr result (IsPairFault password.now) }
 {
     let KeyTexts { pk_text, sk_text } = make_keys(alloc, scheme, password, random)?;
     let sk = open_with_password(alloc, sk_text.as_str(), password)?;
     let sig_text = sign_update(alloc, scheme, &sk, update, random, moment)?;
-    check_update(alloc, scheme, pk_text.as_str(), sig_text.as_str(), update)?;
+    verify_bytes(alloc, scheme, pk_text.as_str(), sig_text.as_str(), update)?;
     Ok(Release { pk_text, sig_text })
 }
 
@@ -65,13 +70,15 @@ pub fn make_keys<S: Scheme, Z: RandomSource>(
     password: &str,
     random: &mut Z,
 ) -> Result<KeyTexts>
+    // The texts are those of a pair whose secret key is sealed under the password.
     ensures made { IfOk result (λ t. (pk : PublicKeyRecord) × (sk : SecretKeyRecord)
         × ArePairTexts (S.public_of scheme.now) password.now (string_bytes t.pk_text) (string_bytes t.sk_text) pk sk) }
-    ensures refused { IfErr result IsMemoryOrRandomFault }
+
+    // The only refusals are running out of memory, a failing random source, and a password of more
+    // than 1024 bytes.
+    ensures refused { IfErr result (IsPairFault password.now) }
 {
-    let passed_in = Some(String::from_str(alloc, password)?);
-    let mut unasked = Prompt::new(SliceSource::new(b""), VecSink::new(alloc));
-    let pair = KeyPair::generate_encrypted_keypair(alloc, scheme, random, passed_in, &mut unasked)?;
+    let pair = KeyPair::generate_with_password(alloc, scheme, random, password)?;
     Ok(KeyTexts {
         pk_text: pair.pk.to_box(alloc)?.into_string(),
         sk_text: pair.sk.to_box(alloc, None)?.into_string(),
@@ -87,8 +94,11 @@ pub fn sign_update<S: Scheme, Z: RandomSource>(
     random: &mut Z,
     moment: u64,
 ) -> Result<String>
+    // With the key of a genuine pair the text is that of a box that vouches for the update, and the
+    // only refusals are running out of memory and a failing random source.
     ensures { (pk : PublicKeyRecord) → IsGenuinePair (S.public_of scheme.now) pk sk.now
         → MatchResult result (λ t. (x : SignatureBoxRecord) × SignatureText (string_bytes t) x × Vouches (S.accepts scheme.now) pk x update.now false) IsMemoryOrRandomFault }
 {
+    default_comments_are_read_back(moment);
     sign_bytes(alloc, scheme, sk, update, None, random, moment)
 }

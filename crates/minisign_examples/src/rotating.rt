@@ -6,8 +6,7 @@ ghost use Rattle.minisign_base.specs.Fault.{Named};
 ghost use Rattle.minisign_base.specs.declared.faults.NamedFault.TheVariants.{OutOfMemory};
 ghost use Rattle.minisign_examples.specs.NewKeys.{RefuseThroughNewKey, VouchThroughNewKey};
 
-use crate::updating::check_update;
-use minisign::Result;
+use minisign::{Result, verify_bytes};
 use minisign_base::scheme::Scheme;
 use std::alloc::Global;
 
@@ -36,12 +35,13 @@ pub fn check_with_new_key<S: Scheme>(
         (λ e. (e ≡ Named OutOfMemory) ⊎ RefuseThroughNewKey (S.accepts scheme.now) old_text.now
         new_key.entry.sig_text.now new_key.entry.pk_text.now sig_text.now update.now e) }
 {
-    check_update(
+    verify_bytes(
         alloc,
         scheme,
         old_text,
         new_key.sig_text,
         new_key.pk_text.as_bytes(),
     )?;
-    check_update(alloc, scheme, new_key.pk_text, sig_text, update)
+    verify_bytes(alloc, scheme, new_key.pk_text, sig_text, update)?;
+    Ok(())
 }

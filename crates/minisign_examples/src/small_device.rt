@@ -6,8 +6,6 @@ ghost use Rattle.minisign_base.specs.declared.faults.NamedFault.TheVariants.{Out
 ghost use Rattle.minisign.specs.Opening.{IsOpened, RefusesOpening};
 
 use minisign::{Result, SecretKey, SecretKeyBox};
-use minisign_base::devices::sinks::VecSink;
-use minisign_base::devices::sources::SliceSource;
 use minisign_base::prompt::Prompt;
 use std::alloc::Global;
 
@@ -17,11 +15,11 @@ const KEPT_EVERY: u64 = 8;
 /// Opens the sealed secret key of a text with the password in an eighth of the memory that it takes
 /// otherwise: 4 MiB with the usual limits. What is opened and what is refused is the same.
 pub fn open_in_little_memory(alloc: Global, sk_text: &str, password: &str) -> Result<SecretKey>
+    // A key opens in an eighth of the memory exactly when it opens.
     ensures { MatchResult result (IsOpened sk_text.now password.now None)
         (λ e. (e ≡ Named OutOfMemory) ⊎ RefusesOpening sk_text.now password.now None e) }
 {
     let sk_box = SecretKeyBox::from_string(alloc, sk_text)?;
     let passed_in = Some(String::from_str(alloc, password)?);
-    let mut unasked = Prompt::new(SliceSource::new(b""), VecSink::new(alloc));
-    SecretKey::from_box_keeping(alloc, sk_box, passed_in, &mut unasked, KEPT_EVERY)
+    SecretKey::from_box_keeping(alloc, sk_box, passed_in, &mut Prompt::silent(), KEPT_EVERY)
 }

@@ -1,26 +1,32 @@
-//! A caller that installs what two texts vouch for, and nothing else.
+//! A caller that installs what two texts vouch for under its name, and nothing else.
 
 ghost use Rattle.std.specs.Prelude.{◌≡◌, ◌⊎◌, false, MatchResult};
 ghost use Rattle.minisign_base.specs.Fault.{Named};
 ghost use Rattle.minisign_base.specs.declared.faults.NamedFault.TheVariants.{OutOfMemory};
-ghost use Rattle.minisign.specs.Headline.{TextsRefuse, TextsVouchFor};
+ghost use Rattle.minisign.specs.Calls.{TextsVouchWith};
+ghost use Rattle.minisign_examples.specs.Updating.{RefusesUpdate};
 
-use minisign::{Result, verify_bytes};
+use minisign::{ErrorKind, PError, Result, verify_bytes};
 use minisign_base::scheme::Scheme;
 use std::alloc::Global;
 
-/// Success exactly where the texts of a public key and of a signature vouch for the update, and
-/// otherwise the first reason why not; it may run out of memory.
+/// Success exactly where the texts of a public key and of a signature vouch for the update, and the
+/// comment that was signed with it is this name, as `tool-1.2.tar`: so nobody passes off an older
+/// release for a newer one. Otherwise the first reason why not; it may run out of memory.
 pub fn check_update<S: Scheme>(
     alloc: Global,
     scheme: &S,
     pk_text: &str,
     sig_text: &str,
     update: &[u8],
+    name: &str,
 ) -> Result<()>
-    ensures { MatchResult result (λ _. TextsVouchFor (S.accepts scheme.now) pk_text.now sig_text.now update.now false)
-        (λ e. (e ≡ Named OutOfMemory) ⊎ TextsRefuse (S.accepts scheme.now) pk_text.now sig_text.now update.now false e) }
+    ensures { MatchResult result (λ _. TextsVouchWith (S.accepts scheme.now) pk_text.now sig_text.now update.now false name.now)
+        (λ e. (e ≡ Named OutOfMemory) ⊎ RefusesUpdate (S.accepts scheme.now) pk_text.now sig_text.now update.now name.now e) }
 {
-    verify_bytes(alloc, scheme, pk_text, sig_text, update)?;
+    let comment = verify_bytes(alloc, scheme, pk_text, sig_text, update)?;
+    if comment.as_str() != name {
+        return Err(PError::fixed(ErrorKind::Verify, "the update has another name"));
+    }
     Ok(())
 }

@@ -3,7 +3,7 @@
 //!
 //! They hold the base64 of Python's base64 module. What is sealed was xored with scrypt of Python's
 //! hashlib; key A is sealed under the salt whose bytes count up from 0x20, by
-//! `tests/sealed_keys.py`.
+//! `tests/library/sealed_keys.py`.
 
 /// Key A's public text: 114 bytes, of which 57 are the first line.
 pub const KEY_TEXT: &str =

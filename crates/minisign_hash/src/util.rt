@@ -7,6 +7,7 @@ ghost use Rattle.std.specs.Prelude.{◌≡◌, bytes_eq};
 /// this takes.
 #[inline(never)]
 pub fn fixed_time_eq(lhs: &[u8], rhs: &[u8]) -> bool
+    // Whether the two slices hold the same bytes; slices of different lengths are different.
     ensures { result ≡ bytes_eq lhs.now rhs.now }
 {
     if lhs.len() != rhs.len() {

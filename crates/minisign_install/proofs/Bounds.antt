@@ -4,8 +4,8 @@ use Rattle.std.proofs.lemmas.Bool.{cases_Bool, cond-true, cond-false, eq-eqb, ne
 use Rattle.std.proofs.lemmas.Slice.Eq.{bytes_eq-Decides}
 use Rattle.std.specs.declared.alloc.Global.{Global}
 use Rattle.std.specs.Prelude.{◌==◌, ◌||◌, bytes_eq}
-use Rattle.minisign_install.specs.Folders.{HasCreated, OthersLeave, Moment}
-use Rattle.minisign_install.specs.Memory.{Past, after, beginning, is_file, is_same, past, past_from, count_of, past_of, rested, told_run}
+use Rattle.minisign_install.specs.Folders.{GivesRights, HasCreated, HasStepped, KeepsOwn, OthersLeave, Moment}
+use Rattle.minisign_install.specs.Memory.{Past, after, beginning, is_file, is_same, past, past_from, count_of, owned_by, past_of, rested, run_of, told_run, with_own}
 use Rattle.minisign_install.specs.declared.folders.Name.{Name}
 use Rattle.minisign_install.specs.declared.memory.calls.Call.{Call}
 use Rattle.minisign_install.specs.declared.memory.calls.Call.TheVariants.{Created, Written, Settled, Renamed, NamesSettled, Removed, Cleared}
@@ -80,9 +80,46 @@ bounded_beginning = record { stages = λ s f e. absurd (none_some f e); leads = 
 pub bounded : (folder : MemoryFolder) → IsBounded (past_of folder)
 bounded folder = bounded_rested (count_of folder.stills) (past folder.entries.items) (bounded_from beginning folder.entries.items bounded_beginning)
 
+-- nobody else holds the lock, and everyone has all rights
+record IsPlain (m : Moment) : Type 0 where
+  rights : (f : ℕ) → m.rights f ≡ true
+  alone : m.busy ≡ false
+
+plain_after : (p : Past) (call : Call) → IsPlain p.now → IsPlain (after p call).now
+plain_after p (Created name) plain = record { rights = plain.rights; alone = plain.alone }
+plain_after p (Written file bytes) plain = record { rights = plain.rights; alone = plain.alone }
+plain_after p (Settled file) plain = record { rights = plain.rights; alone = plain.alone }
+plain_after p (Renamed name to) plain = record { rights = plain.rights; alone = plain.alone }
+plain_after p NamesSettled plain = record { rights = plain.rights; alone = plain.alone }
+plain_after p (Removed name) plain = record { rights = plain.rights; alone = plain.alone }
+plain_after p Cleared plain = record { rights = plain.rights; alone = plain.alone }
+
+plain_from : (p : Past) (es : List Entry) → IsPlain p.now → IsPlain (past_from p es).now
+plain_from p [] plain = plain
+plain_from p (e ∷ es) plain =
+    plain_from (after (rested (count_of e.stills) p) e.call) es (plain_after (rested (count_of e.stills) p) e.call (record { rights = plain.rights; alone = plain.alone }))
+
+plain : (folder : MemoryFolder) → IsPlain (past_of folder).now
+plain folder =
+    let is = plain_from beginning folder.entries.items (record { rights = λ f. refl; alone = refl }) in
+    record { rights = is.rights; alone = is.alone }
+
+pub all_rights : (folder : MemoryFolder) (f : ℕ) → (past_of folder).now.rights f ≡ true
+all_rights folder = (plain folder).rights
+
+pub alone : (folder : MemoryFolder) → (past_of folder).now.busy ≡ false
+alone folder = (plain folder).alone
+
 -- nobody else does anything
-nobody : (owns : List ℕ → Bool) (m : Moment) → OthersLeave owns m m
-nobody owns m = record { stages = λ s o. refl; holds = λ s f o e. refl; on_disk = λ s f o e. refl; apart = λ s f o e a. a }
+pub nobody : (owns : List ℕ → Bool) (m : Moment) → OthersLeave true owns m m
+nobody owns m = record {
+  stages = λ s o. refl;
+  holds = λ s f o e. refl;
+  on_disk = λ s f o e. refl;
+  rights = λ s f o e. refl;
+  apart = λ s f o e a. a;
+  record_left = λ l. record { leads = refl; left = λ f e. inr e; holds = λ f lead. refl; on_disk = λ f lead e. e };
+}
 
 not_itself : (n : ℕ) → n < n → ⊥
 not_itself n l = omega (arith, l)
@@ -96,18 +133,43 @@ other_bytes s name differs = elim (cases_Bool (bytes_eq s name)) [
   | inr is ↦ is
 ]
 
+-- a call that changed nothing
+pub rested_step : (folder new : MemoryFolder) (call : Moment → Moment → Type 0) → past_of new ≡ rested 1 (past_of folder) → new.owned ≡ folder.owned → call (past_of folder).now (past_of folder).now
+    → HasStepped (run_of folder) (run_of new) call × KeepsOwn (run_of folder) (run_of new)
+rested_step folder new call is own this =
+    let p = past_of folder in
+    let owns = owned_by folder.owned in
+    let at : HasStepped (told_run p owns) (told_run (rested 1 p) owns) call × KeepsOwn (told_run p owns) (told_run (rested 1 p) owns) = (
+      record { before = p.now; others = nobody owns p.now; this = this; noted = refl; told = refl; locked = λ l. l },
+      record { owns = refl },
+    ) in
+    subst (λ o. HasStepped (told_run p owns) (told_run (past_of new) (owned_by o)) call × KeepsOwn (told_run p owns) (told_run (past_of new) (owned_by o))) (sym own)
+    (subst (λ q. HasStepped (told_run p owns) (told_run q owns) call × KeepsOwn (told_run p owns) (told_run q owns)) (sym is) at)
+
+-- everyone has all rights
+pub rights_given : (folder : MemoryFolder) (file : ℕ) → GivesRights file (past_of folder).now (past_of folder).now
+rights_given folder file = record {
+  spoils = record {
+    only = record { leads = refl; left = refl; holds = λ f other. refl; on_disk = λ f other. refl; rights = λ f other. refl };
+    stages = refl;
+  };
+  same = refl;
+  given = all_rights folder file;
+}
+
 -- a stage is made under a name that is free
-made_at : (p : Past) (v : Vec ℕ Global) → IsBounded p → p.now.stages v.items ≡ None → HasCreated v.items p.made (told_run p) (told_run (after p (Created v)))
-made_at p v b free = record {
+made_at : (p : Past) (owns : List ℕ → Bool) (v : Vec ℕ Global) → IsBounded p → p.now.stages v.items ≡ None → HasCreated v.items p.made (told_run p owns) (told_run (after p (Created v)) (with_own owns v.items))
+made_at p owns v b free = record {
   stepped = record {
     before = p.now;
-    others = nobody p.owns p.now;
+    others = nobody owns p.now;
     this = record {
       only = record {
         leads = refl;
         left = refl;
         holds = λ f other. cond-false (f == p.made) [] (p.now.holds f) (ne_eqb f p.made other);
         on_disk = λ f other. cond-false (f == p.made) false (p.now.on_disk f) (ne_eqb f p.made other);
+        rights = λ f other. refl;
       };
       apart = λ n lead. ⊎_elim (λ e. not_itself p.made (b.leads n p.made e)) (λ e. not_itself p.made (b.left n p.made e)) lead;
       fresh = λ s e. not_itself p.made (b.stages s p.made e);
@@ -118,18 +180,21 @@ made_at p v b free = record {
     };
     noted = refl;
     told = refl;
+    locked = λ l. l;
   };
   own = record {
-    more = cond-true (bytes_eq v.items v.items) true (p.owns v.items) (same_bytes v.items v.items refl);
-    others = λ s other. cond-false (bytes_eq s v.items) true (p.owns s) (other_bytes s v.items other);
+    more = cond-true (bytes_eq v.items v.items) true (owns v.items) (same_bytes v.items v.items refl);
+    others = λ s other. cond-false (bytes_eq s v.items) true (owns s) (other_bytes s v.items other);
   };
 }
 
-pub created : (folder : MemoryFolder) (q : Past) (v : Vec ℕ Global) (name : List ℕ) (file : ℕ) → (past_of folder).now.stages name ≡ None → v.items ≡ name
-    → file ≡ (past_of folder).made → q ≡ after (past_of folder) (Created v) → HasCreated name file (told_run (past_of folder)) (told_run q)
-created folder q v name file free named numbered is =
+pub created : (folder : MemoryFolder) (q : Past) (owned : List ℕ → Bool) (v : Vec ℕ Global) (name : List ℕ) (file : ℕ) → (past_of folder).now.stages name ≡ None → v.items ≡ name
+    → file ≡ (past_of folder).made → q ≡ after (past_of folder) (Created v) → owned ≡ with_own (owned_by folder.owned) name → HasCreated name file (run_of folder) (told_run q owned)
+created folder q owned v name file free named numbered is own =
     let p = past_of folder in
-    let at = made_at p v (bounded folder) (ap (λ s. p.now.stages s) named ∙ free) in
-    subst (λ r. HasCreated name file (told_run p) (told_run r)) (sym is)
-    (subst (λ f. HasCreated name f (told_run p) (told_run (after p (Created v)))) (sym numbered)
-    (subst (λ s. HasCreated s p.made (told_run p) (told_run (after p (Created v)))) named at))
+    let owns = owned_by folder.owned in
+    let at = made_at p owns v (bounded folder) (ap (λ s. p.now.stages s) named ∙ free) in
+    subst (λ o. HasCreated name file (told_run p owns) (told_run q o)) (sym own)
+    (subst (λ r. HasCreated name file (told_run p owns) (told_run r (with_own owns name))) (sym is)
+    (subst (λ f. HasCreated name f (told_run p owns) (told_run (after p (Created v)) (with_own owns name))) (sym numbered)
+    (subst (λ s. HasCreated s p.made (told_run p owns) (told_run (after p (Created v)) (with_own owns s))) named at)))

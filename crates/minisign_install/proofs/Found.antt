@@ -6,7 +6,6 @@ use Rattle.std.specs.declared.result.Result.{Result}
 use Rattle.std.specs.declared.result.Result.TheVariants.{Ok, Err}
 use Rattle.minisign_base.specs.Fault.{Fault, Named}
 use Rattle.minisign_base.specs.declared.faults.NamedFault.TheVariants.{OutOfMemory, ReadingFailed}
-use Rattle.minisign_install.specs.Refusals.{IsDeviceFault}
 use Rattle.minisign_install.specs.Folders.{HasStepped, Reads, Run}
 use Rattle.minisign_install.specs.Installing.{IsKeptNumber}
 use Rattle.minisign_install.specs.declared.faults.InstallFault.{InstallFault}
@@ -24,13 +23,14 @@ judged_told true xs ahead V (Ok t) is (message, given, v) = λ told. subst (λ m
 judged_told false xs ahead V (Ok t) is judged = λ told. absurd (true≢false (sym told))
 judged_told told xs ahead V (Err e) is judged = tt
 
-pub refused_told : {T : Type 0} (told : Bool) (xs : List ℕ) (ahead : Option (List ℕ)) (W : List ℕ → Fault → Type 0) (r : Result T Fault) → ahead ≡ (if told then Some xs else None)
-    → IfErr r (λ e. (e ≡ Named OutOfMemory) ⊎ (e ≡ Named ReadingFailed) ⊎ ((message : List ℕ) × IsAhead ahead message × W message e)) → IfErr r (λ e. told ≡ true → IsDeviceFault e ⊎ W xs e)
-refused_told told xs ahead W (Ok t) is why = tt
-refused_told told xs ahead W (Err e) is (inl memory) = λ yes. inl (inl memory)
-refused_told told xs ahead W (Err e) is (inr (inl reading)) = λ yes. inl (inr (inl reading))
-refused_told true xs ahead W (Err e) is (inr (inr (message, given, w))) = λ yes. inr (subst (λ m. W m e) (sym (subst (λ a. IsAhead a message) is given)) w)
-refused_told false xs ahead W (Err e) is (inr (inr (message, given, w))) = λ yes. absurd (true≢false (sym yes))
+pub refused_told : {T : Type 0} (told : Bool) (xs : List ℕ) (ahead : Option (List ℕ)) (Z Y : Type 0) → (Z → Y) → (W : List ℕ → Fault → Type 0) (r : Result T Fault) → ahead ≡ (if told then Some xs else None)
+    → IfErr r (λ e. (e ≡ Named OutOfMemory) ⊎ ((e ≡ Named ReadingFailed) × Z) ⊎ ((message : List ℕ) × IsAhead ahead message × W message e))
+    → IfErr r (λ e. told ≡ true → ((e ≡ Named OutOfMemory) ⊎ ((e ≡ Named ReadingFailed) × Y)) ⊎ W xs e)
+refused_told told xs ahead Z Y so W (Ok t) is why = tt
+refused_told told xs ahead Z Y so W (Err e) is (inl memory) = λ yes. inl (inl memory)
+refused_told told xs ahead Z Y so W (Err e) is (inr (inl (reading, z))) = λ yes. inl (inr (reading, so z))
+refused_told true xs ahead Z Y so W (Err e) is (inr (inr (message, given, w))) = λ yes. inr (subst (λ m. W m e) (sym (subst (λ a. IsAhead a message) is given)) w)
+refused_told false xs ahead Z Y so W (Err e) is (inr (inr (message, given, w))) = λ yes. absurd (true≢false (sym yes))
 
 -- what was judged was some data, whether the stage is told or not
 pub some_vouched : {T : Type 0} (ahead : Option (List ℕ)) (V : List ℕ → T → Type 0) (r : Result T Fault) → IfOk r (λ t. (message : List ℕ) × IsAhead ahead message × V message t)
@@ -38,9 +38,10 @@ pub some_vouched : {T : Type 0} (ahead : Option (List ℕ)) (V : List ℕ → T 
 some_vouched ahead V (Ok t) (message, given, v) = (message, v)
 some_vouched ahead V (Err e) judged = tt
 
-pub some_refused : {T : Type 0} (ahead : Option (List ℕ)) (W : List ℕ → Fault → Type 0) (r : Result T Fault)
-    → IfErr r (λ e. (e ≡ Named OutOfMemory) ⊎ (e ≡ Named ReadingFailed) ⊎ ((message : List ℕ) × IsAhead ahead message × W message e)) → IfErr r (λ e. IsDeviceFault e ⊎ ((message : List ℕ) × W message e))
-some_refused ahead W (Ok t) why = tt
-some_refused ahead W (Err e) (inl memory) = inl (inl memory)
-some_refused ahead W (Err e) (inr (inl reading)) = inl (inr (inl reading))
-some_refused ahead W (Err e) (inr (inr (message, given, w))) = inr (message, w)
+pub some_refused : {T : Type 0} (ahead : Option (List ℕ)) (Z Y : Type 0) → (Z → Y) → (W : List ℕ → Fault → Type 0) (r : Result T Fault)
+    → IfErr r (λ e. (e ≡ Named OutOfMemory) ⊎ ((e ≡ Named ReadingFailed) × Z) ⊎ ((message : List ℕ) × IsAhead ahead message × W message e))
+    → IfErr r (λ e. ((e ≡ Named OutOfMemory) ⊎ ((e ≡ Named ReadingFailed) × Y)) ⊎ ((message : List ℕ) × W message e))
+some_refused ahead Z Y so W (Ok t) why = tt
+some_refused ahead Z Y so W (Err e) (inl memory) = inl (inl memory)
+some_refused ahead Z Y so W (Err e) (inr (inl (reading, z))) = inl (inr (reading, so z))
+some_refused ahead Z Y so W (Err e) (inr (inr (message, given, w))) = inr (message, w)

@@ -1,21 +1,60 @@
 -- What the parts of an installation bring together.
-use Rattle.std.proofs.Common.{◌≡◌, ◌≤◌, inl, inr, ℕ, Bool, false, List, ◌∷◌, ◌++◌, Option, ap, sym, subst, ◌∙◌, append_assoc, OnOk, true}
+use Rattle.std.proofs.Common.{◌≡◌, ◌≢◌, ◌⊎◌, ◌≤◌, ◌<◌, ◌^◌, inl, inr, ⊎_elim, ℕ, suc, zero, Bool, false, List, ◌∷◌, ◌++◌, Option, Some, None, ap, sym, subst, refl, ◌∙◌, append_assoc, get_or, OnOk, true, arith, lit<}
+use Rattle.std.proofs.lemmas.Fmt.{decimal_digit, decimal_is_IsNumeral, first_decimal, IsAscii-decimal}
+use Rattle.std.proofs.lemmas.Str.{IsUtf8-from_ascii}
+use Rattle.std.proofs.lemmas.Str.Parse.{without_leading_plus_none}
 use Rattle.std.specs.Fmt.{decimal}
+use Rattle.std.specs.Str.{IsUtf8}
+use Rattle.std.specs.Str.Parse.{IsNumeral, digits_value, without_leading_plus}
 use Rattle.std.specs.declared.result.Result.{Result}
 use Rattle.std.specs.declared.result.Result.TheVariants.{Ok, Err}
 use Rattle.minisign.specs.Acceptance.{Verifier}
 use Rattle.minisign.specs.Calls.{TextsVouchWith}
-use Rattle.minisign_install.specs.Comments.{Says}
-use Rattle.minisign_install.specs.Folders.{HasStepped, Reads, Run, Step}
-use Rattle.minisign_install.specs.Installing.{InstallsOnlyUpdates, IsBrought, IsInstalled, IsKeptNumber, IsUpdate, Terms}
-use Rattle.minisign_install.specs.Runs.{BringsNothing, BringsOnly, Goes, GoesBeside, IsKept, IsOnly, IsPublished, WorksOn}
+use Rattle.minisign.specs.Reading.{IsAhead}
+use Rattle.minisign_install.specs.Comments.{IsNumberText, Says}
+use Rattle.minisign_install.specs.Folders.{Clears, HasLocked, HasStepped, IsFound, LeavesRecord, Moment, Reads, Run, Step}
+use Rattle.minisign_install.specs.Installing.{HasInstalled, InstallsLocked, IsBrought, IsInstalled, IsKeptNumber, IsPlaced, IsRecordBrought, IsUpdate, NeverFalls, PlacesBehind, PlacesOnly, Terms}
+use Rattle.minisign_install.specs.Runs.{BringsNothing, BringsOnly, Goes, GoesBeside, HasCleared, HasRecorded, IsKept, IsNumberFrom, IsOnly, IsPublished, Keeps, WorksOn, rights_of}
 use Rattle.minisign_install.specs.declared.folders.Name.{Name}
 use Rattle.minisign_install.specs.declared.folders.Name.TheVariants.{Place, Record}
-use Rattle.minisign_install.proofs.Moments.{step}
+use Rattle.minisign_install.proofs.Moments.{lasting_keeps}
 use Rattle.minisign_install.proofs.Works.{brings_nothing, brings_trans, brings_weaken}
 
+no_record : Record ≡ Place → ⊥
+no_record e = cc
+
+none_found : (f : ℕ) → None ≡ Some f → ⊥
+none_found f e = cc
+
+no_plus : (n : ℕ) → n < 2 ^ 64 → get_or (decimal n) 0 0 ≢ 43
+no_plus zero bound e = omega (arith, e, ap (λ l. get_or l 0 0) (decimal_digit 0 (lit< tt)))
+no_plus (suc n) bound e = omega (arith, e, first_decimal (suc n) (omega arith) bound)
+
+-- what is written of a number reads as it
+decimal_number : (n : ℕ) → n < 2 ^ 64 → IsNumberText (decimal n) n
+decimal_number n bound =
+    let (numeral, value) = decimal_is_IsNumeral n bound in
+    let plain : without_leading_plus (decimal n) ≡ decimal n = without_leading_plus_none (decimal n) (no_plus n bound) in
+    record { numeral = subst (IsNumeral 10) (sym plain) numeral; is = ap (digits_value 10) plain ∙ value; bound = bound }
+
+-- and is at least any number that is not above it
+number_from : (k n : ℕ) → n < 2 ^ 64 → k ≤ n → IsNumberFrom k (decimal n)
+number_from k n bound least = (n, IsUtf8-from_ascii (decimal n) (IsAscii-decimal n bound), decimal_number n bound, least)
+
+pub same_number : (bytes : List ℕ) (n m : ℕ) → IsNumberText bytes n → IsNumberText bytes m → n ≡ m
+same_number bytes n m a b = sym a.is ∙ b.is
+
+pub some_list : (xs ys : List ℕ) → Some xs ≡ Some ys → xs ≡ ys
+some_list xs ys e = cc
+
+number_least : (first : Bool) (bytes : List ℕ) (kept k n : ℕ) → IsUtf8 bytes → IsNumberText bytes n → k ≤ n → IsKeptNumber first (Some bytes) kept → k ≤ kept
+number_least first bytes kept k n utf8 is least (inl (text, same, is_text, number)) =
+    omega (arith, least, same_number bytes n kept is (subst (λ b. IsNumberText b kept) (some_list text bytes (sym same)) number))
+number_least first bytes kept k n utf8 is least (inr (is_first, none, (inl not_text))) = absurd (not_text utf8)
+number_least first bytes kept k n utf8 is least (inr (is_first, none, (inr not_number))) = absurd (not_number n is)
+
 module _ (accepts : Verifier) (terms : Terms) (kept : ℕ) where
-  P : Name → List ℕ → Type 0
+  abbrev P : Name → List ℕ → Type 0
   P = IsBrought accepts terms kept
 
   -- the number of an update comes to the record
@@ -48,56 +87,134 @@ module _ (accepts : Verifier) (terms : Terms) (kept : ℕ) where
       brings_trans (IsBrought accepts terms kept) old mid new so_far
       (update_brought (mid.now.holds file) n mid new (subst (λ u. IsUpdate accepts terms kept u n) (sym same.holds) is) goes.brings)
 
-  pub installed : (name : List ℕ) (file : ℕ) (n : ℕ) (staged mid : Run) (steps : List Step) → IsUpdate accepts terms kept (staged.now.holds file) n → IsKept staged mid name file
-      → (earlier : List Step) × IsPublished Record (decimal n) earlier mid.steps → IsPublished Place (mid.now.holds file) mid.steps steps → IsInstalled accepts terms kept steps
-  installed name file n staged mid steps is same recorded published = record {
+  pub installed : (name : List ℕ) (file : ℕ) (n : ℕ) (ahead : Option (List ℕ)) (staged mid : Run) (steps : List Step) → IsAhead ahead (staged.now.holds file) → IsUpdate accepts terms kept (staged.now.holds file) n
+      → staged.now.rights file ≡ true → IsKept staged mid name file → HasRecorded (decimal n) mid
+      → (p : IsPublished Place (mid.now.holds file) mid.steps steps) × (rights_of p ≡ mid.now.rights file) → IsInstalled accepts terms kept ahead steps
+  installed name file n ahead staged mid steps given is rights same recorded (published, has) = record {
     bytes = mid.now.holds file;
     n = n;
+    read = subst (IsAhead ahead) (sym same.holds) given;
     update = subst (λ u. IsUpdate accepts terms kept u n) (sym same.holds) is;
-    earlier = recorded.0;
+    earlier = recorded.earlier;
     recorded = mid.steps;
-    number_first = recorded.1;
+    number_first = recorded.published;
     published = published;
+    rights = has ∙ same.rights ∙ rights;
   }
 
--- the record was read, and what is not older than its number was brought
-pub installs : (accepts : Verifier) (terms : Terms) (first : Bool) (found : Option (List ℕ)) (kept : ℕ) (old cleared read new : Run) → BringsNothing old cleared
-    → HasStepped cleared read (Reads Record found) → IsKeptNumber first found kept → BringsNothing cleared read → BringsOnly (IsBrought accepts terms kept) read new → InstallsOnlyUpdates accepts terms first old new
-installs accepts terms first found kept old cleared read new clear s number still brings =
-    let P = IsBrought accepts terms kept in
-    inr (record {
-      found = found;
-      kept = kept;
-      read = record {
-        later = brings.since;
-        call = step s.before read.now;
-        earlier = clear.since;
-        noted = brings.noted ∙ ap (λ l. brings.since ++ l) (s.noted ∙ ap (λ l. step s.before read.now ∷ l) clear.noted);
-        there = s.this.found_there;
-      };
-      number = number;
-      brings = brings_trans P old cleared new (brings_nothing P old cleared clear) (brings_trans P cleared read new (brings_nothing P cleared read still) brings);
-    })
+  -- the number of an update comes to the record alone
+  pub record_brought : (update : List ℕ) (n : ℕ) (old new : Run) → IsUpdate accepts terms kept update n → BringsOnly (IsOnly Record (decimal n)) old new
+      → BringsOnly (IsRecordBrought accepts terms kept) old new
+  record_brought update n old new is brings =
+      brings_weaken (IsOnly Record (decimal n)) (IsRecordBrought accepts terms kept) old new (λ name b only. (only.0, (n, update, is, only.1))) brings
 
--- the lock was asked for before
-pub after_lock : (accepts : Verifier) (terms : Terms) (first : Bool) (old locked new : Run) → BringsNothing old locked → InstallsOnlyUpdates accepts terms first locked new → InstallsOnlyUpdates accepts terms first old new
-after_lock accepts terms first old locked new lock (inl nothing) = inl (brings_trans (λ _ _. ⊥) old locked new lock nothing)
-after_lock accepts terms first old locked new lock (inr installs) =
-    let P = IsBrought accepts terms installs.kept in
-    inr (record {
-      found = installs.found;
-      kept = installs.kept;
-      read = record {
-        later = installs.read.later;
-        call = installs.read.call;
-        earlier = installs.read.earlier ++ lock.since;
-        noted = installs.read.noted ∙ ap (λ l. installs.read.later ++ (installs.read.call ∷ (installs.read.earlier ++ l))) lock.noted
-            ∙ ap (λ l. installs.read.later ++ (installs.read.call ∷ l)) (sym (append_assoc installs.read.earlier lock.since old.steps));
-        there = installs.read.there;
-      };
-      number = installs.number;
-      brings = brings_trans P old locked new (brings_nothing P old locked lock) installs.brings;
-    })
+  -- nothing but the record was brought so far
+  pub places_record : (old new : Run) → BringsOnly (IsRecordBrought accepts terms kept) old new → PlacesOnly accepts terms kept old new
+  places_record old new brings = record {
+    brings = brings_weaken (IsRecordBrought accepts terms kept) P old new (λ name b is. subst (λ x. IsBrought accepts terms kept x b) (sym is.0) is.1) brings;
+    order = inl brings;
+  }
+
+  pub places_nothing : (old new : Run) → BringsNothing old new → PlacesOnly accepts terms kept old new
+  places_nothing old new none = places_record old new (brings_nothing (IsRecordBrought accepts terms kept) old new none)
+
+  places_behind : (n : ℕ) (old point new : Run) → BringsOnly (IsRecordBrought accepts terms kept) old point → point.locked ≡ true → Keeps n point.now → BringsOnly (IsPlaced accepts terms kept n) point new
+      → PlacesBehind accepts terms kept old new
+  places_behind n old point new recorded locked there placed =
+      let (number, lasts) = placed.numbers locked n (λ bytes no. absurd (no_record no.0)) there in
+      record { n = n; point = point; recorded = recorded; locked = locked; there = there; placed = placed; number = number; lasts = lasts }
+
+  -- staged, the number kept, and then published
+  pub places_update : (name : List ℕ) (file : ℕ) (n : ℕ) (old staged mid new : Run) → old.locked ≡ true → BringsNothing old staged → IsUpdate accepts terms kept (staged.now.holds file) n
+      → GoesBeside (IsOnly Record (decimal n)) staged mid → HasRecorded (decimal n) mid → IsKept staged mid name file → Goes (IsOnly Place (mid.now.holds file)) name file mid new
+      → PlacesOnly accepts terms kept old new
+  places_update name file n old staged mid new locked before is recording recorded same goes =
+      let Q = IsRecordBrought accepts terms kept in
+      let to_record : BringsOnly Q old mid = brings_trans Q old staged mid (brings_nothing Q old staged before) (record_brought (staged.now.holds file) n staged mid is recording.brings) in
+      let there : IsUpdate accepts terms kept (mid.now.holds file) n = subst (λ u. IsUpdate accepts terms kept u n) (sym same.holds) is in
+      let placed = brings_weaken (IsOnly Place (mid.now.holds file)) (IsPlaced accepts terms kept n) mid new
+      (λ name b only. (only.0, subst (λ u. IsUpdate accepts terms kept u n) (sym only.1) there)) goes.brings in
+      let keeps : Keeps n mid.now = lasting_keeps n mid.now (decimal n) recorded.lasts (number_from n n is.says.number.bound (omega arith)) in
+      record {
+        brings = brings_trans P old mid new (brings_weaken Q P old mid (λ name b q. subst (λ x. IsBrought accepts terms kept x b) (sym q.0) q.1) to_record)
+            (brings_weaken (IsPlaced accepts terms kept n) P mid new (λ name b q. subst (λ x. IsBrought accepts terms kept x b) (sym q.0) (n, q.1)) placed);
+        order = inr (places_behind n old mid new to_record (to_record.locked locked) keeps placed);
+      }
+
+  -- calls before that bring nothing
+  pub places_after : (old mid new : Run) → BringsNothing old mid → PlacesOnly accepts terms kept mid new → PlacesOnly accepts terms kept old new
+  places_after old mid new before places = record {
+    brings = brings_trans P old mid new (brings_nothing P old mid before) places.brings;
+    order = ⊎_elim
+        (λ recorded. inl (brings_trans (IsRecordBrought accepts terms kept) old mid new (brings_nothing (IsRecordBrought accepts terms kept) old mid before) recorded))
+        (λ behind. inr (places_behind behind.n old behind.point new
+        (brings_trans (IsRecordBrought accepts terms kept) old mid behind.point (brings_nothing (IsRecordBrought accepts terms kept) old mid before) behind.recorded)
+        behind.locked behind.there behind.placed))
+        places.order;
+  }
+
+  -- and calls afterwards
+  pub places_more : (old mid new : Run) → BringsNothing mid new → PlacesOnly accepts terms kept old mid → PlacesOnly accepts terms kept old new
+  places_more old mid new more places = record {
+    brings = brings_trans P old mid new places.brings (brings_nothing P mid new more);
+    order = ⊎_elim
+        (λ recorded. inl (brings_trans (IsRecordBrought accepts terms kept) old mid new recorded (brings_nothing (IsRecordBrought accepts terms kept) mid new more)))
+        (λ behind. inr (places_behind behind.n old behind.point new behind.recorded behind.locked behind.there
+        (brings_trans (IsPlaced accepts terms kept behind.n) behind.point mid new behind.placed (brings_nothing (IsPlaced accepts terms kept behind.n) mid new more))))
+        places.order;
+  }
+
+-- == The record was found when the lock was got ==
+
+found_before : (m m' : Moment) (found : Option (List ℕ)) → LeavesRecord m m' → IsFound m' Record found → IsFound m Record found
+found_before m m' None leaves none = sym leaves.leads ∙ none
+found_before m m' (Some bytes) leaves (f, leads, holds) =
+    let there : m.leads Record ≡ Some f = sym leaves.leads ∙ leads in
+    (f, there, sym (leaves.holds f (inl there)) ∙ holds)
+
+found_cleared : (m m' : Moment) (found : Option (List ℕ)) → Clears m m' → IsFound m' Record found → IsFound m Record found
+found_cleared m m' None clears none = sym (ap (λ l. l Record) clears.leads) ∙ none
+found_cleared m m' (Some bytes) clears (f, leads, holds) = (f, sym (ap (λ l. l Record) clears.leads) ∙ leads, sym (ap (λ h. h f) clears.holds) ∙ holds)
+
+pub found_first : (found : Option (List ℕ)) (old cleared read : Run) → old.locked ≡ true → HasStepped old cleared Clears → HasStepped cleared read (Reads Record found) → IsFound old.now Record found
+found_first found old cleared read locked clear s =
+    let read_then : IsFound s.before Record found = s.this.found_there in
+    let then : IsFound cleared.now Record found = found_before cleared.now s.before found (s.others.record_left (clear.locked locked)) read_then in
+    found_before old.now clear.before found (clear.others.record_left locked) (found_cleared clear.before cleared.now found clear.this then)
+
+-- a number that was in the record is not above the one that was found there
+kept_least : (first : Bool) (found : Option (List ℕ)) (kept k : ℕ) (m : Moment) → IsFound m Record found → IsKeptNumber first found kept → Keeps k m → k ≤ kept
+kept_least first None kept k m there number keeps = absurd (none_found keeps.file (sym there ∙ keeps.leads))
+kept_least first (Some bytes) kept k m (f, leads, holds) number keeps =
+    let (n, utf8, is, least) = keeps.numbers bytes (record { file = f; lead = inl leads; holds = λ kept. sym holds }) in
+    number_least first bytes kept k n utf8 is least number
+
+-- nothing was brought, or what is not older
+never_falls_nothing : (old new : Run) → old.locked ≡ true → BringsNothing old new → NeverFalls old new
+never_falls_nothing old new locked none k keeps =
+    let (each, last) = none.numbers locked k (λ bytes no. absurd no) keeps in
+    (none.since, none.noted, each, last)
+
+never_falls_newer : (accepts : Verifier) (terms : Terms) (first : Bool) (found : Option (List ℕ)) (kept : ℕ) (old new : Run) → old.locked ≡ true → IsFound old.now Record found → IsKeptNumber first found kept
+    → BringsOnly (IsBrought accepts terms kept) old new → NeverFalls old new
+never_falls_newer accepts terms first found kept old new locked there number brings k keeps =
+    let least : k ≤ kept = kept_least first found kept k old.now there number keeps in
+    let (each, last) = brings.numbers locked k
+    (λ bytes (n, update, is, same). subst (IsNumberFrom k) (sym same) (number_from k n is.says.number.bound (omega (arith, least, is.newer)))) keeps in
+    (brings.since, brings.noted, each, last)
+
+pub nothing_locked : (accepts : Verifier) (terms : Terms) (first : Bool) (old new : Run) → old.locked ≡ true → BringsNothing old new → InstallsLocked accepts terms first old new
+nothing_locked accepts terms first old new locked none = record { only = inl none; never_falls = never_falls_nothing old new locked none }
+
+-- the record was read, and what is not older than its number was brought
+pub installs : (accepts : Verifier) (terms : Terms) (first : Bool) (found : Option (List ℕ)) (kept : ℕ) (old read new : Run) → old.locked ≡ true → BringsNothing old read → IsFound old.now Record found
+    → IsKeptNumber first found kept → PlacesOnly accepts terms kept read new → InstallsLocked accepts terms first old new
+installs accepts terms first found kept old read new locked before there number places =
+    let all = places_after accepts terms kept old read new before places in
+    record {
+      only = inr (record { found = found; kept = kept; there = there; number = number; places = all });
+      never_falls = never_falls_newer accepts terms first found kept old new locked there number all.brings;
+    }
 
 -- what was staged is an update
 pub is_update : (accepts : Verifier) (terms : Terms) (kept : ℕ) (bytes comment text : List ℕ) (n : ℕ) → TextsVouchWith accepts terms.pk_text terms.sig_text bytes false comment → text ≡ comment
@@ -109,15 +226,18 @@ is_update accepts terms kept bytes comment text n vouched same says newer = reco
   newer = newer;
 }
 
--- what was installed once the record was read, and once the lock was held
-pub installed_after : (accepts : Verifier) (terms : Terms) (kept : ℕ) (old cleared read : Run) (steps : List Step) {A E : Type 0} (r : Result A E) → (old.told ≡ true → BringsNothing old cleared) → (cleared.told ≡ true → BringsNothing cleared read)
-    → OnOk r (read.told ≡ true → IsInstalled accepts terms kept steps) → OnOk r (old.told ≡ true → ((k : ℕ) × IsInstalled accepts terms k steps))
-installed_after accepts terms kept old cleared read steps (Ok a) clear still is = λ told.
-    let cleared_told = (clear told).told ∙ told in
-    (kept, is ((still cleared_told).told ∙ cleared_told))
-installed_after accepts terms kept old cleared read steps (Err e) clear still is = tt
+-- what was installed once the record was read
+pub installed_after : (accepts : Verifier) (terms : Terms) (first : Bool) (ahead : Option (List ℕ)) (kept : ℕ) (old read new : Run) {A E : Type 0} (r : Result A E)
+    → (old.told ≡ true → old.locked ≡ true → HasCleared old new × BringsNothing old read × ((found : Option (List ℕ)) × IsFound old.now Record found × IsKeptNumber first found kept))
+    → OnOk r (read.told ≡ true → read.locked ≡ true → IsInstalled accepts terms kept ahead new.steps) → OnOk r (old.told ≡ true → old.locked ≡ true → HasInstalled accepts terms first ahead old new)
+installed_after accepts terms first ahead kept old read new (Ok a) before is = λ told locked.
+    let (cleared, none, (found, there, number)) = before told locked in
+    record { found = found; kept = kept; there = there; number = number; cleared = cleared; installed = is (none.told ∙ told) (none.locked locked) }
+installed_after accepts terms first ahead kept old read new (Err e) before is = tt
 
-pub installed_locked : (accepts : Verifier) (terms : Terms) (old locked : Run) (steps : List Step) {A E : Type 0} (r : Result A E) → (old.told ≡ true → BringsNothing old locked)
-    → OnOk r (locked.told ≡ true → ((k : ℕ) × IsInstalled accepts terms k steps)) → OnOk r (old.told ≡ true → ((k : ℕ) × IsInstalled accepts terms k steps))
-installed_locked accepts terms old locked steps (Ok a) lock is = λ told. is ((lock told).told ∙ told)
-installed_locked accepts terms old locked steps (Err e) lock is = tt
+pub installed_locked : (accepts : Verifier) (terms : Terms) (first : Bool) (ahead : Option (List ℕ)) (old locked new : Run) {A E : Type 0} (r : Result A E) → (old.told ≡ true → HasLocked old locked)
+    → OnOk r (locked.told ≡ true → locked.locked ≡ true → HasInstalled accepts terms first ahead locked new) → OnOk r (old.told ≡ true → ((l : Run) × HasLocked old l × HasInstalled accepts terms first ahead l new))
+installed_locked accepts terms first ahead old locked new (Ok a) lock is = λ told.
+    let got = lock told in
+    (locked, got, is (got.stepped.told ∙ told) got.held)
+installed_locked accepts terms first ahead old locked new (Err e) lock is = tt

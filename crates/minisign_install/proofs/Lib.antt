@@ -1,4 +1,5 @@
 mod Bounds
+mod Counts
 mod Fields
 mod Found
 mod Installs
@@ -6,4 +7,5 @@ mod Moments
 mod Pasts
 mod Pieces
 mod Refused
+mod Verdicts
 mod Works

@@ -1,17 +1,25 @@
 -- Calls one after another.
-use Rattle.std.proofs.Common.{◌≡◌, ◌≢◌, ◌⊎◌, inl, inr, ⊎_elim, ℕ, List, [], ◌∷◌, ◌++◌, Some, None, true, ap, sym, subst, ◌∙◌, refl, append_assoc, MatchResult, OnOk}
+use Rattle.std.proofs.lemmas.Bool.{true≢false}
+use Rattle.std.proofs.Common.{Bool, false, ◌≡◌, ◌≢◌, ◌⊎◌, inl, inr, ⊎_elim, ℕ, List, [], ◌∷◌, ◌++◌, Some, None, true, ap, sym, subst, ◌∙◌, refl, append_assoc, MatchResult, OnOk, IsErrAnd}
 use Rattle.std.proofs.lemmas.List.Elements.{All-cons, All-nil, All-append}
 use Rattle.std.specs.declared.result.Result.{Result}
 use Rattle.std.specs.declared.result.Result.TheVariants.{Ok, Err}
-use Rattle.minisign_install.specs.Folders.{Appends, Clears, Creates, HasCreated, HasRemoved, HasStepped, HasTried, IsApart, IsStill, KeepsNames, KeepsOwn, Moment, OthersLeave, Perhaps, Removes, Renames, Run, Settles, SettlesNames, Spoils, Stands, Step}
-use Rattle.minisign_install.specs.Runs.{Brings, BringsNothing, BringsOnly, Goes, GoesBeside, HasStage, IsKept, IsOnly, KeepsOthers, KeepsStages, WorksOn, IsPublished}
+use Rattle.minisign_install.specs.Folders.{Appends, Clears, ClearsAll, Creates, GivesRights, HasCreated, HasLocked, HasRemoved, HasStepped, HasTried, IsApart, IsAsked, IsStill, KeepsNames, KeepsOwn, MayLead, Moment, OthersLeave, OwnsLess, OwnsMore, Perhaps, Removes, Renames, Run, Settles, SettlesNames, Spoils, Stands, Step}
+use Rattle.minisign_install.specs.Runs.{Brings, HasCleared, HasLetGo, KeepsAt, Lasts, BringsNothing, BringsOnly, Goes, GoesBeside, HasRecorded, HasStage, IsKept, IsOnly, KeepsOthers, KeepsStages, OwnsNoMore, WorksOn, IsPublished, rights_of}
 use Rattle.minisign_install.specs.declared.folders.Name.{Name}
 use Rattle.minisign_install.specs.declared.folders.Name.TheVariants.{Record}
-use Rattle.minisign_install.proofs.Moments.{lead_back, leaving, place_or_record, renaming, resting, settling_names, some_inj, step, touching}
+use Rattle.minisign_install.proofs.Moments.{call_keeps, lead_back, leaving, others_keep, place_or_record, renaming, resting, settling_names, some_inj, step, touching}
 
 module _ (P : Name → List ℕ → Type 0) where
   pub brings_none : (r : Run) → BringsOnly P r r
-  brings_none r = record { since = []; noted = refl; each = All-nil (Brings P); told = refl }
+  brings_none r = record {
+    since = [];
+    noted = refl;
+    each = All-nil (Brings P);
+    told = refl;
+    locked = λ l. l;
+    numbers = λ l k floor keeps. (All-nil (KeepsAt k), keeps);
+  }
 
   pub brings_more : (old mid new : Run) (call : Moment → Moment → Type 0) → BringsOnly P old mid → (s : HasStepped mid new call) → Brings P (step s.before new.now) → BringsOnly P old new
   brings_more old mid new call so_far s this = record {
@@ -19,6 +27,12 @@ module _ (P : Name → List ℕ → Type 0) where
     noted = s.noted ∙ ap (λ l. step s.before new.now ∷ l) so_far.noted;
     each = All-cons (Brings P) (step s.before new.now) so_far.since this so_far.each;
     told = s.told ∙ so_far.told;
+    locked = λ l. s.locked (so_far.locked l);
+    numbers = λ l k floor keeps.
+        let (each, last) = so_far.numbers l k floor keeps in
+        let before = others_keep k mid.now s.before (s.others.record_left (so_far.locked l)) last in
+        let after = call_keeps P k s.before new.now this floor before in
+        (All-cons (KeepsAt k) (step s.before new.now) so_far.since (before, after) each, after);
   }
 
   pub brings_trans : (old mid new : Run) → BringsOnly P old mid → BringsOnly P mid new → BringsOnly P old new
@@ -27,14 +41,24 @@ module _ (P : Name → List ℕ → Type 0) where
     noted = b.noted ∙ ap (λ l. b.since ++ l) a.noted ∙ sym (append_assoc b.since a.since old.steps);
     each = All-append (Brings P) b.since a.since b.each a.each;
     told = b.told ∙ a.told;
+    locked = λ l. b.locked (a.locked l);
+    numbers = λ l k floor keeps.
+        let (first, then) = a.numbers l k floor keeps in
+        let (more, last) = b.numbers (a.locked l) k floor then in
+        (All-append (KeepsAt k) b.since a.since more first, last);
   }
 
   pub brings_nothing : (old new : Run) → BringsNothing old new → BringsOnly P old new
   brings_nothing old new none = record {
     since = none.since;
     noted = none.noted;
-    each = λ k d l n bytes found. ⊎_elim inl (λ no. absurd no) (none.each k d l n bytes found);
+    each = λ k d l. record {
+      finds = λ n bytes found. ⊎_elim inl (λ no. absurd no) ((none.each k d l).finds n bytes found);
+      stays = (none.each k d l).stays;
+    };
     told = none.told;
+    locked = none.locked;
+    numbers = λ l k floor keeps. none.numbers l k (λ bytes no. absurd no) keeps;
   }
 
 -- what a stage is at the moment just before a call
@@ -43,20 +67,22 @@ pub record Before (r : Run) (m : Moment) (name : List ℕ) (file : ℕ) : Type 0
   pub apart : IsApart m file
   pub holds : m.holds file ≡ r.now.holds file
   pub on_disk : m.on_disk file ≡ r.now.on_disk file
+  pub rights : m.rights file ≡ r.now.rights file
 
-pub before_call : (r : Run) (m : Moment) (name : List ℕ) (file : ℕ) → OthersLeave r.owns r.now m → HasStage r name file → Before r m name file
+pub before_call : (r : Run) (m : Moment) (name : List ℕ) (file : ℕ) → OthersLeave r.locked r.owns r.now m → HasStage r name file → Before r m name file
 before_call r m name file others stage = record {
   leads = others.stages name stage.owned ∙ stage.leads;
   apart = others.apart name file stage.owned stage.leads stage.apart;
   holds = others.holds name file stage.owned stage.leads;
   on_disk = others.on_disk name file stage.owned stage.leads;
+  rights = others.rights name file stage.owned stage.leads;
 }
 
 pub works_none : (name : List ℕ) (file : ℕ) (r : Run) → HasStage r name file → WorksOn name file r r
 works_none name file r stage = record {
   brings = brings_none (λ _ _. ⊥) r;
   stage = stage;
-  kept = λ s f held other. record { stage = held; holds = refl; on_disk = refl };
+  kept = λ s f held other. record { stage = held; holds = refl; on_disk = refl; rights = refl };
   own = record { owns = refl };
 }
 
@@ -64,7 +90,7 @@ pub own_trans : (old mid new : Run) → KeepsOwn old mid → KeepsOwn mid new �
 own_trans old mid new a b = record { owns = b.owns ∙ a.owns }
 
 pub kept_trans : (old mid new : Run) (s : List ℕ) (f : ℕ) → IsKept old mid s f → IsKept mid new s f → IsKept old new s f
-kept_trans old mid new s f a b = record { stage = b.stage; holds = b.holds ∙ a.holds; on_disk = b.on_disk ∙ a.on_disk }
+kept_trans old mid new s f a b = record { stage = b.stage; holds = b.holds ∙ a.holds; on_disk = b.on_disk ∙ a.on_disk; rights = b.rights ∙ a.rights }
 
 pub works_trans : (name : List ℕ) (file : ℕ) (old mid new : Run) → WorksOn name file old mid → WorksOn name file mid new → WorksOn name file old new
 works_trans name file old mid new a b = record {
@@ -80,6 +106,7 @@ spoiling name file old new stage s own =
     let at : (t : List ℕ) (f : ℕ) → HasStage old t f → Before old m t f = λ t f. before_call old m t f s.others in
     let after : (t : List ℕ) (f : ℕ) → HasStage old t f → HasStage new t f = λ t f held. record {
       told = s.told ∙ held.told;
+      locked = s.locked held.locked;
       owned = ap (λ o. o t) own.owns ∙ held.owned;
       leads = ap (λ o. o t) s.this.stages ∙ (at t f held).leads;
       apart = λ n lead. (at t f held).apart n (lead_back m new.now n f s.this.only.leads s.this.only.left lead);
@@ -90,6 +117,7 @@ spoiling name file old new stage s own =
         stage = after t f held;
         holds = s.this.only.holds f other ∙ (at t f held).holds;
         on_disk = s.this.only.on_disk f other ∙ (at t f held).on_disk;
+        rights = s.this.only.rights f other ∙ (at t f held).rights;
       };
       own = own;
     }
@@ -100,12 +128,14 @@ resting_keeps old new s own t f held =
     let at = before_call old s.before t f s.others held in record {
       stage = record {
         told = s.told ∙ held.told;
+        locked = s.locked held.locked;
         owned = ap (λ o. o t) own.owns ∙ held.owned;
         leads = ap (λ m. m.stages t) s.this ∙ at.leads;
         apart = subst (λ m. IsApart m f) (sym s.this) at.apart;
       };
       holds = ap (λ m. m.holds f) s.this ∙ at.holds;
       on_disk = ap (λ m. m.on_disk f) s.this ∙ at.on_disk;
+      rights = ap (λ m. m.rights f) s.this ∙ at.rights;
     }
 
 pub resting_brings : (old new : Run) → HasStepped old new IsStill → BringsNothing old new
@@ -123,32 +153,44 @@ resting_works name file old new stage s own = record {
 pub appending : (name : List ℕ) (file : ℕ) (bytes : List ℕ) (old new : Run) → HasStage old name file → HasStepped old new (Appends file bytes) → KeepsOwn old new
     → WorksOn name file old new × (new.now.holds file ≡ old.now.holds file ++ bytes)
 appending name file bytes old new stage s own = (
-  spoiling name file old new stage (record { before = s.before; others = s.others; this = s.this.spoils; noted = s.noted; told = s.told }) own,
+  spoiling name file old new stage (record { before = s.before; others = s.others; this = s.this.spoils; noted = s.noted; told = s.told; locked = s.locked }) own,
   s.this.grown ∙ ap (λ h. h ++ bytes) (s.others.holds name file stage.owned stage.leads),
 )
 
 -- what the file holds comes to the disk
 pub settling : (name : List ℕ) (file : ℕ) (old new : Run) → HasStage old name file → HasStepped old new (Settles file) → KeepsOwn old new
-    → WorksOn name file old new × (new.now.holds file ≡ old.now.holds file) × (new.now.on_disk file ≡ true)
+    → WorksOn name file old new × (new.now.holds file ≡ old.now.holds file) × (new.now.on_disk file ≡ true) × (new.now.rights file ≡ old.now.rights file)
 settling name file old new stage s own = (
-  spoiling name file old new stage (record { before = s.before; others = s.others; this = s.this.spoils; noted = s.noted; told = s.told }) own,
+  spoiling name file old new stage (record { before = s.before; others = s.others; this = s.this.spoils; noted = s.noted; told = s.told; locked = s.locked }) own,
   s.this.same ∙ s.others.holds name file stage.owned stage.leads,
   s.this.on_disk,
+  s.this.rights ∙ s.others.rights name file stage.owned stage.leads,
 )
 
-pub kept_from : (old new : Run) (m : Moment) (s : List ℕ) (f : ℕ) → Before old m s f → new.told ≡ true → new.owns s ≡ true → new.now.stages s ≡ m.stages s → IsApart new.now f
-    → new.now.holds f ≡ m.holds f → new.now.on_disk f ≡ m.on_disk f → IsKept old new s f
-kept_from old new m s f at told owned stages apart holds on_disk = record {
-  stage = record { told = told; owned = owned; leads = stages ∙ at.leads; apart = apart };
+-- the file is given its rights
+pub giving : (name : List ℕ) (file : ℕ) (old new : Run) → HasStage old name file → HasStepped old new (GivesRights file) → KeepsOwn old new
+    → WorksOn name file old new × (new.now.holds file ≡ old.now.holds file) × (new.now.rights file ≡ true)
+giving name file old new stage s own = (
+  spoiling name file old new stage (record { before = s.before; others = s.others; this = s.this.spoils; noted = s.noted; told = s.told; locked = s.locked }) own,
+  s.this.same ∙ s.others.holds name file stage.owned stage.leads,
+  s.this.given,
+)
+
+pub kept_from : (old new : Run) (m : Moment) (s : List ℕ) (f : ℕ) → Before old m s f → new.told ≡ true → new.locked ≡ true → new.owns s ≡ true → new.now.stages s ≡ m.stages s → IsApart new.now f
+    → new.now.holds f ≡ m.holds f → new.now.on_disk f ≡ m.on_disk f → new.now.rights f ≡ m.rights f → IsKept old new s f
+kept_from old new m s f at told locked owned stages apart holds on_disk rights = record {
+  stage = record { told = told; locked = locked; owned = owned; leads = stages ∙ at.leads; apart = apart };
   holds = holds ∙ at.holds;
   on_disk = on_disk ∙ at.on_disk;
+  rights = rights ∙ at.rights;
 }
 
 -- == A stage is made ==
 
-pub created_stage : (name : List ℕ) (g : ℕ) (old new : Run) → old.told ≡ true → HasCreated name g old new → HasStage new name g
-created_stage name g old new told c = record {
+pub created_stage : (name : List ℕ) (g : ℕ) (old new : Run) → old.told ≡ true → old.locked ≡ true → HasCreated name g old new → HasStage new name g
+created_stage name g old new told locked c = record {
   told = c.stepped.told ∙ told;
+  locked = c.stepped.locked locked;
   owned = c.own.more;
   leads = c.stepped.this.made;
   apart = λ n lead. c.stepped.this.apart n (lead_back c.stepped.before new.now n g c.stepped.this.only.leads c.stepped.this.only.left lead);
@@ -169,8 +211,8 @@ created_keeps name g old new c s f held =
     let file_differs : f ≢ g = λ e. this.fresh s (at.leads ∙ ap (λ x. Some x) e) in (
       name_differs,
       file_differs,
-      kept_from old new m s f at (c.stepped.told ∙ held.told) (c.own.others s name_differs ∙ held.owned) (this.others s name_differs)
-          (λ n lead. at.apart n (lead_back m new.now n f this.only.leads this.only.left lead)) (this.only.holds f file_differs) (this.only.on_disk f file_differs),
+      kept_from old new m s f at (c.stepped.told ∙ held.told) (c.stepped.locked held.locked) (c.own.others s name_differs ∙ held.owned) (this.others s name_differs)
+          (λ n lead. at.apart n (lead_back m new.now n f this.only.leads this.only.left lead)) (this.only.holds f file_differs) (this.only.on_disk f file_differs) (this.only.rights f file_differs),
     )
 
 -- == A stage gets a lasting name ==
@@ -191,8 +233,8 @@ module _ (name : List ℕ) (to : Name) (g : ℕ) (old new : Run) (stage : HasSta
       let m = s.before in
       let mine = before_call old m name g s.others stage in
       let at = before_call old m t f s.others held in
-      kept_from old new m t f at (s.told ∙ held.told) (owns t name_differs ∙ held.owned) (s.this.stages t name_differs)
-      (renamed_apart name to g f m new.now s.this mine.leads file_differs at.apart) (ap (λ h. h f) s.this.holds) (ap (λ d. d f) s.this.on_disk)
+      kept_from old new m t f at (s.told ∙ held.told) (s.locked held.locked) (owns t name_differs ∙ held.owned) (s.this.stages t name_differs)
+      (renamed_apart name to g f m new.now s.this mine.leads file_differs at.apart) (ap (λ h. h f) s.this.holds) (ap (λ d. d f) s.this.on_disk) (ap (λ r. r f) s.this.rights)
 
   pub renamed_brings : old.now.on_disk g ≡ true → (s : HasStepped old new (Renames name to)) → BringsOnly (IsOnly to (old.now.holds g)) old new
   renamed_brings on_disk s =
@@ -217,22 +259,22 @@ pub names_keep : (old new : Run) → HasStepped old new KeepsNames → KeepsOwn 
 names_keep old new s own t f held =
     let m = s.before in
     let at = before_call old m t f s.others held in
-    kept_from old new m t f at (s.told ∙ held.told) (ap (λ o. o t) own.owns ∙ held.owned) (ap (λ o. o t) s.this.stages)
+    kept_from old new m t f at (s.told ∙ held.told) (s.locked held.locked) (ap (λ o. o t) own.owns ∙ held.owned) (ap (λ o. o t) s.this.stages)
     (λ n lead. at.apart n (⊎_elim (λ e. inl (sym (ap (λ l. l n) s.this.leads) ∙ e)) (λ e. s.this.left n f e) lead))
-    (ap (λ h. h f) s.this.holds) (ap (λ d. d f) s.this.on_disk)
+    (ap (λ h. h f) s.this.holds) (ap (λ d. d f) s.this.on_disk) (ap (λ r. r f) s.this.rights)
 
 pub names_bring : (P : Name → List ℕ → Type 0) (old new : Run) → HasStepped old new KeepsNames → BringsOnly P old new
 names_bring P old new s = brings_more P old old new KeepsNames (brings_none P old) s (settling_names P s.before new.now s.this)
 
 pub names_settled : (old new : Run) → HasStepped old new SettlesNames → HasStepped old new KeepsNames
-names_settled old new s = record { before = s.before; others = s.others; this = s.this.same; noted = s.noted; told = s.told }
+names_settled old new s = record { before = s.before; others = s.others; this = s.this.same; noted = s.noted; told = s.told; locked = s.locked }
 
 pub removed_keeps : (name : List ℕ) (old new : Run) → HasStepped old new (Removes name) → ((t : List ℕ) → t ≢ name → new.owns t ≡ old.owns t) → (s : List ℕ) (f : ℕ) → HasStage old s f → s ≢ name → IsKept old new s f
 removed_keeps name old new s owns t f held differs =
     let m = s.before in
     let at = before_call old m t f s.others held in
-    kept_from old new m t f at (s.told ∙ held.told) (owns t differs ∙ held.owned) (s.this.stages t differs)
-    (λ n lead. at.apart n (lead_back m new.now n f s.this.leads s.this.left lead)) (ap (λ h. h f) s.this.holds) (ap (λ d. d f) s.this.on_disk)
+    kept_from old new m t f at (s.told ∙ held.told) (s.locked held.locked) (owns t differs ∙ held.owned) (s.this.stages t differs)
+    (λ n lead. at.apart n (lead_back m new.now n f s.this.leads s.this.left lead)) (ap (λ h. h f) s.this.holds) (ap (λ d. d f) s.this.on_disk) (ap (λ r. r f) s.this.rights)
 
 pub removed_brings : (P : Name → List ℕ → Type 0) (name : List ℕ) (old new : Run) → HasStepped old new (Removes name) → BringsOnly P old new
 removed_brings P name old new s =
@@ -241,7 +283,7 @@ removed_brings P name old new s =
 -- a call that was perhaps made
 pub perhaps : (call : Moment → Moment → Type 0) (old new : Run) → HasStepped old new (Perhaps call) → HasStepped old new IsStill ⊎ HasStepped old new call
 perhaps call old new s =
-    ⊎_elim (λ still. inl (record { before = s.before; others = s.others; this = still; noted = s.noted; told = s.told })) (λ done. inr (record { before = s.before; others = s.others; this = done; noted = s.noted; told = s.told })) s.this
+    ⊎_elim (λ still. inl (record { before = s.before; others = s.others; this = still; noted = s.noted; told = s.told; locked = s.locked })) (λ done. inr (record { before = s.before; others = s.others; this = done; noted = s.noted; told = s.told; locked = s.locked })) s.this
 
 -- == Calls on one stage, and its name at last ==
 
@@ -290,13 +332,23 @@ removed_goes P name g old new s owns = record {
   others = λ t f held name_differs file_differs. removed_keeps name old new s owns t f held name_differs;
 }
 
+-- the name is let go of, and nothing else changed
+let_go_still : (P : Name → List ℕ → Type 0) (name : List ℕ) (g : ℕ) (old new : Run) → HasStepped old new IsStill → ((t : List ℕ) → t ≢ name → new.owns t ≡ old.owns t) → Goes P name g old new
+let_go_still P name g old new s owns = record {
+  brings = brings_nothing P old new (resting_brings old new s);
+  others = λ t f held name_differs file_differs.
+      let at = before_call old s.before t f s.others held in
+      kept_from old new s.before t f at (s.told ∙ held.told) (s.locked held.locked) (owns t name_differs ∙ held.owned) (ap (λ m. m.stages t) s.this)
+      (subst (λ m. IsApart m f) (sym s.this) at.apart) (ap (λ m. m.holds f) s.this) (ap (λ m. m.on_disk f) s.this) (ap (λ m. m.rights f) s.this);
+}
+
 -- whether the removal came through or not
 pub perhaps_removed_goes : (P : Name → List ℕ → Type 0) (name : List ℕ) (g : ℕ) (old new : Run) {A E : Type 0} (r : Result A E)
-    → MatchResult r (λ _. HasRemoved name old new) (λ _. HasStepped old new (Perhaps (Removes name)) × KeepsOwn old new) → Goes P name g old new
+    → HasRemoved name old new r → Goes P name g old new
 perhaps_removed_goes P name g old new (Ok a) done = removed_goes P name g old new done.stepped done.own.others
 perhaps_removed_goes P name g old new (Err e) done =
-    ⊎_elim (λ still. still_goes P name g old new still done.1)
-    (λ removed. removed_goes P name g old new removed (λ t differs. ap (λ o. o t) done.1.owns)) (perhaps (Removes name) old new done.0)
+    ⊎_elim (λ still. let_go_still P name g old new still done.own.others)
+    (λ removed. removed_goes P name g old new removed done.own.others) (perhaps (Removes name) old new done.stepped)
 
 -- a stage is made, worked on and published: the stages from before are still there
 pub created_goes : (P : Name → List ℕ → Type 0) (name : List ℕ) (g : ℕ) (old mid new : Run) → HasCreated name g old mid → Goes P name g mid new → GoesBeside P old new
@@ -308,7 +360,7 @@ created_goes P name g old mid new made goes = record {
 }
 
 pub goes_none : (P : Name → List ℕ → Type 0) (r : Run) → GoesBeside P r r
-goes_none P r = record { brings = brings_none P r; kept = λ s f held. record { stage = held; holds = refl; on_disk = refl } }
+goes_none P r = record { brings = brings_none P r; kept = λ s f held. record { stage = held; holds = refl; on_disk = refl; rights = refl } }
 
 pub goes_still : (P : Name → List ℕ → Type 0) (old new : Run) → HasStepped old new IsStill → KeepsOwn old new → GoesBeside P old new
 goes_still P old new s own = record { brings = brings_nothing P old new (resting_brings old new s); kept = resting_keeps old new s own }
@@ -317,53 +369,172 @@ pub names_kept : (old new : Run) {A E : Type 0} (r : Result A E) → MatchResult
 names_kept old new (Ok a) done = names_settled old new done
 names_kept old new (Err e) done = done
 
+-- a stage was given its rights, or that failed
+pub rights_works : (name : List ℕ) (file : ℕ) (old new : Run) → HasStage old name file → {A E : Type 0} (r : Result A E) → HasTried (GivesRights file) (Spoils file) old new r → WorksOn name file old new
+rights_works name file old new stage (Ok a) done = (giving name file old new stage done.0 done.1).0
+rights_works name file old new stage (Err e) done = spoiling name file old new stage done.0 done.1
+
 -- a stage was brought to the disk, or that failed
 pub settle_works : (name : List ℕ) (file : ℕ) (old new : Run) → HasStage old name file → {A E : Type 0} (r : Result A E) → HasTried (Settles file) (Spoils file) old new r → WorksOn name file old new
 settle_works name file old new stage (Ok a) done = (settling name file old new stage done.0 done.1).0
 settle_works name file old new stage (Err e) done = spoiling name file old new stage done.0 done.1
 
+-- it was given its rights, and brought to the disk
+pub settled_given : (file : ℕ) (old mid new : Run) {A E : Type 0} (r : Result A E) → (old.told ≡ true → HasStepped old mid (GivesRights file) × KeepsOwn old mid)
+    → (mid.told ≡ true → HasTried (Settles file) (Spoils file) mid new r)
+    → OnOk r ((name : List ℕ) → HasStage old name file → (new.now.holds file ≡ old.now.holds file) × (new.now.on_disk file ≡ true) × (new.now.rights file ≡ true))
+settled_given file old mid new (Ok a) give settle = λ name stage.
+    let given = give stage.told in
+    let (works, held, rights) = giving name file old mid stage given.0 given.1 in
+    let settled = settle works.stage.told in
+    let (more, same, on_disk, kept) = settling name file mid new works.stage settled.0 settled.1 in
+    (same ∙ held, on_disk, kept ∙ rights)
+settled_given file old mid new (Err e) give settle = tt
+
 pub brings_weaken : (P Q : Name → List ℕ → Type 0) (old new : Run) → ((n : Name) (b : List ℕ) → P n b → Q n b) → BringsOnly P old new → BringsOnly Q old new
 brings_weaken P Q old new more b = record {
   since = b.since;
   noted = b.noted;
-  each = λ k d l n bytes found. ⊎_elim inl (λ p. inr (more n bytes p)) (b.each k d l n bytes found);
+  each = λ k d l. record {
+    finds = λ n bytes found. ⊎_elim inl (λ p. inr (more n bytes p)) ((b.each k d l).finds n bytes found);
+    stays = (b.each k d l).stays;
+  };
   told = b.told;
+  locked = b.locked;
+  numbers = λ l k floor keeps. b.numbers l k (λ bytes p. floor bytes (more Record bytes p)) keeps;
+}
+
+-- leftovers were removed, all or some
+pub cleared_step : (old new : Run) {A E : Type 0} (r : Result A E) → HasTried ClearsAll Clears old new r → HasStepped old new Clears
+cleared_step old new (Ok a) done = record { before = done.0.before; others = done.0.others; this = done.0.this.clears; noted = done.0.noted; told = done.0.told; locked = done.0.locked }
+cleared_step old new (Err e) done = done.0
+
+-- they were, and more calls came
+pub cleared_then : (P : Name → List ℕ → Type 0) (old mid new : Run) → HasStepped old mid ClearsAll → BringsOnly P mid new → HasCleared old new
+cleared_then P old mid new s more = record {
+  later = more.since;
+  call = step s.before mid.now;
+  earlier = [];
+  noted = more.noted ∙ ap (λ l. more.since ++ l) s.noted;
+  clear = s.this.clear;
 }
 
 -- leftovers were removed, or some were
-pub clearing : (old new : Run) {A E : Type 0} (r : Result A E) → HasTried Clears Clears old new r → BringsNothing old new
-clearing old new (Ok a) done =
-    brings_more (λ _ _. ⊥) old old new Clears (brings_none (λ _ _. ⊥) old) done.0 (leaving (λ _ _. ⊥) done.0.before new.now done.0.this.leads done.0.this.left done.0.this.holds done.0.this.on_disk)
-clearing old new (Err e) done =
-    brings_more (λ _ _. ⊥) old old new Clears (brings_none (λ _ _. ⊥) old) done.0 (leaving (λ _ _. ⊥) done.0.before new.now done.0.this.leads done.0.this.left done.0.this.holds done.0.this.on_disk)
+pub clearing : (old new : Run) {A E : Type 0} (r : Result A E) → HasTried ClearsAll Clears old new r → BringsNothing old new
+clearing old new r done =
+    let s = cleared_step old new r done in
+    brings_more (λ _ _. ⊥) old old new Clears (brings_none (λ _ _. ⊥) old) s (leaving (λ _ _. ⊥) s.before new.now s.this.leads s.this.left s.this.holds s.this.on_disk)
 
--- the lock was asked for
-pub locking : (old new : Run) {A E : Type 0} (r : Result A E) → HasTried IsStill IsStill old new r → BringsNothing old new
-locking old new (Ok a) done = resting_brings old new done.0
-locking old new (Err e) done = resting_brings old new done.0
+-- the lock was asked for, and got
+pub got_lock : (is : Bool) (old new : Run) → is ≡ true → HasStepped old new (IsAsked is) → (is ≡ true → new.locked ≡ true) → HasLocked old new
+got_lock is old new so s held = record { stepped = subst (λ b. HasStepped old new (IsAsked b)) so s; held = held so }
+
+-- or not
+pub asked_still : (is : Bool) (old new : Run) → HasStepped old new (IsAsked is) → HasStepped old new IsStill
+asked_still true old new s = record { before = s.before; others = s.others; this = s.this.0; noted = s.noted; told = s.told; locked = s.locked }
+asked_still false old new s = record { before = s.before; others = s.others; this = s.this.0; noted = s.noted; told = s.told; locked = s.locked }
 
 -- a stage was named, and the names brought to the disk
-pub published : (name : List ℕ) (to : Name) (old mid new : Run) {A E : Type 0} (r : Result A E) → (old.told ≡ true → HasStepped old mid (Renames name to))
+pub published : (name : List ℕ) (to : Name) (old mid new : Run) {A E : Type 0} (r : Result A E) → (old.told ≡ true → old.locked ≡ true → HasStepped old mid (Renames name to))
     → (mid.told ≡ true → MatchResult r (λ _. HasStepped mid new SettlesNames) (λ _. HasStepped mid new KeepsNames))
-    → OnOk r ((g : ℕ) → HasStage old name g → old.now.on_disk g ≡ true → IsPublished to (old.now.holds g) old.steps new.steps)
+    → OnOk r ((g : ℕ) → HasStage old name g → old.now.on_disk g ≡ true → (p : IsPublished to (old.now.holds g) old.steps new.steps) × (rights_of p ≡ old.now.rights g))
 published name to old mid new (Ok a) rename settle = λ g stage on_disk.
-    let first = rename stage.told in
+    let first = rename stage.told stage.locked in
     let last = settle (first.told ∙ stage.told) in
-    record {
-      renamed = step first.before mid.now;
-      settled = step last.before new.now;
-      calls = last.noted ∙ ap (λ l. step last.before new.now ∷ l) first.noted;
-      stands = renamed_stands name to g old mid stage on_disk first;
-      lasts = last.this;
-    }
+    let mine = before_call old first.before name g first.others stage in (
+      record {
+        renamed = step first.before mid.now;
+        settled = step last.before new.now;
+        calls = last.noted ∙ ap (λ l. step last.before new.now ∷ l) first.noted;
+        stands = record {
+          file = g;
+          leads = first.this.leads ∙ mine.leads;
+          holds = ap (λ h. h g) first.this.holds ∙ mine.holds;
+          on_disk = ap (λ d. d g) first.this.on_disk ∙ mine.on_disk ∙ on_disk;
+        };
+        lasts = last.this;
+      },
+      ap (λ r. r g) first.this.rights ∙ mine.rights,
+    )
 published name to old mid new (Err e) rename settle = tt
 
-pub recorded_bytes : (name : List ℕ) (file : ℕ) (bytes : List ℕ) (old mid : Run) (steps : List Step) {A E : Type 0} (r : Result A E) → (old.told ≡ true → HasCreated name file old mid)
-    → OnOk r (HasStage mid name file → mid.now.holds file ≡ [] → ((earlier : List Step) × IsPublished Record bytes earlier steps))
-    → OnOk r (old.told ≡ true → ((earlier : List Step) × IsPublished Record bytes earlier steps))
-recorded_bytes name file bytes old mid steps (Ok a) made recorded = λ told. recorded (created_stage name file old mid told (made told)) (made told).stepped.this.empty
-recorded_bytes name file bytes old mid steps (Err e) made recorded = tt
+-- the record is there for good then, since others leave it alone
+pub lasting : (name : List ℕ) (to : Name) (old mid new : Run) {A E : Type 0} (r : Result A E) → (old.told ≡ true → old.locked ≡ true → HasStepped old mid (Renames name to))
+    → (mid.told ≡ true → MatchResult r (λ _. HasStepped mid new SettlesNames) (λ _. HasStepped mid new KeepsNames))
+    → OnOk r (to ≡ Record → (g : ℕ) → HasStage old name g → old.now.on_disk g ≡ true → Lasts new.now Record (old.now.holds g))
+lasting name to old mid new (Ok a) rename settle = λ is g stage on_disk.
+    let first = rename stage.told stage.locked in
+    let last = settle (first.told ∙ stage.told) in
+    let stands : Stands mid.now Record (old.now.holds g) = subst (λ n. Stands mid.now n (old.now.holds g)) is (renamed_stands name to g old mid stage on_disk first) in
+    let leaves = last.others.record_left (first.locked stage.locked) in
+    let same = last.this.same in
+    let f = stands.file in
+    let lead : MayLead mid.now Record f = inl stands.leads in
+    record {
+      stands = record {
+        file = f;
+        leads = ap (λ l. l Record) same.leads ∙ leaves.leads ∙ stands.leads;
+        holds = ap (λ h. h f) same.holds ∙ leaves.holds f lead ∙ stands.holds;
+        on_disk = ap (λ d. d f) same.on_disk ∙ leaves.on_disk f lead stands.on_disk;
+      };
+      settled = λ h l. last.this.settled Record h l;
+    }
+lasting name to old mid new (Err e) rename settle = tt
 
-pub installed_so : (name : List ℕ) (file : ℕ) (old mid : Run) (I : Type 0) {A E : Type 0} (r : Result A E) → (old.told ≡ true → HasCreated name file old mid) → OnOk r (HasStage mid name file → I) → OnOk r (old.told ≡ true → I)
-installed_so name file old mid I (Ok a) made so = λ told. so (created_stage name file old mid told (made told))
+pub recorded_bytes : (name : List ℕ) (file : ℕ) (bytes : List ℕ) (old mid new : Run) {A E : Type 0} (r : Result A E) → (old.told ≡ true → old.locked ≡ true → HasCreated name file old mid)
+    → OnOk r (HasStage mid name file → mid.now.holds file ≡ [] → HasRecorded bytes new)
+    → OnOk r (old.told ≡ true → old.locked ≡ true → HasRecorded bytes new)
+recorded_bytes name file bytes old mid new (Ok a) made recorded = λ told locked. recorded (created_stage name file old mid told locked (made told locked)) (made told locked).stepped.this.empty
+recorded_bytes name file bytes old mid new (Err e) made recorded = tt
+
+pub installed_so : (name : List ℕ) (file : ℕ) (old mid : Run) (I : Type 0) {A E : Type 0} (r : Result A E) → (old.told ≡ true → old.locked ≡ true → HasCreated name file old mid)
+    → OnOk r (HasStage mid name file → mid.now.holds file ≡ [] → I) → OnOk r (old.told ≡ true → old.locked ≡ true → I)
+installed_so name file old mid I (Ok a) made so = λ told locked. so (created_stage name file old mid told locked (made told locked)) (made told locked).stepped.this.empty
 installed_so name file old mid I (Err e) made so = tt
+
+-- == Which stages are the run's own ==
+
+pub own_none : (r : Run) → OwnsNoMore r r
+own_none r = record { only = λ s e. e }
+
+pub kept_no_more : (old new : Run) → KeepsOwn old new → OwnsNoMore old new
+kept_no_more old new own = record { only = λ s e. sym (ap (λ o. o s) own.owns) ∙ e }
+
+pub no_more_trans : (old mid new : Run) → OwnsNoMore old mid → OwnsNoMore mid new → OwnsNoMore old new
+no_more_trans old mid new a b = record { only = λ s e. a.only s (b.only s e) }
+
+pub less_let_go : (name : List ℕ) (old new : Run) → OwnsLess name old new → HasLetGo name old new
+less_let_go name old new own = record {
+  only = λ s e.
+      let differs : s ≢ name = λ same. true≢false (sym e ∙ ap (λ t. new.owns t) same ∙ own.less) in
+      (differs, sym (own.others s differs) ∙ e);
+}
+
+pub let_go_after : (name : List ℕ) (old mid new : Run) → OwnsNoMore old mid → HasLetGo name mid new → HasLetGo name old new
+let_go_after name old mid new a b = record { only = λ s e. ((b.only s e).0, a.only s (b.only s e).1) }
+
+pub let_go_more : (name : List ℕ) (old mid new : Run) → HasLetGo name old mid → OwnsNoMore mid new → HasLetGo name old new
+let_go_more name old mid new a b = record { only = λ s e. a.only s (b.only s e) }
+
+pub let_go_no_more : (name : List ℕ) (old new : Run) → HasLetGo name old new → OwnsNoMore old new
+let_go_no_more name old new a = record { only = λ s e. (a.only s e).1 }
+
+-- a stage is made, and let go of at last
+pub made_let_go : (name : List ℕ) (old mid new : Run) → OwnsMore name old mid → HasLetGo name mid new → OwnsNoMore old new
+made_let_go name old mid new more go = record { only = λ s e. sym (more.others s (go.only s e).0) ∙ (go.only s e).1 }
+
+-- a stage got its lasting name, whatever comes of bringing that to the disk
+pub named_let_go : (name : List ℕ) (old mid new : Run) {A E : Type 0} (r : Result A E) → HasLetGo name old mid → OwnsNoMore mid new → MatchResult r (λ _. HasLetGo name old new) (λ _. OwnsNoMore old new)
+named_let_go name old mid new (Ok a) go more = let_go_more name old mid new go more
+named_let_go name old mid new (Err e) go more = let_go_no_more name old new (let_go_more name old mid new go more)
+
+-- and of more calls before
+pub let_go_or_not : (name : List ℕ) (old mid new : Run) {A E : Type 0} (r : Result A E) → OwnsNoMore old mid → MatchResult r (λ _. HasLetGo name mid new) (λ _. OwnsNoMore mid new)
+    → MatchResult r (λ _. HasLetGo name old new) (λ _. OwnsNoMore old new)
+let_go_or_not name old mid new (Ok a) before go = let_go_after name old mid new before go
+let_go_or_not name old mid new (Err e) before go = no_more_trans old mid new before go
+
+-- a fault is passed on
+pub passed_on : (name : List ℕ) (old new : Run) {A E : Type 0} (r : Result A E) (e : E) → IsErrAnd r (λ y. y ≡ e) → OwnsNoMore old new → MatchResult r (λ _. HasLetGo name old new) (λ _. OwnsNoMore old new)
+passed_on name old new (Ok a) e is own = absurd is
+passed_on name old new (Err y) e is own = own

@@ -1,8 +1,10 @@
 -- A folder that processes share, one layer below bytes: names that lead to files, what the files hold, and what a
 -- crash leaves of both. Files are numbered, and no number comes twice. The definitions say what one call of the
 -- system does from one moment to the next, and what other processes may do between two calls.
-use Rattle.std.specs.Prelude.{◌≡◌, ◌≢◌, ◌⊎◌, ℕ, ◌<◌, ◌≤◌, Bool, true, false, List, [], ◌∷◌, ◌++◌, length, take, drop, Option, Some, None, Result, IfOk, MatchResult}
+use Rattle.std.specs.Prelude.{◌≡◌, ◌≢◌, ◌⊎◌, ℕ, ◌<◌, ◌≤◌, Bool, true, false, List, [], ◌∷◌, ◌++◌, length, take, drop, Option, Some, None, Result, IfOk, MatchResult, OnOk, OnErr}
+use Rattle.minisign_base.specs.Devices.{Rose}
 use Rattle.minisign_install.specs.declared.folders.Name.{Name}
+use Rattle.minisign_install.specs.declared.folders.Name.TheVariants.{Record}
 
 -- what processes find in the folder at one moment
 pub record Moment : Type 0 where
@@ -16,6 +18,12 @@ pub record Moment : Type 0 where
   pub on_disk : ℕ → Bool
   -- whether a crash may leave the name leading to this file in place of the one that it leads to
   pub left : Name → ℕ → Bool
+  -- whether the file was given the rights of the file at the place, where there was one
+  pub rights : ℕ → Bool
+  -- whether the name of a stage cannot be removed
+  pub fixed : List ℕ → Bool
+  -- whether another run holds the lock on the place
+  pub busy : Bool
 
 -- one call of this run: the moments before and after it
 pub record Step : Type 0 where
@@ -23,16 +31,22 @@ pub record Step : Type 0 where
   pub after : Moment
 
 -- a run so far: the moment after its last call, all its calls, the newest first, the stages' names that are its
--- own, and whether its folder tells all this: of one that does not, nothing is said
+-- own, whether it holds the lock on the place, and whether its folder tells all this: of one that does not, nothing is
+-- said
 pub record Run : Type 0 where
   pub told : Bool
   pub now : Moment
   pub steps : List Step
   pub owns : List ℕ → Bool
+  pub locked : Bool
 
 -- where the folder tells what it holds
 abbrev pub Told : Run → Type 0 → Type 0
 Told r fact = r.told ≡ true → fact
+
+-- where the folder tells what it holds, and the run holds the lock
+abbrev pub Held : Run → Type 0 → Type 0
+Held r fact = r.told ≡ true → r.locked ≡ true → fact
 
 -- == What may be found ==
 
@@ -59,13 +73,26 @@ pub record Stands (m : Moment) (name : Name) (bytes : List ℕ) : Type 0 where
 
 -- == What other processes may do ==
 
+-- The record leads to the file that it led to, and a crash leaves it leading to no more files than before. All of
+-- them hold what they held, and hold it after a crash where they did so before.
+pub record LeavesRecord (old new : Moment) : Type 0 where
+  pub leads : new.leads Record ≡ old.leads Record
+  pub left : (f : ℕ) → new.left Record f ≡ true → MayLead old Record f
+  pub holds : (f : ℕ) → MayLead old Record f → new.holds f ≡ old.holds f
+  pub on_disk : (f : ℕ) → MayLead old Record f → old.on_disk f ≡ true → new.on_disk f ≡ true
+
 -- Other processes leave the stages alone whose names are this run's own: they neither rename nor remove such a
--- name, nor write its file, nor give it another name. All else they may do.
-pub record OthersLeave (owns : List ℕ → Bool) (old new : Moment) : Type 0 where
+-- name, nor write its file, nor give it another name. While this run holds the lock they leave the record alone too,
+-- since whoever keeps to the lock writes the record only with the lock held. All else they may do: to the place at
+-- any time, and to the record while this run does not hold the lock. Of a process that changes the record without the
+-- lock, or a stage that is not its own, nothing is said.
+pub record OthersLeave (locked : Bool) (owns : List ℕ → Bool) (old new : Moment) : Type 0 where
   pub stages : (s : List ℕ) → owns s ≡ true → new.stages s ≡ old.stages s
   pub holds : (s : List ℕ) (f : ℕ) → owns s ≡ true → old.stages s ≡ Some f → new.holds f ≡ old.holds f
   pub on_disk : (s : List ℕ) (f : ℕ) → owns s ≡ true → old.stages s ≡ Some f → new.on_disk f ≡ old.on_disk f
+  pub rights : (s : List ℕ) (f : ℕ) → owns s ≡ true → old.stages s ≡ Some f → new.rights f ≡ old.rights f
   pub apart : (s : List ℕ) (f : ℕ) → owns s ≡ true → old.stages s ≡ Some f → IsApart old f → IsApart new f
+  pub record_left : locked ≡ true → LeavesRecord old new
 
 -- == What one call does ==
 
@@ -75,6 +102,7 @@ pub record TouchesOnly (file : ℕ) (old new : Moment) : Type 0 where
   pub left : new.left ≡ old.left
   pub holds : (f : ℕ) → f ≢ file → new.holds f ≡ old.holds f
   pub on_disk : (f : ℕ) → f ≢ file → new.on_disk f ≡ old.on_disk f
+  pub rights : (f : ℕ) → f ≢ file → new.rights f ≡ old.rights f
 
 -- a new, empty file is made under a stage's name that led to none
 pub record Creates (name : List ℕ) (file : ℕ) (old new : Moment) : Type 0 where
@@ -96,11 +124,18 @@ pub record Appends (file : ℕ) (bytes : List ℕ) (old new : Moment) : Type 0 w
   pub spoils : Spoils file old new
   pub grown : new.holds file ≡ old.holds file ++ bytes
 
--- what the file holds comes to the disk
+-- the file is given the rights of the file at the place, where there is one, and holds what it held
+pub record GivesRights (file : ℕ) (old new : Moment) : Type 0 where
+  pub spoils : Spoils file old new
+  pub same : new.holds file ≡ old.holds file
+  pub given : new.rights file ≡ true
+
+-- what the file holds comes to the disk, and its rights stay
 pub record Settles (file : ℕ) (old new : Moment) : Type 0 where
   pub spoils : Spoils file old new
   pub same : new.holds file ≡ old.holds file
   pub on_disk : new.on_disk file ≡ true
+  pub rights : new.rights file ≡ old.rights file
 
 -- The file of a stage's name, whichever it is at this moment, gets the lasting name, in one step. Until the folder
 -- is brought to the disk a crash may leave what the name led to before.
@@ -111,6 +146,7 @@ pub record Renames (name : List ℕ) (to : Name) (old new : Moment) : Type 0 whe
   pub other_left : (n : Name) → n ≢ to → (f : ℕ) → new.left n f ≡ old.left n f
   pub holds : new.holds ≡ old.holds
   pub on_disk : new.on_disk ≡ old.on_disk
+  pub rights : new.rights ≡ old.rights
   pub gone : new.stages name ≡ None
   pub stages : (s : List ℕ) → s ≢ name → new.stages s ≡ old.stages s
 
@@ -120,6 +156,7 @@ pub record KeepsNames (old new : Moment) : Type 0 where
   pub left : (n : Name) (f : ℕ) → new.left n f ≡ true → MayLead old n f
   pub holds : new.holds ≡ old.holds
   pub on_disk : new.on_disk ≡ old.on_disk
+  pub rights : new.rights ≡ old.rights
   pub stages : new.stages ≡ old.stages
 
 -- the names come to the disk: a crash leaves them leading where they lead
@@ -129,10 +166,12 @@ pub record SettlesNames (old new : Moment) : Type 0 where
 
 -- a stage's name is removed
 pub record Removes (name : List ℕ) (old new : Moment) : Type 0 where
+  pub gone : new.stages name ≡ None
   pub leads : new.leads ≡ old.leads
   pub left : new.left ≡ old.left
   pub holds : new.holds ≡ old.holds
   pub on_disk : new.on_disk ≡ old.on_disk
+  pub rights : new.rights ≡ old.rights
   pub stages : (s : List ℕ) → s ≢ name → new.stages s ≡ old.stages s
 
 -- names of stages are removed, and nothing else is touched
@@ -141,10 +180,33 @@ pub record Clears (old new : Moment) : Type 0 where
   pub left : new.left ≡ old.left
   pub holds : new.holds ≡ old.holds
   pub on_disk : new.on_disk ≡ old.on_disk
+  pub rights : new.rights ≡ old.rights
+
+-- no stage is left that could be removed
+abbrev pub IsLeftClear : Moment → Type 0
+IsLeftClear m = (s : List ℕ) → m.fixed s ≡ false → m.stages s ≡ None
+
+-- all stages' names are removed that can be
+pub record ClearsAll (old new : Moment) : Type 0 where
+  pub clears : Clears old new
+  pub clear : IsLeftClear new
 
 -- nothing changed
 abbrev pub IsStill : Moment → Moment → Type 0
 IsStill old new = new ≡ old
+
+-- nothing changed, and no other run holds the lock
+abbrev pub IsFree : Moment → Moment → Type 0
+IsFree old new = (new ≡ old) × (old.busy ≡ false)
+
+-- nothing changed, and another run holds the lock
+abbrev pub IsBusy : Moment → Moment → Type 0
+IsBusy old new = (new ≡ old) × (old.busy ≡ true)
+
+-- the lock was asked for, and got or not
+abbrev pub IsAsked : Bool → Moment → Moment → Type 0
+IsAsked true = IsFree
+IsAsked false = IsBusy
 
 -- it was done or it was not: so much is known after a fault
 abbrev pub Perhaps : (Moment → Moment → Type 0) → Moment → Moment → Type 0
@@ -152,13 +214,14 @@ Perhaps step old new = (new ≡ old) ⊎ step old new
 
 -- == A call of a run ==
 
--- Some steps of others, then this call's own, which is noted.
+-- Some steps of others, then this call's own, which is noted. No call lets the lock go.
 pub record HasStepped (old new : Run) (call : Moment → Moment → Type 0) : Type 0 where
   pub before : Moment
-  pub others : OthersLeave old.owns old.now before
+  pub others : OthersLeave old.locked old.owns old.now before
   pub this : call before new.now
   pub noted : new.steps ≡ (record { before = before; after = new.now }) ∷ old.steps
   pub told : new.told ≡ old.told
+  pub locked : old.locked ≡ true → new.locked ≡ true
 
 -- what is the run's own stays
 pub record KeepsOwn (old new : Run) : Type 0 where
@@ -169,7 +232,7 @@ pub record OwnsMore (name : List ℕ) (old new : Run) : Type 0 where
   pub more : new.owns name ≡ true
   pub others : (s : List ℕ) → s ≢ name → new.owns s ≡ old.owns s
 
--- the name is the run's own no longer
+-- the name is the run's own no longer: it got a lasting name, or its removal was tried
 pub record OwnsLess (name : List ℕ) (old new : Run) : Type 0 where
   pub less : new.owns name ≡ false
   pub others : (s : List ℕ) → s ≢ name → new.owns s ≡ old.owns s
@@ -177,6 +240,16 @@ pub record OwnsLess (name : List ℕ) (old new : Run) : Type 0 where
 -- the call did this, or failed and perhaps did it; nothing became or ceased to be the run's own
 abbrev pub HasTried : {A E : Type 0} → (Moment → Moment → Type 0) → (Moment → Moment → Type 0) → Run → Run → Result A E → Type 0
 HasTried done failed old new answer = MatchResult answer (λ _. HasStepped old new done × KeepsOwn old new) (λ _. HasStepped old new failed × KeepsOwn old new)
+
+-- the lock was asked for, which changed nothing, and got, since no other run held it
+pub record HasLocked (old new : Run) : Type 0 where
+  pub stepped : HasStepped old new IsFree
+  pub held : new.locked ≡ true
+
+-- the call left the count of the folder's faults, or failed, and it rose
+pub record HasCounted {A E : Type 0} (old new : ℕ) (answer : Result A E) : Type 0 where
+  pub calm : OnOk answer (new ≡ old)
+  pub fault : OnErr answer (Rose old new)
 
 -- a stage was created, whose name and file are the run's own from now on
 pub record HasCreated (name : List ℕ) (file : ℕ) (old new : Run) : Type 0 where
@@ -188,9 +261,9 @@ pub record HasRenamed (name : List ℕ) (to : Name) (old new : Run) : Type 0 whe
   pub stepped : HasStepped old new (Renames name to)
   pub own : OwnsLess name old new
 
--- a stage was removed
-pub record HasRemoved (name : List ℕ) (old new : Run) : Type 0 where
-  pub stepped : HasStepped old new (Removes name)
+-- a stage was removed, or its removal failed and was perhaps done; it is the run's own no longer
+pub record HasRemoved {A E : Type 0} (name : List ℕ) (old new : Run) (answer : Result A E) : Type 0 where
+  pub stepped : MatchResult answer (λ _. HasStepped old new (Removes name)) (λ _. HasStepped old new (Perhaps (Removes name)))
   pub own : OwnsLess name old new
 
 -- these are the bytes of a file from an offset on, at least one where there are any and there is room
@@ -213,7 +286,8 @@ pub record Reads (name : Name) (found : Option (List ℕ)) (old new : Moment) : 
 abbrev pub untold : Run
 untold = record {
   told = false;
-  now = record { leads = λ _. None; stages = λ _. None; holds = λ _. []; on_disk = λ _. false; left = λ _ _. false };
+  now = record { leads = λ _. None; stages = λ _. None; holds = λ _. []; on_disk = λ _. false; left = λ _ _. false; rights = λ _. false; fixed = λ _. false; busy = false };
   steps = [];
   owns = λ _. false;
+  locked = false;
 }

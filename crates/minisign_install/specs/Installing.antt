@@ -1,12 +1,13 @@
 -- What installing an update may bring to the place and to the record beside it.
-use Rattle.std.specs.Prelude.{◌≡◌, ◌⊎◌, ℕ, ◌≤◌, Bool, true, false, List, ◌∷◌, ◌++◌, Option, Some, IfSome}
+use Rattle.std.specs.Prelude.{◌≡◌, ◌⊎◌, ℕ, ◌≤◌, Bool, true, false, List, ◌++◌, All, Option, Some, IfSome}
 use Rattle.std.specs.Fmt.{decimal}
 use Rattle.std.specs.Str.{IsUtf8}
 use Rattle.minisign.specs.Acceptance.{Verifier}
 use Rattle.minisign.specs.Calls.{TextsVouchWith}
 use Rattle.minisign_install.specs.Comments.{IsNumberText, Says}
-use Rattle.minisign_install.specs.Folders.{IsFound, Run, Step}
-use Rattle.minisign_install.specs.Runs.{BringsNothing, BringsOnly, IsPublished}
+use Rattle.minisign.specs.Reading.{IsAhead}
+use Rattle.minisign_install.specs.Folders.{HasLocked, HasStepped, IsFound, IsStill, Run, Step}
+use Rattle.minisign_install.specs.Runs.{BringsNothing, BringsOnly, HasCleared, IsPublished, Keeps, KeepsAt, rights_of}
 use Rattle.minisign_install.specs.declared.comments.Numbering.{Numbering}
 use Rattle.minisign_install.specs.declared.folders.Name.{Name}
 use Rattle.minisign_install.specs.declared.wanted.Wanted.{Wanted}
@@ -35,44 +36,87 @@ abbrev pub IsBrought : Verifier → Terms → ℕ → Name → List ℕ → Type
 IsBrought accepts terms kept Place bytes = (n : ℕ) × IsUpdate accepts terms kept bytes n
 IsBrought accepts terms kept Record bytes = (n : ℕ) × (update : List ℕ) × IsUpdate accepts terms kept update n × (bytes ≡ decimal n)
 
+-- to the record the number of an update, and nothing to the place
+abbrev pub IsRecordBrought : Verifier → Terms → ℕ → Name → List ℕ → Type 0
+IsRecordBrought accepts terms kept name bytes = (name ≡ Record) × IsBrought accepts terms kept Record bytes
+
+-- to the place an update of this number, and nothing to the record
+abbrev pub IsPlaced : Verifier → Terms → ℕ → ℕ → Name → List ℕ → Type 0
+IsPlaced accepts terms kept n name bytes = (name ≡ Place) × IsUpdate accepts terms kept bytes n
+
 -- the number that the record holds; where it holds none, that is 0 if this is the first installation
 abbrev pub IsKeptNumber : Bool → Option (List ℕ) → ℕ → Type 0
 IsKeptNumber first found kept =
-    ((text : List ℕ) × (found ≡ Some text) × IsNumberText text kept)
+    ((text : List ℕ) × (found ≡ Some text) × IsUtf8 text × IsNumberText text kept)
     ⊎ ((first ≡ true) × (kept ≡ 0) × IfSome found (λ text. ¬ (IsUtf8 text) ⊎ ((n : ℕ) → ¬ (IsNumberText text n))))
 
--- one of the run's calls since then found this at the name
-pub record HasFound (name : Name) (found : Option (List ℕ)) (old new : Run) : Type 0 where
-  pub later : List Step
-  pub call : Step
-  pub earlier : List Step
-  pub noted : new.steps ≡ later ++ (call ∷ (earlier ++ old.steps))
-  pub there : IsFound call.before name found
+-- The number goes first. Up to some point of the run nothing was brought to the place. From there on only updates of
+-- one number are, while the record has that number or a greater one, at each moment and after a crash at any.
+pub record PlacesBehind (accepts : Verifier) (terms : Terms) (kept : ℕ) (old new : Run) : Type 0 where
+  pub n : ℕ
+  pub point : Run
+  pub recorded : BringsOnly (IsRecordBrought accepts terms kept) old point
+  pub locked : point.locked ≡ true
+  pub there : Keeps n point.now
+  pub placed : BringsOnly (IsPlaced accepts terms kept n) point new
+  pub number : All (KeepsAt n) placed.since
+  pub lasts : Keeps n new.now
+
+-- A number that the record has stays there until a greater one or the same takes its place, at each moment since and
+-- after a crash at any.
+abbrev pub NeverFalls : Run → Run → Type 0
+NeverFalls old new = (k : ℕ) → Keeps k old.now → (since : List Step) × (new.steps ≡ since ++ old.steps) × All (KeepsAt k) since × Keeps k new.now
+
+-- Only what is to be installed was brought, and the number went first.
+pub record PlacesOnly (accepts : Verifier) (terms : Terms) (kept : ℕ) (old new : Run) : Type 0 where
+  pub brings : BringsOnly (IsBrought accepts terms kept) old new
+  pub order : BringsOnly (IsRecordBrought accepts terms kept) old new ⊎ PlacesBehind accepts terms kept old new
 
 -- Whatever who opens the place or the record finds there after any call of this run, at once or after a crash, could
 -- be found there just before that call, or is an update, or the number of one, that is not older than the number that
--- this run found in the record.
+-- the record held when this run got the lock. The number of an update is in the record before the update is at the
+-- place.
 pub record InstallsOnly (accepts : Verifier) (terms : Terms) (first : Bool) (old new : Run) : Type 0 where
   pub found : Option (List ℕ)
   pub kept : ℕ
-  pub read : HasFound Record found old new
+  pub there : IsFound old.now Record found
   pub number : IsKeptNumber first found kept
-  pub brings : BringsOnly (IsBrought accepts terms kept) old new
+  pub places : PlacesOnly accepts terms kept old new
 
--- nothing was brought to the place or to the record, or only what is to be installed
+-- From when the lock was got: nothing was brought to the place or to the record, or only what is to be installed. And
+-- the number in the record never falls.
+pub record InstallsLocked (accepts : Verifier) (terms : Terms) (first : Bool) (old new : Run) : Type 0 where
+  pub only : BringsNothing old new ⊎ InstallsOnly accepts terms first old new
+  pub never_falls : NeverFalls old new
+
+-- The lock was asked for and not got, and that was all. Or it was got, and from then on only what is to be installed
+-- was brought.
 abbrev pub InstallsOnlyUpdates : Verifier → Terms → Bool → Run → Run → Type 0
-InstallsOnlyUpdates accepts terms first old new = BringsNothing old new ⊎ InstallsOnly accepts terms first old new
+InstallsOnlyUpdates accepts terms first old new =
+    HasStepped old new IsStill ⊎ ((locked : Run) × HasLocked old locked × InstallsLocked accepts terms first locked new)
 
--- An update stands at the place, through any crash, and its number was brought to the record, to stay there through
--- any crash, before the update got its name.
-pub record IsInstalled (accepts : Verifier) (terms : Terms) (kept : ℕ) (steps : List Step) : Type 0 where
+-- An update stands at the place, through any crash: the data that was ahead, in a file that was given the rights of the
+-- one before. Its number was brought to the record, to stay there through any crash, before the update got its name.
+pub record IsInstalled (accepts : Verifier) (terms : Terms) (kept : ℕ) (ahead : Option (List ℕ)) (steps : List Step) : Type 0 where
   pub bytes : List ℕ
   pub n : ℕ
+  pub read : IsAhead ahead bytes
   pub update : IsUpdate accepts terms kept bytes n
   pub earlier : List Step
   pub recorded : List Step
   pub number_first : IsPublished Record (decimal n) earlier recorded
   pub published : IsPublished Place bytes recorded steps
+  pub rights : rights_of published ≡ true
+
+-- it is not older than the number that the record held when this run got the lock, and what killed runs had left was
+-- removed
+pub record HasInstalled (accepts : Verifier) (terms : Terms) (first : Bool) (ahead : Option (List ℕ)) (old new : Run) : Type 0 where
+  pub found : Option (List ℕ)
+  pub kept : ℕ
+  pub there : IsFound old.now Record found
+  pub number : IsKeptNumber first found kept
+  pub cleared : HasCleared old new
+  pub installed : IsInstalled accepts terms kept ahead new.steps
 
 -- the texts vouch for some data, and the comment that was signed with it names the file and has a number
 abbrev pub IsVouched : Verifier → Terms → Type 0

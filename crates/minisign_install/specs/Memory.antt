@@ -10,13 +10,15 @@ use Rattle.minisign_install.specs.declared.memory.calls.Change.TheVariants.{Made
 use Rattle.minisign_install.specs.declared.memory.calls.Entry.{Entry}
 use Rattle.minisign_install.specs.declared.memory.tally.Tally.{Tally}
 use Rattle.minisign_install.specs.declared.memory.tally.Tally.TheVariants.{Nothing, More'}
+use Rattle.minisign_install.specs.declared.memory.owned.Owned.{Owned}
+use Rattle.minisign_install.specs.declared.memory.owned.Owned.TheVariants.{Nothing as NoneMade, Made' as MadeMore, LetGo'}
 use Rattle.minisign_install.specs.declared.memory.MemoryFolder.{MemoryFolder}
+use Rattle.minisign_install.specs.Names.{drawn_bytes}
 
 -- a run of a folder in memory, and how many files it made: the next one has that number
 pub record Past : Type 0 where
   pub now : Moment
   pub steps : List Step
-  pub owns : List ℕ → Bool
   pub made : ℕ
 
 abbrev pub is_same : Name → Name → Bool
@@ -31,71 +33,30 @@ is_file (Some f) g = f == g
 
 -- the moment after a call, where so many files were made before
 abbrev pub moment_after : ℕ → Moment → Call → Moment
-moment_after made m (Created name) = record {
-  leads = m.leads;
+moment_after made m (Created name) = record m {
   stages = λ s. if bytes_eq s name.items then Some made else m.stages s;
   holds = λ g. if g == made then [] else m.holds g;
   on_disk = λ g. if g == made then false else m.on_disk g;
-  left = m.left;
 }
-moment_after made m (Written file bytes) = record {
-  leads = m.leads;
-  stages = m.stages;
+moment_after made m (Written file bytes) = record m {
   holds = λ g. if g == file then m.holds g ++ bytes.items else m.holds g;
   on_disk = λ g. if g == file then false else m.on_disk g;
-  left = m.left;
 }
-moment_after made m (Settled file) = record {
-  leads = m.leads;
-  stages = m.stages;
-  holds = m.holds;
-  on_disk = λ g. if g == file then true else m.on_disk g;
-  left = m.left;
-}
-moment_after made m (Renamed name to) = record {
+moment_after made m (Settled file) = record m { on_disk = λ g. if g == file then true else m.on_disk g }
+moment_after made m (Renamed name to) = record m {
   leads = λ n. if is_same n to then m.stages name.items else m.leads n;
   stages = λ s. if bytes_eq s name.items then None else m.stages s;
-  holds = m.holds;
-  on_disk = m.on_disk;
   left = λ n g. if is_same n to then (m.left n g || is_file (m.leads n) g) else m.left n g;
 }
-moment_after made m NamesSettled = record {
-  leads = m.leads;
-  stages = m.stages;
-  holds = m.holds;
-  on_disk = m.on_disk;
-  left = λ _ _. false;
-}
-moment_after made m (Removed name) = record {
-  leads = m.leads;
-  stages = λ s. if bytes_eq s name.items then None else m.stages s;
-  holds = m.holds;
-  on_disk = m.on_disk;
-  left = m.left;
-}
-moment_after made m Cleared = record {
-  leads = m.leads;
-  stages = λ _. None;
-  holds = m.holds;
-  on_disk = m.on_disk;
-  left = m.left;
-}
+moment_after made m NamesSettled = record m { left = λ _ _. false }
+moment_after made m (Removed name) = record m { stages = λ s. if bytes_eq s name.items then None else m.stages s }
+moment_after made m Cleared = record m { stages = λ _. None }
 
 -- what the name of a stage leads to after a change, where so many files were made before
 abbrev pub changed : Change → ℕ → Option ℕ → Option ℕ
 changed Made made before = Some made
 changed Gone made before = None
 changed Stays made before = before
-
--- which names of stages are the run's own after a call
-abbrev pub owns_after : (List ℕ → Bool) → Call → List ℕ → Bool
-owns_after owns (Created name) = λ s. if bytes_eq s name.items then true else owns s
-owns_after owns (Written file bytes) = owns
-owns_after owns (Settled file) = owns
-owns_after owns (Renamed name to) = λ s. if bytes_eq s name.items then false else owns s
-owns_after owns NamesSettled = owns
-owns_after owns (Removed name) = λ s. if bytes_eq s name.items then false else owns s
-owns_after owns Cleared = owns
 
 abbrev pub made_after : ℕ → Call → ℕ
 made_after made (Created name) = suc made
@@ -111,7 +72,6 @@ abbrev pub after : Past → Call → Past
 after p call = record {
   now = moment_after p.made p.now call;
   steps = record { before = p.now; after = moment_after p.made p.now call } ∷ p.steps;
-  owns = owns_after p.owns call;
   made = made_after p.made call;
 }
 
@@ -126,14 +86,22 @@ still_steps zero m steps = steps
 still_steps (suc n) m steps = record { before = m; after = m } ∷ still_steps n m steps
 
 abbrev pub rested : ℕ → Past → Past
-rested n p = record { now = p.now; steps = still_steps n p.now p.steps; owns = p.owns; made = p.made }
+rested n p = record { now = p.now; steps = still_steps n p.now p.steps; made = p.made }
 
 -- an empty folder
 abbrev pub beginning : Past
 beginning = record {
-  now = record { leads = λ _. None; stages = λ _. None; holds = λ _. []; on_disk = λ _. false; left = λ _ _. false };
+  now = record {
+    leads = λ _. None;
+    stages = λ _. None;
+    holds = λ _. [];
+    on_disk = λ _. false;
+    left = λ _ _. false;
+    rights = λ _. true;
+    fixed = λ _. false;
+    busy = false;
+  };
   steps = [];
-  owns = λ _. false;
   made = 0;
 }
 
@@ -149,6 +117,22 @@ past es = past_from beginning es
 abbrev pub past_of : MemoryFolder → Past
 past_of folder = rested (count_of folder.stills) (past folder.entries.items)
 
--- the folder tells all its run
-abbrev pub told_run : Past → Run
-told_run p = record { told = true; now = p.now; steps = p.steps; owns = p.owns }
+-- one more name is the run's own, or one is not any longer
+abbrev pub with_own : (List ℕ → Bool) → List ℕ → List ℕ → Bool
+with_own owns name = λ s. if bytes_eq s name then true else owns s
+
+abbrev pub without_own : (List ℕ → Bool) → List ℕ → List ℕ → Bool
+without_own owns name = λ s. if bytes_eq s name then false else owns s
+
+-- which names of stages are the run's own
+abbrev pub owned_by : Owned → List ℕ → Bool
+owned_by NoneMade = λ _. false
+owned_by (MadeMore name marker before) = with_own (owned_by before) (drawn_bytes name.value)
+owned_by (LetGo' name marker before) = without_own (owned_by before) (drawn_bytes name.value)
+
+-- The folder tells all its run. Nobody else uses the folder, so its lock is always held.
+abbrev pub told_run : Past → (List ℕ → Bool) → Run
+told_run p owns = record { told = true; now = p.now; steps = p.steps; owns = owns; locked = true }
+
+abbrev pub run_of : MemoryFolder → Run
+run_of folder = told_run (past_of folder) (owned_by folder.owned)

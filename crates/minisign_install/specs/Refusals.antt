@@ -1,6 +1,8 @@
 -- Why an installation is refused, in the order of its steps, and what its run has brought to the place and to the
 -- record by then.
-use Rattle.std.specs.Prelude.{◌≡◌, ◌≢◌, ◌⊎◌, ℕ, ◌<◌, Bool, false, List, ◌∷◌, ◌++◌, Option, Some, None}
+use Rattle.std.specs.Prelude.{◌≡◌, ◌≢◌, ◌⊎◌, ℕ, ◌<◌, Bool, false, List, ◌∷◌, ◌++◌, Option, Some, None, IfErr, IsErrAnd, MatchResult}
+use Rattle.std.specs.declared.result.Result.{Result}
+use Rattle.minisign_base.specs.Devices.{Rose}
 use Rattle.std.specs.Str.{IsUtf8}
 use Rattle.minisign_base.specs.Fault.{Fault, Named}
 use Rattle.minisign_base.specs.declared.faults.NamedFault.TheVariants.{OutOfMemory, RandomSourceFailed, ReadingFailed, WritingFailed}
@@ -9,17 +11,38 @@ use Rattle.minisign.specs.Calls.{TextsVouchWith}
 use Rattle.minisign.specs.Headline.{TextsRefuse}
 use Rattle.minisign.specs.Reading.{IsAhead}
 use Rattle.minisign_install.specs.Comments.{IsNumberText, Says, file_label, value_of}
-use Rattle.minisign_install.specs.Folders.{HasStepped, IsStill, Run, Stands, Step}
-use Rattle.minisign_install.specs.Installing.{HasFound, IsBrought, IsKeptNumber, IsUpdate, Terms}
-use Rattle.minisign_install.specs.Runs.{BringsNothing, BringsOnly}
+use Rattle.minisign_install.specs.Folders.{HasLocked, HasStepped, IsBusy, IsFound, IsStill, Run, Stands, Step}
+use Rattle.minisign_install.specs.Installing.{IsBrought, IsKeptNumber, IsRecordBrought, IsUpdate, Terms}
+use Rattle.minisign_install.specs.Runs.{BringsNothing, BringsOnly, HasCleared}
 use Rattle.minisign_install.specs.declared.faults.InstallFault.{InstallFault}
 use Rattle.minisign_install.specs.declared.faults.InstallFault.TheVariants.{Library, PlaceInUse, NoRecord, DamagedRecord, OtherFile, NoNumber, OlderUpdate, FolderNotOnDisk}
 use Rattle.minisign_install.specs.declared.folders.Name.{Name}
 use Rattle.minisign_install.specs.declared.folders.Name.TheVariants.{Place, Record}
 
--- memory ran out, a call of the folder or of the source failed, or no random bytes could be drawn
-abbrev pub IsDeviceFault : Fault → Type 0
-IsDeviceFault e = (e ≡ Named OutOfMemory) ⊎ (e ≡ Named ReadingFailed) ⊎ (e ≡ Named WritingFailed) ⊎ (e ≡ Named RandomSourceFailed)
+-- how many faults there were: of the random source, of the source of the data, and of the folder
+pub record Counts : Type 0 where
+  pub random : ℕ
+  pub update : ℕ
+  pub folder : ℕ
+
+abbrev pub counts : ℕ → ℕ → ℕ → Counts
+counts random update folder = record { random = random; update = update; folder = folder }
+
+-- a device failed: one of the counts rose
+abbrev pub HasFailed : Counts → Counts → Type 0
+HasFailed before after = Rose before.random after.random ⊎ Rose before.update after.update ⊎ Rose before.folder after.folder
+
+-- memory ran out, or the device failed that the fault speaks of
+abbrev pub IsDeviceFault : Counts → Counts → Fault → Type 0
+IsDeviceFault before after e =
+    (e ≡ Named OutOfMemory)
+    ⊎ ((e ≡ Named ReadingFailed) × (Rose before.update after.update ⊎ Rose before.folder after.folder))
+    ⊎ ((e ≡ Named WritingFailed) × Rose before.folder after.folder)
+    ⊎ ((e ≡ Named RandomSourceFailed) × Rose before.random after.random)
+
+-- memory ran out, or the device failed that a stage is read from
+abbrev pub IsReadingFault : ℕ → ℕ → Fault → Type 0
+IsReadingFault before after e = (e ≡ Named OutOfMemory) ⊎ ((e ≡ Named ReadingFailed) × Rose before after)
 
 -- a fault of the library that is as P says
 abbrev pub IsLibraryFault : (Fault → Type 0) → InstallFault → Type 0
@@ -32,11 +55,11 @@ IsRecordRefused first found e =
     ⊎ ((e ≡ DamagedRecord) × (first ≡ false)
     × ((text : List ℕ) × (found ≡ Some text) × (¬ (IsUtf8 text) ⊎ ((n : ℕ) → ¬ (IsNumberText text n)))))
 
--- the signed comment does not name the file, has no number, or one that is below the kept one
+-- The signed comment does not name the file. It names it, and has no number; or has one, which is below the kept one.
 abbrev pub IsCommentRefused : Terms → ℕ → List ℕ → InstallFault → Type 0
 IsCommentRefused terms kept comment e =
     ((e ≡ OtherFile) × (value_of file_label comment ≢ Some terms.file))
-    ⊎ ((e ≡ NoNumber) × ((n : ℕ) → ¬ (Says comment terms.file terms.numbering n)))
+    ⊎ ((e ≡ NoNumber) × (value_of file_label comment ≡ Some terms.file) × ((n : ℕ) → ¬ (Says comment terms.file terms.numbering n)))
     ⊎ ((e ≡ OlderUpdate) × ((n : ℕ) × Says comment terms.file terms.numbering n × (n < kept)))
 
 -- the texts do not vouch for this data, or they do and the comment that was signed with it is refused
@@ -44,10 +67,6 @@ abbrev pub IsDataRefused : Verifier → Terms → ℕ → List ℕ → InstallFa
 IsDataRefused accepts terms kept message e =
     IsLibraryFault (TextsRefuse accepts terms.pk_text terms.sig_text message false) e
     ⊎ ((comment : List ℕ) × TextsVouchWith accepts terms.pk_text terms.sig_text message false comment × IsCommentRefused terms kept comment e)
-
--- to the record the number of an update, and nothing to the place
-abbrev pub IsRecordBrought : Verifier → Terms → ℕ → Name → List ℕ → Type 0
-IsRecordBrought accepts terms kept name bytes = (name ≡ Record) × IsBrought accepts terms kept Record bytes
 
 -- with one of the run's calls since then the name led to a file of these bytes, on the disk
 pub record HasNamed (to : Name) (bytes : List ℕ) (old new : Run) : Type 0 where
@@ -65,37 +84,65 @@ HasPlaced accepts terms kept old new = (bytes : List ℕ) × (n : ℕ) × IsUpda
 -- A device failed, or the data is refused: nothing. The number could not be kept: at most the record. The renaming
 -- failed: at most what a whole installation brings. The folder could not be brought to the disk: the update stands
 -- at the place, and a crash may still bring back what stood there.
-abbrev pub IsDataRefusal : Verifier → Terms → ℕ → Option (List ℕ) → Run → Run → InstallFault → Type 0
-IsDataRefusal accepts terms kept ahead old new e =
-    (BringsNothing old new × IsLibraryFault IsDeviceFault e)
+abbrev pub IsDataRefusal : Verifier → Terms → ℕ → Option (List ℕ) → Counts → Counts → Run → Run → InstallFault → Type 0
+IsDataRefusal accepts terms kept ahead before after old new e =
+    (BringsNothing old new × IsLibraryFault (IsDeviceFault before after) e)
     ⊎ (BringsNothing old new × ((message : List ℕ) × IsAhead ahead message × IsDataRefused accepts terms kept message e))
-    ⊎ (BringsOnly (IsRecordBrought accepts terms kept) old new × IsLibraryFault IsDeviceFault e)
-    ⊎ (BringsOnly (IsBrought accepts terms kept) old new × (e ≡ Library (Named WritingFailed)))
-    ⊎ (BringsOnly (IsBrought accepts terms kept) old new × HasPlaced accepts terms kept old new × (e ≡ FolderNotOnDisk))
+    ⊎ (BringsOnly (IsRecordBrought accepts terms kept) old new × IsLibraryFault (IsDeviceFault before after) e)
+    ⊎ (BringsOnly (IsBrought accepts terms kept) old new × (e ≡ Library (Named WritingFailed)) × Rose before.folder after.folder)
+    ⊎ (BringsOnly (IsBrought accepts terms kept) old new × HasPlaced accepts terms kept old new × (e ≡ FolderNotOnDisk) × Rose before.folder after.folder)
 
--- Why an installation is refused where the lock is held, and what it brings then. A device failed, or the record is
--- refused: nothing. Otherwise the record was found to hold a number, and the data is refused.
-abbrev pub IsLockedRefusal : Verifier → Terms → Bool → Option (List ℕ) → Run → Run → InstallFault → Type 0
-IsLockedRefusal accepts terms first ahead old new e =
-    (BringsNothing old new × IsLibraryFault IsDeviceFault e)
-    ⊎ (BringsNothing old new × ((found : Option (List ℕ)) × HasFound Record found old new × IsRecordRefused first found e))
-    ⊎ ((found : Option (List ℕ)) × (kept : ℕ) × HasFound Record found old new × IsKeptNumber first found kept
-    × IsDataRefusal accepts terms kept ahead old new e)
+-- Why an installation is refused where the lock is held, and what it brings then. A device failed: nothing. Otherwise
+-- what killed runs had left was removed, and the record is refused, as it was found when the lock was got: nothing. Or
+-- it was found to hold a number, and the data is refused.
+abbrev pub IsLockedRefusal : Verifier → Terms → Bool → Option (List ℕ) → Counts → Counts → Run → Run → InstallFault → Type 0
+IsLockedRefusal accepts terms first ahead before after old new e =
+    (BringsNothing old new × IsLibraryFault (IsDeviceFault before after) e)
+    ⊎ (HasCleared old new × BringsNothing old new × ((found : Option (List ℕ)) × IsFound old.now Record found × IsRecordRefused first found e))
+    ⊎ (HasCleared old new × ((found : Option (List ℕ)) × (kept : ℕ) × IsFound old.now Record found × IsKeptNumber first found kept
+    × IsDataRefusal accepts terms kept ahead before after old new e))
 
--- Why an installation is refused, and what it brings then. The lock is held by another: nothing, and this was the
--- only call.
-abbrev pub IsRefusal : Verifier → Terms → Bool → Option (List ℕ) → Run → Run → InstallFault → Type 0
-IsRefusal accepts terms first ahead old new e = (HasStepped old new IsStill × (e ≡ PlaceInUse)) ⊎ IsLockedRefusal accepts terms first ahead old new e
+-- Why an installation is refused, and what it brings then. Another run holds the lock, or it could not be asked for:
+-- nothing, and this was the only call.
+abbrev pub IsRefusal : Verifier → Terms → Bool → Option (List ℕ) → Counts → Counts → Run → Run → InstallFault → Type 0
+IsRefusal accepts terms first ahead before after old new e =
+    (HasStepped old new IsBusy × (e ≡ PlaceInUse))
+    ⊎ (HasStepped old new IsStill × IsLibraryFault (IsDeviceFault before after) e)
+    ⊎ ((locked : Run) × HasLocked old locked × IsLockedRefusal accepts terms first ahead before after locked new e)
+
+-- == When an update is installed ==
+
+-- the record has a number, or this is the first installation, and the data is an update that is not older
+abbrev pub CanBeInstalled : Verifier → Terms → Bool → Option (List ℕ) → List ℕ → Type 0
+CanBeInstalled accepts terms first found message = (kept : ℕ) × (n : ℕ) × IsKeptNumber first found kept × IsUpdate accepts terms kept message n
+
+-- it cannot be installed, and this is the first reason: the record is refused; otherwise the texts do not vouch for
+-- the data; otherwise the signed comment is refused
+pub record CannotBeInstalled (accepts : Verifier) (terms : Terms) (first : Bool) (found : Option (List ℕ)) (message : List ℕ) (e : InstallFault) : Type 0 where
+  pub reason : IsRecordRefused first found e ⊎ ((kept : ℕ) × IsKeptNumber first found kept × IsDataRefused accepts terms kept message e)
+  pub not_so : ¬ (CanBeInstalled accepts terms first found message)
+
+-- where memory is found and no device fails: if another run holds the lock, that is said; otherwise, by what the record
+-- held when the lock was got and by the data ahead, the update is installed exactly where it can be, and the first
+-- reason is said where it cannot
+abbrev pub InstallsExactly : {T : Type 0} → Verifier → Terms → Bool → Option (List ℕ) → Counts → Counts → Run → Run → Result T InstallFault → Type 0
+InstallsExactly accepts terms first ahead before after old new answer =
+    IfErr answer (λ e. e ≢ Library (Named OutOfMemory)) → ¬ (HasFailed before after)
+    → (HasStepped old new IsBusy × IsErrAnd answer (λ e. e ≡ PlaceInUse))
+    ⊎ ((locked : Run) × HasLocked old locked × ((found : Option (List ℕ)) × IsFound locked.now Record found
+    × ((message : List ℕ) × IsAhead ahead message
+    × MatchResult answer (λ _. CanBeInstalled accepts terms first found message) (CannotBeInstalled accepts terms first found message))))
 
 -- == The causes alone, whether the folder tells what it holds or not ==
 
 -- why some data is not installed
-abbrev pub IsDataCause : Verifier → Terms → InstallFault → Type 0
-IsDataCause accepts terms e =
-    IsLibraryFault IsDeviceFault e ⊎ ((message : List ℕ) × (kept : ℕ) × IsDataRefused accepts terms kept message e) ⊎ (e ≡ FolderNotOnDisk)
+abbrev pub IsDataCause : Verifier → Terms → Counts → Counts → InstallFault → Type 0
+IsDataCause accepts terms before after e =
+    IsLibraryFault (IsDeviceFault before after) e ⊎ ((message : List ℕ) × (kept : ℕ) × IsDataRefused accepts terms kept message e)
+    ⊎ ((e ≡ FolderNotOnDisk) × Rose before.folder after.folder)
 
 -- why an installation is refused: the lock is held by another, or the record refused, which it never is at the first
 -- installation, or some data is not installed
-abbrev pub IsCause : Verifier → Terms → Bool → InstallFault → Type 0
-IsCause accepts terms first e =
-    (e ≡ PlaceInUse) ⊎ ((first ≡ false) × ((e ≡ NoRecord) ⊎ (e ≡ DamagedRecord))) ⊎ IsDataCause accepts terms e
+abbrev pub IsCause : Verifier → Terms → Bool → Counts → Counts → InstallFault → Type 0
+IsCause accepts terms first before after e =
+    (e ≡ PlaceInUse) ⊎ ((first ≡ false) × ((e ≡ NoRecord) ⊎ (e ≡ DamagedRecord))) ⊎ IsDataCause accepts terms before after e

@@ -1,36 +1,61 @@
 -- What several calls of a run do together.
-use Rattle.std.specs.Prelude.{◌≡◌, ◌≢◌, ◌⊎◌, ℕ, true, List, ◌∷◌, ◌++◌, All, Some}
-use Rattle.minisign_install.specs.Folders.{IsApart, KeepsOwn, MayFind, Run, SettlesNames, Stands, Step}
+use Rattle.std.specs.Prelude.{◌≡◌, ◌≢◌, ◌⊎◌, ℕ, ◌≤◌, Bool, true, List, ◌∷◌, ◌++◌, All, Some}
+use Rattle.std.specs.Str.{IsUtf8}
+use Rattle.minisign_install.specs.Comments.{IsNumberText}
+use Rattle.minisign_install.specs.Folders.{IsApart, IsLeftClear, KeepsOwn, MayFind, Moment, Run, SettlesNames, Stands, Step}
 use Rattle.minisign_install.specs.declared.folders.Name.{Name}
+use Rattle.minisign_install.specs.declared.folders.Name.TheVariants.{Record}
 
--- the name of a stage is the run's own and leads to this file, and neither lasting name does or may after a crash
+-- the run holds the lock, and the name of a stage is its own and leads to this file, and neither lasting name does or
+-- may after a crash
 pub record HasStage (r : Run) (name : List ℕ) (file : ℕ) : Type 0 where
   pub told : r.told ≡ true
+  pub locked : r.locked ≡ true
   pub owned : r.owns name ≡ true
   pub leads : r.now.stages name ≡ Some file
   pub apart : IsApart r.now file
 
 -- What may be found at a lasting name after the call, at once or after a crash, could be found there just before
--- it, or is as P says.
-abbrev pub Brings : (Name → List ℕ → Type 0) → Step → Type 0
-Brings P s = (n : Name) (bytes : List ℕ) → MayFind s.after n bytes → MayFind s.before n bytes ⊎ P n bytes
+-- it, or is as P says. A lasting name that led to a file leads to one.
+pub record Brings (P : Name → List ℕ → Type 0) (s : Step) : Type 0 where
+  pub finds : (n : Name) (bytes : List ℕ) → MayFind s.after n bytes → MayFind s.before n bytes ⊎ P n bytes
+  pub stays : (n : Name) (f : ℕ) → s.before.leads n ≡ Some f → (g : ℕ) × (s.after.leads n ≡ Some g)
 
--- every call since then brings to the lasting names only what is as P says
+-- the bytes write a number that is k or greater
+abbrev pub IsNumberFrom : ℕ → List ℕ → Type 0
+IsNumberFrom k bytes = (n : ℕ) × IsUtf8 bytes × IsNumberText bytes n × (k ≤ n)
+
+-- the record leads to a file, and who opens it now, or after a crash now, finds a number that is k or greater
+pub record Keeps (k : ℕ) (m : Moment) : Type 0 where
+  pub file : ℕ
+  pub leads : m.leads Record ≡ Some file
+  pub numbers : (bytes : List ℕ) → MayFind m Record bytes → IsNumberFrom k bytes
+
+-- it does so just before the call and just after it
+abbrev pub KeepsAt : ℕ → Step → Type 0
+KeepsAt k s = Keeps k s.before × Keeps k s.after
+
+-- Every call since then brings to the lasting names only what is as P says. With the lock held, a number in the
+-- record that no record falls below that P allows stays there at each moment, whatever others do between the calls.
 pub record BringsOnly (P : Name → List ℕ → Type 0) (old new : Run) : Type 0 where
   pub since : List Step
   pub noted : new.steps ≡ since ++ old.steps
   pub each : All (Brings P) since
   pub told : new.told ≡ old.told
+  pub locked : old.locked ≡ true → new.locked ≡ true
+  pub numbers : old.locked ≡ true → (k : ℕ) → ((bytes : List ℕ) → P Record bytes → IsNumberFrom k bytes) → Keeps k old.now
+      → All (KeepsAt k) since × Keeps k new.now
 
 -- nothing is brought
 abbrev pub BringsNothing : Run → Run → Type 0
 BringsNothing = BringsOnly (λ _ _. ⊥)
 
--- the stage is still there, with what it held, on the disk where it was
+-- the stage is still there, with what it held and its rights, on the disk where it was
 pub record IsKept (old new : Run) (name : List ℕ) (file : ℕ) : Type 0 where
   pub stage : HasStage new name file
   pub holds : new.now.holds file ≡ old.now.holds file
   pub on_disk : new.now.on_disk file ≡ old.now.on_disk file
+  pub rights : new.now.rights file ≡ old.now.rights file
 
 -- every stage is
 abbrev pub KeepsStages : Run → Run → Type 0
@@ -57,9 +82,30 @@ pub record GoesBeside (P : Name → List ℕ → Type 0) (old new : Run) : Type 
   pub brings : BringsOnly P old new
   pub kept : KeepsStages old new
 
+-- no stage is the run's own that was not its own before
+pub record OwnsNoMore (old new : Run) : Type 0 where
+  pub only : (s : List ℕ) → new.owns s ≡ true → old.owns s ≡ true
+
+-- and this one is not
+pub record HasLetGo (name : List ℕ) (old new : Run) : Type 0 where
+  pub only : (s : List ℕ) → new.owns s ≡ true → (s ≢ name) × (old.owns s ≡ true)
+
+-- with one of the run's calls since then the folder was cleared: no stage was left that could be removed
+pub record HasCleared (old new : Run) : Type 0 where
+  pub later : List Step
+  pub call : Step
+  pub earlier : List Step
+  pub noted : new.steps ≡ later ++ (call ∷ (earlier ++ old.steps))
+  pub clear : IsLeftClear call.after
+
 -- only these bytes, at only this lasting name
 abbrev pub IsOnly : Name → List ℕ → Name → List ℕ → Type 0
 IsOnly to bytes n found = (n ≡ to) × (found ≡ bytes)
+
+-- Who opens the name finds exactly these bytes, which are on the disk, and a crash leaves it leading to no other file.
+pub record Lasts (m : Moment) (name : Name) (bytes : List ℕ) : Type 0 where
+  pub stands : Stands m name bytes
+  pub settled : (f : ℕ) → m.left name f ≡ true → m.leads name ≡ Some f
 
 -- With the last but one call the name led to a file of these bytes, on the disk, and with the last one the names came
 -- to the disk too: unless others change it, the name leads there from then on, through any crash.
@@ -69,3 +115,13 @@ pub record IsPublished (to : Name) (bytes : List ℕ) (old : List Step) (new : L
   pub calls : new ≡ settled ∷ renamed ∷ old
   pub stands : Stands renamed.after to bytes
   pub lasts : SettlesNames settled.before settled.after
+
+-- whether the file that got the name had the rights of the file at the place then
+abbrev pub rights_of : {to : Name} {bytes : List ℕ} {old new : List Step} → IsPublished to bytes old new → Bool
+rights_of published = published.renamed.after.rights published.stands.file
+
+-- these bytes were published as the record, and are there for good
+pub record HasRecorded (bytes : List ℕ) (new : Run) : Type 0 where
+  pub earlier : List Step
+  pub published : IsPublished Record bytes earlier new.steps
+  pub lasts : Lasts new.now Record bytes

@@ -38,7 +38,7 @@ pub(crate) fn check_comment(
     ensures says { IfOk result (λ n. Says comment.now file.now numbering n) }
     ensures newer { IfOk result (λ n. kept ≤ n) }
     ensures refused { IfErr result (λ e. ((e ≡ OtherFile) × (value_of file_label comment.now ≢ Some file.now))
-        ⊎ ((e ≡ NoNumber) × ((n : ℕ) → ¬ (Says comment.now file.now numbering n)))
+        ⊎ ((e ≡ NoNumber) × (value_of file_label comment.now ≡ Some file.now) × ((n : ℕ) → ¬ (Says comment.now file.now numbering n)))
         ⊎ ((e ≡ OlderUpdate) × ((n : ℕ) × Says comment.now file.now numbering n × (n < kept)))) }
 {
     if value(comment, "file:") != Some(file) {

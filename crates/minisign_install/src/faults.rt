@@ -34,6 +34,7 @@ pub enum InstallFault {
 impl InstallFault {
     /// What the fault concerns.
     pub fn kind(&self) -> &ErrorKind
+        // Each fault of installing has the kind of one table, and a fault of the library its own.
         ensures { result.now ≡ (install_row self.now).kind }
     {
         use InstallFault::*;
@@ -45,6 +46,7 @@ impl InstallFault {
     }
 }
 
+/// Writes the text of the fault, by one table; of a fault of the library its own.
 impl fmt::Display for InstallFault {
     ghost output = { λ e. Some (install_row e).text };
 
@@ -65,6 +67,7 @@ impl fmt::Display for InstallFault {
     }
 }
 
+/// The fault of installing that holds this one.
 impl From<PError> for InstallFault {
     ghost from_gives = { λ f e. e ≡ Library f };
 
@@ -73,6 +76,7 @@ impl From<PError> for InstallFault {
     }
 }
 
+/// The fault of installing that holds the one of this name.
 impl From<NamedFault> for InstallFault {
     ghost from_gives = { λ f e. e ≡ Library (Named f) };
 

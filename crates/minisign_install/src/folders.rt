@@ -2,14 +2,14 @@
 //! the system. Between any two calls other processes may do what `OthersLeave` of the definitions
 //! allows them.
 
-ghost use Rattle.std.specs.Prelude.{◌≡◌, ◌⊎◌, ℕ, List, Some, None, MatchOption, MatchResult, IfOk, take, length, option_map, ◌<◌, ◌≤◌};
-ghost use Rattle.minisign_install.specs.Folders.{Run, Appends, Clears, HasCreated, HasReadAt, HasRemoved, HasRenamed, HasStepped, HasTried, IsStill, KeepsNames, KeepsOwn, Perhaps, Reads, Removes, Renames, Settles, SettlesNames, Spoils, Told};
+ghost use Rattle.std.specs.Prelude.{◌≡◌, ◌⊎◌, ℕ, Bool, true, OnErr, List, Some, None, MatchOption, MatchResult, IfOk, take, length, option_map, ◌+◌, ◌^◌, ◌<◌, ◌≤◌};
+ghost use Rattle.minisign_base.specs.Devices.{Rose};
+ghost use Rattle.minisign_install.specs.Folders.{Run, Appends, Clears, ClearsAll, GivesRights, HasCounted, HasCreated, HasReadAt, Held, HasRemoved, HasRenamed, HasStepped, HasTried, IsAsked, IsStill, KeepsNames, KeepsOwn, Perhaps, Reads, Renames, Settles, SettlesNames, Spoils, Told};
 ghost use Rattle.minisign_install.specs.Names.{drawn_bytes};
 
 use crate::stage_names::StageName;
 use minisign_base::devices::DeviceFault;
 use std::alloc::Global;
-use std::fs::File;
 
 /// The names that outlive a run.
 #[derive(Clone, Copy, Debug, PartialEq, Eq)]
@@ -26,20 +26,8 @@ pub trait Handle {
     ghost file: { Self → ℕ };
 }
 
-/// A lock that is held for as long as this lives.
-#[derive(Drop)]
-pub struct Lock {
-    _file: Option<File>,
-}
-
-impl Lock {
-    /// The lock is held by this open file, or in another way.
-    pub fn held_by(file: Option<File>) -> Lock {
-        Lock { _file: file }
-    }
-}
-
-/// A folder with a place at which updates are installed.
+/// A folder with a place at which updates are installed. It holds the lock on the place from the
+/// call of `lock` that gets it for as long as it lives.
 pub trait Folder {
     /// An open stage.
     type Handle: Handle + Drop;
@@ -47,21 +35,34 @@ pub trait Folder {
     // The run so far, which says whether the folder tells it.
     ghost run: { Self → Run };
 
-    /// Locks the place against other runs, for as long as what is returned lives. `None` where
-    /// another run holds the lock.
-    fn lock(&mut self) -> Result<Option<Lock>, DeviceFault>
-        ensures { Told (run self.old) (HasTried IsStill IsStill (run self.old) (run self.new) result) };
+    // How many faults there were, which each folder counts, also one that does not tell its run.
+    ghost folder_faults: { Self → ℕ };
 
-    /// Removes the stages that killed runs on this place have left. Only who holds the lock may.
-    fn clear(&mut self, lock: &Lock) -> Result<(), DeviceFault>
-        ensures { Told (run self.old) (HasTried Clears Clears (run self.old) (run self.new) result) };
+    // Whether a call of `read_at` can fail at all.
+    ghost read_fails: { Bool };
+
+    /// Locks the place against other runs, for as long as this lives: `true` where it is locked
+    /// now, and `false` where another run holds the lock.
+    fn lock(&mut self) -> Result<bool, DeviceFault>
+        ensures asked { Told (run self.old) (MatchResult result
+            (λ is. HasStepped (run self.old) (run self.new) (IsAsked is) × KeepsOwn (run self.old) (run self.new))
+            (λ _. HasStepped (run self.old) (run self.new) IsStill × KeepsOwn (run self.old) (run self.new))) }
+        ensures held { Told (run self.old) (IfOk result (λ is. is ≡ true → (run self.new).locked ≡ true)) }
+        ensures counted { HasCounted (folder_faults self.old) (folder_faults self.new) result };
+
+    /// Removes the stages that killed runs on this place have left, as far as they can be removed.
+    /// Only who holds the lock may.
+    fn clear(&mut self) -> Result<(), DeviceFault>
+        ensures cleared { Held (run self.old) (HasTried ClearsAll Clears (run self.old) (run self.new) result) }
+        ensures counted { HasCounted (folder_faults self.old) (folder_faults self.new) result };
 
     /// Makes an empty file under the name, which only this user may read and write. It fails where
     /// the name is taken. Who does not hold the lock may not, since its stage would be removed.
-    fn create(&mut self, lock: &Lock, name: &StageName) -> Result<Self::Handle, DeviceFault>
-        ensures { Told (run self.old) (MatchResult result
+    fn create(&mut self, name: &StageName) -> Result<Self::Handle, DeviceFault>
+        ensures created { Held (run self.old) (MatchResult result
             (λ handle. HasCreated (drawn_bytes name.now) (Self.Handle.file handle) (run self.old) (run self.new))
-            (λ _. HasStepped (run self.old) (run self.new) IsStill × KeepsOwn (run self.old) (run self.new))) };
+            (λ _. HasStepped (run self.old) (run self.new) IsStill × KeepsOwn (run self.old) (run self.new))) }
+        ensures counted { HasCounted (folder_faults self.old) (folder_faults self.new) result };
 
     /// Writes a beginning of `bytes` behind what the stage holds and returns how long it is: of
     /// something at least one byte.
@@ -70,42 +71,56 @@ pub trait Folder {
         ensures some { IfOk result (λ n. 0 < length bytes.now → 0 < n) }
         ensures written { Told (run self.old) (MatchResult result
             (λ n. HasStepped (run self.old) (run self.new) (Appends (Self.Handle.file handle.now) (take n bytes.now)) × KeepsOwn (run self.old) (run self.new))
-            (λ _. HasStepped (run self.old) (run self.new) (Spoils (Self.Handle.file handle.now)) × KeepsOwn (run self.old) (run self.new))) };
+            (λ _. HasStepped (run self.old) (run self.new) (Spoils (Self.Handle.file handle.now)) × KeepsOwn (run self.old) (run self.new))) }
+        ensures counted { HasCounted (folder_faults self.old) (folder_faults self.new) result };
 
     /// Reads what the stage holds from an offset on, up to all of `buf`, and returns how much. The
-    /// result is 0 only where `buf` is empty or nothing is left.
+    /// result is 0 only where `buf` is empty or nothing is left. No file reaches beyond 2^63 - 1
+    /// bytes.
     fn read_at(&self, handle: &Self::Handle, at: u64, buf: &mut [u8]) -> Result<usize, DeviceFault>
         ensures bound { IfOk result (λ n. n ≤ length buf.new) }
+        ensures reach { IfOk result (λ n. 0 < n → at + n < 2 ^ 63) }
+        ensures failed { OnErr result (read_fails ≡ true) }
         ensures read { Told (run self.now) (HasReadAt ((run self.now).now.holds (Self.Handle.file handle.now)) at buf.new result) };
+
+    /// Counts a fault of `read_at`, which leaves that to this call.
+    fn count_fault(&mut self)
+        ensures still { run self.new ≡ run self.old }
+        ensures counted { read_fails ≡ true → Rose (folder_faults self.old) (folder_faults self.new) };
 
     /// Gives the stage the rights, and where it may the owner and the group, of the file at the
     /// place, where there is one.
     fn take_rights(&mut self, handle: &Self::Handle) -> Result<(), DeviceFault>
-        ensures { Told (run self.old) (HasTried IsStill IsStill (run self.old) (run self.new) result) };
+        ensures given { Told (run self.old) (HasTried (GivesRights (Self.Handle.file handle.now)) (Spoils (Self.Handle.file handle.now)) (run self.old) (run self.new) result) }
+        ensures counted { HasCounted (folder_faults self.old) (folder_faults self.new) result };
 
     /// Brings to the disk what the stage holds.
     fn settle(&mut self, handle: &Self::Handle) -> Result<(), DeviceFault>
-        ensures { Told (run self.old) (HasTried (Settles (Self.Handle.file handle.now)) (Spoils (Self.Handle.file handle.now)) (run self.old) (run self.new) result) };
+        ensures settled { Told (run self.old) (HasTried (Settles (Self.Handle.file handle.now)) (Spoils (Self.Handle.file handle.now)) (run self.old) (run self.new) result) }
+        ensures counted { HasCounted (folder_faults self.old) (folder_faults self.new) result };
 
-    /// Gives the file of the stage's name the lasting one, in one step.
+    /// Gives the file of the stage's name the lasting one, in one step. Only who holds the lock may.
     fn rename(&mut self, name: &StageName, to: Name) -> Result<(), DeviceFault>
-        ensures { Told (run self.old) (MatchResult result
+        ensures renamed { Held (run self.old) (MatchResult result
             (λ _. HasRenamed (drawn_bytes name.now) to (run self.old) (run self.new))
-            (λ _. HasStepped (run self.old) (run self.new) (Perhaps (Renames (drawn_bytes name.now) to)) × KeepsOwn (run self.old) (run self.new))) };
+            (λ _. HasStepped (run self.old) (run self.new) (Perhaps (Renames (drawn_bytes name.now) to)) × KeepsOwn (run self.old) (run self.new))) }
+        ensures counted { HasCounted (folder_faults self.old) (folder_faults self.new) result };
 
     /// Brings the names to the disk.
     fn settle_names(&mut self) -> Result<(), DeviceFault>
-        ensures { Told (run self.old) (HasTried SettlesNames KeepsNames (run self.old) (run self.new) result) };
+        ensures settled { Told (run self.old) (HasTried SettlesNames KeepsNames (run self.old) (run self.new) result) }
+        ensures counted { HasCounted (folder_faults self.old) (folder_faults self.new) result };
 
-    /// Removes a stage's name.
+    /// Removes a stage's name. Only who holds the lock may. Where that fails, the name is left to
+    /// `clear` of a later run.
     fn remove(&mut self, name: &StageName) -> Result<(), DeviceFault>
-        ensures { Told (run self.old) (MatchResult result
-            (λ _. HasRemoved (drawn_bytes name.now) (run self.old) (run self.new))
-            (λ _. HasStepped (run self.old) (run self.new) (Perhaps (Removes (drawn_bytes name.now))) × KeepsOwn (run self.old) (run self.new))) };
+        ensures removed { Held (run self.old) (HasRemoved (drawn_bytes name.now) (run self.old) (run self.new) result) }
+        ensures counted { HasCounted (folder_faults self.old) (folder_faults self.new) result };
 
     /// What the record holds, where there is one.
     fn read_record(&mut self, alloc: Global) -> Result<Option<Vec<u8>>, DeviceFault>
-        ensures { Told (run self.old) (MatchResult result
+        ensures read { Told (run self.old) (MatchResult result
             (λ found. HasStepped (run self.old) (run self.new) (Reads Name.Record (option_map (λ v. v.items) found)) × KeepsOwn (run self.old) (run self.new))
-            (λ _. HasStepped (run self.old) (run self.new) IsStill × KeepsOwn (run self.old) (run self.new))) };
+            (λ _. HasStepped (run self.old) (run self.new) IsStill × KeepsOwn (run self.old) (run self.new))) }
+        ensures counted { HasCounted (folder_faults self.old) (folder_faults self.new) result };
 }

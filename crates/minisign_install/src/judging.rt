@@ -1,6 +1,7 @@
 //! Whether two texts vouch for what a stage holds.
 
 ghost use Rattle.std.specs.Prelude.{◌≡◌, ◌⊎◌, ℕ, List, false, string_bytes, IfOk, IfErr};
+ghost use Rattle.minisign_base.specs.Devices.{Rose};
 ghost use Rattle.minisign_base.specs.Fault.{Named};
 ghost use Rattle.minisign_base.specs.declared.faults.NamedFault.TheVariants.{OutOfMemory, ReadingFailed};
 ghost use Rattle.minisign.specs.Calls.{TextsVouchWith};
@@ -23,7 +24,7 @@ pub(crate) fn judge<S: Scheme, R: Rereader>(
 ) -> Result<String>
     ensures vouched { IfOk result (λ t. (message : List ℕ) × IsAhead (R.ahead staged.old) message
         × TextsVouchWith (S.accepts scheme.now) pk_text.now sig_text.now message false (string_bytes t)) }
-    ensures refused { IfErr result (λ e. (e ≡ Named OutOfMemory) ⊎ (e ≡ Named ReadingFailed)
+    ensures refused { IfErr result (λ e. (e ≡ Named OutOfMemory) ⊎ ((e ≡ Named ReadingFailed) × Rose (R.faults staged.old) (R.faults staged.new))
         ⊎ ((message : List ℕ) × IsAhead (R.ahead staged.old) message
         × TextsRefuse (S.accepts scheme.now) pk_text.now sig_text.now message false e)) }
 {

@@ -17,7 +17,7 @@ pub mod wanted;
 
 pub use comments::Numbering;
 pub use faults::InstallFault;
-pub use folders::{Folder, Handle, Lock, Name};
+pub use folders::{Folder, Handle, Name};
 pub use installing::install_update;
 pub use stage_names::StageName;
 pub use wanted::Wanted;

@@ -2,17 +2,19 @@
 //! together where what happens is told. For tests of what is built on folders.
 
 mod calls;
+mod owned;
 mod tally;
 
-ghost use Rattle.std.specs.Prelude.{◌≡◌, ◌<◌, ◌≤◌, ℕ, [], OnOk, OnErr, IfOk, option_map, take, drop, length};
-ghost use Rattle.minisign_install.specs.Folders.{IsFound};
-ghost use Rattle.minisign_install.specs.Memory.{after, beginning, past_of, rested, told_run};
+ghost use Rattle.std.specs.Prelude.{◌≡◌, ◌+◌, ◌<◌, ◌≤◌, ℕ, true, suc, [], OnOk, OnErr, IfOk, option_map, take, drop, length};
+ghost use Rattle.minisign_install.specs.Folders.{HasCounted, IsFound};
+ghost use Rattle.minisign_install.specs.Memory.{after, beginning, count_of, past_of, rested, run_of};
 ghost use Rattle.minisign_install.specs.Names.{drawn_bytes};
 
-use crate::folders::{Folder, Handle, Lock, Name};
+use crate::folders::{Folder, Handle, Name};
 use crate::stage_names::StageName;
 use calls::{Call, Entry, content, lead, made, note, stage};
 use minisign_base::devices::DeviceFault;
+use owned::Owned;
 use std::alloc::Global;
 use tally::Tally;
 
@@ -25,6 +27,8 @@ pub struct MemoryFolder {
     alloc: Global,
     entries: Vec<Entry>,
     stills: Tally,
+    owned: Owned,
+    faults: Tally,
 }
 
 /// A file of a folder in memory, by its number.
@@ -46,11 +50,14 @@ impl MemoryFolder {
             alloc,
             entries: Vec::new(alloc),
             stills: Tally::new(),
+            owned: Owned::new(),
+            faults: Tally::new(),
         }
     }
 
     /// What stands at a lasting name, where anything does. It fails where memory is refused.
     pub fn find(&self, name: Name) -> Result<Option<Vec<u8>>, DeviceFault>
+        // What stands at a lasting name is found.
         ensures { IfOk result (λ found. IsFound (past_of self.now).now name (option_map (λ v. v.items) found)) }
     {
         match lead(self.entries.as_slice(), name) {
@@ -66,15 +73,36 @@ impl MemoryFolder {
     fn note(&mut self, call: Call) -> Result<(), DeviceFault>
         ensures done { OnOk result (past_of self.new ≡ after (past_of self.old) call) }
         ensures refused { OnErr result (past_of self.new ≡ rested 1 (past_of self.old)) }
+        ensures counted { HasCounted (count_of self.old.faults) (count_of self.new.faults) result }
+        ensures own { self.new.owned ≡ self.old.owned }
     {
-        note(&mut self.entries, &mut self.stills, call)
+        match note(&mut self.entries, &mut self.stills, call) {
+            Ok(()) => Ok(()),
+            Err(fault) => {
+                self.faults.raise();
+                Err(fault)
+            }
+        }
     }
 
     // Notes a call that changed nothing.
     fn pass(&mut self)
-        ensures { past_of self.new ≡ rested 1 (past_of self.old) }
+        ensures noted { past_of self.new ≡ rested 1 (past_of self.old) }
+        ensures calm { self.new.faults ≡ self.old.faults }
+        ensures own { self.new.owned ≡ self.old.owned }
     {
         self.stills.raise();
+    }
+
+    // Notes a call that failed and changed nothing.
+    fn fail(&mut self) -> DeviceFault
+        ensures noted { past_of self.new ≡ rested 1 (past_of self.old) }
+        ensures counted { count_of self.new.faults ≡ suc (count_of self.old.faults) }
+        ensures own { self.new.owned ≡ self.old.owned }
+    {
+        self.stills.raise();
+        self.faults.raise();
+        DeviceFault
     }
 
     // The file of a stage.
@@ -95,34 +123,35 @@ impl MemoryFolder {
 impl Folder for MemoryFolder {
     type Handle = MemoryHandle;
 
-    ghost run = { λ f. told_run (past_of f) };
+    ghost run = { λ f. run_of f };
 
-    fn lock(&mut self) -> Result<Option<Lock>, DeviceFault> {
+    ghost folder_faults = { λ f. count_of f.faults };
+
+    ghost read_fails = { true };
+
+    fn lock(&mut self) -> Result<bool, DeviceFault> {
         self.pass();
-        Ok(Some(Lock::held_by(None)))
+        Ok(true)
     }
 
-    fn clear(&mut self, _lock: &Lock) -> Result<(), DeviceFault> {
+    fn clear(&mut self) -> Result<(), DeviceFault> {
         self.note(Call::Cleared)
     }
 
-    fn create(&mut self, _lock: &Lock, name: &StageName) -> Result<MemoryHandle, DeviceFault> {
+    fn create(&mut self, name: &StageName) -> Result<MemoryHandle, DeviceFault> {
         match self.stage(name) {
-            Some(_) => {
-                self.pass();
-                Err(DeviceFault)
-            }
+            Some(_) => Err(self.fail()),
             None => {
                 let file = self.made();
                 match name.as_bytes().to_vec(self.alloc) {
                     Ok(drawn) => match self.note(Call::Created(drawn)) {
-                        Ok(()) => Ok(MemoryHandle { file }),
+                        Ok(()) => {
+                            self.owned.make(name);
+                            Ok(MemoryHandle { file })
+                        }
                         Err(fault) => Err(fault),
                     },
-                    Err(_) => {
-                        self.pass();
-                        Err(DeviceFault)
-                    }
+                    Err(_) => Err(self.fail()),
                 }
             }
         }
@@ -134,10 +163,7 @@ impl Folder for MemoryFolder {
                 Ok(()) => Ok(bytes.len()),
                 Err(fault) => Err(fault),
             },
-            Err(_) => {
-                self.pass();
-                Err(DeviceFault)
-            }
+            Err(_) => Err(self.fail()),
         }
     }
 
@@ -153,6 +179,11 @@ impl Folder for MemoryFolder {
         }
     }
 
+    fn count_fault(&mut self) {
+        self.faults.raise();
+    }
+
+    // Everyone has all rights to a folder in memory.
     fn take_rights(&mut self, _handle: &MemoryHandle) -> Result<(), DeviceFault> {
         self.pass();
         Ok(())
@@ -165,16 +196,16 @@ impl Folder for MemoryFolder {
     fn rename(&mut self, name: &StageName, to: Name) -> Result<(), DeviceFault> {
         match self.stage(name) {
             Some(_) => match name.as_bytes().to_vec(self.alloc) {
-                Ok(drawn) => self.note(Call::Renamed(drawn, to)),
-                Err(_) => {
-                    self.pass();
-                    Err(DeviceFault)
-                }
+                Ok(drawn) => match self.note(Call::Renamed(drawn, to)) {
+                    Ok(()) => {
+                        self.owned.let_go(name);
+                        Ok(())
+                    }
+                    Err(fault) => Err(fault),
+                },
+                Err(_) => Err(self.fail()),
             },
-            None => {
-                self.pass();
-                Err(DeviceFault)
-            }
+            None => Err(self.fail()),
         }
     }
 
@@ -183,30 +214,31 @@ impl Folder for MemoryFolder {
     }
 
     fn remove(&mut self, name: &StageName) -> Result<(), DeviceFault> {
+        self.owned.let_go(name);
         match self.stage(name) {
             Some(_) => match name.as_bytes().to_vec(self.alloc) {
                 Ok(drawn) => self.note(Call::Removed(drawn)),
-                Err(_) => {
-                    self.pass();
-                    Err(DeviceFault)
-                }
+                Err(_) => Err(self.fail()),
             },
-            None => {
-                self.pass();
-                Err(DeviceFault)
-            }
+            None => Err(self.fail()),
         }
     }
 
     fn read_record(&mut self, _alloc: Global) -> Result<Option<Vec<u8>>, DeviceFault> {
-        self.pass();
-        self.find(Name::Record)
+        match self.find(Name::Record) {
+            Ok(found) => {
+                self.pass();
+                Ok(found)
+            }
+            Err(_) => Err(self.fail()),
+        }
     }
 }
 
 // Copies what is held from an offset on, as far as there is room, and returns how much.
 fn copy_from(held: &[u8], at: u64, buf: &mut [u8]) -> usize
     ensures bound { result ≤ length buf.new }
+    ensures reach { 0 < result → at + result ≤ length held.now }
     ensures within { result ≤ length (drop at held.now) }
     ensures bytes { take result buf.new ≡ take result (drop at held.now) }
     ensures end { result ≡ 0 → 0 < length buf.new → drop at held.now ≡ [] }

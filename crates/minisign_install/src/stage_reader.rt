@@ -1,16 +1,14 @@
 //! What a stage holds, as a source.
 
 ghost use Rattle.std.specs.Prelude.{◌≡◌, ◌-◌, ◌^◌, ℕ, true, List, drop, None, Some, ⊤, if◌then◌else◌};
+ghost use Rattle.minisign_base.specs.Devices.{most_faults};
 
 use crate::folders::{Folder, Handle};
 use minisign_base::devices::DeviceFault;
 use minisign_base::devices::sources::{Rereader, Source};
 
-// How many bytes are read at most: so far an offset reaches.
-const MOST: u64 = i64::MAX as u64;
-
 // Reads what a stage holds, by the handle that it was written with. Its beginning is marked at
-// first.
+// first. It fails only where the folder does.
 #[derive(Drop)]
 pub(crate) struct StageReader<'a, F: Folder> {
     folder: &'a F,
@@ -42,17 +40,12 @@ impl<'a, F: Folder> Source for StageReader<'a, F> {
 
     ghost left = { λ s. 2 ^ 63 - 1 - s.at };
 
-    ghost faults = { λ _. 2 ^ 64 - 1 };
+    ghost faults = { λ _. (if F.read_fails then most_faults else 0) };
 
     fn read(&mut self, buf: &mut [u8]) -> Result<usize, DeviceFault> {
         let n = self.folder.read_at(self.handle, self.at, buf)?;
-        match self.at.checked_add(n as u64) {
-            Some(at) if at <= MOST => {
-                self.at = at;
-                Ok(n)
-            }
-            _ => Err(DeviceFault),
-        }
+        self.at += n as u64;
+        Ok(n)
     }
 }
 

@@ -5,6 +5,7 @@ ghost use Rattle.minisign_base.specs.Devices.{Rose};
 ghost use Rattle.minisign_base.specs.Fault.{Named};
 ghost use Rattle.minisign_base.specs.declared.faults.NamedFault.TheVariants.{OutOfMemory, ReadingFailed, WritingFailed};
 ghost use Rattle.minisign.specs.Reading.{IsAhead};
+ghost use Rattle.minisign_install.specs.Folders.{HasCounted};
 ghost use Rattle.minisign_install.specs.Runs.{HasStage, WorksOn};
 
 use crate::folders::{Folder, Handle};
@@ -29,7 +30,9 @@ pub(crate) fn fill<F: Folder, R: Source>(
     ensures copied { OnOk result ((message : List ℕ) × IsAhead (R.ahead update.old) message
         × ((name : List ℕ) → HasStage (F.run folder.old) name (F.Handle.file handle.now)
         → (F.run folder.new).now.holds (F.Handle.file handle.now) ≡ (F.run folder.old).now.holds (F.Handle.file handle.now) ++ message)) }
-    ensures refused { IfErr result (λ e. (e ≡ Named OutOfMemory) ⊎ ((e ≡ Named ReadingFailed) × Rose (R.faults update.old) (R.faults update.new)) ⊎ (e ≡ Named WritingFailed)) }
+    ensures calm { OnOk result ((R.faults update.new ≡ R.faults update.old) × (F.folder_faults folder.new ≡ F.folder_faults folder.old)) }
+    ensures refused { IfErr result (λ e. (e ≡ Named OutOfMemory) ⊎ ((e ≡ Named ReadingFailed) × Rose (R.faults update.old) (R.faults update.new))
+        ⊎ ((e ≡ Named WritingFailed) × Rose (F.folder_faults folder.old) (F.folder_faults folder.new))) }
 {
     let mut buf = zeros(alloc, PIECE)?;
     copy(folder, handle, update, &mut buf)
@@ -55,7 +58,9 @@ fn copy<F: Folder, R: Source>(
     ensures copied { OnOk result ((message : List ℕ) × IsAhead (R.ahead update.old) message
         × ((name : List ℕ) → HasStage (F.run folder.old) name (F.Handle.file handle.now)
         → (F.run folder.new).now.holds (F.Handle.file handle.now) ≡ (F.run folder.old).now.holds (F.Handle.file handle.now) ++ message)) }
-    ensures refused { IfErr result (λ e. ((e ≡ Named ReadingFailed) × Rose (R.faults update.old) (R.faults update.new)) ⊎ (e ≡ Named WritingFailed)) }
+    ensures calm { OnOk result ((R.faults update.new ≡ R.faults update.old) × (F.folder_faults folder.new ≡ F.folder_faults folder.old)) }
+    ensures refused { IfErr result (λ e. ((e ≡ Named ReadingFailed) × Rose (R.faults update.old) (R.faults update.new))
+        ⊎ ((e ≡ Named WritingFailed) × Rose (F.folder_faults folder.old) (F.folder_faults folder.new))) }
 {
     'pieces: loop {
         let Ok(n) = update.read(buf) else {
@@ -80,6 +85,7 @@ pub(crate) fn write_all<F: Folder>(
         → WorksOn name (F.Handle.file handle.now) (F.run folder.old) (F.run folder.new) }
     ensures written { OnOk result ((name : List ℕ) → HasStage (F.run folder.old) name (F.Handle.file handle.now)
         → (F.run folder.new).now.holds (F.Handle.file handle.now) ≡ (F.run folder.old).now.holds (F.Handle.file handle.now) ++ bytes.now) }
+    ensures counted { HasCounted (F.folder_faults folder.old) (F.folder_faults folder.new) result }
 {
     let mut at = 0;
     'rest: while at < bytes.len() {
@@ -97,7 +103,9 @@ pub(crate) fn settle_stage<F: Folder>(
         → WorksOn name (F.Handle.file handle.now) (F.run folder.old) (F.run folder.new) }
     ensures settled { OnOk result ((name : List ℕ) → HasStage (F.run folder.old) name (F.Handle.file handle.now)
         → ((F.run folder.new).now.holds (F.Handle.file handle.now) ≡ (F.run folder.old).now.holds (F.Handle.file handle.now))
-        × ((F.run folder.new).now.on_disk (F.Handle.file handle.now) ≡ true)) }
+        × ((F.run folder.new).now.on_disk (F.Handle.file handle.now) ≡ true)
+        × ((F.run folder.new).now.rights (F.Handle.file handle.now) ≡ true)) }
+    ensures counted { HasCounted (F.folder_faults folder.old) (F.folder_faults folder.new) result }
 {
     folder.take_rights(handle)?;
     folder.settle(handle)

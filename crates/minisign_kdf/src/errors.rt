@@ -9,6 +9,7 @@ use std::fmt;
 #[derive(Clone, Copy, Debug, PartialEq)]
 pub struct InvalidParams;
 
+/// Writes what is wrong, as its definition has it.
 impl fmt::Display for InvalidParams {
     ghost output = { λ _. Some (codes "invalid scrypt parameters") };
 
@@ -21,6 +22,7 @@ impl fmt::Display for InvalidParams {
 #[derive(Clone, Copy, Debug, PartialEq)]
 pub struct InvalidOutputLen;
 
+/// Writes what is wrong, as its definition has it.
 impl fmt::Display for InvalidOutputLen {
     ghost output = { λ _. Some (codes "invalid output length") };
 
@@ -38,6 +40,7 @@ pub enum KdfError {
     InvalidOutputLen,
 }
 
+/// Writes what is wrong, as its definition has it.
 impl fmt::Display for KdfError {
     ghost use Rattle.minisign_kdf.specs.Faults.{error_text};
 
@@ -51,6 +54,7 @@ impl fmt::Display for KdfError {
     }
 }
 
+/// A refused growth is out of memory.
 impl From<AllocError> for KdfError {
     ghost use Rattle.minisign_kdf.specs.declared.errors.KdfError.TheVariants.{OutOfMemory};
 
@@ -61,6 +65,7 @@ impl From<AllocError> for KdfError {
     }
 }
 
+/// The fault of the output's length.
 impl From<InvalidOutputLen> for KdfError {
     ghost use Rattle.minisign_kdf.specs.declared.errors.KdfError.TheVariants.{InvalidOutputLen};
 

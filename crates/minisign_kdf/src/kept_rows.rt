@@ -49,8 +49,12 @@ impl Rows {
         requires even { 1 ≤ n_log2 }
         requires cost { n_log2 < 64 }
         requires kept { 1 ≤ k }
+
+        // The kept rows of a block are V_0, V_k, V_2k, .. with numbers below N, and no others.
         ensures rows { let r = length block.now / 128 in
             IfOk result (λ v. v ≡ record { r = r; n = 2 ^ n_log2; k = k; rows = kept_rows r (2 ^ n_log2) k block.now }) }
+
+        // The only refusal is out of memory.
         ensures refused { IfErr result (λ e. e ≡ KdfError.OutOfMemory) }
     {
         let r = block.len() / 128;
@@ -67,6 +71,7 @@ impl Rows {
 
     /// How many rows are kept: N divided by k, rounded up. Takes no memory.
     pub fn len(&self) -> u64
+        // There are N / k kept rows, rounded up.
         ensures count { result ≡ div_ceil self.now.n self.now.k }
         ensures rows { result ≡ length self.now.rows }
     {
@@ -76,6 +81,7 @@ impl Rows {
     /// The words of the kept rows, 32 * r of each, read low byte first. Those of each block of
     /// sixteen stand in diagonal order: place q holds word 5 * q mod 16. Takes no memory.
     pub fn words(&self) -> &[u32]
+        // The words are those of the kept rows, each block in diagonal order.
         ensures rows { rows_of self.now.r (div_ceil self.now.n self.now.k) result.now
             ≡ self.now.rows }
         ensures len { length result.now ≡ 32 * self.now.r * div_ceil self.now.n self.now.k }

@@ -65,11 +65,18 @@ pub fn scrypt(
     params: &Params,
     out: &mut [u8],
 ) -> Result<(), KdfError>
+    // On success `out` holds the value of RFC 7914, and its length is from 1 to 137438953440.
     ensures fits { OnOk result (IsTrue (is_key_length (length out.old))) }
     ensures derived { OnOk result
         (out.new ≡ scrypt password.now salt.now (2 ^ params.now.n_log2) params.now.r params.now.p
         (length out.old)) }
+
+    // On success all N rows of a part had room in memory at once: they have fewer than 2^63 bytes,
+    // which with every second row kept would not follow.
     ensures room { OnOk result (128 * params.now.r * 2 ^ params.now.n_log2 < 2 ^ 63) }
+
+    // A refusal is that of the output's length exactly where the length is outside of this range,
+    // and otherwise out of memory; `out` is then as it was.
     ensures refused { IfErr result (λ e. e ≡ (if is_key_length (length out.old)
         then KdfError.OutOfMemory else KdfError.InvalidOutputLen)) }
     ensures unchanged { OnErr result (out.new ≡ out.old) }
@@ -106,13 +113,22 @@ pub fn scrypt_keeping(
     out: &mut [u8],
 ) -> Result<u64, KdfError>
     requires kept { 1 ≤ k }
+
+    // With every k-th row kept, for every k from 1 on: on success `out` holds the value of RFC
+    // 7914, and its length is from 1 to 137438953440.
     ensures fits { OnOk result (IsTrue (is_key_length (length out.old))) }
     ensures derived { OnOk result
         (out.new ≡ scrypt password.now salt.now (2 ^ params.now.n_log2) params.now.r params.now.p
         (length out.old)) }
+
+    // On success it returns how many rows are kept for each part, N / k, rounded up, which have
+    // fewer than 2^63 bytes.
     ensures count { IfOk result (λ n. n ≡ div_ceil (2 ^ params.now.n_log2) k) }
     ensures room { OnOk result
         (128 * params.now.r * div_ceil (2 ^ params.now.n_log2) k < 2 ^ 63) }
+
+    // A refusal is that of the output's length exactly where the length is outside of this range,
+    // and otherwise out of memory; `out` is then as it was.
     ensures refused { IfErr result (λ e. e ≡ (if is_key_length (length out.old)
         then KdfError.OutOfMemory else KdfError.InvalidOutputLen)) }
     ensures unchanged { OnErr result (out.new ≡ out.old) }

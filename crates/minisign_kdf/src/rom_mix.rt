@@ -31,8 +31,13 @@ pub fn mix_kept(rows: &[u32], n_log2: u8, k: u64, out: &mut [u8], work: &mut [u3
     requires whole { length out.old % 128 ≡ 0 }
     requires rows_len { 4 * length rows.now ≡ length out.old * div_ceil (2 ^ n_log2) k }
     requires work_len { 3 * length out.old ≤ 4 * length work.old }
+
+    // Over any rows of the number that is kept, scryptROMix is written, with each row made by
+    // mixing the kept one before it.
     ensures mixed { let r = length out.old / 128 in
         out.new ≡ rom_mix_from r (2 ^ n_log2) k (rows_of r (div_ceil (2 ^ n_log2) k) rows.now) }
+
+    // Over the kept rows of a block it is scryptROMix of this block.
     ensures standard { let r = length out.old / 128 in (b : List ℕ) →
         rows_of r (div_ceil (2 ^ n_log2) k) rows.now ≡ kept_rows r (2 ^ n_log2) k b
         → out.new ≡ rom_mix r (2 ^ n_log2) b }

@@ -4,3 +4,4 @@ pub mod calls;
 mod failing_devices;
 mod pairs;
 mod pairs_in_use;
+mod upstream_tests;

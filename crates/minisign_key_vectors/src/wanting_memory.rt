@@ -1,5 +1,5 @@
 //! Calls on keys whose result is right or is out of memory, whichever growth is refused: with ample
-//! memory each test sees its call succeed, and `tests/refused_memory.py` runs it with each of its
+//! memory each test sees its call succeed, and `tests/library/refused_memory.py` runs it with each of its
 //! requests refused in turn. A buffer that cannot grow is a sink that fails, so that a call with
 //! one may fail to write too.
 

@@ -1,5 +1,6 @@
 pub mod Commands
 pub mod Copying
+pub mod Endings
 pub mod Keygen
 pub mod Replacing
 pub mod Report

@@ -9,7 +9,7 @@ use Rattle.minisign.specs.Generation.{FailsAtPart, TakesPart}
 use Rattle.minisign.specs.Reading.{IsAhead, ReadsWhole}
 use Rattle.minisign.specs.SignatureText.{SignatureText}
 use Rattle.minisign.specs.Signing.{IsGenuine, Signer, comments_or_defaults}
-use Rattle.minisign.specs.SigningTexts.{GivesKey, IsSignedText, TextSigningFails}
+use Rattle.minisign.specs.SigningTexts.{GivesKey, IsKeyOf, IsSignedText, TextSigningFails}
 use Rattle.minisign.specs.TextFiles.{IsTextFault}
 
 -- where the key is genuine, the text reads as a box that every public key of the same seed and identifier
@@ -36,16 +36,16 @@ pub record MakesSigned {K A B R Z : Type 0} (sign : Signer) (sk_file : SourcePas
   pub read : ReadsWhole sk_file.source sk_file.old sk_file.new sk_text
   pub signs : SignsText sign p r z sk_text moment text
 
--- the key's file gave a key, and where that is genuine every public key of its seed and identifier vouches for
--- all of the data with the text
-pub record MakesVouched {K A B R : Type 0} (accepts : Verifier) (public_of : List ℕ → List ℕ) (sk_file : SourcePassage K)
-    (p : PromptPassage A B) (r : SourcePassage R) (text : List ℕ) : Type 0 where
+-- the key's file gave the text of a key, and where that is genuine every public key of its seed and identifier
+-- vouches for all of the data with the text that is made
+pub record MakesVouched {K R : Type 0} (accepts : Verifier) (public_of : List ℕ → List ℕ) (sk_file : SourcePassage K)
+    (r : SourcePassage R) (text : List ℕ) : Type 0 where
   pub sk_text : List ℕ
   pub message : List ℕ
   pub key : SecretKeyRecord
   pub held : IsAhead (sk_file.source.ahead sk_file.old) sk_text
   pub signed : IsAhead (r.source.ahead r.old) message
-  pub given : GivesKey p None sk_text key
+  pub given : IsKeyOf sk_text key
   pub vouched : ReadsBackWhereGenuine accepts public_of key message text
 
 -- the text of a signature could not be written: a beginning of it was
@@ -55,10 +55,9 @@ pub record WriteFails {G : Type 0} (g : SinkPassage G) (text : List ℕ) (e : Fa
 
 -- what a genuine key signed was written: every public key of its seed and identifier vouches for all of the
 -- data with it
-abbrev pub HasWrittenVouched : {K A B R G : Type 0} → Verifier → (List ℕ → List ℕ) → SourcePassage K → PromptPassage A B
-    → SourcePassage R → SinkPassage G → Type 0
-HasWrittenVouched accepts public_of sk_file p r g =
-    (text : List ℕ) × MakesVouched accepts public_of sk_file p r text × Takes g text
+abbrev pub HasWrittenVouched : {K R G : Type 0} → Verifier → (List ℕ → List ℕ) → SourcePassage K → SourcePassage R → SinkPassage G → Type 0
+HasWrittenVouched accepts public_of sk_file r g =
+    (text : List ℕ) × MakesVouched accepts public_of sk_file r text × Takes g text
 
 -- the text of the box that the definition of signing makes was written, and nothing failed
 abbrev pub HasWrittenSigned : {K A B R Z G : Type 0} → Signer → SourcePassage K → PromptPassage A B → SourcePassage R

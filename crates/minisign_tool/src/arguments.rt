@@ -9,16 +9,16 @@ use std::env::FillError;
 use std::rt::Env;
 use std::{env, io};
 
-// The arguments behind the path of the program, which need not be UTF-8.
+// The arguments, with no text in the place of the program, whose path need not be UTF-8.
 #[derive(Drop)]
-struct BehindProgram<'a, R>(&'a R);
+struct UnnamedProgram<'a, R>(&'a R);
 
-impl<R: Env> Env for BehindProgram<'_, R> {
+impl<R: Env> Env for UnnamedProgram<'_, R> {
     fn arg(&self, i: usize, buf: &mut [u8]) -> std::result::Result<usize, FillError> {
-        match i.checked_add(1) {
-            Some(i) => self.0.arg(i, buf),
-            None => Err(FillError::NotPresent),
+        if i == 0 {
+            return Ok(0);
         }
+        self.0.arg(i, buf)
     }
 
     fn var(&self, name: &str, buf: &mut [u8]) -> std::result::Result<usize, FillError> {
@@ -30,12 +30,13 @@ impl<R: Env> Env for BehindProgram<'_, R> {
     }
 }
 
-/// The arguments behind the program's path, or none where one of them is not UTF-8. Only running
-/// out of memory is refused.
+/// The arguments, the first of which stands for the program, or none where another one is not
+/// UTF-8. Only running out of memory is refused.
 pub fn read_arguments<R: Env + AllocGlobal>(rt: &R) -> Result<Option<Vec<String>>>
+    // Reading the arguments is refused only for running out of memory.
     ensures { IfErr result (λ e. e ≡ Named OutOfMemory) }
 {
-    let arguments = match env::args(&(BehindProgram(rt), rt.alloc())) {
+    let arguments = match env::args(&(UnnamedProgram(rt), rt.alloc())) {
         Ok(arguments) => arguments,
         Err(error) if error.kind() == io::ErrorKind::OutOfMemory => {
             return Err(NamedFault::OutOfMemory.into());

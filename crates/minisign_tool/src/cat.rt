@@ -26,18 +26,23 @@ pub fn run_cat<S: Scheme, P: Source, R: Rereader, Q: Source, O: Sink, W: Sink>(
     out: &mut O,
     errors: &mut W,
 ) -> u8
+    // The exit status is 0 or 1.
     ensures status { result ≤ 1 }
 
-    // What both files hold vouches for the data, that was said of it behind the warning, and it was
-    // copied; what `out` took is itself vouched for.
+    // The exit status is 0 only if the two texts that were read whole vouch for all of the data,
+    // with the warning and the status lines written, and with the data copied, as a copy that the
+    // two texts vouch for.
     ensures accepted { result ≡ 0 → FilesVouchForCopy (S.accepts scheme.now)
         (source_passage P.Source pk_file.old pk_file.new)
         (source_passage Q.Source sig_file.old sig_file.new)
         (rereader_passage R.Source R.steady data_reader.old data_reader.new)
         (sink_passage O.Sink out.old out.new) (SaysAfterWarning W.Sink errors.old errors.new) }
+
+    // The output did not fail then.
     ensures out_calm { result ≡ 0 → O.sink_faults out.new ≡ O.sink_faults out.old }
 
-    // Why it ended otherwise, between the warning and the line of the fault.
+    // The exit status is 1 only because a file gave no text, with no data read, or verifying fails,
+    // as `verify_texts` says, between the warning and the line of the fault.
     ensures refused { result ≡ 1 → EndsWithFault W.Sink errors.old errors.new
         (FilesFailToCopy (S.accepts scheme.now)
         (source_passage P.Source pk_file.old pk_file.new)

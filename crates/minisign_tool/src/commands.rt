@@ -1,6 +1,6 @@
 //! Which command the arguments ask for.
 
-ghost use Rattle.std.specs.Prelude.{◌≡◌, map, string_bytes, IfOk};
+ghost use Rattle.std.specs.Prelude.{◌≡◌, drop, map, string_bytes, IfOk};
 ghost use Rattle.minisign_tool.specs.Commands.{AsksFor};
 
 use std::alloc::{AllocError, Global};
@@ -44,6 +44,8 @@ pub enum Command<'a> {
 /// The command that the words behind the program's path ask for. Words that are none of the five
 /// forms, as those with a word too few or too many, ask for the usage. Takes no memory.
 pub fn command_of<'a>(words: &[&'a str]) -> Command<'a>
+    // Words ask for a command as the table of the program in docs/FORMATS.md says: each of its five
+    // forms for that command with its paths, in their order, and all other words for the usage.
     ensures { AsksFor (map (λ w. w.now) words.now) result }
 {
     match *words {
@@ -53,6 +55,16 @@ pub fn command_of<'a>(words: &[&'a str]) -> Command<'a>
         ["verify-raw", pk, sig] => Command::VerifyRaw { pk, sig },
         ["cat", pk, file, sig] => Command::Cat { pk, file, sig },
         _ => Command::Usage,
+    }
+}
+
+/// The arguments behind the first one, which is the program. Takes no memory.
+pub fn behind_program(arguments: &[String]) -> &[String]
+    ensures { result.now ≡ drop 1 arguments.now }
+{
+    match arguments {
+        [_program, behind @ ..] => behind,
+        [] => arguments,
     }
 }
 

@@ -6,6 +6,8 @@ ghost use Rattle.std.specs.Prelude.{◌≡◌, ◌≤◌, ◌⊎◌, IfOk, IfErr
 ghost use Rattle.minisign_base.specs.Fault.{Named};
 ghost use Rattle.minisign_base.specs.declared.faults.NamedFault.TheVariants.{ClockIncorrect, ReadingFailed};
 ghost use Rattle.minisign_tool.specs.Copying.{input_is_output};
+ghost use Rattle.minisign_tool.specs.Endings.{SomeBytesVouch, SomeTextsVouch};
+ghost use Rattle.minisign_tool.specs.Replacing.{HoldsContents, for_all, for_the_owner};
 
 use crate::cat::run_cat;
 use crate::keygen::run_keygen;
@@ -22,15 +24,24 @@ use minisign::base::devices::sinks::{Sink, VecSink, WriterSink};
 use minisign::base::devices::sources::{FileSource, ReaderSource};
 use minisign::base::helpers::unix_timestamp;
 use minisign::base::prompt::Prompt;
-use minisign::base::toy::ToyScheme;
+use minisign::base::scheme::Scheme;
 use minisign::base::{ErrorKind, NamedFault, PError};
 use std::fs;
 use std::fs::File;
 
 /// Opens the device of random bytes, and runs `keygen` over it, a prompt on standard input and
 /// output, and memory. The two files are replaced last.
-pub fn keygen_files<W: Sink>(rt: &HostRuntime, pk: &str, sk: &str, errors: &mut W) -> Result<u8>
+pub fn keygen_files<S: Scheme, W: Sink>(
+    rt: &HostRuntime,
+    scheme: &S,
+    pk: &str,
+    sk: &str,
+    errors: &mut W,
+) -> Result<u8>
+    // The exit status is 0 or 1.
     ensures status { IfOk result (λ s. s ≤ 1) }
+
+    // The only fault that comes before the body is `reading failed`, and nothing is said then.
     ensures refused { IfErr result (λ e. (e ≡ Named ReadingFailed) × (errors.new ≡ errors.old)) }
 {
     let random_file = open(rt, "/dev/urandom")?;
@@ -38,7 +49,7 @@ pub fn keygen_files<W: Sink>(rt: &HostRuntime, pk: &str, sk: &str, errors: &mut 
     let mut sk_text = VecSink::new(rt.alloc());
     let status = run_keygen(
         rt.alloc(),
-        &ToyScheme::new(),
+        scheme,
         &mut SourceRandom::new(ReaderSource::new(random_file)),
         &mut Prompt::new(ReaderSource::new(rt.stdin()), WriterSink::new(rt.stdout())),
         &mut pk_text,
@@ -48,33 +59,55 @@ pub fn keygen_files<W: Sink>(rt: &HostRuntime, pk: &str, sk: &str, errors: &mut 
     if status != 0 {
         return Ok(status);
     }
-    let public = Contents {
-        path: pk,
-        mode: FOR_ALL,
-        bytes: pk_text.as_slice(),
-    };
-    let secret = Contents {
-        path: sk,
-        mode: FOR_THE_OWNER,
-        bytes: sk_text.as_slice(),
-    };
+    let (public, secret) = contents_of_pair(pk, pk_text.as_slice(), sk, sk_text.as_slice());
     Ok(match replace_both(rt, public, secret) {
         Ok(()) => 0,
         Err(fault) => report(errors, &fault),
     })
 }
 
+// What the two files of a pair are to hold: a new one of the public key is for all, one of the
+// secret key for its owner alone.
+fn contents_of_pair<'a>(
+    pk: &'a str,
+    pk_text: &'a [u8],
+    sk: &'a str,
+    sk_text: &'a [u8],
+) -> (Contents<'a>, Contents<'a>)
+    // The file of a public key is new for all, that of a secret key for its owner alone, each with
+    // its own text.
+    ensures public { HoldsContents result.0 pk.now for_all pk_text.now }
+    ensures secret { HoldsContents result.1 sk.now for_the_owner sk_text.now }
+{
+    let public = Contents {
+        path: pk,
+        mode: FOR_ALL,
+        bytes: pk_text,
+    };
+    let secret = Contents {
+        path: sk,
+        mode: FOR_THE_OWNER,
+        bytes: sk_text,
+    };
+    (public, secret)
+}
+
 /// Opens the secret key, the data and the device of random bytes, asks the clock, and runs `sign`
 /// over them, a prompt on standard input and output, and memory. The file of the signature is
 /// replaced last.
-pub fn sign_files<W: Sink>(
+pub fn sign_files<S: Scheme, W: Sink>(
     rt: &HostRuntime,
+    scheme: &S,
     sk: &str,
     file: &str,
     sig: &str,
     errors: &mut W,
 ) -> Result<u8>
+    // The exit status is 0 or 1.
     ensures status { IfOk result (λ s. s ≤ 1) }
+
+    // The only faults that come before the body are `reading failed` and that of the clock, and
+    // nothing is said then.
     ensures refused { IfErr result (λ e. ((e ≡ Named ReadingFailed) ⊎ (e ≡ Named ClockIncorrect))
         × (errors.new ≡ errors.old)) }
 {
@@ -85,7 +118,7 @@ pub fn sign_files<W: Sink>(
     let mut signature = VecSink::new(rt.alloc());
     let status = run_sign(
         rt.alloc(),
-        &ToyScheme::new(),
+        scheme,
         &mut ReaderSource::new(sk_file),
         &mut ReaderSource::new(data_file),
         &mut signature,
@@ -109,14 +142,22 @@ pub fn sign_files<W: Sink>(
 }
 
 /// Opens the public key, the data and the signature, and runs `verify` over them.
-pub fn verify_files<W: Sink>(
+pub fn verify_files<S: Scheme, W: Sink>(
     rt: &HostRuntime,
+    scheme: &S,
     pk: &str,
     file: &str,
     sig: &str,
     errors: &mut W,
 ) -> Result<u8>
+    // The exit status is 0 or 1.
     ensures status { IfOk result (λ s. s ≤ 1) }
+
+    // The exit status is 0 only where two texts and data are there for which they vouch, whatever
+    // the scheme accepts.
+    ensures accepted { IfOk result (λ s. s ≡ 0 → SomeTextsVouch (S.accepts scheme.now)) }
+
+    // The only fault that comes before the body is `reading failed`, and nothing is said then.
     ensures refused { IfErr result (λ e. (e ≡ Named ReadingFailed) × (errors.new ≡ errors.old)) }
 {
     let pk_file = open(rt, pk)?;
@@ -124,7 +165,7 @@ pub fn verify_files<W: Sink>(
     let sig_file = open(rt, sig)?;
     Ok(run_verify(
         rt.alloc(),
-        &ToyScheme::new(),
+        scheme,
         &mut ReaderSource::new(pk_file),
         &mut ReaderSource::new(data_file),
         &mut ReaderSource::new(sig_file),
@@ -133,20 +174,28 @@ pub fn verify_files<W: Sink>(
 }
 
 /// Opens the key and the signature, and runs `verify-raw` over them and standard input.
-pub fn verify_raw_files<W: Sink>(
+pub fn verify_raw_files<S: Scheme, W: Sink>(
     rt: &HostRuntime,
+    scheme: &S,
     pk: &str,
     sig: &str,
     errors: &mut W,
 ) -> Result<u8>
+    // The exit status is 0 or 1.
     ensures status { IfOk result (λ s. s ≤ 1) }
+
+    // The exit status is 0 only where the bytes of a key, of a bare signature and data are there
+    // for which these vouch, whatever the scheme accepts.
+    ensures accepted { IfOk result (λ s. s ≡ 0 → SomeBytesVouch (S.accepts scheme.now)) }
+
+    // The only fault that comes before the body is `reading failed`, and nothing is said then.
     ensures refused { IfErr result (λ e. (e ≡ Named ReadingFailed) × (errors.new ≡ errors.old)) }
 {
     let pk_file = open(rt, pk)?;
     let sig_file = open(rt, sig)?;
     Ok(run_verify_raw(
         rt.alloc(),
-        &ToyScheme::new(),
+        scheme,
         &mut ReaderSource::new(pk_file),
         &mut ReaderSource::new(sig_file),
         &mut ReaderSource::new(rt.stdin()),
@@ -157,14 +206,23 @@ pub fn verify_raw_files<W: Sink>(
 /// Opens the public key, the data, which goes back by seeking, and the signature, and runs `cat`
 /// over them and standard output. Data from the file that standard output leads into is refused,
 /// with nothing read: the copy would be read as data again.
-pub fn cat_files<W: Sink>(
+pub fn cat_files<S: Scheme, W: Sink>(
     rt: &HostRuntime,
+    scheme: &S,
     pk: &str,
     file: &str,
     sig: &str,
     errors: &mut W,
 ) -> Result<u8>
+    // The exit status is 0 or 1.
     ensures status { IfOk result (λ s. s ≤ 1) }
+
+    // The exit status is 0 only where two texts and data are there for which they vouch, whatever
+    // the scheme accepts.
+    ensures accepted { IfOk result (λ s. s ≡ 0 → SomeTextsVouch (S.accepts scheme.now)) }
+
+    // The only faults that come before the body are `reading failed` and data from the file that
+    // standard output leads into, and nothing is said then.
     ensures refused { IfErr result (λ e. ((e ≡ Named ReadingFailed) ⊎ (e ≡ input_is_output))
         × (errors.new ≡ errors.old)) }
 {
@@ -176,7 +234,7 @@ pub fn cat_files<W: Sink>(
     }
     Ok(run_cat(
         rt.alloc(),
-        &ToyScheme::new(),
+        scheme,
         &mut ReaderSource::new(pk_file),
         &mut FileSource::new(data_file),
         &mut ReaderSource::new(sig_file),

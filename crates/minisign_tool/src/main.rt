@@ -2,7 +2,10 @@
 //! so.
 #![tactic(auto)]
 
-ghost use Rattle.std.specs.Prelude.{◌≡◌, ◌≤◌, IfOk, OnErr};
+ghost use Rattle.std.specs.Prelude.{◌≡◌, ◌≤◌, drop, map, string_bytes, IfOk, OnErr};
+ghost use Rattle.minisign_tool.specs.Commands.{AsksFor};
+ghost use Rattle.minisign_tool.specs.Endings.{ShowsCommand, ShowsWarningAndUsage};
+ghost use Rattle.minisign_tool.specs.declared.commands.Command.{Command};
 
 mod arguments;
 mod cat;
@@ -28,11 +31,13 @@ mod verify;
 mod verify_raw;
 
 use arguments::read_arguments;
-use commands::{Command, command_of, words_of};
+use commands::{Command, behind_program, command_of, words_of};
 use files::{cat_files, keygen_files, sign_files, verify_files, verify_raw_files};
 use minisign::Result;
 use minisign::base::NamedFault;
 use minisign::base::devices::sinks::{Sink, WriterSink};
+use minisign::base::scheme::Scheme;
+use minisign::base::toy::ToyScheme;
 use report::{end, usage, warn};
 use std::process::ExitCode;
 use streams::hold_closed_streams;
@@ -42,7 +47,7 @@ fn main(rt: HostRuntime) -> ExitCode {
     // No file may get the number of a closed stream, into which a prompt or a fault's line would
     // go.
     let answer = match hold_closed_streams(&rt) {
-        Ok(_held) => run(&rt, &mut errors),
+        Ok(_held) => run(&rt, &ToyScheme::new(), &mut errors),
         Err(_) => Err(NamedFault::ReadingFailed.into()),
     };
     ExitCode::from(end(&mut errors, answer))
@@ -50,27 +55,68 @@ fn main(rt: HostRuntime) -> ExitCode {
 
 // Runs the command that the arguments ask for, and returns its exit status. What fails before its
 // body has begun is a fault, with nothing said.
-fn run<W: Sink>(rt: &HostRuntime, errors: &mut W) -> Result<u8>
+fn run<S: Scheme, W: Sink>(rt: &HostRuntime, scheme: &S, errors: &mut W) -> Result<u8>
     ensures status { IfOk result (λ s. s ≤ 2) }
     ensures unsaid { OnErr result (errors.new ≡ errors.old) }
 {
-    let Some(arguments) = read_arguments(rt)? else {
-        return Ok(show_usage(errors));
-    };
-    let words = words_of(rt.alloc(), &arguments)?;
-    match command_of(&words) {
-        Command::Keygen { pk, sk } => keygen_files(rt, pk, sk, errors),
-        Command::Sign { sk, file, sig } => sign_files(rt, sk, file, sig, errors),
-        Command::Verify { pk, file, sig } => verify_files(rt, pk, file, sig, errors),
-        Command::VerifyRaw { pk, sig } => verify_raw_files(rt, pk, sig, errors),
-        Command::Cat { pk, file, sig } => cat_files(rt, pk, file, sig, errors),
+    match read_arguments(rt)? {
+        Some(arguments) => run_arguments(rt, scheme, &arguments, errors),
+        None => Ok(show_usage(errors)),
+    }
+}
+
+// Runs the command that these arguments ask for, of which the first is the program.
+fn run_arguments<S: Scheme, W: Sink>(
+    rt: &HostRuntime,
+    scheme: &S,
+    arguments: &[String],
+    errors: &mut W,
+) -> Result<u8>
+    // The exit status is at most 2, and with a fault nothing was said.
+    ensures status { IfOk result (λ s. s ≤ 2) }
+    ensures unsaid { OnErr result (errors.new ≡ errors.old) }
+
+    // A run of `verify` or `cat` ends with 0 only where two texts and data are there for which they
+    // vouch, and one of `verify-raw` only where the bytes of a key, of a bare signature and data
+    // are; the usage never ends with 0, and is said behind the warning.
+    ensures ended { IfOk result (λ s. (command : Command) × AsksFor (map (λ a. string_bytes a) (drop 1 arguments.now)) command
+        × ShowsCommand (S.accepts scheme.now) command s) }
+{
+    let words = words_of(rt.alloc(), behind_program(arguments))?;
+    run_command(rt, scheme, command_of(&words), errors)
+}
+
+// Runs a command.
+fn run_command<S: Scheme, W: Sink>(
+    rt: &HostRuntime,
+    scheme: &S,
+    command: Command<'_>,
+    errors: &mut W,
+) -> Result<u8>
+    // The exit status is at most 2, and with a fault nothing was said.
+    ensures status { IfOk result (λ s. s ≤ 2) }
+    ensures unsaid { OnErr result (errors.new ≡ errors.old) }
+
+    // A run of `verify` or `cat` ends with 0 only where two texts and data are there for which they
+    // vouch, and one of `verify-raw` only where the bytes of a key, of a bare signature and data
+    // are; the usage never ends with 0, and is said behind the warning.
+    ensures ended { IfOk result (ShowsCommand (S.accepts scheme.now) command.entry) }
+{
+    match command {
+        Command::Keygen { pk, sk } => keygen_files(rt, scheme, pk, sk, errors),
+        Command::Sign { sk, file, sig } => sign_files(rt, scheme, sk, file, sig, errors),
+        Command::Verify { pk, file, sig } => verify_files(rt, scheme, pk, file, sig, errors),
+        Command::VerifyRaw { pk, sig } => verify_raw_files(rt, scheme, pk, sig, errors),
+        Command::Cat { pk, file, sig } => cat_files(rt, scheme, pk, file, sig, errors),
         Command::Usage => Ok(show_usage(errors)),
     }
 }
 
 // Shows the usage behind the warning, and returns its exit status.
 fn show_usage<W: Sink>(errors: &mut W) -> u8
-    ensures { result ≡ 2 }
+    // The usage is said behind the warning, and its exit status is 2.
+    ensures status { result ≡ 2 }
+    ensures said { ShowsWarningAndUsage W.Sink errors.old errors.new }
 {
     warn(errors);
     usage(errors)

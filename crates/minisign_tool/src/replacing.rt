@@ -17,10 +17,15 @@ pub const FOR_ALL: u32 = 0o666;
 /// Its owner alone may read and write a file that is made.
 pub const FOR_THE_OWNER: u32 = 0o600;
 
-// The nine bits that say who may read, write and run a file, and those of its group.
+// The nine bits that say who may read, write and run a file, and those of its owner, of its group
+// and of all others.
 const ALL_RIGHTS: u32 = 0o777;
 
+const RIGHTS_OF_THE_OWNER: u32 = 0o700;
+
 const RIGHTS_OF_THE_GROUP: u32 = 0o070;
+
+const RIGHTS_OF_OTHERS: u32 = 0o007;
 
 // How many links are followed one after another, as the system does.
 const MOST_LINKS: u32 = 40;
@@ -110,13 +115,14 @@ impl Stage<'_> {
 
 /// Replaces the file that the path leads to, links followed, in one step: a new one is made beside
 /// it under a name of its own, written, brought to the disk, and renamed. It gets the rights, and
-/// where that is allowed the owner and the group, of the file that was there, or else `mode`. What
-/// is no regular file is written as it is.
+/// where that is allowed the owner and the group, of the file that was there, or else `mode`; but
+/// its group gets no right that not all others have. What is no regular file is written as it is.
 ///
 /// Where a file is refused, which is out of memory or `writing_failed`, the older one is as it was
 /// and nothing is left beside it. Only where the folder cannot be brought to the disk the new one
 /// stands there already.
 pub fn replace_file(rt: &HostRuntime, contents: Contents<'_>) -> Result<()>
+    // Replacing files is refused for running out of memory or as `writing failed`.
     ensures { IfErr result IsWriteFault }
 {
     let place = find_place(rt, contents.path)?;
@@ -137,6 +143,7 @@ pub fn replace_file(rt: &HostRuntime, contents: Contents<'_>) -> Result<()>
 /// new files, since the rights of the older file were also chosen for a public key. Two names of
 /// one file get a file each.
 pub fn replace_both(rt: &HostRuntime, public: Contents<'_>, secret: Contents<'_>) -> Result<()>
+    // Replacing files is refused for running out of memory or as `writing failed`.
     ensures { IfErr result IsWriteFault }
 {
     let public_place = find_place(rt, public.path)?;
@@ -320,10 +327,18 @@ fn create_beside(rt: &HostRuntime, path: &str, mode: u32) -> Result<(File, Strin
     Err(NamedFault::WritingFailed.into())
 }
 
+// What a new file may have of the rights of an older one. The bits of the group are kept only as far
+// as all others have them too: where the older file has an access control list, they are the list's
+// mask and not the rights of the group, and nothing here can tell.
+fn rights_after(older: u32) -> u32 {
+    let others = older & RIGHTS_OF_OTHERS;
+    (older & RIGHTS_OF_THE_OWNER) | (older & (others << 3)) | others
+}
+
 // Gives a new file the owner, the group and the rights of an older one. Where another group may not
 // be given, no group gets rights.
 fn take_rights(file: &File, older: &Metadata) -> io::Result<()> {
-    let mut rights = older.mode() & ALL_RIGHTS;
+    let mut rights = rights_after(older.mode());
     let made = file.metadata()?;
     let differs = made.uid() != older.uid() || made.gid() != older.gid();
     if differs

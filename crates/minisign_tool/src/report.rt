@@ -16,6 +16,7 @@ use minisign::base::{PError, Result};
 /// Warns of the toy scheme. This line is always the first. Takes no memory.
 #[tactic(auto, unfolding(crate::specs::Report::warning_line))]
 pub fn warn<W: Sink>(errors: &mut W)
+    // The warning is written whole, or the error stream failed and took a beginning.
     ensures { TakesOrFails W.Sink errors.old errors.new warning_line }
 {
     let _ = put_all(errors, b"warning: insecure toy scheme, for tests only\n");
@@ -25,6 +26,8 @@ pub fn warn<W: Sink>(errors: &mut W)
 /// them. Takes no memory.
 #[tactic(auto, unfolding(crate::specs::Report::usage_line))]
 pub fn usage<W: Sink>(errors: &mut W) -> u8
+    // The usage is written whole, or the error stream failed and took a beginning; its exit status
+    // is 2.
     ensures status { result ≡ 2 }
     ensures said { TakesOrFails W.Sink errors.old errors.new usage_line }
 {
@@ -37,6 +40,9 @@ pub fn usage<W: Sink>(errors: &mut W) -> u8
 
 /// Shows a fault, and returns the exit status of one. Takes no memory.
 pub fn report<W: Sink>(errors: &mut W, fault: &PError) -> u8
+    // The line of a fault is `error: ` and the text of the very fault that ended the run, for each
+    // fault that there is; it is written whole, or the error stream failed and took a beginning.
+    // Its exit status is 1.
     ensures status { result ≡ 1 }
     ensures said { ShowsFault W.Sink errors.old errors.new fault.now }
 {
@@ -48,6 +54,8 @@ pub fn report<W: Sink>(errors: &mut W, fault: &PError) -> u8
 /// The exit status of a command: its own, or that of a fault that came before its body, which is
 /// shown behind the warning.
 pub fn end<W: Sink>(errors: &mut W, answer: Result<u8>) -> u8
+    // The exit status of a command is its own; of a fault that came before its body the warning and
+    // the fault are shown, and it is 1.
     ensures { MatchResult answer (λ s. (result ≡ s) × (errors.new ≡ errors.old))
         (λ e. (result ≡ 1) × ((warned : W) × TakesOrFails W.Sink errors.old warned warning_line
         × ShowsFault W.Sink warned errors.new e)) }

@@ -45,17 +45,18 @@ pub fn run_sign<
     moment: u64,
     errors: &mut W,
 ) -> u8
+    // The exit status is 0 or 1.
     ensures status { result ≤ 1 }
 
-    // What a genuine key signed was written, and every public key of its seed and identifier
-    // vouches for all of the data with it.
+    // The exit status is 0 only if a text was written whole that, of a genuine key, is read back as
+    // a box that its public key vouches with.
     ensures headline { result ≡ 0 → HasWrittenVouched (S.accepts scheme.now) (S.public_of scheme.now)
         (source_passage K.Source sk_file.old sk_file.new)
-        (prompt_passage A.Source B.Sink prompt.old prompt.new)
         (source_passage R.Source data_reader.old data_reader.new)
         (sink_passage G.Sink signature.old signature.new) }
 
-    // The text of the box that the definition of signing makes was written, and nothing failed.
+    // That is the text that `sign_texts` says, with the default comments, of what was read, behind
+    // the warning.
     ensures signed { result ≡ 0 → HasWrittenSigned (S.signature_of scheme.now)
         (source_passage K.Source sk_file.old sk_file.new)
         (prompt_passage A.Source B.Sink prompt.old prompt.new)
@@ -64,9 +65,8 @@ pub fn run_sign<
         (sink_passage G.Sink signature.old signature.new) moment }
     ensures said { result ≡ 0 → TakesOrFails W.Sink errors.old errors.new warning_line }
 
-    // Why it ended otherwise, between the warning and the line of the fault: the file gave no text,
-    // with nothing else touched; signing with the text failed, with nothing written; or its text
-    // was not written.
+    // The exit status is 1 only because the key's file gave no text, with nothing else touched, or
+    // signing failed, with nothing written, or the text was not written whole.
     ensures refused { result ≡ 1 → ShowsOnlyFault W.Sink errors.old errors.new
         (FileSigningFails (S.signature_of scheme.now)
         (source_passage K.Source sk_file.old sk_file.new)
@@ -74,11 +74,13 @@ pub fn run_sign<
         (source_passage R.Source data_reader.old data_reader.new)
         (random_passage Z.RandomSource random.old random.new)
         (sink_passage G.Sink signature.old signature.new) moment) }
+
+    // Whatever the result, the source and the random source lost at most some bytes at their front.
     ensures given { HasGiven (R.ahead data_reader.old) (R.ahead data_reader.new) }
     ensures drawn { HasGiven (Z.random_ahead random.old) (Z.random_ahead random.new) }
 {
     warn(errors);
-    match sign_file(
+    match write_signature(
         alloc,
         scheme,
         sk_file,
@@ -94,7 +96,7 @@ pub fn run_sign<
 }
 
 // Makes the text of the signature, and then hands it to `signature`.
-fn sign_file<S: Scheme, K: Source, R: Source, G: Sink, Z: RandomSource, A: Source, B: Sink>(
+fn write_signature<S: Scheme, K: Source, R: Source, G: Sink, Z: RandomSource, A: Source, B: Sink>(
     alloc: Global,
     scheme: &S,
     sk_file: &mut K,
@@ -106,7 +108,6 @@ fn sign_file<S: Scheme, K: Source, R: Source, G: Sink, Z: RandomSource, A: Sourc
 ) -> Result<()>
     ensures headline { OnOk result (HasWrittenVouched (S.accepts scheme.now) (S.public_of scheme.now)
         (source_passage K.Source sk_file.old sk_file.new)
-        (prompt_passage A.Source B.Sink prompt.old prompt.new)
         (source_passage R.Source data_reader.old data_reader.new)
         (sink_passage G.Sink signature.old signature.new)) }
     ensures signed { OnOk result (HasWrittenSigned (S.signature_of scheme.now)
@@ -141,7 +142,6 @@ fn make_text<S: Scheme, K: Source, R: Source, Z: RandomSource, A: Source, B: Sin
 ) -> Result<String>
     ensures headline { IfOk result (λ t. MakesVouched (S.accepts scheme.now) (S.public_of scheme.now)
         (source_passage K.Source sk_file.old sk_file.new)
-        (prompt_passage A.Source B.Sink prompt.old prompt.new)
         (source_passage R.Source data_reader.old data_reader.new) (string_bytes t)) }
     ensures signed { IfOk result (λ t. MakesSigned (S.signature_of scheme.now)
         (source_passage K.Source sk_file.old sk_file.new)

@@ -16,8 +16,12 @@ pub fn read_both_texts<P: Source, Q: Source>(
     first: &mut P,
     second: &mut Q,
 ) -> Result<(String, String)>
+    // Both texts are all the bytes that were ahead of the two sources.
     ensures texts { IfOk result (λ both. ReadsBoth (source_passage P.Source first.old first.new)
         (source_passage Q.Source second.old second.new) (string_bytes both.0) (string_bytes both.1)) }
+
+    // Refused is the first file that does not give a text, as `read_text` says; the second is then
+    // left alone if the first gives none.
     ensures refused { IfErr result (EitherFails (source_passage P.Source first.old first.new)
         (source_passage Q.Source second.old second.new)) }
 {

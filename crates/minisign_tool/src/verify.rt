@@ -28,16 +28,19 @@ pub fn run_verify<S: Scheme, P: Source, R: Rereader, Q: Source, W: Sink>(
     sig_file: &mut Q,
     errors: &mut W,
 ) -> u8
+    // The exit status is 0 or 1.
     ensures status { result ≤ 1 }
 
-    // What both files hold vouches for the data, and that was said of it behind the warning.
+    // The exit status is 0 only if the two texts that were read whole vouch for all of the data,
+    // with the warning and the status lines written.
     ensures accepted { result ≡ 0 → FilesVouch (S.accepts scheme.now)
         (source_passage P.Source pk_file.old pk_file.new)
         (source_passage Q.Source sig_file.old sig_file.new)
         (rereader_passage R.Source R.steady data_reader.old data_reader.new)
         (SaysAfterWarning W.Sink errors.old errors.new) }
 
-    // Why it ended otherwise, between the warning and the line of the fault.
+    // The exit status is 1 only because a file gave no text, with no data read, or verifying fails,
+    // as `verify_texts` says, between the warning and the line of the fault.
     ensures refused { result ≡ 1 → EndsWithFault W.Sink errors.old errors.new
         (FilesFail (S.accepts scheme.now)
         (source_passage P.Source pk_file.old pk_file.new)

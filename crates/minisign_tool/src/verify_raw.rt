@@ -32,16 +32,23 @@ pub fn run_verify_raw<S: Scheme, P: Source, Q: Source, R: Rereader, W: Sink>(
     data_reader: &mut R,
     errors: &mut W,
 ) -> u8
+    // The exit status is 0 or 1.
     ensures status { result ≤ 1 }
 
-    // What both files hold vouches for the data, and that was said of it behind the warning.
+    // The exit status is 0 only if the two files and the data were read whole, without a fault, and
+    // what the files held vouches for the data, with the warning written, or the beginning that the
+    // error stream took, and then the status line, and nothing else.
     ensures accepted { result ≡ 0 → RawFilesVouch (S.accepts scheme.now)
         (source_passage P.Source pk_file.old pk_file.new)
         (source_passage Q.Source sig_file.old sig_file.new)
         (rereader_passage R.Source R.steady data_reader.old data_reader.new)
         (SaysAfterWarning W.Sink errors.old errors.new) }
 
-    // Why it ended otherwise, between the warning and the line of the fault.
+    // The exit status is 1 only if the key file was not read whole (memory ran out, or it failed),
+    // with the signature file left alone, or the signature file was not, after the key file was,
+    // both with no data read; or because verifying with the bytes of both fails, as `verify_raw`
+    // says. Between the warning and the line of that fault at most a beginning of the status line
+    // was written.
     ensures refused { result ≡ 1 → EndsWithFault W.Sink errors.old errors.new
         (RawFilesFail (S.accepts scheme.now)
         (source_passage P.Source pk_file.old pk_file.new)
@@ -96,11 +103,20 @@ pub fn verify_raw<S: Scheme, R: Rereader, W: Sink>(
     data_reader: &mut R,
     errors: &mut W,
 ) -> Result<()>
+    // The bytes of two files that were read vouch for the data: they begin with a public key and a
+    // bare signature of a known algorithm, which vouches for the message by its digest; legacy ones
+    // are refused.
     ensures accepted { OnOk result ((message : List ℕ)
         × ReadsWhole R.Source data_reader.old data_reader.new message
         × VouchesRaw (S.accepts scheme.now) key.now signature.now message) }
+
+    // The status line is then written.
     ensures said { OnOk result (Appends (W.taken errors.old) (W.taken errors.new) (line verified_text)) }
     ensures calm { OnOk result (W.sink_faults errors.new ≡ W.sink_faults errors.old) }
+
+    // Otherwise the key file is too short, or the signature file holds no bare signature, and no
+    // data was read; or verifying fails for the key and the signature that they hold, as above,
+    // with at most a beginning of that line written.
     ensures refused { IfErr result (VerifyRawFails (S.accepts scheme.now) key.now signature.now
         (rereader_passage R.Source R.steady data_reader.old data_reader.new)
         (sink_passage W.Sink errors.old errors.new)) }

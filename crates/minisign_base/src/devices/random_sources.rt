@@ -18,6 +18,7 @@ pub trait RandomSource {
     /// Fills `buf` with the next bytes. Too few bytes is a fault. After a fault some bytes of the
     /// front may be gone, or the bytes are told no more, and what `buf` holds is left open.
     fn fill(&mut self, buf: &mut [u8]) -> Result<(), DeviceFault>
+        // A draw fills the buffer with the next random bytes, or is a fault that raises the count.
         ensures { HasFilled random_ahead random_faults self.old self.new buf.new result };
 }
 
@@ -90,7 +91,7 @@ impl<S: Source> RandomSource for SourceRandom<S> {
 
     ghost random_faults = { λ s. s.faults.0 };
 
-    // A fault only where the source failed or ended.
+    // A fault only where the source failed or ended; otherwise the source counts none.
     fn fill(&mut self, buf: &mut [u8]) -> Result<(), DeviceFault>
         ensures fill { HasFilled ⟦<SourceRandom<S> as RandomSource>⟧.random_ahead ⟦<SourceRandom<S> as RandomSource>⟧.random_faults self.old self.new buf.new result }
         ensures source_calm { OnOk result (S.faults self.new.source ≡ S.faults self.old.source) }

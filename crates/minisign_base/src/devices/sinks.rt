@@ -1,8 +1,8 @@
 //! What bytes are written to.
 
-ghost use Rattle.std.specs.Prelude.{Option, ◌≡◌, ◌⊎◌, ℕ, ◌<◌, List, [], ◌∷◌, ◌++◌, length, Some, IsOk, IfOk, IfErr, OnOk, OnErr};
+ghost use Rattle.std.specs.Prelude.{Option, ◌≡◌, ◌⊎◌, ℕ, ◌<◌, List, [], ◌∷◌, ◌++◌, length, None, Some, IsOk, IfOk, IfErr, OnOk, OnErr};
 ghost use Rattle.std.specs.Io.KnownBytes.{Appends};
-ghost use Rattle.minisign_base.specs.Devices.{Rose, AppendsFront, HasWritten, HasFlushed};
+ghost use Rattle.minisign_base.specs.Devices.{AllFlushed, Rose, AppendsFront, HasWritten, HasFlushed};
 ghost use Rattle.minisign_base.specs.Fault.{Named};
 ghost use Rattle.minisign_base.specs.declared.faults.NamedFault.TheVariants.{OutOfMemory, WritingFailed};
 
@@ -17,17 +17,28 @@ pub trait Sink {
     // The bytes taken so far, where the sink tells them.
     ghost taken: { Self → Option (List ℕ) };
 
+    // The bytes flushed so far, where the sink tells them: all that it had taken when it was
+    // flushed last.
+    ghost flushed: { Self → Option (List ℕ) } = { λ _. None };
+
     // How many faults there were.
     ghost sink_faults: { Self → ℕ };
 
     /// Takes a beginning of `bytes` and returns how long it is: of something at least one byte.
-    /// After a fault nothing was taken.
+    /// After a fault nothing was taken. It flushes nothing.
     fn write(&mut self, bytes: &[u8]) -> Result<usize, DeviceFault>
-        ensures { HasWritten taken sink_faults self.old self.new bytes.now result };
+        // It takes a beginning of what it is given, at least a byte if there is one; or it is a
+        // fault that raises the count, with nothing taken.
+        //
+        // A sink may tell what was flushed: a write flushes nothing (`unflushed`). The sinks of the
+        // library tell nothing of it; a sink with a buffer can.
+        ensures { HasWritten taken flushed sink_faults self.old self.new bytes.now result };
 
-    /// Passes on what was taken. It takes nothing itself.
+    /// Passes on all that was taken. It takes nothing itself.
     fn flush(&mut self) -> Result<(), DeviceFault>
-        ensures { HasFlushed taken sink_faults self.old self.new result };
+        // A flush takes nothing. After one that succeeds all that the sink took is flushed; after
+        // one that failed what was flushed stays, or is no longer told (`all`, `err_flushed`).
+        ensures { HasFlushed taken flushed sink_faults self.old self.new result };
 }
 
 /// A buffer that grows. It fails only where a growth is refused.
@@ -74,7 +85,7 @@ impl Sink for VecSink {
     fn write(&mut self, bytes: &[u8]) -> Result<usize, DeviceFault>
         ensures takes { IfOk result (λ n. n ≡ length bytes.now) }
         ensures bytes { OnOk result (Appends (⟦<VecSink as Sink>⟧.taken self.old) (⟦<VecSink as Sink>⟧.taken self.new) bytes.now) }
-        ensures write { HasWritten ⟦<VecSink as Sink>⟧.taken ⟦<VecSink as Sink>⟧.sink_faults self.old self.new bytes.now result }
+        ensures write { HasWritten ⟦<VecSink as Sink>⟧.taken ⟦<VecSink as Sink>⟧.flushed ⟦<VecSink as Sink>⟧.sink_faults self.old self.new bytes.now result }
     {
         match self.bytes.extend_from_slice(bytes) {
             Ok(()) => Ok(bytes.len()),
@@ -87,6 +98,25 @@ impl Sink for VecSink {
         ensures succeeds { IsOk result }
         ensures same { self.new ≡ self.old }
     {
+        Ok(())
+    }
+}
+
+/// Takes all bytes and keeps none. It never fails.
+#[derive(Clone, Copy, Debug, Drop)]
+pub struct NoSink;
+
+impl Sink for NoSink {
+    ghost taken = { λ _. None };
+
+    ghost sink_faults = { λ _. 0 };
+
+    // All of the bytes.
+    fn write(&mut self, bytes: &[u8]) -> Result<usize, DeviceFault> {
+        Ok(bytes.len())
+    }
+
+    fn flush(&mut self) -> Result<(), DeviceFault> {
         Ok(())
     }
 }
@@ -143,11 +173,16 @@ pub fn put_line<S: Sink>(
     label: &[u8],
     text: &[u8],
 ) -> errors::Result<()>
+    // The whole of a line is written, put together first; or memory runs out for it, with the sink
+    // as it was; or the sink fails, and took a beginning.
     ensures bytes { OnOk result (Appends (S.taken sink.old) (S.taken sink.new) (label.now ++ text.now ++ 10 ∷ [])) }
     ensures calm { OnOk result (S.sink_faults sink.new ≡ S.sink_faults sink.old) }
     ensures refused { IfErr result (λ e. ((e ≡ Named OutOfMemory) × (sink.new ≡ sink.old))
         ⊎ ((e ≡ Named WritingFailed) × Rose (S.sink_faults sink.old) (S.sink_faults sink.new))) }
     ensures front { OnErr result (AppendsFront (S.taken sink.old) (S.taken sink.new) (label.now ++ text.now ++ 10 ∷ [])) }
+
+    // Nothing is flushed.
+    ensures unflushed { S.flushed sink.new ≡ S.flushed sink.old }
 {
     let line = line_of(alloc, label, text)?;
     match put_all(sink, &line) {
@@ -158,7 +193,13 @@ pub fn put_line<S: Sink>(
 
 /// Writes all of `bytes` and passes them on. After a fault the sink took a beginning of them.
 pub fn put_and_flush<S: Sink>(sink: &mut S, bytes: &[u8]) -> Result<(), DeviceFault>
+    // The whole of a text is written; or a beginning of it, with a fault of the sink.
     ensures bytes { OnOk result (Appends (S.taken sink.old) (S.taken sink.new) bytes.now) }
+
+    // On success all that the sink took is flushed.
+    ensures flushed { OnOk result (AllFlushed (S.flushed sink.new) (S.taken sink.new)) }
+
+    // The count of faults rose exactly where it is refused, and then a beginning was written.
     ensures calm { OnOk result (S.sink_faults sink.new ≡ S.sink_faults sink.old) }
     ensures refused { OnErr result (Rose (S.sink_faults sink.old) (S.sink_faults sink.new)) }
     ensures front { OnErr result (AppendsFront (S.taken sink.old) (S.taken sink.new) bytes.now) }
@@ -170,12 +211,18 @@ pub fn put_and_flush<S: Sink>(sink: &mut S, bytes: &[u8]) -> Result<(), DeviceFa
     }
 }
 
-/// Writes all of `bytes`. After a fault the sink took a beginning of them.
+/// Writes all of `bytes`, and flushes nothing. After a fault the sink took a beginning of them.
 pub fn put_all<S: Sink>(sink: &mut S, bytes: &[u8]) -> Result<(), DeviceFault>
+    // The whole of a text is written; or a beginning of it, with a fault of the sink.
     ensures bytes { OnOk result (Appends (S.taken sink.old) (S.taken sink.new) bytes.now) }
+
+    // The count of faults rose exactly where it is refused, and then a beginning was written.
     ensures calm { OnOk result (S.sink_faults sink.new ≡ S.sink_faults sink.old) }
     ensures refused { OnErr result (Rose (S.sink_faults sink.old) (S.sink_faults sink.new)) }
     ensures front { OnErr result (AppendsFront (S.taken sink.old) (S.taken sink.new) bytes.now) }
+
+    // Nothing is flushed.
+    ensures unflushed { S.flushed sink.new ≡ S.flushed sink.old }
 {
     let mut at = 0;
     'rest: while at < bytes.len() {

@@ -32,6 +32,17 @@ pub trait Source {
     /// how many. The result is 0 only where `buf` is empty or no byte is left. After a fault the
     /// bytes ahead are those before the call, or are told no more.
     fn read(&mut self, buf: &mut [u8]) -> Result<usize, DeviceFault>
+        // The next bytes are given, and 0 only at the end or without room (fields `bound`, `bytes`,
+        // `end`, `left` of `HasRead`).
+        //
+        // A read that succeeds leaves the mark and the count of faults as they were. After one that
+        // failed the count rose, and the bytes ahead stay or are no longer told; nothing is said
+        // then of what going back would bring. Whether a place is marked stays in both cases
+        // (`mark`, `calm`, `fault`, `kept`, `err_left`, `marked`).
+        //
+        // A source that tells the bytes given since its place was last marked or gone back to tells
+        // after each read those and the next ones; slices tell them, readers and files do not
+        // (`since`, `since_kept`).
         ensures { HasRead ahead behind since is_marked left faults self.old self.new buf.new result };
 }
 
@@ -43,11 +54,20 @@ pub trait Rereader: Source {
     /// Remembers the place. The bytes ahead stay; after a fault they stay or are told no more, and
     /// no place is marked.
     fn mark(&mut self) -> Result<(), DeviceFault>
+        // A steady source remembers what is ahead; a fault raises the count.
+        //
+        // The place is then marked, and after a fault none is (`marked`, `unmarked`); no byte was
+        // given since (`since`).
         ensures { HasMarked steady Self.ahead Self.behind Self.since Self.is_marked Self.faults self.old self.new result };
 
-    /// Returns to the place that was marked last. Without a mark it is a fault. After a fault no
-    /// place is marked.
+    /// Returns to the place that was marked last, which stays marked. Without a mark it is a
+    /// fault. After a fault no place is marked.
     fn back(&mut self) -> Result<(), DeviceFault>
+        // A steady source has ahead again what it remembered at the mark, which stays remembered,
+        // so that going back once more brings the same (`bytes`, `mark`); a fault raises the count.
+        //
+        // Going back without a mark is a fault of every source. The place is then marked, and after
+        // a fault none is (`needs_mark`, `marked`, `unmarked`); no byte was given since (`since`).
         ensures { HasGoneBack Self.ahead Self.behind Self.since Self.is_marked Self.faults self.old self.new result };
 }
 
@@ -138,6 +158,25 @@ impl<'a> Rereader for SliceSource<'a> {
         }
         self.given = 0;
         Ok(())
+    }
+}
+
+/// No bytes: a read gives none, and never fails.
+#[derive(Clone, Copy, Debug, Drop)]
+pub struct NoSource;
+
+impl Source for NoSource {
+    ghost ahead = { λ _. Some [] };
+
+    ghost since = { λ _. Some [] };
+
+    ghost left = { λ _. 0 };
+
+    ghost faults = { λ _. 0 };
+
+    // Always 0.
+    fn read(&mut self, _buf: &mut [u8]) -> Result<usize, DeviceFault> {
+        Ok(0)
     }
 }
 
@@ -287,6 +326,8 @@ impl<F: Read + Seek> Rereader for FileSource<F> {
 
 /// Fills `buf` with the next bytes of a source. It fails where the source fails or ends before.
 pub fn fill_from<S: Source>(source: &mut S, buf: &mut [u8]) -> Result<(), DeviceFault>
+    // The buffer is filled with the next bytes of a source, which counts no fault; or the source
+    // failed or ended.
     ensures bytes { OnOk result (Consumes (S.ahead source.old) (S.ahead source.new) buf.new) }
     ensures calm { OnOk result (S.faults source.new ≡ S.faults source.old) }
     ensures refused { OnErr result (Rose (S.faults source.old) (S.faults source.new)

@@ -1,13 +1,13 @@
-use Rattle.std.proofs.Common.{◌≡◌, ◌<◌, if◌then◌else◌, ℕ, List, Bool, true, false, inr, lit<, subst, sym}
+use Rattle.std.proofs.Common.{◌≡◌, ◌==◌, ◌<◌, if◌then◌else◌, ℕ, List, Bool, true, false, inr, lit<, subst, sym}
 use Rattle.minisign_base.specs.Fault.{Fault, Named}
 use Rattle.minisign_base.specs.declared.faults.NamedFault.TheVariants.{CommentSignatureRefused, SignatureRefused}
 use Rattle.minisign.specs.Acceptance.{Verifier}
 use Rattle.minisign.specs.Headline.{TextsRefuse}
-use Rattle.minisign_questions.specs.Numbers.{fault_number, refusal_number}
-use Rattle.minisign_questions.specs.States.{GivesNumber, IsFaultOf, IsVerdictRefusal}
-use Rattle.minisign_questions.specs.declared.state.Refusal.{Refusal}
-use Rattle.minisign_questions.specs.declared.state.Refusal.TheVariants.{Refused, WrongUse}
-use Rattle.minisign_questions.specs.declared.state.State.{State}
+use Rattle.minisign_external.specs.Numbers.{answer_yes, fault_number, refusal_number}
+use Rattle.minisign_external.specs.States.{GivesNumber, IsFaultOf, IsVerdictRefusal}
+use Rattle.minisign_external.specs.declared.state.Refusal.{Refusal}
+use Rattle.minisign_external.specs.declared.state.Refusal.TheVariants.{Refused, WrongUse}
+use Rattle.minisign_external.specs.declared.state.State.{State}
 use Rattle.minisign_c.proofs.minisign_verdict.Goals as goal
 
 positive : (first : Bool) (e : Fault) → e ≡ (if first then Named CommentSignatureRefused else Named SignatureRefused) → 0 < fault_number e
@@ -23,5 +23,5 @@ given_number accepts pk_text sig_text message legacy first old new (Refused e) n
 
 pub returns-in-Err-clause-verdict : goal.returns-in-Err-clause-verdict
 returns-in-Err-clause-verdict c = λ pk_text sig_text message legacy accepts has one two answers.
-    given_number accepts pk_text sig_text message legacy _ _ _ c.in-Err.refusal _ c.number-in-Err.ensures
+    given_number accepts pk_text sig_text message legacy (c.args.first == answer_yes) c.args.state.now c.verdict.new.self c.in-Err.refusal _ c.number-in-Err.ensures
     (c.in-Err.ensures.verdict pk_text sig_text message legacy accepts has answers) c.in-Err.ensures.refused

@@ -1,6 +1,7 @@
-//! A sink that takes only so much or fails, and one that keeps nothing.
+//! A sink that takes only so much or fails, one that passes on only what is flushed, and one that
+//! keeps nothing.
 
-ghost use Rattle.std.specs.Prelude.{◌≡◌, Some, None, [], ◌<◌};
+ghost use Rattle.std.specs.Prelude.{◌≡◌, Some, None, [], ◌++◌, ◌<◌};
 
 use crate::devices::turn::Turn;
 use minisign_base::devices::DeviceFault;
@@ -98,6 +99,73 @@ impl Sink for LimitedSink {
         }
         self.faults = self.faults.saturating_add(1);
         Err(DeviceFault)
+    }
+}
+
+/// A buffer in front of another: what is taken waits, and a flush passes it on, as a buffered file
+/// does. It fails only where a growth is refused.
+#[derive(Drop)]
+pub struct BufferedSink {
+    passed_on: Vec<u8>,
+    waiting: Vec<u8>,
+    faults: u64,
+}
+
+impl BufferedSink {
+    /// Nothing is taken, and nothing is flushed.
+    pub fn new(alloc: Global) -> BufferedSink
+        ensures taken { ⟦<BufferedSink as Sink>⟧.taken result ≡ Some [] }
+        ensures flushed { ⟦<BufferedSink as Sink>⟧.flushed result ≡ Some [] }
+        ensures faults { ⟦<BufferedSink as Sink>⟧.sink_faults result ≡ 0 }
+    {
+        BufferedSink {
+            passed_on: Vec::new(alloc),
+            waiting: Vec::new(alloc),
+            faults: 0,
+        }
+    }
+
+    /// The bytes that were flushed.
+    pub fn passed_on(&self) -> &[u8]
+        ensures { ⟦<BufferedSink as Sink>⟧.flushed self.now ≡ Some result.now }
+    {
+        self.passed_on.as_slice()
+    }
+
+    /// The bytes that were taken since the last flush.
+    pub fn waiting(&self) -> &[u8] {
+        self.waiting.as_slice()
+    }
+}
+
+impl Sink for BufferedSink {
+    ghost taken = { λ s. Some (s.passed_on.items ++ s.waiting.items) };
+
+    ghost flushed = { λ s. Some s.passed_on.items };
+
+    ghost sink_faults = { λ s. s.faults };
+
+    fn write(&mut self, bytes: &[u8]) -> Result<usize, DeviceFault> {
+        match self.waiting.extend_from_slice(bytes) {
+            Ok(()) => Ok(bytes.len()),
+            Err(_) => {
+                self.faults = self.faults.saturating_add(1);
+                Err(DeviceFault)
+            }
+        }
+    }
+
+    fn flush(&mut self) -> Result<(), DeviceFault> {
+        match self.passed_on.extend_from_slice(&self.waiting) {
+            Ok(()) => {
+                self.waiting.clear();
+                Ok(())
+            }
+            Err(_) => {
+                self.faults = self.faults.saturating_add(1);
+                Err(DeviceFault)
+            }
+        }
     }
 }
 

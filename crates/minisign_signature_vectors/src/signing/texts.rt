@@ -2,7 +2,7 @@
 //! anything is read, and what the prompt is told.
 
 use crate::calls::signed_text;
-use minisign::Result;
+use minisign::{Result, verify_bytes};
 use minisign_base::devices::random_sources::FixedRandom;
 use minisign_base::devices::sinks::VecSink;
 use minisign_base::devices::sources::Source;
@@ -12,7 +12,6 @@ use minisign_base::faults::NamedFault::{
 };
 use minisign_base::prompt::Prompt;
 use minisign_base::toy::ToyScheme;
-use minisign_examples::updating::check_update;
 use minisign_fixtures::devices::sources::{FailsAfter, OneByOne};
 use minisign_fixtures::outcomes::Outcome::{self, Refused};
 use minisign_fixtures::outcomes::{comes_to, holds};
@@ -61,7 +60,7 @@ fn is_accepted(alloc: Global) -> Result<bool> {
     let mut prompt = typed(alloc, b"password\n");
     let mut data = OneByOne::new(b"abc");
     let text = signed(alloc, SEALED, None, &mut prompt, &mut data)?;
-    let checked = check_update(alloc, &ToyScheme::new(), KEY_TEXT, text.as_str(), b"abc");
+    let checked = verify_bytes(alloc, &ToyScheme::new(), KEY_TEXT, text.as_str(), b"abc");
     Ok(checked.is_ok())
 }
 

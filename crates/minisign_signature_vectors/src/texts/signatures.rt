@@ -3,7 +3,7 @@
 //! The texts hold the base64 of Python's base64 module, and what the upstream tool wrote.
 
 use crate::calls::{COPYING, Said, Wanted, read_box, signed, signed_by_bytes, texts_judge};
-use minisign::{PublicKey, Result, Signature, SignatureBones, SignatureBox};
+use minisign::{PublicKey, Result, Signature, SignatureBones, SignatureBox, verify_bytes};
 use minisign_base::faults::NamedFault::{
     CommentSignatureRefused, MissingEncodedPublicKey, MissingGlobalSignature,
     MissingPublicKeyComment, MissingSignature, MissingTrustedComment, MissingUntrustedComment,
@@ -12,7 +12,6 @@ use minisign_base::faults::NamedFault::{
     UntrustedCommentPrefix,
 };
 use minisign_base::toy::ToyScheme;
-use minisign_examples::updating::check_update;
 use minisign_fixtures::keys::{
     IDENTIFIER, OTHER_IDENTIFIER, PUBLIC_BYTES, TIED_TO_ABC, public_record, signature_record,
 };
@@ -379,7 +378,7 @@ fn verdicts_of_two_texts(rt: HostRuntime) {
 
 // Whether checking the update with the worked texts comes out so.
 fn is_checked(alloc: Global, update: &[u8], expected: Outcome) -> bool {
-    let told = check_update(alloc, &ToyScheme::new(), KEY_TEXT, SIGNATURE_TEXT, update);
+    let told = verify_bytes(alloc, &ToyScheme::new(), KEY_TEXT, SIGNATURE_TEXT, update);
     comes_to(&told, expected)
 }
 

@@ -3,7 +3,7 @@
 //!
 //! The texts hold the base64 of Python's base64 module.
 
-use crate::calls::{COPYING, SAYING, Sinks, Wanted, ample, texts_come_out};
+use crate::calls::{COPYING, SAYING, Sinks, Wanted, ample, texts_come_out, verified_texts};
 use crate::texts::upstream;
 use crate::texts::upstream::{
     DIGEST_OF_TEST, KEY_BYTES, LEGACY_COMMENT_SIGNATURE, LEGACY_SIGNATURE, LEGACY_SIGNED_COMMENT,
@@ -17,10 +17,10 @@ use minisign_base::faults::NamedFault::{
     MissingPublicKeyComment, MissingUntrustedComment, ReadingFailed, SignatureRefused,
 };
 use minisign_base::toy::{ToyScheme, Triple};
-use minisign_fixtures::devices::sinks::LimitedSink;
+use minisign_fixtures::devices::sinks::{BufferedSink, LimitedSink};
 use minisign_fixtures::devices::sources::{Changes, FailsAfter, OneByOne};
 use minisign_fixtures::outcomes::Outcome::{self, Accepted, Refused};
-use minisign_fixtures::outcomes::{OTHER_KEY, holds, is_record};
+use minisign_fixtures::outcomes::{OTHER_KEY, comes_to, holds, is_record};
 use minisign_fixtures::texts::{KEY_TEXT, LEGACY_TEXT, SAID, SIGNATURE_TEXT};
 use std::alloc::Global;
 use std::process::Abort;
@@ -265,6 +265,42 @@ fn tells_a_change<A: Abort>(rt: &A, alloc: Global, second: &[u8]) {
         copied: second,
     };
     tells(rt, alloc, b"abc", second, wanted);
+}
+
+// Whether verifying `abc` comes to this over an output with a buffer, where a second reading gives
+// `second`, and this much of the copy is passed on and waits.
+fn is_buffered(
+    alloc: Global,
+    second: &[u8],
+    outcome: Outcome,
+    passed_on: &[u8],
+    waiting: &[u8],
+) -> bool {
+    let toy = ToyScheme::new();
+    let texts = (KEY_TEXT, SIGNATURE_TEXT);
+    let mut data = Changes::new(b"abc", second);
+    let mut status = BufferedSink::new(alloc);
+    let mut out = BufferedSink::new(alloc);
+    let answer = verified_texts(
+        alloc,
+        &toy,
+        texts,
+        &mut data,
+        COPYING,
+        &mut status,
+        &mut out,
+    );
+    let unsaid = status.passed_on().is_empty() && status.waiting() == SAID;
+    comes_to(&answer, outcome) && unsaid && out.passed_on() == passed_on && out.waiting() == waiting
+}
+
+// The copy is flushed once the digests are compared, and the status never.
+#[test]
+fn data_that_changed_is_not_flushed(rt: HostRuntime) {
+    let alloc = rt.alloc();
+    assert!(rt; is_buffered(alloc, b"abc", Accepted, b"abc", b""));
+    assert!(rt; is_buffered(alloc, b"abd", CHANGED, b"", b"abd"));
+    assert!(rt; is_buffered(alloc, b"", CHANGED, b"", b""));
 }
 
 // What a second reading gives is copied as it comes, and told from the first once it is whole; an

@@ -93,6 +93,7 @@ fn long_lines_are_cut_and_refused(rt: HostRuntime) {
         (1024usize, b'a', "\n", Accepted, 0usize),
         (1024, b'a', "\r\n", Accepted, 0),
         (1024, b'a', "", Accepted, 0),
+        (1025, b'a', "", Refused(PasswordTooLong), 0),
         (1025, b'a', "\n", Refused(PasswordTooLong), 0),
         (1025, b'a', "\r\n", Refused(PasswordTooLong), 1),
         (1024, b'a', "\r", Refused(PasswordTooLong), 0),

@@ -1,5 +1,5 @@
 //! Key derivation whose result is right or is out of memory, whichever growth is refused: with
-//! ample memory each test sees its call succeed, and `tests/refused_memory.py` runs it with each of
+//! ample memory each test sees its call succeed, and `tests/library/refused_memory.py` runs it with each of
 //! its requests refused in turn, and counts them.
 //!
 //! The keys are those of RFC 7914, section 12.

@@ -1,6 +1,14 @@
-use Rattle.std.proofs.Common.{string_bytes}
-use Rattle.minisign.proofs.Commented.{ahead_refused, ahead_vouched}
+use Rattle.std.proofs.Common.{arith, string_bytes, false, sym}
+use Rattle.std.proofs.lemmas.Bool.{true≢false}
+use Rattle.minisign.proofs.Commented.{ahead_refused, ahead_vouched, comment_verdict}
 use Rattle.minisign.proofs.calls.verify_reader.Goals as goal
+
+pub returns-clause-headline : goal.returns-clause-headline
+returns-clause-headline g c = λ message told calm.
+    comment_verdict string_bytes (g.S.Scheme.accepts c.args.scheme.now) c.args.pk_text.now c.args.sig_text.now message false c.verify_with.result
+    (λ memory. c.verify_with.ensures.headline message told memory calm (λ rose. omega (arith, rose)) (λ rose. omega (arith, rose))
+    (λ wanted. absurd (true≢false (sym wanted))))
+    c.verify_with.ensures.comment
 
 pub returns-clause-vouched : goal.returns-clause-vouched
 returns-clause-vouched g c =

@@ -1,8 +1,10 @@
 use Rattle.std.proofs.Common.{string_bytes}
+use Rattle.minisign_base.specs.Passages.{rereader_passage}
 use Rattle.minisign.proofs.Commented.{file_verdict}
 use Rattle.minisign.proofs.calls.verify_untold.Goals as goal
 
 pub returns : goal.returns
 returns g c =
-    file_verdict string_bytes (g.S.Scheme.accepts c.args.scheme.now) c.args.pk_text.now c.args.sig_text.now _ c.verify_reader.result
+    file_verdict string_bytes (g.S.Scheme.accepts c.args.scheme.now) c.args.pk_text.now c.args.sig_text.now
+    (rereader_passage g.R.Source g.R.Rereader.steady c.args.data_reader.now c.verify_reader.new.data_reader) c.verify_reader.result
     c.verify_reader.ensures.vouched c.verify_reader.ensures.refused

@@ -1,9 +1,25 @@
 use Rattle.std.proofs.Common.{◌≡◌, inl, inr, sym, ◌∙◌, subst}
-use Rattle.std.proofs.lemmas.Result.{IfErr-weaker}
+use Rattle.std.proofs.lemmas.Result.{IfErr-weaker, on_ok_weaker}
 use Rattle.minisign_hash.specs.Blake2b.{blake2b_digest}
 use Rattle.minisign_base.specs.Devices.{Rose}
 use Rattle.minisign.proofs.Copies.{all_kept, different, not_different}
 use Rattle.minisign.proofs.copying.copy_again.Goals as goal
+
+pub returns-clause-copied : goal.returns-clause-copied
+returns-clause-copied g c =
+    let (second, read, all, digest, since) = c.in_ok-second.ensures.copied in
+    let equal = not_different c.in_ok-second.second c.args.digest.now c.if-ne.ensures in
+    let taken = all_kept (g.O.Sink.taken c.args.out.now) (g.O.Sink.taken c.copy_hashed.new.out) (g.O.Sink.taken c.flush.new.out) second all c.flush.ensures.bytes in
+    on_ok_weaker c.flush.result (λ flushed. record {
+      second = second;
+      returned = record { returned = c.go_back.new.data_reader; given = read.given; same = c.in_ok-go_back.ensures.returned; left = c.copy_hashed.ensures.given };
+      given = since;
+      end = read.end;
+      marked = c.copy_hashed.ensures.marked ∙ c.in_ok-go_back.ensures.marked;
+      all = taken;
+      flushed = flushed;
+      unchanged = sym digest ∙ equal;
+    }) c.flush.ensures.flushed
 
 pub returns-clause-refused : goal.returns-clause-refused
 returns-clause-refused g c =
@@ -31,6 +47,7 @@ returns-then-ne-clause-refused g c =
       inr (inl (record {
         given = since;
         all = all;
+        unflushed = c.in_ok-second.ensures.unflushed;
         fault = c.into.ensures;
         changed = λ same. different _ _ c.if-ne.ensures (digest ∙ same);
       })),

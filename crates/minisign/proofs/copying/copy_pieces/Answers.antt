@@ -11,6 +11,7 @@ pieces-preserved g c =
     record {
       calm = c.in-Ok.ensures.calm ∙ c.pieces.invariant.calm;
       out_calm = c.in_ok-put_bytes-in-Ok.ensures.calm ∙ c.pieces.invariant.out_calm;
+      unflushed = c.in_ok-put_bytes-in-Ok.ensures.unflushed ∙ c.pieces.invariant.unflushed;
       marked = c.in-Ok.ensures.marked ∙ c.pieces.invariant.marked;
       mark = c.in-Ok.ensures.mark ∙ c.pieces.invariant.mark;
       unfinished = c.update.ensures.finalized;

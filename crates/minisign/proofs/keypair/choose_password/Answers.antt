@@ -1,9 +1,12 @@
-use Rattle.std.proofs.Common.{Bool, true, false, not, ◌≡◌, string_bytes, sym, inl, inr, refl}
-use Rattle.std.specs.String.{string_eq}
+use Rattle.std.proofs.Common.{Bool, true, false, not, ◌≡◌, ◌∷◌, ◌++◌, [], string_bytes, sym, inl, inr, refl}
 use Rattle.std.proofs.lemmas.Slice.Eq.{bytes_eq-Decides}
-use Rattle.std.proofs.lemmas.Result.{err_from_is_err_and}
-use Rattle.minisign.specs.NewPassword.{purpose_line, second_question}
+use Rattle.minisign_base.specs.Passages.{prompt_passage}
+use Rattle.minisign_base.specs.PromptLaws.{held_both, stopped_first, stopped_second, typed_is}
+use Rattle.minisign_base.specs.Prompts.{Test, asking, typed}
+use Rattle.minisign.proofs.Beginnings.{passed_up}
+use Rattle.minisign.specs.NewPassword.{difference, purpose_line, second_question}
 use Rattle.minisign.specs.Opening.{asking_text}
+use Rattle.minisign.proofs.Choosing.{two_agree, two_differ}
 use Rattle.minisign.proofs.keypair.choose_password.Goals as goal
 
 not_false : (b : Bool) → false ≡ not b → b ≡ true
@@ -13,56 +16,76 @@ not_false false h = cc
 pub returns-in_err-password-clause-refused : goal.returns-in_err-password-clause-refused
 unfolding purpose_line asking_text
 returns-in_err-password-clause-refused g c =
-    let p = err_from_is_err_and c.from_residual-in_err-password.result c.from_residual-in_err-password.ensures.1 in
-    rw (p.1, p.2) (inr (inl (record {
-      begun = c.say.new.self;
-      said = c.in_ok-say.ensures.said;
-      asking = c.in_err-password.ensures.refused;
-    })))
+    let (first, stopped) = c.in_err-password.ensures.refused in
+    let p = prompt_passage g.R.Source g.W.Sink c.say.new.self c.get_password.new.prompt in
+    passed_up c.from_residual-in_err-password.result c.in_err-password.field-0.0 _ c.from_residual-in_err-password.ensures.1 (
+      first,
+      [],
+      inr (
+        c.say.new.self,
+        c.in_ok-say.ensures.said,
+        stopped_first p (asking asking_text first) (asking second_question [] ++ Test (difference (typed first) (typed [])) ∷ []) _ stopped,
+      ),
+    )
 
 pub returns-in_err-again-clause-refused : goal.returns-in_err-again-clause-refused
 unfolding purpose_line asking_text second_question
 returns-in_err-again-clause-refused g c =
-    let p = err_from_is_err_and c.from_residual-in_err-again.result c.from_residual-in_err-again.ensures.1 in
-    rw (p.1, p.2) (inr (inr (inl (record {
-      begun = c.say.new.self;
-      between = c.get_password.new.prompt;
-      first_bytes = c.in_ok-password.ensures.asked.0;
-      password = string_bytes c.in_ok-password.password;
-      said = c.in_ok-say.ensures.said;
-      first = c.in_ok-password.ensures.asked.1;
-      asking = c.in_err-again.ensures.refused;
-    }))))
+    let (first, answered, asked) = c.in_ok-password.ensures.asked in
+    let (second, stopped) = c.in_err-again.ensures.refused in
+    let both = prompt_passage g.R.Source g.W.Sink c.say.new.self c.get_password-2.new.prompt in
+    let p = prompt_passage g.R.Source g.W.Sink c.get_password.new.prompt c.get_password-2.new.prompt in
+    let test = Test (difference (typed first) (typed second)) ∷ [] in
+    passed_up c.from_residual-in_err-again.result c.in_err-again.field-0.0 _ c.from_residual-in_err-again.ensures.1 (
+      first,
+      second,
+      inr (
+        c.say.new.self,
+        c.in_ok-say.ensures.said,
+        stopped_second both c.get_password.new.prompt (asking asking_text first) (asking second_question second ++ test) _ asked
+            (stopped_first p (asking second_question second) test _ stopped),
+      ),
+    )
 
 pub returns-then-ne-clause-refused : goal.returns-then-ne-clause-refused
 unfolding purpose_line asking_text second_question
 returns-then-ne-clause-refused g c =
-    inr (inr (inr (record {
-      password = string_bytes c.in_ok-password.password;
-      again = string_bytes c.in_ok-again.again;
-      asked = record {
-        begun = c.say.new.self;
-        between = c.get_password.new.prompt;
-        first_bytes = c.in_ok-password.ensures.asked.0;
-        second_bytes = c.in_ok-again.ensures.asked.0;
-        said = c.in_ok-say.ensures.said;
-        first = c.in_ok-password.ensures.asked.1;
-        second = c.in_ok-again.ensures.asked.1;
-      };
-      differ = λ e. let same : string_eq c.in_ok-password.password c.in_ok-again.again ≡ true = (bytes_eq-Decides _ _).1 e in let differs = rw same at c.if-ne.ensures in cc;
-      fault = c.into.ensures;
-    })))
+    let (first, answered, asked) = c.in_ok-password.ensures.asked in
+    let (second, answered_again, asked_again) = c.in_ok-again.ensures.asked in
+    let end = c.get_password-2.new.prompt in
+    let both = prompt_passage g.R.Source g.W.Sink c.say.new.self end in
+    let p = prompt_passage g.R.Source g.W.Sink c.get_password.new.prompt end in
+    let test = Test (difference (typed first) (typed second)) ∷ [] in (
+      first,
+      second,
+      inr (
+        c.say.new.self,
+        c.in_ok-say.ensures.said,
+        stopped_second both c.get_password.new.prompt (asking asking_text first) (asking second_question second ++ test) _ asked
+            (stopped_second p end (asking second_question second) test _ asked_again
+            (inl (two_differ first second _ _ _ (typed_is first _ answered) (typed_is second _ answered_again) c.if-ne.ensures c.into.ensures, refl))),
+      ),
+    )
 
 pub returns-clause-chosen : goal.returns-clause-chosen
 unfolding purpose_line asking_text second_question
 returns-clause-chosen g c =
+    let (first, answered, asked) = c.in_ok-password.ensures.asked in
+    let (second, answered_again, asked_again) = c.in_ok-again.ensures.asked in
     let same : string_bytes c.in_ok-again.again ≡ string_bytes c.in_ok-password.password = sym ((bytes_eq-Decides (string_bytes c.in_ok-password.password) (string_bytes c.in_ok-again.again)).0 (not_false _ c.if-ne.ensures)) in
-    record {
-      begun = c.say.new.self;
-      between = c.get_password.new.prompt;
-      first_bytes = c.in_ok-password.ensures.asked.0;
-      second_bytes = c.in_ok-again.ensures.asked.0;
-      said = c.in_ok-say.ensures.said;
-      first = c.in_ok-password.ensures.asked.1;
-      second = rw same at c.in_ok-again.ensures.asked.1;
-    }
+    let end = c.get_password-2.new.prompt in
+    let both = prompt_passage g.R.Source g.W.Sink c.say.new.self end in
+    let p = prompt_passage g.R.Source g.W.Sink c.get_password.new.prompt end in
+    let test = Test (difference (typed first) (typed second)) ∷ [] in (
+      first,
+      second,
+      answered,
+      rw same at answered_again,
+      (
+        c.say.new.self,
+        c.in_ok-say.ensures.said,
+        held_both both c.get_password.new.prompt (asking asking_text first) (asking second_question second ++ test) asked
+            (held_both p end (asking second_question second) test asked_again
+            (end, (two_agree first second _ _ (typed_is first _ answered) (typed_is second _ answered_again) c.if-ne.ensures, refl), refl)),
+      ),
+    )

@@ -1,4 +1,4 @@
-use Rattle.std.proofs.Common.{◌∷◌, ap, sym, ◌∙◌}
+use Rattle.std.proofs.Common.{◌∷◌, length, arith, ap, sym, ◌∙◌}
 use Rattle.std.specs.Str.Lines.{lines}
 use Rattle.minisign.proofs.SignatureTexts as texts
 use Rattle.minisign.proofs.signature_box.four_lines.Goals as goal
@@ -43,3 +43,7 @@ returns-clause-lines c =
       cut = start ∙ c.in-Some.ensures.some ∙ ap (λ l. a ∷ l) c.in-Some-next_line.ensures.some ∙ ap (λ l. a ∷ b ∷ l) c.in-Some-next_line-2.ensures.some
           ∙ ap (λ l. a ∷ b ∷ d ∷ l) c.in-Some-next_line-3.ensures.some;
     }
+
+pub returns-clause-size : goal.returns-clause-size
+returns-clause-size c =
+    omega (arith, ap length c.lines-lines.ensures.rest, c.in-Some.ensures.size, c.in-Some-next_line.ensures.size, c.in-Some-next_line-2.ensures.size)

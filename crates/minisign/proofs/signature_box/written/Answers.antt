@@ -3,7 +3,7 @@ use Rattle.minisign.specs.Records.{CommentsRecord, SignatureRecord, SignatureBox
 use Rattle.minisign.specs.Texts.{IsBase64Of, base64_of}
 use Rattle.minisign.specs.SignatureText.{SignatureText, EncodesSignature, comments_read_back}
 use Rattle.minisign.proofs.Base64Texts.{own_base64}
-use Rattle.minisign.proofs.SignatureTexts.{one_line, same_comments, spelled_text, written_text}
+use Rattle.minisign.proofs.SignatureTexts.{same_comments, spelled_text, written_text}
 use Rattle.minisign.proofs.signature_box.written.Goals as goal
 
 pub returns-clause-text : goal.returns-clause-text
@@ -33,4 +33,4 @@ returns-clause-reads_back c = λ keeps algorithm.
     let s : SignatureRecord = c.args.signature.now in
     let x : CommentsRecord = c.args.comments.now in
     subst (λ (y : CommentsRecord). SignatureText (string_bytes c.in_ok-text.text) (record { signature = s; comments = Some y })) (same_comments x keeps)
-    (returns-clause-reads c (one_line x keeps) algorithm)
+    (returns-clause-reads c keeps.one_line algorithm)

@@ -32,7 +32,7 @@ returns-clause-accepted g c =
     copying_succeeds (g.S.Scheme.accepts c.args.scheme.now) c.args.pk.now c.args.signature_box.now c.args.quiet c.args.allow_legacy
     g.R.Source g.R.Rereader.steady c.args.data_reader.now c.read_data.new.data_reader c.copy_out.new.data_reader _ _ message
     c.args.output c.in_ok-signed.signed holds pass (c.in_ok-judge.ensures.accepted message same) c.in_ok-say.ensures.said
-    c.copy_out.result c.in_ok-say.ensures.calm c.copy_out.ensures.calm c.copy_out.ensures.out_calm c.copy_out.ensures.copied
+    c.copy_out.result c.in_ok-say.ensures.calm c.say.ensures.unflushed c.copy_out.ensures.calm c.copy_out.ensures.out_calm c.copy_out.ensures.copied
 
 pub returns-clause-refused : goal.returns-clause-refused
 returns-clause-refused g c =

@@ -1,31 +1,76 @@
-use Rattle.std.proofs.Common.{◌≡◌, [], Ok, string_bytes, inr, sym, ap, ◌∙◌, subst}
-use Rattle.std.specs.Io.KnownBytes.{Appends}
-use Rattle.std.proofs.lemmas.Result.{err_from_is_err_and}
-use Rattle.minisign_base.specs.Devices.{Rose}
-use Rattle.minisign_base.specs.Passages.{source_passage}
-use Rattle.minisign_base.specs.Prompts.{HasReadLine}
-use Rattle.minisign_base.specs.SinkLaws.{AppendsFront-after}
+use Rattle.std.proofs.Common.{[], inl, inr, refl, sym, ap, subst, ⊎_elim}
+use Rattle.std.specs.Result.{result_err}
+use Rattle.minisign_base.specs.Passages.{prompt_passage}
+use Rattle.minisign_base.specs.Prompts.{HasHeld, HasStopped, marking}
+use Rattle.minisign_base.specs.PromptLaws.{typed_is}
+use Rattle.minisign_base.proofs.HandedOn.{handed_on}
 use Rattle.minisign_base.proofs.helpers.get_password.Goals as goal
+
+pub returns-in_err-say-clause-refused : goal.returns-in_err-say-clause-refused
+returns-in_err-say-clause-refused g c =
+    handed_on c.from_residual-in_err-say.result c.in_err-say.field-0.0 _ c.from_residual-in_err-say.ensures.1
+    ([], inr (c.args.prompt.now, refl, inl c.in_err-say.ensures.refused))
+
+pub returns-in_err-password-clause-refused : goal.returns-in_err-password-clause-refused
+returns-in_err-password-clause-refused g c =
+    let begun = c.args.prompt.now in
+    let said = c.say.new.self in
+    let writer = c.read_password.ensures.writer in
+    handed_on c.from_residual-in_err-password.result c.in_err-password.field-0.0 _ c.from_residual-in_err-password.ensures.1 (⊎_elim
+    (λ (is, failed). ([], inr (begun, refl, inr (said, c.in_ok-say.ensures.said, inl (is, failed, writer)))))
+    (λ (bytes, read, none). (bytes, inr (begun, refl, inr (said, c.in_ok-say.ensures.said, inr (c.read_password.new.self, (read, writer), inl (ap result_err none, refl))))))
+    c.in_err-password.ensures.refused)
 
 pub returns-in_err-mark_empty-clause-refused : goal.returns-in_err-mark_empty-clause-refused
 returns-in_err-mark_empty-clause-refused g c =
     let (bytes, read, answered) = c.in_ok-password.ensures.password in
-    let failed = c.mark_empty.new.self in
-    let begun = subst (λ r. HasReadLine (source_passage g.R.Source r c.read_password.new.self.reader) bytes) c.in_ok-say.ensures.said.reader read in
-    let ended = subst (λ r. HasReadLine (source_passage g.R.Source c.args.prompt.now.reader r) bytes) (sym c.in_err-mark_empty.ensures.reader) begun in
-    let none : string_bytes c.in_ok-password.password ≡ [] = sym c.deref.ensures ∙ c.in_err-mark_empty.ensures.empty in
-    let said = subst (λ w. Appends (g.W.Sink.taken c.args.prompt.now.writer) (g.W.Sink.taken w) c.args.text.now) (sym c.in_ok-password.ensures.writer) c.in_ok-say.ensures.said.written in
-    let calm = ap g.W.Sink.sink_faults c.in_ok-password.ensures.writer ∙ c.in_ok-say.ensures.said.calm in
-    let p = err_from_is_err_and c.from_residual-in_err-mark_empty.result c.from_residual-in_err-mark_empty.ensures.1 in
-    rw (p.1, p.2) (inr (inr (inr (inr (
-      c.in_err-mark_empty.ensures.refused.0,
-      (
-        bytes,
-        record {
-          read = ended;
-          password = answered ∙ ap Ok none;
-          fault = subst (λ n. Rose n (g.W.Sink.sink_faults failed.writer)) calm c.in_err-mark_empty.ensures.refused.1.fault;
-          front = AppendsFront-after _ _ _ _ _ said c.in_err-mark_empty.ensures.refused.1.front;
-        },
+    let failed = rw c.deref.ensures at c.in_err-mark_empty.ensures.refused in
+    let said = c.say.new.self in
+    let heard = c.read_password.new.self in
+    handed_on c.from_residual-in_err-mark_empty.result c.in_err-mark_empty.field-0.0 _ c.from_residual-in_err-mark_empty.ensures.1 (
+      bytes,
+      inr (
+        c.args.prompt.now,
+        refl,
+        inr (
+          said,
+          c.in_ok-say.ensures.said,
+          inr (
+            heard,
+            (read, c.read_password.ensures.writer),
+            inr (
+              heard,
+              (ap result_err answered, refl),
+              subst (λ password. HasStopped (prompt_passage g.R.Source g.W.Sink heard c.mark_empty.new.self) (marking password) c.in_err-mark_empty.field-0.0)
+                  (sym (typed_is bytes _ answered)) failed,
+            ),
+          ),
+        ),
       ),
-    )))))
+    )
+
+pub returns-clause-asked : goal.returns-clause-asked
+returns-clause-asked g c =
+    let (bytes, read, answered) = c.in_ok-password.ensures.password in
+    let marked = rw c.deref.ensures at c.in_ok-mark_empty.ensures.marked in
+    let heard = c.read_password.new.self in (
+      bytes,
+      answered,
+      (
+        c.args.prompt.now,
+        refl,
+        (
+          c.say.new.self,
+          c.in_ok-say.ensures.said,
+          (
+            heard,
+            (read, c.read_password.ensures.writer),
+            (
+              heard,
+              (ap result_err answered, refl),
+              subst (λ password. HasHeld (prompt_passage g.R.Source g.W.Sink heard c.mark_empty.new.self) (marking password)) (sym (typed_is bytes _ answered)) marked,
+            ),
+          ),
+        ),
+      ),
+    )

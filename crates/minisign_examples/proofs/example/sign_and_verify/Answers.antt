@@ -3,12 +3,11 @@ use Rattle.minisign.specs.Headline.{TextsVouchFor}
 use Rattle.minisign.specs.PublicKeyText.{PublicKeyText, public_key_text}
 use Rattle.minisign.specs.SignatureText.{SignatureText}
 use Rattle.minisign_examples.proofs.Refusals.{passed_up}
-use Rattle.minisign_examples.proofs.SignedPairs.{lines_of}
 use Rattle.minisign_examples.proofs.example.sign_and_verify.Goals as goal
 
 pub returns-in_err-verify_bytes-clause-genuine : goal.returns-in_err-verify_bytes-clause-genuine
 returns-in_err-verify_bytes-clause-genuine g c seed genuine key keynum =
-    let (x, read, each) = c.in_ok-sig_text.ensures.headline seed genuine (lines_of _ c.in_ok-sig_text.ensures.defaults) in
+    let (x, read, each) = c.in_ok-sig_text.ensures.headline seed genuine c.default_comments_are_read_back.ensures.one_line in
     passed_up c.from_residual-in_err-verify_bytes.result c.in_err-verify_bytes.field-0.0 _ c.from_residual-in_err-verify_bytes.ensures.1
     (⊎_elim inl
     (λ refused. absurd (refused.unvouched (record {

@@ -1,23 +1,19 @@
-use Rattle.std.proofs.Common.{false, string_bytes}
-use Rattle.minisign.specs.Calls.{TextsVouchWith}
-use Rattle.minisign.specs.Headline.{TextsRefuse}
-use Rattle.minisign_install.proofs.Found.{judged_told, refused_told, some_refused, some_vouched}
+use Rattle.std.proofs.Common.{refl}
+use Rattle.minisign_install.proofs.Counts.{reading_counted, reading_else}
 use Rattle.minisign_install.proofs.installing.judge_stage.Goals as goal
 
-pub returns-clause-vouched : goal.returns-clause-vouched
-returns-clause-vouched g c =
-    judged_told _ _ _ (λ m t. TextsVouchWith (g.S.Scheme.accepts c.args.scheme.now) c.args.wanted.pk_text.now c.args.wanted.sig_text.now m false (string_bytes t))
-    c.judge.result c.new.ensures c.judge.ensures.vouched
+pub returns-then-is_reading_failed-clause-refused : goal.returns-then-is_reading_failed-clause-refused
+returns-then-is_reading_failed-clause-refused g c = λ told.
+    reading_counted g.F.Folder.read_fails _ _ _ _ c.count_fault.ensures.counted (c.in-Err.ensures.refused told)
 
-pub returns-clause-refused : goal.returns-clause-refused
-returns-clause-refused g c =
-    refused_told _ _ _ (λ m e. TextsRefuse (g.S.Scheme.accepts c.args.scheme.now) c.args.wanted.pk_text.now c.args.wanted.sig_text.now m false e)
-    c.judge.result c.new.ensures c.judge.ensures.refused
+pub returns-then-is_reading_failed-clause-causes : goal.returns-then-is_reading_failed-clause-causes
+returns-then-is_reading_failed-clause-causes g c =
+    reading_counted g.F.Folder.read_fails _ _ _ _ c.count_fault.ensures.counted c.in-Err.ensures.causes
 
-pub returns-clause-some : goal.returns-clause-some
-returns-clause-some g c =
-    some_vouched _ (λ m t. TextsVouchWith (g.S.Scheme.accepts c.args.scheme.now) c.args.wanted.pk_text.now c.args.wanted.sig_text.now m false (string_bytes t)) c.judge.result c.judge.ensures.vouched
+pub returns-else-is_reading_failed-clause-refused : goal.returns-else-is_reading_failed-clause-refused
+returns-else-is_reading_failed-clause-refused g c = λ told.
+    reading_else g.F.Folder.read_fails _ _ _ _ _ c.if-is_reading_failed.ensures refl (c.in-Err.ensures.refused told)
 
-pub returns-clause-causes : goal.returns-clause-causes
-returns-clause-causes g c =
-    some_refused _ (λ m e. TextsRefuse (g.S.Scheme.accepts c.args.scheme.now) c.args.wanted.pk_text.now c.args.wanted.sig_text.now m false e) c.judge.result c.judge.ensures.refused
+pub returns-else-is_reading_failed-clause-causes : goal.returns-else-is_reading_failed-clause-causes
+returns-else-is_reading_failed-clause-causes g c =
+    reading_else g.F.Folder.read_fails _ _ _ _ _ c.if-is_reading_failed.ensures refl c.in-Err.ensures.causes

@@ -5,4 +5,4 @@ pub returns-clause-works : goal.returns-clause-works
 returns-clause-works g c = λ name stage.
     let file = g.F.Handle.Handle.file c.args.handle.now in
     let first = c.in_ok-write_all.ensures.works name stage in
-    works_trans name file _ _ _ first (settle_works name file _ _ first.stage c.settle.result (c.settle.ensures first.stage.told))
+    works_trans name file _ _ _ first (settle_works name file _ _ first.stage c.settle.result (c.settle.ensures.settled first.stage.told))

@@ -23,6 +23,7 @@ returns-clause-accepted g c =
       copy = record {
         copy = copied.copy;
         taken = copied.all;
+        flushed = copied.flushed;
         vouched = record { key = h.key; box = h.box; key_read = h.read.key_read; box_read = h.read.box_read; vouches = copied.vouched };
       };
     })

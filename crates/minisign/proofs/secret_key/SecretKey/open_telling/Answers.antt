@@ -1,35 +1,36 @@
-use Rattle.std.proofs.Common.{Option, ap, sym, ◌∙◌, inl}
+use Rattle.std.proofs.Common.{Option, ap, sym, ◌∙◌, inl, inr, refl, ⊎_elim}
 use Rattle.std.specs.Option.{option_or}
 use Rattle.minisign_base.specs.Fault.{Fault, Named}
 use Rattle.minisign_base.specs.declared.faults.NamedFault.TheVariants.{WrongPassword}
-use Rattle.minisign_base.specs.Passages.{prompt_passage}
-use Rattle.minisign_base.specs.Prompts.{HasNotSaid, HasSaid}
+use Rattle.minisign.proofs.Beginnings.{passed_up}
 use Rattle.minisign.specs.Sealing.{checksum_refusal, xored_key}
-use Rattle.std.proofs.lemmas.Result.{err_from_is_err_and}
-use Rattle.minisign.proofs.Asking.{derivation_told, end_told, said_both}
 use Rattle.minisign.proofs.secret_key.SecretKey.open_telling.Goals as goal
 
 pub returns-in_err-say_deriving-clause-refused : goal.returns-in_err-say_deriving-clause-refused
 returns-in_err-say_deriving-clause-refused g c =
-    let p = err_from_is_err_and c.from_residual.result c.from_residual.ensures.1 in rw (p.1, p.2) (inl c.in_err-say_deriving.ensures.refused)
+    passed_up c.from_residual.result c.in_err-say_deriving.field-0.0 _ c.from_residual.ensures.1 (inl c.in_err-say_deriving.ensures.refused)
 
 pub returns-in_err-apply_stream-clause-refused : goal.returns-in_err-apply_stream-clause-refused
 returns-in_err-apply_stream-clause-refused g c =
-    let p = err_from_is_err_and c.from_residual-in_err-apply_stream.result c.from_residual-in_err-apply_stream.ensures.1 in
-    rw (p.1, p.2) (derivation_told (HasSaid (prompt_passage g.R.Source g.W.Sink c.args.prompt.now c.say_deriving.new.prompt))
-    (HasNotSaid (prompt_passage g.R.Source g.W.Sink c.args.prompt.now c.say_deriving.new.prompt)) c.args.self c.args.password.now c.args.bound _ c.in_err-apply_stream.ensures.refused c.in_ok-say_deriving.ensures.said)
+    let said = c.say_deriving.new.prompt in
+    passed_up c.from_residual-in_err-apply_stream.result c.in_err-apply_stream.field-0.0 _ c.from_residual-in_err-apply_stream.ensures.1 (⊎_elim
+    (λ (memory, work). inr (said, c.in_ok-say_deriving.ensures.said, inr (said, (work, refl), inl (memory, refl))))
+    (λ work. inr (said, c.in_ok-say_deriving.ensures.said, inl (work, refl)))
+    c.in_err-apply_stream.ensures.refused)
 
 pub returns-in_err-finish_telling-clause-refused : goal.returns-in_err-finish_telling-clause-refused
 returns-in_err-finish_telling-clause-refused g c =
-    let p = err_from_is_err_and c.from_residual-in_err-finish_telling.result c.from_residual-in_err-finish_telling.ensures.1 in
+    let said = c.say_deriving.new.prompt in
     let refused = rw c.in_ok-apply_stream.ensures.xored at c.in_err-finish_telling.ensures.refused in
-    rw (p.1, p.2) (end_told (prompt_passage g.R.Source g.W.Sink c.args.prompt.now c.finish_telling.new.prompt) c.say_deriving.new.prompt c.args.self c.args.password.now c.args.bound _
-    c.in_ok-apply_stream.ensures.allowed c.in_ok-say_deriving.ensures.said refused)
+    passed_up c.from_residual-in_err-finish_telling.result c.in_err-finish_telling.field-0.0 _ c.from_residual-in_err-finish_telling.ensures.1
+    (inr (said, c.in_ok-say_deriving.ensures.said, inr (said, (c.in_ok-apply_stream.ensures.allowed, refl), inr (said, refl, refused))))
 
 pub returns-clause-opened : goal.returns-clause-opened
 returns-clause-opened g c =
-    let restored = ap (λ k. checksum_refusal k (Named WrongPassword)) (sym c.in_ok-apply_stream.ensures.xored) ∙ c.in_ok-finish_telling.ensures.restored in (
+    let said = c.say_deriving.new.prompt in
+    let restored = ap (λ k. checksum_refusal k (Named WrongPassword)) (sym c.in_ok-apply_stream.ensures.xored) ∙ c.in_ok-finish_telling.ensures.restored in
+    let ended = rw c.in_ok-apply_stream.ensures.xored at c.in_ok-finish_telling.ensures.held in (
       c.in_ok-apply_stream.ensures.xored,
       ap (λ (o : Option Fault). option_or o (checksum_refusal (xored_key c.args.self c.args.password.now) (Named WrongPassword))) c.in_ok-apply_stream.ensures.allowed ∙ restored,
-      said_both (prompt_passage g.R.Source g.W.Sink c.args.prompt.now c.finish_telling.new.prompt) c.say_deriving.new.prompt _ _ c.in_ok-say_deriving.ensures.said c.in_ok-finish_telling.ensures.said,
+      (said, c.in_ok-say_deriving.ensures.said, (said, (c.in_ok-apply_stream.ensures.allowed, refl), (said, refl, ended))),
     )

@@ -1,0 +1,12 @@
+/*
+ * What is to be done however the program ends, also where a signal ends it: secrets are cleared, and what is not in its
+ * place yet is taken away.
+ */
+#ifndef ENDING_H
+#define ENDING_H
+
+/* Has `clean` called once when the program ends. A signal may come at any moment, so it makes calls of the system and
+ * writes memory, and nothing else. */
+void clean_at_end(void (*clean)(void));
+
+#endif

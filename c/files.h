@@ -1,0 +1,58 @@
+/*
+ * Reading and writing files. Each function ends the program with TROUBLE and a line on the error
+ * stream where it cannot do what it is named for.
+ */
+#ifndef FILES_H
+#define FILES_H
+
+#include <stddef.h>
+#include <stdint.h>
+#include <stdio.h>
+
+#include "minisign.h"
+
+/* Exit statuses, as Minisign has them. */
+enum { GOOD = 0, BAD = 1, TROUBLE = 2 };
+
+#define TEXT_BYTES 65536
+
+/* The text of a key or a signature, shorter than TEXT_BYTES. */
+struct text {
+    uint8_t bytes[TEXT_BYTES];
+    size_t len;
+};
+
+/* Data that is held as a whole, in memory of malloc. */
+struct held {
+    uint8_t *bytes;
+    size_t len;
+};
+
+_Noreturn void fail(const char *line);
+
+/* With the reason that errno names. */
+_Noreturn void fail_at(const char *file);
+
+int open_file(const char *file);
+
+/* Reads so many bytes, and fewer only at the end of the file. */
+size_t read_full(int fd, const char *file, uint8_t *at, size_t room);
+
+void read_text(struct text *text, const char *file);
+
+/* Feeds the bytes to the state, which was begun and has not asked. */
+void feed(minisign_state *state, const uint8_t *bytes, size_t len);
+
+/* Feeds the file to the state, from where it stands to its end, and copies it where a copy is wanted. */
+void feed_file(minisign_state *state, int fd, const char *file, FILE *copy);
+
+/* Reads the file from where it stands to its end. */
+struct held hold_file(int fd, const char *file);
+
+/* Writes all that was printed so far. */
+void flush_file(FILE *to);
+
+/* The name of a file with these letters behind it. */
+const char *name_beside(const char *file, const char *suffix);
+
+#endif

@@ -1,0 +1,47 @@
+/*
+ * Secret keys: how one is opened, and minisign -G, -R and -C.
+ */
+#ifndef KEYS_H
+#define KEYS_H
+
+#include <stddef.h>
+#include <stdint.h>
+
+#include "minisign.h"
+#include "options.h"
+#include "terminal.h"
+
+/* A text of a secret key has to be shorter. */
+#define SECRET_TEXT_BYTES 8192
+
+/*
+ * All that is secret, in pages of their own that the system is asked to keep in memory and out of core files, and
+ * that are cleared when the program ends, also by a signal.
+ */
+struct secrets {
+    /* The text of the file, and then that of the open key, or of what is written in the file's place. */
+    uint8_t text[SECRET_TEXT_BYTES];
+    size_t text_len;
+    /* The secret key and its identifier, once it is open. */
+    minisign_signing open;
+    struct password password, again;
+};
+
+extern struct secrets *secrets;
+
+/* Has to be called before all else here. */
+void begin_secrets(void);
+
+/* Reads the secret key and opens it, with its password where it is sealed, into `secrets`. Ends the program where it
+ * does not open. */
+void open_key(const struct options *options);
+
+/* Makes the text in `secrets` that of the open key, so that one derivation is enough for many files. */
+void keep_open_text(void);
+
+/* The commands: each answers the exit status. */
+int generate_keys(const struct options *options);
+int recreate_public_key(const struct options *options);
+int change_password(const struct options *options);
+
+#endif

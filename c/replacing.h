@@ -1,0 +1,46 @@
+/*
+ * Files that are replaced in one step: whoever looks finds the older file or the new one, whole, also after a kill.
+ */
+#ifndef REPLACING_H
+#define REPLACING_H
+
+#include <stdbool.h>
+#include <stddef.h>
+#include <stdint.h>
+
+/* What a file is. A new secret key is for its owner alone; what takes the place of an older file gets its mode, owner and
+ * access list. Keys, and what replaces an older file, are brought to the disk before they are put in their place, so that
+ * a loss of power leaves the older file or the new one, whole. The new name of a key is brought there too, so that the key
+ * is not lost once the program has ended well. A new signature is not brought there, as it can be made again. */
+enum kind { SECRET_KEY, PUBLIC_KEY, SIGNATURE };
+
+/* A file that is written beside its place. */
+struct stage;
+
+/*
+ * Writes a file beside the place that is named, whole. A link is followed; what is no regular file,
+ * such as a pipe or a device, is its own stage and is written at once. Ends the program where that is not possible,
+ * and then nothing is left of it.
+ */
+struct stage *stage_file(const char *file, enum kind kind, const uint8_t *bytes, size_t len);
+
+/* Puts a staged file in its place. Where older ones are to stay and there is one now, it answers false and nothing
+ * is left of the stage. */
+bool put_in_place(struct stage *stage, bool over_older);
+
+/* The two in one. */
+void replace_file(const char *file, enum kind kind, const uint8_t *bytes, size_t len);
+
+/*
+ * The same for one of many files. One that has to be brought to the disk first waits for others, up to a certain number, so
+ * that the disk is asked once for all of them. `replace_waiting` puts all that wait in their places, in their order. Where the
+ * program ends early this is done, too, but not where a signal ends it.
+ */
+void replace_soon(const char *file, enum kind kind, const uint8_t *bytes, size_t len);
+void replace_waiting(void);
+
+/* Has to be called before this file is read: what waits goes first where the file is to be replaced itself, or where it may
+ * take a while to read. */
+void replace_before_reading(const char *file);
+
+#endif

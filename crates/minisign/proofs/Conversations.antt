@@ -1,0 +1,43 @@
+-- Conversations that are known from outside (docs/FORMATS.md), so that a wrong definition does not check: what they
+-- write, and which passwords differ.
+use Rattle.std.proofs.Common.{◌≡◌, ℕ, List, [], ◌∷◌, ◌++◌, None, Some, codes, refl}
+use Rattle.std.specs.Str.{chars, is_utf8}
+use lib.Utf8.{encode}
+use Rattle.minisign_base.specs.Fault.{Named}
+use Rattle.minisign_base.specs.declared.faults.NamedFault.TheVariants.{PasswordsDiffer}
+use Rattle.minisign_base.specs.PromptLaws.{written}
+use Rattle.minisign_base.specs.Prompts.{accepted_line, first_line, password_of, typed}
+use Rattle.minisign.specs.NewPassword.{choosing, difference, purpose_line, sealing, sealing_text, second_question}
+use Rattle.minisign.specs.Opening.{asking_text, deriving_text, done_text, opening}
+use Rattle.minisign.specs.Records.{SecretKeyRecord}
+
+-- a line and its line feed
+abbrev typing : List ℕ → List ℕ
+typing line = line ++ 10 ∷ []
+
+-- a key is sealed under a password that is typed twice
+pub written_while_sealing : written (choosing (typing (codes "one")) (typing (codes "one")) ++ sealing)
+    ≡ codes "Please enter a password to protect the secret key.\nPassword: Password (one more time): Deriving a key from the password in order to encrypt the secret key... done\n"
+unfolding password_of first_line accepted_line is_utf8 chars encode purpose_line asking_text second_question sealing_text done_text
+written_while_sealing = refl
+
+-- an empty password is shown each time
+pub written_for_empty_passwords : written (choosing (typing []) (typing []))
+    ≡ codes "Please enter a password to protect the secret key.\nPassword: <empty>\nPassword (one more time): <empty>\n"
+unfolding password_of first_line accepted_line is_utf8 chars encode purpose_line asking_text second_question
+written_for_empty_passwords = refl
+
+-- a key is opened
+pub written_while_opening : (k : SecretKeyRecord) → written (opening k None (typing (codes "one")))
+    ≡ codes "Password: Deriving a key from the password and decrypting the secret key... done\n"
+unfolding password_of first_line accepted_line is_utf8 chars encode asking_text deriving_text done_text
+written_while_opening k = refl
+
+-- the second password is another one
+pub other_password : difference (typed (typing (codes "one"))) (typed (typing (codes "two"))) ≡ Some (Named PasswordsDiffer)
+unfolding password_of first_line accepted_line is_utf8 chars encode
+other_password = refl
+
+pub same_password : difference (typed (typing (codes "one"))) (typed (typing (codes "one"))) ≡ None
+unfolding password_of first_line accepted_line is_utf8 chars encode
+same_password = refl

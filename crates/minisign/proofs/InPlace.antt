@@ -1,0 +1,107 @@
+-- Texts that are read where they lie: what the front of decoded bytes tells, and what is read of four lines.
+use Rattle.std.proofs.Common.{◌≡◌, take-take, ℕ, ◌<◌, ◌≤◌, min, true, List, ◌++◌, length, take, drop, refl, sym, ap, subst, ◌∙◌, arith, IfOk, IfErr, MatchResult}
+use Rattle.std.specs.declared.option.Option.TheVariants.{None, Some}
+use Rattle.std.specs.declared.result.Result.{Result}
+use Rattle.std.specs.declared.result.Result.TheVariants.{Ok, Err}
+use Rattle.std.specs.Str.{trim}
+use Rattle.std.proofs.Math.Bool.{cond}
+use Rattle.std.proofs.Math.Logic.{⊎_elim}
+use Rattle.std.proofs.lemmas.Bool.{cases_lt, le-leb, lt-leb}
+use Rattle.std.proofs.lemmas.List.{append_assoc, length-take-le, take-append-drop}
+use Rattle.minisign_base.specs.Fault.{Fault}
+use Rattle.minisign.specs.InPlace.{IsViewOf, SignatureViewRecord, first_64}
+use Rattle.minisign.specs.PublicKeyText.{EncodesPublicKey}
+use Rattle.minisign.specs.Records.{IsKnownAlgorithm, PublicKeyRecord, ReadsPublicKey, ReadsSignature, SignatureBoxRecord, SignatureRecord, public_key_bytes, signature_bytes}
+use Rattle.minisign.specs.SignatureText.{EncodesSignature, HasFourLines, SignatureText, signature_refusal, trusted_comment_label}
+use Rattle.minisign.specs.Texts.{IsBase64Of, base64_bytes, is_base64, line_at, untrusted_comment_label}
+use Rattle.minisign.proofs.Base64Pieces.{length_base64}
+use Rattle.minisign.proofs.Base64Texts.{short_of}
+use Rattle.minisign.proofs.RecordFields.{stored_length}
+use Rattle.minisign.proofs.SignatureTexts.{no_refusal, one_signature_text}
+
+-- a record that the front of bytes begins with, the bytes begin with
+longer : (bytes record_bytes rest : List ℕ) (n : ℕ) → take n bytes ≡ record_bytes ++ rest → bytes ≡ record_bytes ++ (rest ++ drop n bytes)
+longer bytes record_bytes rest n front =
+    sym (take-append-drop n bytes) ∙ ap (λ (x : List ℕ). x ++ drop n bytes) front ∙ append_assoc record_bytes rest (drop n bytes)
+
+-- what the front of the decoded bytes is read as
+module _ (text room bytes : List ℕ) (n : ℕ) (base64 : IsBase64Of text bytes) (front : take n room ≡ take n bytes) where
+  pub encoded_key : (k : PublicKeyRecord) → ReadsPublicKey (take n room) k → EncodesPublicKey text k
+  encoded_key k h = record {
+    bytes = bytes;
+    base64 = base64;
+    reads = record {
+      algorithm_length = h.algorithm_length;
+      keynum_length = h.keynum_length;
+      key_length = h.key_length;
+      front = (h.front.0 ++ drop n bytes, longer bytes (public_key_bytes k) h.front.0 n (sym front ∙ h.front.1));
+    };
+  }
+
+  pub encoded_signature : (s : SignatureRecord) → ReadsSignature (take n room) s → EncodesSignature text s
+  encoded_signature s h = record {
+    bytes = bytes;
+    base64 = base64;
+    reads = record {
+      algorithm_length = h.algorithm_length;
+      keynum_length = h.keynum_length;
+      signature_length = h.signature_length;
+      front = (h.front.0 ++ drop n bytes, longer bytes (signature_bytes s) h.front.0 n (sym front ∙ h.front.1));
+    };
+  }
+
+-- a front that is too short is all of the bytes
+pub short_front : (text room bytes : List ℕ) (n cap m : ℕ) → IsBase64Of text bytes → n ≡ min (length bytes) cap → n ≤ length room → m ≤ cap → length (take n room) < m
+    → (is_base64 text ≡ true) × (length (base64_bytes text) < m)
+short_front text room bytes n cap m base64 count fits least short =
+    let same : length (take n room) ≡ n = length-take-le n room fits in
+    let few : length bytes < m = omega (arith, same, count, short) in
+    short_of text bytes bytes m base64 refl few
+
+-- the first 64 bytes
+few_bytes : (bytes : List ℕ) → length bytes < 64 → first_64 bytes ≡ None
+few_bytes bytes few = ap (λ b. cond b (Some (take 64 bytes)) None) (lt-leb 64 (length bytes) few)
+
+enough_bytes : (bytes : List ℕ) → 64 ≤ length bytes → first_64 bytes ≡ Some (take 64 bytes)
+enough_bytes bytes enough = ap (λ b. cond b (Some (take 64 bytes)) None) (le-leb 64 (length bytes) enough)
+
+pub front_64 : (bytes room : List ℕ) (n : ℕ) → n ≡ min (length bytes) 66 → n ≤ length room → take n room ≡ take n bytes → first_64 (take n room) ≡ first_64 bytes
+front_64 bytes room n count fits front =
+    let same : length (take n room) ≡ n = length-take-le n room fits in
+    ⊎_elim
+    (λ few. few_bytes (take n room) (omega (arith, same, count)) ∙ sym (few_bytes bytes few))
+    (λ enough. enough_bytes (take n room) (omega (arith, same, count))
+    ∙ ap (λ (x : List ℕ). Some (take 64 x)) front
+    ∙ ap (λ (x : List ℕ). Some x) (take-take 64 n bytes (omega (arith, count))) ∙ sym (enough_bytes bytes enough))
+    (cases_lt (length bytes) 64)
+
+-- a box that four lines hold
+pub assembled : (text a b c d u t trimmed g : List ℕ) (s : SignatureRecord) → HasFourLines text a b c d → a ≡ untrusted_comment_label ++ u
+    → EncodesSignature (trim b) s → IsKnownAlgorithm s.algorithm → c ≡ trusted_comment_label ++ t → trim t ≡ trimmed → IsBase64Of (trim d) g
+    → SignatureText text (record { signature = s; comments = Some (record { untrusted = u; trusted = trimmed; signature = g }) })
+assembled text a b c d u t trimmed g s four first encodes algorithm third is_trimmed signed =
+    let at_0 : line_at 0 text ≡ a = rw four.cut refl in
+    let at_1 : line_at 1 text ≡ b = rw four.cut refl in
+    let at_2 : line_at 2 text ≡ c = rw four.cut refl in
+    let at_3 : line_at 3 text ≡ d = rw four.cut refl in
+    record {
+      comments = record { untrusted = u; trusted = trimmed; signature = g };
+      four_lines = rw four.cut refl;
+      untrusted_comment = at_0 ∙ first;
+      signature = subst (λ (l : List ℕ). EncodesSignature (trim l) s) (sym at_1) encodes;
+      algorithm = algorithm;
+      trusted_comment = (t, at_2 ∙ third, is_trimmed);
+      comment_signature = subst (λ (l : List ℕ). IsBase64Of (trim l) g) (sym at_3) signed;
+      box = refl;
+    }
+
+-- the box that a text reads as is the one that is told of
+pub view_exact : (t : List ℕ) (r : Result SignatureViewRecord Fault) → IfOk r (λ v. (x : SignatureBoxRecord) × SignatureText t x × IsViewOf v x)
+    → IfErr r (λ e. signature_refusal t ≡ Some e) → (x : SignatureBoxRecord) → SignatureText t x → MatchResult r (λ v. IsViewOf v x) (λ _. ⊥)
+view_exact t (Ok v) ok err x read = subst (λ y. IsViewOf v y) (one_signature_text t ok.0 x ok.1 read) ok.2
+view_exact t (Err e) ok err x read = let no = sym (no_refusal t x read) ∙ err in cc no
+
+-- the base64 of a signature is longer than the signature
+pub long_enough : (text : List ℕ) (s : SignatureRecord) → EncodesSignature text s → 64 ≤ length text
+long_enough text s h =
+    omega (arith, stored_length h.bytes s h.reads, ap length h.base64.encoded, length_base64 h.bytes)

@@ -1,0 +1,23 @@
+-- What is told of a signature text that is read where it lies, without memory.
+use Rattle.std.specs.Prelude.{◌≡◌, ℕ, List, if◌then◌else◌, length, take, nat_le, Option, None, Some}
+use Rattle.minisign.specs.Records.{SignatureRecord, SignatureBoxRecord, CommentsRecord}
+
+-- the first 64 bytes, where there are so many
+abbrev pub first_64 : List ℕ → Option (List ℕ)
+first_64 bytes = if nat_le 64 (length bytes) then Some (take 64 bytes) else None
+
+-- the signature, both comments, and of the comment signature the first 64 bytes, where it has so many
+pub record SignatureViewRecord : Type 0 where
+  pub signature : SignatureRecord
+  pub untrusted : List ℕ
+  pub trusted : List ℕ
+  pub comment_signature : Option (List ℕ)
+
+-- the view tells this of the box
+pub record IsViewOf (v : SignatureViewRecord) (x : SignatureBoxRecord) : Type 0 where
+  pub comments : CommentsRecord
+  pub box : x.comments ≡ Some comments
+  pub signature : v.signature ≡ x.signature
+  pub untrusted : v.untrusted ≡ comments.untrusted
+  pub trusted : v.trusted ≡ comments.trusted
+  pub comment_signature : v.comment_signature ≡ first_64 comments.signature

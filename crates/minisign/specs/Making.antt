@@ -1,0 +1,67 @@
+-- Keys that are made of their parts, and the texts of both: 64 secret bytes, of a seed and of its public key,
+-- under an identifier.
+use Rattle.std.specs.Prelude.{◌≡◌, ◌⊎◌, ◌+◌, ℕ, List, length, false, Option, None, Some, IsOk, Err}
+use Rattle.std.specs.Str.Iter.{LacksByte}
+use Rattle.minisign_base.specs.Fault.{Fault, Named}
+use Rattle.minisign_base.specs.declared.faults.NamedFault.TheVariants.{OutOfMemory}
+use Rattle.minisign_base.specs.Limits.{numbers, sealing_limits}
+use Rattle.minisign.specs.Generation.{key_to_seal, unsealed_key}
+use Rattle.minisign.specs.Opening.{IsOpened, IsUnencryptedText}
+use Rattle.minisign.specs.PublicKeyText.{PublicKeyText, commented_public_key_text}
+use Rattle.minisign.specs.Records.{SecretKeyRecord, legacy_algorithm, own_public_key}
+use Rattle.minisign.specs.Sealing.{IsWithin, is_encrypted, xored_key}
+use Rattle.minisign.specs.SecretKeyText.{SecretKeyText, secret_key_text}
+use Rattle.minisign.specs.declared.making.Sealing.{Sealing}
+
+-- the secret key of these parts, open
+pub record IsOfParts (keynum secret : List ℕ) (key : SecretKeyRecord) : Type 0 where
+  pub algorithm : key.algorithm ≡ legacy_algorithm
+  pub keynum_is : key.keynum ≡ keynum
+  pub secret_is : key.secret ≡ secret
+  pub opened : is_encrypted key ≡ false
+
+-- the record that is written: with a password the key sealed under it, with this salt and these limits, and without
+-- one the key as it stands, with neither
+abbrev pub made_key : List ℕ → List ℕ → Option (List ℕ) → Sealing → SecretKeyRecord
+made_key keynum secret None s = unsealed_key keynum secret
+made_key keynum secret (Some password) s =
+    xored_key (key_to_seal keynum secret s.salt s.operations_limit s.memory_limit) password
+
+-- the text opens under the password to the key of these parts, whatever bound p is within, and to no other key
+pub record OpensToParts (text password keynum secret : List ℕ) (p : ℕ) : Type 0 where
+  pub key : SecretKeyRecord
+  pub parts : IsOfParts keynum secret key
+  pub opens : (bound : Option ℕ) → IsWithin bound p → IsOpened text password bound key
+  pub only : (bound : Option ℕ) (other : SecretKeyRecord) → IsOpened text password bound other → other ≡ key
+
+-- the text reads as the key of these parts, which was never sealed, and as no other key
+pub record ReadsAsParts (text keynum secret : List ℕ) : Type 0 where
+  pub key : SecretKeyRecord
+  pub parts : IsOfParts keynum secret key
+  pub reads : IsUnencryptedText text key
+  pub only : (other : SecretKeyRecord) → SecretKeyText text other → other ≡ key
+
+-- the text gives back the key of these parts: with the password, or without one
+abbrev pub GivesParts : List ℕ → Option (List ℕ) → List ℕ → List ℕ → Sealing → Type 0
+GivesParts text None keynum secret s = ReadsAsParts text keynum secret
+GivesParts text (Some password) keynum secret s =
+    OpensToParts text password keynum secret (numbers s.memory_limit s.operations_limit).p
+
+-- the text of the secret key that is made of these parts: a line of comment, and a line of base64
+pub record IsMadeText (keynum secret : List ℕ) (password : Option (List ℕ)) (s : Sealing) (comment text : List ℕ) : Type 0 where
+  pub written : text ≡ secret_key_text (Some comment) (made_key keynum secret password s)
+  pub gives : LacksByte 10 comment → GivesParts text password keynum secret s
+  pub size : length text ≡ length comment + 233
+
+-- no secret key is made: with a password the limits are refused, or else memory ran out
+abbrev pub IsMakingFault : Option (List ℕ) → Sealing → Fault → Type 0
+IsMakingFault None s e = e ≡ Named OutOfMemory
+IsMakingFault (Some password) s e =
+    ((e ≡ Named OutOfMemory) × IsOk (sealing_limits s.memory_limit s.operations_limit))
+    ⊎ (sealing_limits s.memory_limit s.operations_limit ≡ Err e)
+
+-- the text of the public key of these parts: it reads as the public key of the secret key that they make
+pub record IsMadePublicText (keynum secret comment text : List ℕ) : Type 0 where
+  pub written : text ≡ commented_public_key_text comment (own_public_key (unsealed_key keynum secret))
+  pub reads : LacksByte 10 comment → (key : SecretKeyRecord) → IsOfParts keynum secret key → PublicKeyText text (own_public_key key)
+  pub size : length text ≡ length comment + 77

@@ -1,0 +1,65 @@
+//! Base64 that is decoded without memory: the bytes at the front are kept, and all of the text is judged.
+
+ghost use Rattle.std.specs.Prelude.{◌≡◌, ◌+◌, ◌*◌, ◌/◌, ◌%◌, ◌≤◌, List, ℕ, true, false, length, min, take, IfSome, IfNone, OnSome};
+ghost use Rattle.minisign.specs.Texts.{IsBase64Of, is_base64};
+
+use base64::engine::general_purpose::STANDARD;
+
+// How many letters are judged at a time, and how many bytes they are the base64 of.
+const PIECE_LETTERS: usize = 64;
+
+const PIECE_BYTES: usize = 48;
+
+// Decodes base64 into `room`: returns how many bytes of what the text is the base64 of stand at its front, all of them
+// or as many as there is room for; nothing where the text is not base64.
+pub(crate) fn decode_front(text: &[u8], room: &mut [u8]) -> Option<usize>
+    requires { length room.old % 3 ≡ 0 }
+    ensures front { IfSome result (λ n. (bytes : List ℕ) × IsBase64Of text.now bytes
+        × (n ≡ min (length bytes) (length room.old)) × (n ≤ length room.new) × (take n room.new ≡ take n bytes)) }
+    ensures none { IfNone result (is_base64 text.now ≡ false) }
+{
+    let fitting = room.len() / 3 * 4;
+    if text.len() <= fitting {
+        return decode_piece(text, room);
+    }
+    let (front, rest) = text.split_at(fitting);
+    let Some(count) = decode_piece(front, room) else {
+        return None;
+    };
+    if count != room.len() {
+        return None;
+    }
+    if is_base64(rest) { Some(count) } else { None }
+}
+
+// Whether a text is base64.
+fn is_base64(text: &[u8]) -> bool
+    ensures { result ≡ is_base64 text.now }
+{
+    let mut room = [0u8; PIECE_BYTES];
+    let mut rest = text;
+    'pieces: while rest.len() > PIECE_LETTERS {
+        let (piece, behind) = rest.split_at(PIECE_LETTERS);
+        let Some(count) = decode_piece(piece, &mut room) else {
+            return false;
+        };
+        if count != PIECE_BYTES {
+            return false;
+        }
+        rest = behind;
+    }
+    decode_piece(rest, &mut room).is_some()
+}
+
+// Decodes base64 that there is room for: returns how many bytes; nothing where the text is not base64.
+fn decode_piece(text: &[u8], room: &mut [u8]) -> Option<usize>
+    requires { (length text.now + 3) / 4 * 3 ≤ length room.old }
+    ensures bytes { IfSome result (λ n. (bytes : List ℕ) × IsBase64Of text.now bytes
+        × (n ≡ length bytes) × (n ≤ length room.new) × (take n room.new ≡ bytes)) }
+    ensures none { IfNone result (is_base64 text.now ≡ false) }
+{
+    match STANDARD.decode_slice(text, room) {
+        Ok(count) => Some(count),
+        Err(_) => None,
+    }
+}

@@ -1,0 +1,248 @@
+//! Reading the texts of public keys and signatures where they lie, without memory: what is decoded stands in arrays,
+//! and the comments stay in the text.
+
+ghost use Rattle.std.specs.Prelude.{◌≡◌, ◌⊎◌, ◌+◌, ◌≤◌, ◌<◌, List, ℕ, true, false, Ok, Some, length, MatchResult, IfOk, IfErr, IfSome, IfNone};
+ghost use Rattle.std.specs.Str.{trim};
+ghost use Rattle.minisign_base.specs.Fault.{Named};
+ghost use Rattle.minisign_base.specs.declared.faults.NamedFault.TheVariants.{RecordTooShort, SignatureNotBase64};
+ghost use Rattle.minisign.specs.InPlace.{IsViewOf, first_64};
+ghost use Rattle.minisign.specs.PublicKeyText.{BarePublicKey, EncodesPublicKey, PublicKeyText, bare_public_key_refusal, public_key_refusal};
+ghost use Rattle.minisign.specs.Records.{PublicKeyRecord, SignatureBoxRecord, is_prehashed};
+ghost use Rattle.minisign.specs.SignatureText.{EncodesSignature, HasFourLines, SignatureText, signature_refusal};
+ghost use Rattle.minisign.specs.Texts.{HasSecondLine, IsBase64Of, IsDecided, IsRefused, base64_bytes, is_base64};
+
+use crate::base64_front::decode_front;
+use crate::constants::SIGALG_PREHASHED;
+use crate::public_key::{ENCODED_BYTES, PublicKey, key_line};
+use crate::signature::Signature;
+use crate::signature_box::{
+    TextLines, four_lines, known, trusted_comment_in, untrusted_comment_in,
+};
+use minisign_base::{NamedFault, Result};
+use std::marker::Model;
+
+/// What a signature text reads as: the signature, the comments where they lie in the text, and of the comment
+/// signature the first 64 bytes.
+#[derive(Drop)]
+pub struct SignatureView<'a> {
+    signature: Signature,
+    untrusted_comment: &'a str,
+    trusted_comment: &'a str,
+    comment_signature: Option<[u8; 64]>,
+}
+
+impl<'a> Model for SignatureView<'a> {
+    ghost use Rattle.minisign.specs.InPlace.{SignatureViewRecord};
+
+    ghost Value = { SignatureViewRecord };
+
+    ghost view = { λ v. record {
+      signature = v.signature;
+      untrusted = v.untrusted_comment.now;
+      trusted = v.trusted_comment.now;
+      comment_signature = v.comment_signature;
+    } };
+}
+
+impl<'a> SignatureView<'a> {
+    /// The signature, with its algorithm and the identifier of its key.
+    pub fn signature(&self) -> &Signature
+        ensures { result.now ≡ self.now.signature }
+    {
+        &self.signature
+    }
+
+    /// The comment that nothing vouches for.
+    pub fn untrusted_comment(&self) -> &'a str
+        ensures { result.now ≡ self.now.untrusted }
+    {
+        self.untrusted_comment
+    }
+
+    /// The comment that the comment signature vouches for, trimmed.
+    pub fn trusted_comment(&self) -> &'a str
+        ensures { result.now ≡ self.now.trusted }
+    {
+        self.trusted_comment
+    }
+
+    /// The first 64 bytes of the comment signature; nothing where it has fewer.
+    pub fn comment_signature(&self) -> Option<[u8; 64]>
+        ensures { result ≡ self.now.comment_signature }
+    {
+        self.comment_signature
+    }
+
+    /// Whether the signature is over the digest of the data and not over the data itself.
+    pub fn is_prehashed(&self) -> bool
+        ensures { result ≡ is_prehashed self.now.signature }
+    {
+        self.signature.sig_alg == SIGALG_PREHASHED
+    }
+}
+
+/// Reads a public key text: the key that `PublicKey::from_box` reads, and its refusals in their order, less want of
+/// memory. Takes no memory.
+pub fn read_public_key(text: &str) -> Result<PublicKey>
+    // A public key text is read as `PublicKey::from_box` reads it: the same key, the same first
+    // reasons, and never out of memory.
+    ensures read { IfOk result (PublicKeyText text.now) }
+    ensures exact { (k : PublicKeyRecord) → PublicKeyText text.now k → result ≡ Ok k }
+    ensures refused { IfErr result (IsRefused (PublicKeyText text.now) (public_key_refusal text.now)) }
+    ensures decided { IsDecided (PublicKeyText text.now) (public_key_refusal text.now) }
+{
+    read_key_text(text)
+}
+
+/// Reads the bare base64 of a key, 56 bytes: the key that `PublicKey::from_base64` reads, and its refusals in their
+/// order, less want of memory. Takes no memory.
+pub fn read_bare_public_key(text: &str) -> Result<PublicKey>
+    // The base64 of a key is read as `PublicKey::from_base64` reads it: the same key, the same
+    // first reasons, and never out of memory.
+    ensures read { IfOk result (BarePublicKey text.now) }
+    ensures exact { (k : PublicKeyRecord) → BarePublicKey text.now k → result ≡ Ok k }
+    ensures refused { IfErr result (IsRefused (BarePublicKey text.now) (bare_public_key_refusal text.now)) }
+    ensures decided { IsDecided (BarePublicKey text.now) (bare_public_key_refusal text.now) }
+{
+    read_bare(text)
+}
+
+/// Reads a signature text: of the box that `SignatureBox::from_string` reads all but what stands behind the first 64
+/// bytes of the comment signature, and its refusals in their order, less want of memory. Takes no memory.
+pub fn read_signature(text: &str) -> Result<SignatureView<'_>>
+    // A signature text is read as `SignatureBox::from_string` reads it: the same box, of which the
+    // first 64 bytes of the comment signature are told, the same first reasons, and never out of
+    // memory. The trusted comment and the 64 bytes of a signature have no more bytes than the text.
+    ensures read { IfOk result (λ v. (x : SignatureBoxRecord) × SignatureText text.now x × IsViewOf v x) }
+    ensures size { IfOk result (λ v. 64 + length v.trusted ≤ length text.now) }
+    ensures exact { (x : SignatureBoxRecord) → SignatureText text.now x →
+        MatchResult result (λ v. IsViewOf v x) (λ _. ⊥) }
+    ensures refused { IfErr result (IsRefused (SignatureText text.now) (signature_refusal text.now)) }
+    ensures decided { IsDecided (SignatureText text.now) (signature_refusal text.now) }
+{
+    read_box(text)
+}
+
+// Reads a public key text.
+fn read_key_text(text: &str) -> Result<PublicKey>
+    ensures read { IfOk result (PublicKeyText text.now) }
+    ensures refused { IfErr result (λ e. public_key_refusal text.now ≡ Some e) }
+{
+    let line = key_line(text)?;
+    read_key_line(line)
+}
+
+// Reads the second line of a public key text.
+fn read_key_line(line: &str) -> Result<PublicKey>
+    ensures read { IfOk result (λ k. (length line.now ≡ 56) × EncodesPublicKey (trim line.now) k) }
+    ensures refused { IfErr result (λ e. (text : List ℕ) → HasSecondLine text line.now → public_key_refusal text ≡ Some e) }
+{
+    if line.len() != ENCODED_BYTES {
+        return Err(NamedFault::PublicKeyLineLength.into());
+    }
+    match decode_key(line.trim())? {
+        Some(key) => Ok(key),
+        None => Err(NamedFault::PublicKeyLineNotBase64.into()),
+    }
+}
+
+// Reads the bare base64 of a key.
+fn read_bare(text: &str) -> Result<PublicKey>
+    ensures read { IfOk result (BarePublicKey text.now) }
+    ensures refused { IfErr result (λ e. bare_public_key_refusal text.now ≡ Some e) }
+{
+    if text.trim().len() != ENCODED_BYTES {
+        return Err(NamedFault::BarePublicKeyLength.into());
+    }
+    match decode_key(text)? {
+        Some(key) => Ok(key),
+        None => Err(NamedFault::BarePublicKeyNotBase64.into()),
+    }
+}
+
+// The key that a text is the base64 of; nothing where the text is not base64.
+fn decode_key(text: &str) -> Result<Option<PublicKey>>
+    ensures key { IfOk result (λ o. IfSome o (EncodesPublicKey text.now)) }
+    ensures none { IfOk result (λ o. IfNone o (is_base64 text.now ≡ false)) }
+    ensures refused { IfErr result (λ e. (e ≡ Named RecordTooShort) × (is_base64 text.now ≡ true)
+        × (length (base64_bytes text.now) < 42)) }
+{
+    let mut record = [0u8; 42];
+    let Some(count) = decode_front(text.as_bytes(), &mut record) else {
+        return Ok(None);
+    };
+    Ok(Some(PublicKey::from_bytes(&record[..count])?))
+}
+
+// Reads a signature text.
+fn read_box(text: &str) -> Result<SignatureView<'_>>
+    ensures read { IfOk result (λ v. (x : SignatureBoxRecord) × SignatureText text.now x × IsViewOf v x) }
+    ensures size { IfOk result (λ v. 64 + length v.trusted ≤ length text.now) }
+    ensures refused { IfErr result (λ e. signature_refusal text.now ≡ Some e) }
+{
+    let lines = four_lines(text)?;
+    read_lines(lines)
+}
+
+// What stands in the first four lines.
+fn read_lines(lines: TextLines<'_>) -> Result<SignatureView<'_>>
+    ensures read { IfOk result (λ v. (text : List ℕ) → HasFourLines text lines.entry.untrusted_comment.now
+        lines.entry.signature.now lines.entry.trusted_comment.now lines.entry.global_sig.now
+        → (x : SignatureBoxRecord) × SignatureText text x × IsViewOf v x) }
+    ensures size { IfOk result (λ v. 64 + length v.trusted
+        ≤ length lines.entry.signature.now + length lines.entry.trusted_comment.now) }
+    ensures refused { IfErr result (λ e. (text : List ℕ) → HasFourLines text
+        lines.entry.untrusted_comment.now lines.entry.signature.now lines.entry.trusted_comment.now
+        lines.entry.global_sig.now → signature_refusal text ≡ Some e) }
+{
+    let untrusted_comment = untrusted_comment_in(lines.untrusted_comment)?;
+    let signature = decode_signature(lines.signature.trim())?;
+    let trusted_comment = trusted_comment_in(lines.trusted_comment)?;
+    let signature = known(signature)?;
+    let comment_signature = decode_comment_signature(lines.global_sig.trim())?;
+    Ok(SignatureView {
+        signature,
+        untrusted_comment,
+        trusted_comment: trusted_comment.trim(),
+        comment_signature,
+    })
+}
+
+// The signature that a text is the base64 of.
+fn decode_signature(text: &str) -> Result<Signature>
+    ensures signature { IfOk result (EncodesSignature text.now) }
+    ensures refused { IfErr result (λ e. ((e ≡ Named SignatureNotBase64) × (is_base64 text.now ≡ false))
+        ⊎ ((e ≡ Named RecordTooShort) × (is_base64 text.now ≡ true)
+        × (length (base64_bytes text.now) < 74))) }
+{
+    let mut record = [0u8; 75];
+    let Some(count) = decode_front(text.as_bytes(), &mut record) else {
+        return Err(NamedFault::SignatureNotBase64.into());
+    };
+    Ok(Signature::from_bytes(&record[..count])?)
+}
+
+// The first 64 bytes of what a text is the base64 of, if it has so many.
+fn decode_comment_signature(text: &str) -> Result<Option<[u8; 64]>>
+    ensures first { IfOk result (λ s. (bytes : List ℕ) × IsBase64Of text.now bytes × (s ≡ first_64 bytes)) }
+    ensures refused { IfErr result (λ e. (e ≡ Named SignatureNotBase64) × (is_base64 text.now ≡ false)) }
+{
+    let mut front = [0u8; 66];
+    let Some(count) = decode_front(text.as_bytes(), &mut front) else {
+        return Err(NamedFault::SignatureNotBase64.into());
+    };
+    Ok(first_64(&front[..count]))
+}
+
+// The first 64 bytes, if there are so many.
+fn first_64(bytes: &[u8]) -> Option<[u8; 64]>
+    ensures { result ≡ first_64 bytes.now }
+{
+    if bytes.len() < 64 {
+        return None;
+    }
+    let (front, _) = bytes.split_at(64);
+    let mut first = [0u8; 64];
+    first.copy_from_slice(front);
+    Some(first)
+}

@@ -1,0 +1,38 @@
+//! Folders of files that tests make in the system's one for passing files.
+
+use std::test::Fail;
+use std::{env, fs, process};
+
+// The path of a folder of this name in the system's one for passing files.
+pub fn folder_path(rt: &HostRuntime, name: &str) -> std::result::Result<String, Fail> {
+    let id = process::id(rt.process());
+    let parent = env::temp_dir(rt)?;
+    let folder = format!(in rt.alloc(); "{}/minisign_{name}_{id}", parent.as_str())?;
+    Ok(folder)
+}
+
+// Makes a folder that is empty.
+pub fn make_empty(rt: &HostRuntime, folder: &str) -> std::result::Result<(), Fail> {
+    if fs::exists(rt, folder)? {
+        fs::remove_dir_all(rt, folder)?;
+    }
+    fs::create_dir(rt, folder)?;
+    Ok(())
+}
+
+// The path of a file of the folder.
+pub fn path_of(rt: &HostRuntime, folder: &str, name: &str) -> std::result::Result<String, Fail> {
+    Ok(format!(in rt.alloc(); "{folder}/{name}")?)
+}
+
+// Makes a file of the folder.
+pub fn put(
+    rt: &HostRuntime,
+    folder: &str,
+    name: &str,
+    bytes: &[u8],
+) -> std::result::Result<(), Fail> {
+    let path = path_of(rt, folder, name)?;
+    fs::write(rt, path.as_str(), bytes)?;
+    Ok(())
+}

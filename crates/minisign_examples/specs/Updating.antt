@@ -1,0 +1,18 @@
+-- An update that two texts vouch for under its name.
+use Rattle.std.specs.Prelude.{◌≡◌, ◌≢◌, ◌⊎◌, ℕ, false, List, codes}
+use Rattle.minisign_base.specs.Fault.{Fault, Worded}
+use Rattle.minisign_base.specs.declared.errors.ErrorKind.TheVariants.{Verify}
+use Rattle.minisign.specs.Acceptance.{Verifier}
+use Rattle.minisign.specs.Calls.{TextsVouchWith}
+use Rattle.minisign.specs.Headline.{TextsRefuse}
+
+-- the fault of an update with another name
+unfoldable pub another_name : Fault
+another_name = Worded Verify (codes "the update has another name")
+
+-- why an update is refused: the texts do not vouch for it, and this is the first reason; or they do, and the comment
+-- that was signed with it is another one than the name
+abbrev pub RefusesUpdate : Verifier → List ℕ → List ℕ → List ℕ → List ℕ → Fault → Type 0
+RefusesUpdate accepts pk_text sig_text update name e =
+    TextsRefuse accepts pk_text sig_text update false e
+    ⊎ ((e ≡ another_name) × ((comment : List ℕ) × (comment ≢ name) × TextsVouchWith accepts pk_text sig_text update false comment))

@@ -1,0 +1,4 @@
+pub mod Refusals
+pub mod AnsweredBoxes
+pub mod UnsealedKeys
+pub mod Unread

@@ -1,0 +1,6 @@
+pub mod Questions
+pub mod Numbers
+pub mod States
+pub mod Signing
+pub mod PublicKeys
+pub mod Making

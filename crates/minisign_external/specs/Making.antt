@@ -1,0 +1,84 @@
+-- Texts of keys that are made of their parts, at the front of a buffer.
+use Rattle.std.specs.Prelude.{◌≡◌, ◌⊎◌, ◌<◌, ◌≤◌, ◌+◌, ℕ, List, length, take, Option, Some, IfSome}
+use Rattle.std.specs.Str.{IsUtf8}
+use Rattle.std.specs.Str.Iter.{LacksByte}
+use Rattle.minisign_base.specs.Fault.{Named}
+use Rattle.minisign_base.specs.declared.faults.NamedFault.TheVariants.{OutOfMemory, NotUtf8}
+use Rattle.minisign.specs.Making.{GivesParts, IsMakingFault, IsOfParts, made_key}
+use Rattle.minisign.specs.PublicKeyText.{PublicKeyText, commented_public_key_text}
+use Rattle.minisign.specs.Generation.{unsealed_key}
+use Rattle.minisign.specs.Records.{SecretKeyRecord, own_public_key}
+use Rattle.minisign.specs.SecretKeyText.{secret_key_text}
+use Rattle.minisign.specs.declared.making.Sealing.{Sealing}
+use Rattle.minisign_external.specs.Numbers.{misuse_number, refusal_number}
+use Rattle.minisign_external.specs.declared.state.Misuse.{Misuse}
+use Rattle.minisign_external.specs.declared.state.Misuse.TheVariants.{BadComment, BadPasswordFlag, NoRoom, UnreadableComment}
+use Rattle.minisign_external.specs.declared.state.Refusal.{Refusal}
+use Rattle.minisign_external.specs.declared.state.Refusal.TheVariants.{WrongUse, Refused}
+
+-- a comment on one line that Minisign reads whole in a key's first line: with no carriage return and no zero byte, and
+-- no longer than its buffer
+pub record IsReadInKey (comment : List ℕ) : Type 0 where
+  pub no_return : LacksByte 13 comment
+  pub no_zero : LacksByte 0 comment
+  pub short : length comment < 1004
+
+abbrev pub IsKeyComment : List ℕ → Type 0
+IsKeyComment comment = LacksByte 10 comment × IsReadInKey comment
+
+-- the text of the secret key of these parts stands at the front of a buffer, in so many bytes: it gives back the key
+pub record HoldsSecretKey (keynum secret : List ℕ) (password : Option (List ℕ)) (s : Sealing) (comment bytes : List ℕ) (len : ℕ) : Type 0 where
+  pub fits : len ≤ length bytes
+  pub size : len ≡ length comment + 233
+  pub written : take len bytes ≡ secret_key_text (Some comment) (made_key keynum secret password s)
+  pub gives : GivesParts (take len bytes) password keynum secret s
+
+-- the text of their public key stands there: it reads as the one of each secret key of these parts
+pub record HoldsPublicKey (keynum secret comment bytes : List ℕ) (len : ℕ) : Type 0 where
+  pub fits : len ≤ length bytes
+  pub size : len ≡ length comment + 77
+  pub written : take len bytes ≡ commented_public_key_text comment (own_public_key (unsealed_key keynum secret))
+  pub reads : (key : SecretKeyRecord) → IsOfParts keynum secret key → PublicKeyText (take len bytes) (own_public_key key)
+
+-- a text with a comment, longer by so many bytes, was not written to a buffer: the comment is not on one line, or else
+-- none that Minisign reads, or else there is no room
+abbrev pub IsUnwritable : List ℕ → ℕ → List ℕ → Misuse → Type 0
+IsUnwritable comment more bytes m =
+    ((m ≡ BadComment) × ¬ (LacksByte 10 comment))
+    ⊎ ((m ≡ UnreadableComment) × LacksByte 10 comment × ¬ (IsReadInKey comment))
+    ⊎ ((m ≡ NoRoom) × IsKeyComment comment × (length bytes < length comment + more))
+
+-- nothing of this refuses the text
+abbrev pub IsWritable : List ℕ → ℕ → List ℕ → Type 0
+IsWritable comment more bytes = IsKeyComment comment × (length comment + more ≤ length bytes)
+
+-- the comment and the password are UTF-8
+abbrev pub AreTexts : List ℕ → Option (List ℕ) → Type 0
+AreTexts comment password = IsUtf8 comment × IfSome password IsUtf8
+
+-- the text of a secret key, of a comment and a password that are texts, was not written: a wrong use; then limits that are
+-- refused, or out of memory
+abbrev pub IsMadeRefusal : Option (List ℕ) → Sealing → List ℕ → List ℕ → Refusal → Type 0
+IsMadeRefusal password s comment bytes (WrongUse m) = IsUnwritable comment 233 bytes m
+IsMadeRefusal password s comment bytes (Refused e) = IsWritable comment 233 bytes × IsMakingFault password s e
+
+-- the text of a secret key was not written: a comment or a password that is not UTF-8, or else as above
+abbrev pub IsMakingRefusal : Option (List ℕ) → Sealing → List ℕ → List ℕ → Refusal → Type 0
+IsMakingRefusal password s comment bytes r =
+    ((r ≡ Refused (Named NotUtf8)) × ¬ (AreTexts comment password))
+    ⊎ (AreTexts comment password × IsMadeRefusal password s comment bytes r)
+
+-- the text of a public key was not written, in the same order
+abbrev pub IsPublicKeyRefusal : List ℕ → List ℕ → Refusal → Type 0
+IsPublicKeyRefusal comment bytes (WrongUse m) = IsUtf8 comment × IsUnwritable comment 77 bytes m
+IsPublicKeyRefusal comment bytes (Refused e) =
+    ((e ≡ Named NotUtf8) × ¬ (IsUtf8 comment)) ⊎ (IsUtf8 comment × IsWritable comment 77 bytes × (e ≡ Named OutOfMemory))
+
+-- the numbers of these refusals
+abbrev pub IsMakingNumber : Option (List ℕ) → ℕ → Sealing → List ℕ → List ℕ → ℕ → Type 0
+IsMakingNumber password with_password s comment bytes n =
+    ((n ≡ misuse_number BadPasswordFlag) × (1 < with_password))
+    ⊎ ((with_password < 2) × (r : Refusal) × (n ≡ refusal_number r) × IsMakingRefusal password s comment bytes r)
+
+abbrev pub IsPublicKeyNumber : List ℕ → List ℕ → ℕ → Type 0
+IsPublicKeyNumber comment bytes n = (r : Refusal) × (n ≡ refusal_number r) × IsPublicKeyRefusal comment bytes r

@@ -1,0 +1,15 @@
+//! Verifying and signing with a signature scheme that stands outside: what it has to be asked, and
+//! what its answers decide.
+
+#![tactic(auto)]
+
+pub mod asking;
+pub mod making;
+pub mod numbers;
+pub mod public_keys;
+pub mod secret_texts;
+pub mod secrets;
+pub mod signed_texts;
+pub mod state;
+pub mod texts;
+pub mod verdict;

@@ -1,0 +1,156 @@
+//! The texts of keys that are made of their parts, written to a buffer: so a key gets another
+//! password, or its public key is written again.
+
+ghost use Rattle.std.specs.Prelude.{◌≡◌, ◌⊎◌, ◌<◌, ◌≤◌, ◌+◌, List, ℕ, Some, length, true, false, OnOk, OnErr, IfOk, IfErr};
+ghost use Rattle.std.specs.Option.{option_map};
+ghost use Rattle.minisign_base.specs.Fault.{Named};
+ghost use Rattle.minisign_base.specs.declared.faults.NamedFault.TheVariants.{OutOfMemory};
+ghost use Rattle.minisign.specs.Making.{IsMakingFault};
+ghost use Rattle.minisign_external.specs.Making.{HoldsPublicKey, HoldsSecretKey, IsMadeRefusal, IsMakingRefusal, IsPublicKeyRefusal, IsReadInKey, IsUnwritable, IsWritable};
+
+use crate::signed_texts::write_front;
+use crate::state::{Misuse, Refusal};
+use minisign::{Sealing, make_public_key, make_secret_key};
+use minisign_base::NamedFault;
+use std::alloc::Global;
+
+// The length from which on Minisign does not read a comment whole.
+const COMMENT_BYTES: usize = 1004;
+
+// How much longer than its comment the text of a secret key is, and that of a public key.
+const SECRET_KEY_BYTES: usize = 233;
+
+const PUBLIC_KEY_BYTES: usize = 77;
+
+/// Writes the text of a secret key of its parts to the front of `to`, and returns its length, which
+/// is 233 bytes more than that of the comment: an identifier, and 64 secret bytes, those of a seed
+/// and of its public key. With a password the key is sealed under it, with the salt and the limits
+/// of `sealing`; without one it is not sealed, and `sealing` is not looked at.
+///
+/// `keep_every` is k, where every k-th of scrypt's rows is kept, 1 KiB each, of at most 2^20; 0 and
+/// 1 keep them all. The text is the same for every k.
+///
+/// What is refused, and in which order, its clause `refused` says.
+pub fn write_secret_key(
+    alloc: Global,
+    key_id: &[u8; 8],
+    secret: &[u8; 64],
+    password: Option<&[u8]>,
+    sealing: &Sealing,
+    keep_every: u64,
+    comment: &[u8],
+    to: &mut [u8],
+) -> std::result::Result<usize, Refusal>
+    // The text of a secret key stands at the front of the buffer, in 233 bytes more than the comment has, and is the
+    // one by definition: it opens under the password, within each bound that its p is within, or reads without one, to
+    // the key with exactly this identifier and these 64 secret bytes, and to no other.
+    ensures text { IfOk result (HoldsSecretKey key_id.now secret.now (option_map (λ p. p.now) password.entry) sealing.now comment.now to.new) }
+
+    // What is refused comes in this order: a comment or a password that is not UTF-8; a comment with a line feed; one
+    // with a carriage return or a zero byte, or of more than 1003 bytes, which Minisign does not read whole; too short
+    // a buffer; with a password limits that sealing does not allow; out of memory. The buffer is then as it was.
+    ensures refused { IfErr result (IsMakingRefusal (option_map (λ p. p.now) password.entry) sealing.now comment.now to.old) }
+    ensures kept { OnErr result (to.new ≡ to.old) }
+{
+    let Ok(comment) = str::from_utf8(comment) else {
+        return Err(Refusal::Refused(NamedFault::NotUtf8.into()));
+    };
+    let Some(password) = password else {
+        return write_made(
+            alloc, *key_id, *secret, None, sealing, keep_every, comment, to,
+        );
+    };
+    let Ok(password) = str::from_utf8(password) else {
+        return Err(Refusal::Refused(NamedFault::NotUtf8.into()));
+    };
+    write_made(
+        alloc,
+        *key_id,
+        *secret,
+        Some(password),
+        sealing,
+        keep_every,
+        comment,
+        to,
+    )
+}
+
+// Writes the text of a secret key whose comment and password are texts.
+fn write_made(
+    alloc: Global,
+    key_id: [u8; 8],
+    secret: [u8; 64],
+    password: Option<&str>,
+    sealing: &Sealing,
+    keep_every: u64,
+    comment: &str,
+    to: &mut [u8],
+) -> std::result::Result<usize, Refusal>
+    ensures text { IfOk result (HoldsSecretKey key_id secret (option_map (λ p. p.now) password.entry) sealing.now comment.now to.new) }
+    ensures refused { IfErr result (IsMadeRefusal (option_map (λ p. p.now) password.entry) sealing.now comment.now to.old) }
+    ensures kept { OnErr result (to.new ≡ to.old) }
+{
+    test_writable(comment.as_bytes(), SECRET_KEY_BYTES, to)?;
+    let k = keep_every.max(1);
+    let text = make_secret_key(alloc, key_id, secret, password, sealing, k, comment)?.into_string();
+    match write_front(text.as_bytes(), to) {
+        Some(len) => Ok(len),
+        None => Err(Refusal::WrongUse(Misuse::NoRoom)),
+    }
+}
+
+/// Writes the text of the public key of these parts to the front of `to`, and returns its length,
+/// which is 77 bytes more than that of the comment: the key is the last 32 of the secret bytes,
+/// under the identifier.
+pub fn write_public_key(
+    alloc: Global,
+    key_id: &[u8; 8],
+    secret: &[u8; 64],
+    comment: &[u8],
+    to: &mut [u8],
+) -> std::result::Result<usize, Refusal>
+    // The text of a public key stands at the front of the buffer, in 77 bytes more than the comment has, and reads as
+    // the public key of every secret key of these parts.
+    ensures text { IfOk result (HoldsPublicKey key_id.now secret.now comment.now to.new) }
+
+    // What is refused comes in the order of `write_secret_key`, less what concerns a password. The buffer is then as it
+    // was.
+    ensures refused { IfErr result (IsPublicKeyRefusal comment.now to.old) }
+    ensures kept { OnErr result (to.new ≡ to.old) }
+{
+    let Ok(comment) = str::from_utf8(comment) else {
+        return Err(Refusal::Refused(NamedFault::NotUtf8.into()));
+    };
+    test_writable(comment.as_bytes(), PUBLIC_KEY_BYTES, to)?;
+    let text = make_public_key(alloc, *key_id, *secret, comment)?.into_string();
+    match write_front(text.as_bytes(), to) {
+        Some(len) => Ok(len),
+        None => Err(Refusal::WrongUse(Misuse::NoRoom)),
+    }
+}
+
+// Tests that Minisign reads the comment, and that a text which is longer by so many bytes has room.
+fn test_writable(comment: &[u8], more: usize, to: &[u8]) -> Result<(), Misuse>
+    requires { more ≤ 233 }
+    ensures passed { OnOk result (IsWritable comment.now more to.now) }
+    ensures refused { IfErr result (IsUnwritable comment.now more to.now) }
+{
+    if comment.contains(&10) {
+        return Err(Misuse::BadComment);
+    }
+    if !is_read_in_key(comment) {
+        return Err(Misuse::UnreadableComment);
+    }
+    if to.len() < comment.len() + more {
+        return Err(Misuse::NoRoom);
+    }
+    Ok(())
+}
+
+// Whether Minisign reads a comment whole in the first line of a key.
+fn is_read_in_key(comment: &[u8]) -> bool
+    ensures read { result ≡ true → IsReadInKey comment.now }
+    ensures unread { result ≡ false → ¬ (IsReadInKey comment.now) }
+{
+    comment.len() < COMMENT_BYTES && !comment.contains(&13) && !comment.contains(&0)
+}

@@ -1,0 +1,171 @@
+//! The numbers by which a program in another language knows refusals, and what they mean. None of it takes memory.
+
+ghost use Rattle.std.specs.Prelude.{◌≡◌, ◌==◌, ◌<◌, List, ℕ, true, false, find, length};
+ghost use Rattle.minisign_base.specs.Faults.{fault_row};
+ghost use Rattle.minisign_external.specs.Numbers.{IsAnswer, IsMeaning, WritesCut, fault_number, misuse_number, misuse_text, refusal_number};
+
+use crate::state::{Misuse, Refusal};
+use minisign_base::{NamedFault, PError};
+
+/// The number of the answer yes of a signature scheme: the letters `yes`, each a byte. It is neither
+/// 0 nor 1, nor the number of an error.
+pub const ANSWER_YES: u32 = 7955827;
+
+/// The number of the answer no: the letters `no`, each a byte.
+pub const ANSWER_NO: u32 = 28271;
+
+/// Whether a number is an answer: `ANSWER_YES` or `ANSWER_NO`.
+pub fn is_answer(number: u32) -> bool
+    ensures answer { result ≡ true → IsAnswer number }
+    ensures none { result ≡ false → ¬ (IsAnswer number) }
+{
+    number == ANSWER_YES || number == ANSWER_NO
+}
+
+// The number of a fault without a name, which no call of this library answers.
+const UNNAMED: u32 = 255;
+
+impl Refusal {
+    /// The number of the refusal: that of the wrong use, or that of the fault.
+    pub fn number(&self) -> u32
+        // The number of a refusal is that of its wrong use or of its fault, by a table: 7 is out of memory and nothing
+        // else.
+        ensures { result ≡ refusal_number self.now }
+    {
+        match self {
+            Refusal::WrongUse(misuse) => misuse.number(),
+            Refusal::Refused(fault) => number_of(fault),
+        }
+    }
+}
+
+// The number of a fault.
+fn number_of(fault: &PError) -> u32
+    ensures { result ≡ fault_number fault.now }
+{
+    match fault.named() {
+        Some(fault) => fault.number(),
+        None => UNNAMED,
+    }
+}
+
+impl Misuse {
+    /// All wrong uses.
+    pub const ALL: [Misuse; 9] = [
+        Misuse::NotBegun,
+        Misuse::AlreadyAsked,
+        Misuse::NotAsked,
+        Misuse::BadAnswer,
+        Misuse::NoRoom,
+        Misuse::BadLegacyFlag,
+        Misuse::BadComment,
+        Misuse::BadPasswordFlag,
+        Misuse::UnreadableComment,
+    ];
+
+    /// The number of the wrong use, from 1 to 11.
+    pub fn number(&self) -> u32
+        ensures { result ≡ misuse_number self.now }
+    {
+        match self {
+            Misuse::NotBegun => 1,
+            Misuse::AlreadyAsked => 2,
+            Misuse::NotAsked => 3,
+            Misuse::BadAnswer => 4,
+            Misuse::NoRoom => 5,
+            Misuse::BadLegacyFlag => 6,
+            Misuse::BadComment => 9,
+            Misuse::BadPasswordFlag => 10,
+            Misuse::UnreadableComment => 11,
+        }
+    }
+
+    /// What the wrong use is, in English.
+    pub fn text(&self) -> &'static str
+        ensures { result.now ≡ misuse_text self.now }
+    {
+        match self {
+            Misuse::NotBegun => "the state was never begun",
+            Misuse::AlreadyAsked => "the questions were asked before",
+            Misuse::NotAsked => "the questions were not asked",
+            Misuse::BadAnswer => {
+                "an answer is neither MINISIGN_ANSWER_YES nor MINISIGN_ANSWER_NO"
+            },
+            Misuse::NoRoom => "the buffer is too short",
+            Misuse::BadLegacyFlag => "allow_legacy is neither 0 nor 1",
+            Misuse::BadComment => {
+                "a comment has a line break, or the trusted one white space at an end"
+            }
+            Misuse::BadPasswordFlag => "with_password is neither 0 nor 1",
+            Misuse::UnreadableComment => {
+                "a comment is too long for minisign, or has a zero byte or a carriage return"
+            }
+        }
+    }
+}
+
+/// Writes what a number means, in English, to the front of `to`, ended by a 0 and cut where there
+/// is no room for more: returns the length of the whole text, which is at most 127 bytes. Where
+/// `to` has no byte nothing is written.
+pub fn write_error_text(number: u32, to: &mut [u8]) -> usize
+    // The text of a number is that of the wrong use, or what the fault of this number says without its identifiers; it
+    // has less than 128 bytes, is cut to its room and ended by a 0.
+    ensures written { (text : List ℕ) × IsMeaning number text × (result ≡ length text) × WritesCut text to.old to.new }
+    ensures room { result < 128 }
+{
+    write_cut(error_text(number), to)
+}
+
+// Writes a text, cut where there is no room for more, and a 0.
+fn write_cut(text: &str, to: &mut [u8]) -> usize
+    ensures length { result ≡ length text.now }
+    ensures cut { WritesCut text.now to.old to.new }
+{
+    let bytes = text.as_bytes();
+    if to.is_empty() {
+        return bytes.len();
+    }
+    let len = bytes.len().min(to.len() - 1);
+    let (front, rest) = to.split_at_mut(len);
+    let (cut, _) = bytes.split_at(len);
+    front.copy_from_slice(cut);
+    rest[0] = 0;
+    bytes.len()
+}
+
+/// What a number means, in English: of a fault its summary, which says all but its identifiers.
+pub fn error_text(number: u32) -> &'static str
+    ensures meaning { IsMeaning number result.now }
+    ensures room { length result.now < 128 }
+{
+    if number == 0 {
+        return "no error";
+    }
+    if let Some(misuse) = misuse_of(number) {
+        return misuse.text();
+    }
+    match fault_of(number) {
+        Some(fault) => fault.summary(),
+        None => "unknown error",
+    }
+}
+
+// The wrong use of a number.
+fn misuse_of(number: u32) -> Option<Misuse>
+    ensures { result ≡ find (λ m. misuse_number m == number) Misuse.ALL }
+{
+    Misuse::ALL
+        .iter()
+        .copied()
+        .find(|misuse| misuse.number() == number)
+}
+
+// The named fault of a number, with identifiers of zeros.
+fn fault_of(number: u32) -> Option<NamedFault>
+    ensures { result ≡ find (λ f. (fault_row f).number == number) NamedFault.ALL }
+{
+    NamedFault::ALL
+        .iter()
+        .copied()
+        .find(|fault| fault.number() == number)
+}

@@ -1,0 +1,175 @@
+//! The text of a signature, from the answers of a signature scheme.
+
+ghost use Rattle.std.specs.Prelude.{◌≡◌, ◌⊎◌, ◌<◌, ◌≤◌, ◌+◌, ◌++◌, Some, true, false, string_bytes, length, take, OnOk, OnErr, IfOk, IfErr, IfNone, IfSome, MatchOption, MatchResult};
+ghost use Rattle.minisign_base.specs.Fault.{Named};
+ghost use Rattle.minisign_base.specs.declared.faults.NamedFault.TheVariants.{OutOfMemory};
+ghost use Rattle.minisign.specs.Signing.{AreChosenReadBack};
+ghost use Rattle.minisign.specs.SignatureText.{SignatureText, signature_text};
+ghost use Rattle.minisign_external.specs.Signing.{AreReadByMinisign, HoldsText, IsAnsweredText, IsCommentMisuse, IsWritingRefusal, answered_box, answered_comments, answered_signature, comments_of};
+ghost use Rattle.minisign_external.specs.States.{HasToldKey};
+ghost use Rattle.minisign_external.specs.declared.state.Misuse.{Misuse};
+ghost use Rattle.minisign_external.specs.declared.state.Misuse.TheVariants.{NoRoom};
+ghost use Rattle.minisign_external.specs.declared.state.Refusal.TheVariants.{Refused, WrongUse};
+
+use crate::state::{Misuse, Refusal, State};
+use crate::texts::write_joined;
+use minisign::SignatureBox;
+use minisign_base::NamedFault;
+use std::alloc::Global;
+
+/// The text of a signature, the four lines that Minisign reads, from the two answers of a signature
+/// scheme: under the identifier of the key, with the trusted comment that the second answer is over
+/// and an untrusted one.
+pub fn signed_text(
+    alloc: Global,
+    key_id: &[u8; 8],
+    first: &[u8; 64],
+    second: &[u8; 64],
+    trusted: &str,
+    untrusted: &str,
+) -> std::result::Result<String, Refusal>
+    // The text of two signatures reads as the box with exactly this identifier, these comments and these signatures;
+    // for every scheme that answers the two questions so, that is the box that signing makes; under every public key
+    // under which the signatures are accepted it vouches for the message, and for a genuine key the headline's third
+    // part holds of it.
+    ensures text { IfOk result (λ t. IsAnsweredText key_id.now (comments_of trusted.now untrusted.now) first.now second.now (string_bytes t)) }
+
+    // Refused are comments that would not be read back as they are: one with a line feed, an untrusted one with a
+    // carriage return at its end, a trusted one with white space at either end. Then those that Minisign 0.11 would not
+    // read back: an untrusted one of 1,004 bytes or more, a trusted one of 8,174 or more, one with a zero byte or a
+    // carriage return. For all others there is a text, unless memory runs out.
+    ensures refused { IfErr result (λ r. (r ≡ Refused (Named OutOfMemory))
+        ⊎ ((m : Misuse) × (r ≡ WrongUse m) × IsCommentMisuse (comments_of trusted.now untrusted.now) m)) }
+    ensures kept { OnOk result (AreChosenReadBack (comments_of trusted.now untrusted.now) × AreReadByMinisign (comments_of trusted.now untrusted.now)) }
+{
+    test_comments(trusted, untrusted)?;
+    Ok(written(alloc, key_id, first, second, trusted, untrusted)?)
+}
+
+/// Writes that text, under the identifier of the key that the state has told, to the front of `to`,
+/// and returns its length. The state stays as it is.
+pub fn write_signed_text(
+    alloc: Global,
+    state: &State,
+    first: &[u8; 64],
+    second: &[u8; 64],
+    trusted: &[u8],
+    untrusted: &[u8],
+    to: &mut [u8],
+) -> std::result::Result<usize, Refusal>
+    // The text is that of `signed_text`, under the identifier of the key that the state has told, at the front of the
+    // buffer.
+    ensures text { IfOk result (λ len. HasToldKey state.now state.now.key_id
+        × HoldsText state.now.key_id (comments_of trusted.now untrusted.now) first.now second.now to.new len) }
+    ensures readable { OnOk result (AreReadByMinisign (comments_of trusted.now untrusted.now)) }
+
+    // Refused are, in this order: a state that has told no key, comments that are not UTF-8, what `signed_text`
+    // refuses, and too short a buffer, which is then as it was.
+    ensures refused { IfErr result (IsWritingRefusal state.now (comments_of trusted.now untrusted.now) first.now second.now to.old) }
+    ensures kept { OnErr result (to.new ≡ to.old) }
+{
+    let key_id = state.told_key_id()?;
+    let Ok(trusted) = str::from_utf8(trusted) else {
+        return Err(Refusal::Refused(NamedFault::NotUtf8.into()));
+    };
+    let Ok(untrusted) = str::from_utf8(untrusted) else {
+        return Err(Refusal::Refused(NamedFault::NotUtf8.into()));
+    };
+    let text = signed_text(alloc, &key_id, first, second, trusted, untrusted)?;
+    match write_front(text.as_bytes(), to) {
+        Some(len) => Ok(len),
+        None => Err(Refusal::WrongUse(Misuse::NoRoom)),
+    }
+}
+
+// Writes the bytes to the front of `to`, and returns how many.
+pub(crate) fn write_front(bytes: &[u8], to: &mut [u8]) -> Option<usize>
+    ensures written { MatchOption result (length to.old < length bytes.now)
+        (λ n. (n ≤ length to.new) × (take n to.new ≡ bytes.now)) }
+    ensures count { IfSome result (λ n. n ≡ length bytes.now) }
+    ensures unwritten { IfNone result (to.new ≡ to.old) }
+{
+    if to.len() < bytes.len() {
+        return None;
+    }
+    let (front, _) = to.split_at_mut(bytes.len());
+    front.copy_from_slice(bytes);
+    Some(bytes.len())
+}
+
+/// Writes the message of the second question to the front of `message`: the first answer followed
+/// by the trusted comment, which is 64 bytes longer than the comment. Where there is no room
+/// nothing is written.
+pub fn write_comment_message(
+    first: &[u8; 64],
+    trusted: &[u8],
+    message: &mut [u8],
+) -> Result<(), Misuse>
+    // The message of the second question is the first signature followed by the trusted comment; where there is no room
+    // for it, it stays as it was.
+    ensures message { OnOk result ((64 + length trusted.now ≤ length message.new)
+        × (take (64 + length trusted.now) message.new ≡ first.now ++ trusted.now)) }
+    ensures refused { IfErr result (λ m. (m ≡ NoRoom) × (length message.old < 64 + length trusted.now) × (message.new ≡ message.old)) }
+{
+    match write_joined(message, first, trusted) {
+        Some(_) => Ok(()),
+        None => Err(Misuse::NoRoom),
+    }
+}
+
+// Tests comments: whether they are read back as they are written, and by Minisign's own program too.
+fn test_comments(trusted: &str, untrusted: &str) -> Result<(), Misuse>
+    ensures { MatchResult result (λ _. AreChosenReadBack (comments_of trusted.now untrusted.now) × AreReadByMinisign (comments_of trusted.now untrusted.now))
+        (IsCommentMisuse (comments_of trusted.now untrusted.now)) }
+{
+    if !are_kept(trusted, untrusted) {
+        return Err(Misuse::BadComment);
+    }
+    if !are_read_by_minisign(trusted.as_bytes(), untrusted.as_bytes()) {
+        return Err(Misuse::UnreadableComment);
+    }
+    Ok(())
+}
+
+// Whether Minisign's own program reads comments back as they are written.
+fn are_read_by_minisign(trusted: &[u8], untrusted: &[u8]) -> bool
+    ensures read { result ≡ true → AreReadByMinisign (comments_of trusted.now untrusted.now) }
+    ensures unread { result ≡ false → ¬ (AreReadByMinisign (comments_of trusted.now untrusted.now)) }
+{
+    untrusted.len() < 1004
+        && trusted.len() < 8174
+        && !untrusted.contains(&0)
+        && !trusted.contains(&0)
+        && !untrusted.contains(&13)
+        && !trusted.contains(&13)
+}
+
+// Whether comments are read back as they are written.
+fn are_kept(trusted: &str, untrusted: &str) -> bool
+    ensures kept { result ≡ true → AreChosenReadBack (comments_of trusted.now untrusted.now) }
+    ensures unkept { result ≡ false → ¬ (AreChosenReadBack (comments_of trusted.now untrusted.now)) }
+{
+    !trusted.as_bytes().contains(&10)
+        && !untrusted.as_bytes().contains(&10)
+        && untrusted.as_bytes().last() != Some(&13)
+        && trusted.trim() == trusted
+}
+
+// Writes the four lines.
+fn written(
+    alloc: Global,
+    key_id: &[u8; 8],
+    first: &[u8; 64],
+    second: &[u8; 64],
+    trusted: &str,
+    untrusted: &str,
+) -> minisign::Result<String>
+    ensures text { IfOk result (λ t. string_bytes t ≡ signature_text (answered_signature key_id.now first.now)
+        (answered_comments (comments_of trusted.now untrusted.now) second.now)) }
+    ensures reads_back { AreChosenReadBack (comments_of trusted.now untrusted.now) → IfOk result (λ t. SignatureText (string_bytes t)
+        (answered_box key_id.now (comments_of trusted.now untrusted.now) first.now second.now)) }
+    ensures refused { IfErr result (λ e. e ≡ Named OutOfMemory) }
+{
+    let signature_box = SignatureBox::from_parts(alloc, key_id, first, untrusted, trusted, second)?;
+    signature_box.into_string(alloc)
+}

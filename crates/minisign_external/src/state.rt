@@ -1,0 +1,188 @@
+//! A state of fixed size that a program in another language holds: it is fed the data in pieces,
+//! asks the questions of two texts, and gives the verdict.
+
+ghost use Rattle.std.specs.Prelude.{◌≡◌, ◌++◌, ℕ, List, [], false, Ok, OnOk, IfOk, IfErr, MatchResult, length};
+ghost use Rattle.minisign_hash.specs.Blake2b.{blake2b_digest};
+ghost use Rattle.minisign_hash.specs.Fed.{IsFed as IsFedHash, has_finalized, output_length};
+ghost use Rattle.minisign_external.specs.States.{HasToldKey, IsFed, IsMarkedFed, IsNotFed, IsNotTold, fed_mark};
+ghost use Rattle.minisign_external.specs.declared.state.Refusal.TheVariants.{Refused, WrongUse};
+
+use minisign_base::PError;
+use minisign_hash::blake2b::Blake2b;
+use minisign_hash::blake2b::stored::StoredBlake2b;
+
+// A state that is being fed begins with the letters `minisign`, one whose questions were asked with
+// `minisask`, one that has told a secret key with `minissig`.
+pub(crate) const FED: u64 = 7955443211184269677;
+
+pub(crate) const ASKED: u64 = 7742639332697991533;
+
+pub(crate) const TOLD: u64 = 7451613997988473197;
+
+/// A state, 512 bytes with the layout of C.
+#[repr(C)]
+#[derive(Clone, Copy)]
+pub struct State {
+    pub(crate) mark: u64,
+    hash: StoredBlake2b,
+    // Whether the second question could be asked: 1 or 0.
+    pub(crate) whole: u64,
+    // The identifier of the key that was told.
+    pub(crate) key_id: [u8; 8],
+    reserved: [u64; 18],
+}
+
+/// What has to be asked, with the layout of C.
+#[repr(C)]
+#[derive(Clone, Copy)]
+pub struct Questions {
+    /// The key of both questions.
+    pub public_key: [u8; 32],
+    /// The digest of the data.
+    pub digest: [u8; 64],
+    /// The signature of the first question, whose message is the digest, or the data itself where
+    /// `legacy` is 1.
+    pub signature: [u8; 64],
+    /// The signature of the second question; zeros where the text has fewer than 64 bytes.
+    pub comment_signature: [u8; 64],
+    /// The length of the message of the second question.
+    pub message_len: u64,
+    /// The identifier of the public key.
+    pub public_key_id: [u8; 8],
+    /// The identifier of the signature.
+    pub signature_key_id: [u8; 8],
+    /// 1 where the signature is over the data itself, otherwise 0.
+    pub legacy: u32,
+    /// Nothing yet.
+    pub reserved: u32,
+}
+
+/// A wrong use of a state or of a call.
+#[derive(Clone, Copy, Debug, PartialEq, Eq)]
+pub enum Misuse {
+    /// The state was never begun, or was ended by a verdict.
+    NotBegun,
+    /// The questions were asked before.
+    AlreadyAsked,
+    /// The questions were not asked.
+    NotAsked,
+    /// An answer is neither `MINISIGN_ANSWER_YES` nor `MINISIGN_ANSWER_NO`.
+    BadAnswer,
+    /// A buffer is too short.
+    NoRoom,
+    /// `allow_legacy` is neither 0 nor 1.
+    BadLegacyFlag,
+    /// A comment of a signature would not be read back as it is.
+    BadComment,
+    /// `with_password` is neither 0 nor 1.
+    BadPasswordFlag,
+    /// A comment of a signature is one that Minisign would not read back: too long, or with a zero
+    /// byte or a carriage return.
+    UnreadableComment,
+}
+
+/// Why nothing was asked or signed.
+#[derive(Debug, Drop)]
+pub enum Refusal {
+    /// A wrong use.
+    WrongUse(Misuse),
+    /// A fault of the library.
+    Refused(PError),
+}
+
+/// The refusal that this fault is.
+impl From<PError> for Refusal {
+    ghost from_gives = { λ e r. r ≡ Refused e };
+
+    fn from(fault: PError) -> Refusal {
+        Refusal::Refused(fault)
+    }
+}
+
+/// The refusal that this wrong use is.
+impl From<Misuse> for Refusal {
+    ghost from_gives = { λ m r. r ≡ WrongUse m };
+
+    fn from(misuse: Misuse) -> Refusal {
+        Refusal::WrongUse(misuse)
+    }
+}
+
+impl State {
+    /// A state that was fed nothing. Takes no memory.
+    pub fn new() -> State
+        ensures { IsFed result [] }
+    {
+        State {
+            mark: FED,
+            hash: StoredBlake2b::store(&Blake2b::new(64)),
+            whole: 0,
+            key_id: [0; 8],
+            reserved: [0; 18],
+        }
+    }
+
+    /// Feeds the next bytes of the data. Takes no memory. A state that was never begun is refused,
+    /// and one whose questions were asked; then it stays as it was.
+    pub fn update(&mut self, piece: &[u8]) -> Result<(), Misuse>
+        // Each update appends to what the state was fed. A state that is not being fed takes no data, and stays as it
+        // was.
+        ensures fed { (m : List ℕ) → IsFed self.old m → MatchResult result (λ _. IsFed self.new (m ++ piece.now)) (λ _. ⊥) }
+        ensures begun { OnOk result (IsMarkedFed self.old) }
+        ensures refused { IfErr result (λ e. IsNotFed self.old e × (self.new ≡ self.old)) }
+    {
+        let mut hasher = self.hasher()?;
+        hasher.update(piece);
+        self.hash = StoredBlake2b::store(&hasher);
+        Ok(())
+    }
+
+    /// The digest of what the state was fed, 64 bytes. Refused as `update`.
+    pub fn digest(&self) -> Result<[u8; 64], Misuse>
+        // The digest of everything the state was fed; a state that is not being fed gives none.
+        ensures digest { (m : List ℕ) → IsFed self.now m → result ≡ Ok (blake2b_digest 64 m) }
+        ensures begun { OnOk result (IsMarkedFed self.now) }
+        ensures refused { IfErr result (IsNotFed self.now) }
+    {
+        let mut hasher = self.hasher()?;
+        let mut digest = [0u8; 64];
+        hasher.finalize(&mut digest);
+        Ok(digest)
+    }
+
+    /// The identifier of the key that the state has told, 8 bytes. A state that has told none is
+    /// refused.
+    pub fn told_key_id(&self) -> Result<[u8; 8], Misuse>
+        // The identifier of the key that the state has told; a state that has told none is refused.
+        ensures told { IfOk result (HasToldKey self.now) }
+        ensures refused { IfErr result (IsNotTold self.now) }
+    {
+        if self.mark == FED || self.mark == ASKED {
+            return Err(Misuse::NotAsked);
+        }
+        if self.mark != TOLD {
+            return Err(Misuse::NotBegun);
+        }
+        Ok(self.key_id)
+    }
+
+    // The hash of what the state was fed.
+    fn hasher(&self) -> Result<Blake2b, Misuse>
+        ensures fed { (m : List ℕ) → IsFed self.now m → MatchResult result (λ b. IsFedHash b m) (λ _. ⊥) }
+        ensures length { IfOk result (λ b. output_length b ≡ 64) }
+        ensures finalized { IfOk result (λ b. has_finalized b ≡ false) }
+        ensures mark { OnOk result (self.now.mark ≡ fed_mark) }
+        ensures refused { IfErr result (IsNotFed self.now) }
+    {
+        if self.mark == ASKED || self.mark == TOLD {
+            return Err(Misuse::AlreadyAsked);
+        }
+        if self.mark != FED {
+            return Err(Misuse::NotBegun);
+        }
+        match self.hash.restore() {
+            Some(hasher) => Ok(hasher),
+            None => Err(Misuse::NotBegun),
+        }
+    }
+}

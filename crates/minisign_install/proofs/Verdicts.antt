@@ -1,0 +1,119 @@
+-- An update is installed exactly where it can be.
+use Rattle.std.proofs.Common.{◌≡◌, ◌≢◌, ◌⊎◌, inl, inr, ◌<◌, ◌≤◌, ◌++◌, ℕ, Bool, true, false, List, [], Option, Some, None, ap, sym, subst, ◌∙◌, refl, length, drop, arith, IfErr, OnOk}
+use Rattle.std.proofs.lemmas.Bool.{true≢false}
+use Rattle.std.proofs.Math.Seq.{drop-append_seam}
+use Rattle.std.specs.Str.{IsUtf8, trim}
+use Rattle.std.specs.declared.result.Result.{Result}
+use Rattle.std.specs.declared.result.Result.TheVariants.{Ok, Err}
+use Rattle.minisign_base.specs.Fault.{Named}
+use Rattle.minisign_base.specs.declared.faults.NamedFault.TheVariants.{OutOfMemory}
+use Rattle.minisign.specs.Acceptance.{Verifier}
+use Rattle.minisign.specs.Calls.{TextsVouchWith}
+use Rattle.minisign.specs.Reading.{IsAhead}
+use Rattle.minisign.specs.Records.{CommentsRecord}
+use Rattle.minisign.specs.SignatureText.{trusted_comment_label}
+use Rattle.minisign_install.specs.Comments.{IsNumberText, Says}
+use Rattle.minisign_install.specs.Folders.{HasLocked, IsFound, Run}
+use Rattle.minisign_install.specs.Installing.{HasInstalled, IsKeptNumber, Terms}
+use Rattle.minisign_install.specs.Refusals.{CanBeInstalled, CannotBeInstalled, Counts, HasFailed, InstallsExactly, IsDataRefused, IsDeviceFault, IsLibraryFault, IsLockedRefusal, IsRecordRefused, IsRefusal}
+use Rattle.minisign_install.specs.declared.comments.Numbering.{Numbering}
+use Rattle.minisign_install.specs.declared.faults.InstallFault.{InstallFault}
+use Rattle.minisign_install.specs.declared.faults.InstallFault.TheVariants.{Library}
+use Rattle.minisign_install.specs.declared.folders.Name.TheVariants.{Record}
+use Rattle.minisign_install.proofs.Counts.{not_failed}
+use Rattle.minisign_install.proofs.Installs.{same_number, some_list}
+
+no_text : (text : List ℕ) → None ≡ Some text → ⊥
+no_text text e = cc
+
+some_comments : (a b : CommentsRecord) → Some a ≡ Some b → a ≡ b
+some_comments a b e = cc
+
+same_behind : (label a b : List ℕ) → label ++ a ≡ label ++ b → a ≡ b
+same_behind label a b e = sym (drop-append_seam label a) ∙ ap (λ l. drop (length label) l) e ∙ drop-append_seam label b
+
+-- the comment that was signed stands in the text, whatever it was signed with
+same_comment : (accepts : Verifier) (pk sig m m' : List ℕ) (a b : List ℕ) → TextsVouchWith accepts pk sig m false a → TextsVouchWith accepts pk sig m' false b → a ≡ b
+same_comment accepts pk sig m m' a b u v =
+    let x = u.vouched.box_read in
+    let y = v.vouched.box_read in
+    let (c, at, trimmed) = x.trusted_comment in
+    let (d, there, cut) = y.trusted_comment in
+    let one : c ≡ d = same_behind trusted_comment_label c d (sym at ∙ there) in
+    let first : u.comments ≡ x.comments = some_comments u.comments x.comments (sym u.both ∙ x.box) in
+    let second : v.comments ≡ y.comments = some_comments v.comments y.comments (sym v.both ∙ y.box) in
+    sym u.trusted ∙ ap (λ k. k.trusted) first ∙ sym trimmed ∙ ap (λ k. trim k) one ∙ cut ∙ sym (ap (λ k. k.trusted) second) ∙ v.trusted
+
+same_kept : (first : Bool) (found : Option (List ℕ)) (k l : ℕ) → IsKeptNumber first found k → IsKeptNumber first found l → k ≡ l
+same_kept first found k l (inl (text, there, is_text, number)) (inl (other, same, is_other, is)) =
+    same_number text k l number (subst (λ t. IsNumberText t l) (some_list other text (sym same ∙ there)) is)
+same_kept first None k l (inl (text, there, is_text, number)) (inr more) = absurd (no_text text there)
+same_kept first (Some bytes) k l (inl (text, there, is_text, number)) (inr (is, zero, (inl not_text))) = absurd (not_text (subst IsUtf8 (some_list text bytes (sym there)) is_text))
+same_kept first (Some bytes) k l (inl (text, there, is_text, number)) (inr (is, zero, (inr none))) = absurd (none k (subst (λ t. IsNumberText t k) (some_list text bytes (sym there)) number))
+same_kept first None k l (inr more) (inl (text, there, is_text, number)) = absurd (no_text text there)
+same_kept first (Some bytes) k l (inr (is, zero, (inl not_text))) (inl (text, there, is_text, number)) = absurd (not_text (subst IsUtf8 (some_list text bytes (sym there)) is_text))
+same_kept first (Some bytes) k l (inr (is, zero, (inr none))) (inl (text, there, is_text, number)) = absurd (none l (subst (λ t. IsNumberText t l) (some_list text bytes (sym there)) number))
+same_kept first found k l (inr (is, zero, why)) (inr (is', zero', why')) = zero ∙ sym zero'
+
+record_unfit : (first : Bool) (found : Option (List ℕ)) (kept : ℕ) (e : InstallFault) → IsRecordRefused first found e → IsKeptNumber first found kept → ⊥
+record_unfit first found kept e (inl (is, later, none)) (inl (text, there, is_text, number)) = no_text text (sym none ∙ there)
+record_unfit first found kept e (inl (is, later, none)) (inr (first_one, zero, number)) = true≢false (sym first_one ∙ later)
+record_unfit first found kept e (inr (is, later, why)) (inr (first_one, zero, number)) = true≢false (sym first_one ∙ later)
+record_unfit first found kept e (inr (is, later, (text, there, (inl not_text)))) (inl (other, same, is_other, number)) = not_text (subst IsUtf8 (some_list other text (sym same ∙ there)) is_other)
+record_unfit first found kept e (inr (is, later, (text, there, (inr none)))) (inl (other, same, is_other, number)) = none kept (subst (λ t. IsNumberText t kept) (some_list other text (sym same ∙ there)) number)
+
+said_once : (comment file : List ℕ) (numbering : Numbering) (n k : ℕ) → Says comment file numbering n → Says comment file numbering k → n ≡ k
+said_once comment file numbering n k a b =
+    same_number a.value n k a.number (subst (λ t. IsNumberText t k) (some_list b.value a.value (sym b.numbered ∙ a.numbered)) b.number)
+
+module _ (accepts : Verifier) (terms : Terms) (first : Bool) where
+  data_unfit : (found : Option (List ℕ)) (kept : ℕ) (message : List ℕ) (e : InstallFault) → IsKeptNumber first found kept → IsDataRefused accepts terms kept message e
+      → ¬ (CanBeInstalled accepts terms first found message)
+  data_unfit found kept message e number (inl (fault, is, refused)) (least, n, held, update) = refused.unvouched update.vouched.vouched
+  data_unfit found kept message e number (inr (comment, vouched, why)) (least, n, held, update) =
+      let same : update.comment ≡ comment = same_comment accepts terms.pk_text terms.sig_text message message update.comment comment update.vouched vouched in
+      let says : Says comment terms.file terms.numbering n = subst (λ t. Says t terms.file terms.numbering n) same update.says in
+      elim why [
+        | inl (is, other) ↦ other says.named
+        | inr (inl (is, named, none)) ↦ none n says
+        | inr (inr (is, (k, older, less))) ↦
+            omega (arith, less, update.newer, said_once comment terms.file terms.numbering n k says older, same_kept first found kept least number held)
+      ]
+
+  some_ahead : (ahead : Option (List ℕ)) → (message : List ℕ) × IsAhead ahead message
+  some_ahead None = ([], tt)
+  some_ahead (Some xs) = (xs, refl)
+
+  memory_only : (before after : Counts) (e : InstallFault) (W : Type 0) → e ≢ Library (Named OutOfMemory) → ¬ (HasFailed before after) → IsLibraryFault (IsDeviceFault before after) e → W
+  memory_only before after e W memory calm (fault, is, device) = absurd (memory (is ∙ ap (λ f. Library f) (not_failed before after fault calm device)))
+
+  abbrev pub Verdict : Option (List ℕ) → Run → InstallFault → Type 0
+  Verdict ahead locked e = (found : Option (List ℕ)) × IsFound locked.now Record found × ((message : List ℕ) × IsAhead ahead message × CannotBeInstalled accepts terms first found message e)
+
+  locked_verdict : (ahead : Option (List ℕ)) (before after : Counts) (locked new : Run) (e : InstallFault) → e ≢ Library (Named OutOfMemory) → ¬ (HasFailed before after)
+      → IsLockedRefusal accepts terms first ahead before after locked new e → Verdict ahead locked e
+  locked_verdict ahead before after locked new e memory calm (inl (none, device)) = memory_only before after e (Verdict ahead locked e) memory calm device
+  locked_verdict ahead before after locked new e memory calm (inr (inl (cleared, none, (found, there, why)))) =
+      let (message, given) = some_ahead ahead in
+      (found, there, (message, given, record { reason = inl why; not_so = λ (kept, n, number, update). record_unfit first found kept e why number }))
+  locked_verdict ahead before after locked new e memory calm (inr (inr (cleared, (found, kept, there, number, (inl (none, device)))))) = memory_only before after e (Verdict ahead locked e) memory calm device
+  locked_verdict ahead before after locked new e memory calm (inr (inr (cleared, (found, kept, there, number, (inr (inl (none, (message, given, why)))))))) =
+      (found, there, (message, given, record { reason = inr (kept, number, why); not_so = data_unfit found kept message e number why }))
+  locked_verdict ahead before after locked new e memory calm (inr (inr (cleared, (found, kept, there, number, (inr (inr (inl (brings, device)))))))) = memory_only before after e (Verdict ahead locked e) memory calm device
+  locked_verdict ahead before after locked new e memory calm (inr (inr (cleared, (found, kept, there, number, (inr (inr (inr (inl (brings, writing, rose))))))))) = absurd (calm (inr (inr rose)))
+  locked_verdict ahead before after locked new e memory calm (inr (inr (cleared, (found, kept, there, number, (inr (inr (inr (inr (brings, placed, folder, rose))))))))) = absurd (calm (inr (inr rose)))
+
+  refused_exactly : (A : Type 0) (ahead : Option (List ℕ)) (before after : Counts) (old new : Run) (e : InstallFault) → IsRefusal accepts terms first ahead before after old new e
+      → InstallsExactly {T = A} accepts terms first ahead before after old new (Err e)
+  refused_exactly A ahead before after old new e (inl (busy, in_use)) = λ memory calm. inl (busy, in_use)
+  refused_exactly A ahead before after old new e (inr (inl (still, device))) = λ memory calm. memory_only before after e _ memory calm device
+  refused_exactly A ahead before after old new e (inr (inr (locked, got, refusal))) = λ memory calm. inr (locked, got, locked_verdict ahead before after locked new e memory calm refusal)
+
+  -- what is said of success and of refusals makes it exact
+  pub exactly : (ahead : Option (List ℕ)) (before after : Counts) (old new : Run) (A : Type 0) (r : Result A InstallFault)
+      → OnOk r (old.told ≡ true → ((locked : Run) × HasLocked old locked × HasInstalled accepts terms first ahead locked new))
+      → IfErr r (λ e. old.told ≡ true → IsRefusal accepts terms first ahead before after old new e) → old.told ≡ true → InstallsExactly accepts terms first ahead before after old new r
+  exactly ahead before after old new A (Ok a) installed refused = λ told memory calm.
+      let (locked, got, is) = installed told in
+      inr (locked, got, (is.found, is.there, (is.installed.bytes, is.installed.read, (is.kept, is.installed.n, is.number, is.installed.update))))
+  exactly ahead before after old new A (Err e) installed refused = λ told. refused_exactly A ahead before after old new e (refused told)

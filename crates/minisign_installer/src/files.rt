@@ -1,0 +1,544 @@
+//! A folder of the file system: each call is one call of the system, or a fixed few. It tells
+//! nothing, since std's files tell nothing.
+
+ghost use Rattle.std.specs.Prelude.{◌≡◌, ◌+◌, ◌<◌, ◌^◌, ℕ, true};
+ghost use Rattle.minisign_base.specs.Devices.{most_faults};
+ghost use Rattle.minisign_install.specs.Folders.{untold};
+
+use crate::progress::{Progress, Work};
+use crate::troubles::{Cause, Part, Trouble};
+use minisign::DeviceFault;
+use minisign_install::{Folder, Handle, Name, StageName};
+use std::alloc::Global;
+use std::cell::Cell;
+use std::fs::{File, Metadata, OpenOptions, Permissions, TryLockError};
+use std::io::{ErrorKind, Read, Write};
+use std::os::unix::fs::{FileExt, MetadataExt, OpenOptionsExt, PermissionsExt, fchown};
+use std::{fs, io};
+
+// Its owner alone may read and write a file that is made.
+const FOR_THE_OWNER: u32 = 0o600;
+
+// The nine bits that say who may read, write and run a file, and those of its owner, of its group
+// and of all others.
+const ALL_RIGHTS: u32 = 0o777;
+
+const RIGHTS_OF_THE_OWNER: u32 = 0o700;
+
+const RIGHTS_OF_THE_GROUP: u32 = 0o070;
+
+const RIGHTS_OF_OTHERS: u32 = 0o007;
+
+// How long the record may be: more than the 20 digits of the greatest number.
+const MOST_OF_RECORD: usize = 64;
+
+// How often a lock file is opened that others remove or make meanwhile.
+const MOST_OPENINGS: u32 = 100;
+
+// How often a call is made again that a signal interrupts.
+const MOST_INTERRUPTIONS: u32 = 1_000_000;
+
+// How many hexadecimal digits the name of a stage has.
+const DIGITS: usize = 32;
+
+/// An open stage.
+#[derive(Drop)]
+pub struct StageFile {
+    file: File,
+}
+
+impl Handle for StageFile {
+    ghost file = { λ _. 0 };
+}
+
+/// The folder of a place, by the paths that it needs, and the lock file where it holds the lock. It
+/// remembers what it could not use first.
+#[derive(Drop)]
+pub struct FileFolder<'a> {
+    rt: &'a HostRuntime,
+    folder: &'a str,
+    place: &'a str,
+    name: &'a str,
+    mode: Option<u32>,
+    lock: Option<File>,
+    trouble: Cell<Option<Trouble>>,
+    verified: Progress,
+}
+
+impl<'a> FileFolder<'a> {
+    /// The folder of the place at this path, whose links are not followed; none where the path does
+    /// not end with the name of a file. An update that is installed gets `mode` where that is given.
+    pub fn of_place(
+        rt: &'a HostRuntime,
+        place: &'a str,
+        mode: Option<u32>,
+    ) -> Option<FileFolder<'a>> {
+        let (folder, name) = match place.rsplit_once('/') {
+            Some(("", name)) => ("/", name),
+            Some((folder, name)) => (folder, name),
+            None => (".", place),
+        };
+        match name {
+            "" | "." | ".." => None,
+            _ => Some(FileFolder {
+                rt,
+                folder,
+                place,
+                name,
+                mode,
+                lock: None,
+                trouble: Cell::new(None),
+                verified: Progress::new(rt, Work::Verifying, None),
+            }),
+        }
+    }
+
+    /// The last part of the place's path.
+    pub fn name(&self) -> &'a str {
+        self.name
+    }
+
+    /// What could not be used first, if anything could not.
+    pub fn trouble(&self) -> Option<Trouble> {
+        self.trouble.get()
+    }
+
+    /// The path of a part, as it is shown.
+    pub fn shown(&self, part: Part) -> Result<String, DeviceFault> {
+        match part {
+            Part::Folder => self.text(self.folder),
+            Part::Place => self.text(self.place),
+            Part::Lock => self.beside("lock"),
+            Part::Record => self.beside("number"),
+            Part::Stage => self.beside("stage-*"),
+        }
+    }
+
+    // Remembers what could not be used, if it is the first.
+    fn remember(&self, part: Part, cause: Cause) -> DeviceFault {
+        if self.trouble.get().is_none() {
+            self.trouble.set(Some(Trouble { part, cause }));
+        }
+        DeviceFault
+    }
+
+    // What the system answered of a part; where it refused, that is remembered.
+    fn known<T>(&self, part: Part, answer: io::Result<T>) -> Result<T, DeviceFault> {
+        match answer {
+            Ok(value) => Ok(value),
+            Err(error) => Err(self.remember(part, Cause::System(error))),
+        }
+    }
+
+    // A text that takes memory.
+    fn made<T, E: Drop>(&self, text: Result<T, E>) -> Result<T, DeviceFault> {
+        match text {
+            Ok(text) => Ok(text),
+            Err(_) => Err(self.remember(Part::Place, Cause::OutOfMemory)),
+        }
+    }
+
+    fn text(&self, text: &str) -> Result<String, DeviceFault> {
+        self.made(String::from_str(self.rt.alloc(), text))
+    }
+
+    // The path of a file beside the place, by what stands behind the place's name.
+    fn beside(&self, behind: &str) -> Result<String, DeviceFault> {
+        let folder = self.folder;
+        let name = self.name;
+        self.made(format!(in self.rt.alloc(); "{folder}/.{name}.{behind}"))
+    }
+
+    // The path of a stage.
+    fn stage_path(&self, name: &StageName) -> Result<String, DeviceFault> {
+        let mut digits = String::new(self.rt.alloc());
+        for byte in name.as_bytes() {
+            let two = self.made(format!(in self.rt.alloc(); "{byte:02x}"))?;
+            self.made(digits.push_str(two.as_str()))?;
+        }
+        let digits = digits.as_str();
+        let behind = self.made(format!(in self.rt.alloc(); "stage-{digits}"))?;
+        self.beside(behind.as_str())
+    }
+
+    // The path of a lasting name, and which part it is.
+    fn path_of(&self, name: Name) -> Result<String, DeviceFault> {
+        self.shown(part_of(name))
+    }
+
+    // Whether this is the name of a stage beside this place.
+    fn is_stage(&self, found: &str) -> bool {
+        match found.strip_prefix(".") {
+            Some(rest) => match rest.strip_prefix(self.name) {
+                Some(rest) => match rest.strip_prefix(".stage-") {
+                    Some(digits) => is_drawn(digits),
+                    None => false,
+                },
+                None => false,
+            },
+            None => false,
+        }
+    }
+
+    // What stands at the place, where a regular file does.
+    fn older(&self) -> Result<Option<Metadata>, DeviceFault> {
+        self.regular(Part::Place, self.place)
+    }
+
+    // The regular file that the path of a part leads to, where any does. No link is followed.
+    fn regular(&self, part: Part, path: &str) -> Result<Option<Metadata>, DeviceFault> {
+        match fs::symlink_metadata(self.rt, path) {
+            Ok(found) if found.is_file() => Ok(Some(found)),
+            Ok(found) => Err(self.remember(part, cause_of(&found))),
+            Err(error) if error.kind() == ErrorKind::NotFound => Ok(None),
+            Err(error) => Err(self.remember(part, Cause::System(error))),
+        }
+    }
+
+    // Whether the path of a part leads to this open file, and through no link.
+    fn leads_to(&self, part: Part, path: &str, file: &File) -> Result<bool, DeviceFault> {
+        let opened = self.known(part, file.metadata())?;
+        Ok(match self.regular(part, path)? {
+            Some(found) => is_same_file(&found, &opened),
+            None => false,
+        })
+    }
+
+    // Opens the lock file, or makes it. None where others removed it or made one meanwhile.
+    fn open_lock(&self, path: &str) -> Result<Option<File>, DeviceFault> {
+        let is_there = self.regular(Part::Lock, path)?.is_some();
+        let opened = OpenOptions::new()
+            .read(true)
+            .write(true)
+            .create_new(!is_there)
+            .mode(FOR_THE_OWNER)
+            .open(self.rt, path);
+        match opened {
+            Ok(file) if self.leads_to(Part::Lock, path, &file)? => Ok(Some(file)),
+            Ok(_) => Ok(None),
+            Err(error) if error.kind() == ErrorKind::NotFound && is_there => Ok(None),
+            Err(error) if error.kind() == ErrorKind::NotFound => {
+                Err(self.remember(Part::Folder, Cause::NoFolder))
+            }
+            Err(error) if error.kind() == ErrorKind::AlreadyExists && !is_there => Ok(None),
+            Err(error) => Err(self.remember(Part::Lock, Cause::System(error))),
+        }
+    }
+
+    // Whether the lock is held, by the file that is still there.
+    fn is_locked(&self) -> Result<bool, DeviceFault> {
+        match &self.lock {
+            Some(file) => {
+                let path = self.beside("lock")?;
+                self.leads_to(Part::Lock, path.as_str(), file)
+            }
+            None => Ok(false),
+        }
+    }
+
+    // Refuses where the lock is not held any longer.
+    fn check_lock(&self) -> Result<(), DeviceFault> {
+        if self.is_locked()? {
+            Ok(())
+        } else {
+            Err(self.remember(Part::Lock, Cause::Removed))
+        }
+    }
+
+    // Gives a file the owner and the group of the file at the place, as far as that is allowed.
+    fn give_owner(&self, part: Part, file: &File) -> Result<(), DeviceFault> {
+        let Some(older) = self.older()? else {
+            return Ok(());
+        };
+        let made = self.known(part, file.metadata())?;
+        if made.uid() != older.uid() || made.gid() != older.gid() {
+            let _given = fchown(file, Some(older.uid()), Some(older.gid()));
+        }
+        Ok(())
+    }
+
+    // A call was made again and again, and a signal interrupted it each time.
+    fn interrupted(&self, part: Part) -> DeviceFault {
+        self.remember(part, Cause::System(ErrorKind::Interrupted.into()))
+    }
+
+    // Shows how far what was staged was read back; nothing more comes at its end.
+    fn show_verified(&self, at: u64, n: usize) {
+        self.verified.reach(at.saturating_add(n as u64));
+        if n == 0 {
+            self.verified.end();
+        }
+    }
+
+    // Locks a file that is open: whether this got the lock.
+    fn lock_file(&self, file: &File) -> Result<bool, DeviceFault> {
+        match file.try_lock() {
+            Ok(()) => Ok(true),
+            Err(TryLockError::WouldBlock) => Ok(false),
+            Err(TryLockError::Error(error)) => Err(self.remember(Part::Lock, Cause::System(error))),
+        }
+    }
+
+    // Removes what is a stage beside this place by its name.
+    fn remove_stages(&self, entries: fs::ReadDir) -> Result<(), DeviceFault> {
+        for entry in entries {
+            match entry {
+                Ok(entry) => {
+                    if self.is_stage(entry.file_name()) {
+                        // What cannot be removed, as a folder of such a name, stays.
+                        let _removed = fs::remove_file(self.rt, entry.path());
+                    }
+                }
+                // A name that is not UTF-8 is none of a stage's.
+                Err(error) if error.kind() == ErrorKind::InvalidFilename => {}
+                Err(error) => return Err(self.remember(Part::Folder, Cause::System(error))),
+            }
+        }
+        Ok(())
+    }
+}
+
+// The part that a lasting name is of.
+fn part_of(name: Name) -> Part {
+    match name {
+        Name::Place => Part::Place,
+        Name::Record => Part::Record,
+    }
+}
+
+// Why what was found is not used, where it is no regular file.
+fn cause_of(found: &Metadata) -> Cause {
+    if found.is_symlink() {
+        Cause::Link
+    } else if found.is_dir() {
+        Cause::Folder
+    } else {
+        Cause::Special
+    }
+}
+
+// Whether both are one file.
+fn is_same_file(one: &Metadata, other: &Metadata) -> bool {
+    one.dev() == other.dev() && one.ino() == other.ino()
+}
+
+// Whether these are the digits of a name that was drawn.
+fn is_drawn(digits: &str) -> bool {
+    digits.len() == DIGITS
+        && digits.as_bytes().iter().all(|digit| digit.is_ascii_digit()
+            || (*digit >= b'a' && *digit <= b'f'))
+}
+
+// What a new file may have of the rights of an older one. The bits of the group are kept only as far
+// as all others have them too: where the older file has an access control list, they are the list's
+// mask and not the rights of the group, and nothing here can tell.
+fn rights_after(older: u32) -> u32 {
+    let others = older & RIGHTS_OF_OTHERS;
+    (older & RIGHTS_OF_THE_OWNER) | (older & (others << 3)) | others
+}
+
+// Gives a stage the owner and the group of an older file, as far as that is allowed: whether it has
+// the group now.
+fn give_group(file: &File, older: &Metadata) -> io::Result<bool> {
+    let made = file.metadata()?;
+    let is_same = made.uid() == older.uid() && made.gid() == older.gid();
+    Ok(
+        is_same
+            || fchown(file, Some(older.uid()), Some(older.gid())).is_ok()
+            || fchown(file, None, Some(older.gid())).is_ok(),
+    )
+}
+
+// Gives a stage its rights: these where they are given, or else those of the older file. Where it
+// could not get the older file's group, its group gets none.
+fn give_rights(file: &File, older: &Option<Metadata>, mode: Option<u32>) -> io::Result<()> {
+    let has_group = match older {
+        Some(older) => give_group(file, older)?,
+        None => true,
+    };
+    let rights = match (mode, older) {
+        (Some(mode), _) => mode & ALL_RIGHTS,
+        (None, Some(older)) => rights_after(older.mode()),
+        (None, None) => return Ok(()),
+    };
+    let rights = if has_group {
+        rights
+    } else {
+        rights & !RIGHTS_OF_THE_GROUP
+    };
+    file.set_permissions(Permissions::from_mode(rights))
+}
+
+impl Folder for FileFolder<'_> {
+    type Handle = StageFile;
+
+    ghost run = { λ _. untold };
+
+    // Each fault ends the run and is remembered by itself, so none is counted.
+    ghost folder_faults = { λ _. most_faults };
+
+    ghost read_fails = { true };
+
+    fn lock(&mut self) -> Result<bool, DeviceFault> {
+        if self.is_locked()? {
+            return Ok(true);
+        }
+        let path = self.beside("lock")?;
+        let path = path.as_str();
+        for _ in 0..MOST_OPENINGS {
+            let Some(file) = self.open_lock(path)? else {
+                continue;
+            };
+            if !self.lock_file(&file)? {
+                return Ok(false);
+            }
+            // Who held the lock before may have removed the file.
+            if self.leads_to(Part::Lock, path, &file)? {
+                self.give_owner(Part::Lock, &file)?;
+                self.lock = Some(file);
+                return Ok(true);
+            }
+        }
+        Err(self.remember(Part::Lock, Cause::Restless))
+    }
+
+    fn clear(&mut self) -> Result<(), DeviceFault> {
+        self.check_lock()?;
+        for _ in 0..MOST_INTERRUPTIONS {
+            match fs::read_dir(self.rt, self.folder) {
+                Ok(entries) => return self.remove_stages(entries),
+                Err(error) if error.kind() == ErrorKind::Interrupted => {}
+                Err(error) => return Err(self.remember(Part::Folder, Cause::System(error))),
+            }
+        }
+        Err(self.interrupted(Part::Folder))
+    }
+
+    fn create(&mut self, name: &StageName) -> Result<StageFile, DeviceFault> {
+        self.check_lock()?;
+        let path = self.stage_path(name)?;
+        let opened = OpenOptions::new()
+            .read(true)
+            .write(true)
+            .create_new(true)
+            .mode(FOR_THE_OWNER)
+            .open(self.rt, path.as_str());
+        let file = self.known(Part::Stage, opened)?;
+        Ok(StageFile { file })
+    }
+
+    fn write(&mut self, handle: &StageFile, bytes: &[u8]) -> Result<usize, DeviceFault> {
+        for _ in 0..MOST_INTERRUPTIONS {
+            let mut file = &handle.file;
+            match file.write(bytes) {
+                Ok(n) if n <= bytes.len() && (n > 0 || bytes.is_empty()) => return Ok(n),
+                Ok(_) => {
+                    let cause = Cause::System(ErrorKind::WriteZero.into());
+                    return Err(self.remember(Part::Stage, cause));
+                }
+                Err(error) if error.kind() == ErrorKind::Interrupted => {}
+                Err(error) => return Err(self.remember(Part::Stage, Cause::System(error))),
+            }
+        }
+        Err(self.interrupted(Part::Stage))
+    }
+
+    fn read_at(&self, handle: &StageFile, at: u64, buf: &mut [u8]) -> Result<usize, DeviceFault> {
+        for _ in 0..MOST_INTERRUPTIONS {
+            match handle.file.read_at(buf, at) {
+                Ok(n) if n <= buf.len() && is_within_file(at, n) => {
+                    self.show_verified(at, n);
+                    return Ok(n);
+                }
+                Ok(_) => break,
+                Err(error) if error.kind() == ErrorKind::Interrupted => {}
+                Err(error) => return Err(self.remember(Part::Stage, Cause::System(error))),
+            }
+        }
+        Err(self.interrupted(Part::Stage))
+    }
+
+    fn count_fault(&mut self) {}
+
+    fn take_rights(&mut self, handle: &StageFile) -> Result<(), DeviceFault> {
+        let older = self.older()?;
+        self.known(Part::Stage, give_rights(&handle.file, &older, self.mode))
+    }
+
+    fn settle(&mut self, handle: &StageFile) -> Result<(), DeviceFault> {
+        // The record too is for the owner of what stands at the place, whoever runs this.
+        self.give_owner(Part::Stage, &handle.file)?;
+        self.known(Part::Stage, handle.file.sync_all())
+    }
+
+    fn rename(&mut self, name: &StageName, to: Name) -> Result<(), DeviceFault> {
+        self.check_lock()?;
+        let from = self.stage_path(name)?;
+        let path = self.path_of(to)?;
+        self.known(
+            part_of(to),
+            fs::rename(self.rt, from.as_str(), path.as_str()),
+        )
+    }
+
+    fn settle_names(&mut self) -> Result<(), DeviceFault> {
+        let folder = self.known(Part::Folder, fs::open(self.rt, self.folder))?;
+        self.known(Part::Folder, folder.sync_all())
+    }
+
+    fn remove(&mut self, name: &StageName) -> Result<(), DeviceFault> {
+        let path = self.stage_path(name)?;
+        self.known(Part::Stage, fs::remove_file(self.rt, path.as_str()))
+    }
+
+    fn read_record(&mut self, alloc: Global) -> Result<Option<Vec<u8>>, DeviceFault> {
+        let path = self.path_of(Name::Record)?;
+        let path = path.as_str();
+        if self.regular(Part::Record, path)?.is_none() {
+            return Ok(None);
+        }
+        let file = self.known(Part::Record, fs::open(self.rt, path))?;
+        if !self.leads_to(Part::Record, path, &file)? {
+            return Err(self.remember(Part::Record, Cause::Restless));
+        }
+        let mut buf = [0u8; MOST_OF_RECORD + 1];
+        let n = self.known(Part::Record, read_most(&file, &mut buf))?;
+        match buf.get(..n) {
+            Some(bytes) if n <= MOST_OF_RECORD => {
+                let line = bytes.strip_suffix(b"\n").unwrap_or(bytes);
+                Ok(Some(self.made(line.to_vec(alloc))?))
+            }
+            _ => Err(self.remember(Part::Record, Cause::TooLong)),
+        }
+    }
+}
+
+// Whether these bytes from an offset on are within the longest file that there is.
+fn is_within_file(at: u64, n: usize) -> bool
+    ensures { result ≡ true → 0 < n → at + n < 2 ^ 63 }
+{
+    match at.checked_add(n as u64) {
+        Some(end) => n == 0 || end <= i64::MAX as u64,
+        None => n == 0,
+    }
+}
+
+// Reads up to all of `buf`, less only where the file ends, and returns how much.
+fn read_most(mut file: &File, buf: &mut [u8]) -> io::Result<usize> {
+    let mut filled = 0;
+    for _ in 0..MOST_INTERRUPTIONS {
+        let Some(rest) = buf.get_mut(filled..) else {
+            return Ok(filled);
+        };
+        if rest.is_empty() {
+            return Ok(filled);
+        }
+        match file.read(rest) {
+            Ok(0) => return Ok(filled),
+            Ok(n) => filled = filled.saturating_add(n),
+            Err(error) if error.kind() == ErrorKind::Interrupted => {}
+            Err(error) => return Err(error),
+        }
+    }
+    Err(ErrorKind::Interrupted.into())
+}

@@ -1,0 +1,66 @@
+//! What kept a file or a folder from being used, as a person reads it.
+
+use std::{fmt, io};
+
+/// A file or a folder beside which, or in which, an update is installed.
+#[derive(Clone, Copy)]
+pub enum Part {
+    /// The folder of the place.
+    Folder,
+    /// Where the update is installed.
+    Place,
+    /// The file that is locked.
+    Lock,
+    /// What keeps the number.
+    Record,
+    /// A new file, which is to get the name of the place or of the record.
+    Stage,
+}
+
+/// Why a file or a folder could not be used.
+#[derive(Clone, Copy)]
+pub enum Cause {
+    /// What the system answered.
+    System(io::Error),
+    /// No such folder.
+    NoFolder,
+    /// A link stands there, and links are not followed.
+    Link,
+    /// A folder stands there.
+    Folder,
+    /// Neither a regular file, a link nor a folder.
+    Special,
+    /// It holds more than a number.
+    TooLong,
+    /// Others made and removed it again and again.
+    Restless,
+    /// It was locked, and is not there any longer.
+    Removed,
+    /// Memory ran out.
+    OutOfMemory,
+}
+
+/// What could not be used, and why.
+#[derive(Clone, Copy)]
+pub struct Trouble {
+    /// The file or the folder.
+    pub part: Part,
+    /// The reason.
+    pub cause: Cause,
+}
+
+impl fmt::Display for Cause {
+    fn fmt<W: fmt::Write>(&self, f: &mut fmt::Formatter<W>) -> fmt::Result {
+        match self {
+            Cause::System(error) => error.fmt(f),
+            Cause::NoFolder => f.write_str("there is no such folder"),
+            Cause::Link => f.write_str("a link stands there, which is not followed"),
+            Cause::Folder => f.write_str("a folder stands there"),
+            Cause::Special => f.write_str("what stands there is no regular file"),
+            Cause::TooLong => f.write_str("it is too long for a number"),
+            Cause::Restless => f.write_str("others remove it again and again"),
+            Cause::Removed => f.write_str("it was removed or replaced while it was locked"),
+            Cause::OutOfMemory => f.write_str("out of memory"),
+        }
+    }
+}

@@ -1,4 +1,0 @@
-pub mod Refusals
-pub mod SecretFields
-pub mod AnsweredBoxes
-pub mod UnsealedKeys

@@ -1,4 +1,0 @@
-pub mod Questions
-pub mod Numbers
-pub mod States
-pub mod Signing

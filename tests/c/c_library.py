@@ -1,0 +1,107 @@
+#!/usr/bin/env python3
+"""Compiles and runs what calls the static library of `c/` through `include/minisign.h` alone.
+
+    tests/c/c_library.py [LIBRARY]
+
+The layout of its structs as C and as C++ (`layout.c`), wrong use (`wrong_use.c`), the text of each number
+(`error_texts.c`), the texts of public keys (`public_keys.c`), and each request for memory refused, of which
+verifying makes none (`out_of_memory.c`); each program also with what finds wrong use of
+memory, where the compiler has it. LIBRARY is a `libminisign.a`; where none is named it is built, and proved
+before where it was not (`static_library.py`). It prints a line for each failure; the last line is `N passed, M failed`.
+
+Needs Python 3.9 or later, a C compiler and a C++ compiler, and installs what is not there where it may.
+"""
+
+import os
+import subprocess
+import sys
+import tempfile
+
+HERE = os.path.dirname(os.path.realpath(__file__))
+sys.path.append(os.path.join(HERE, "..", "shared"))
+
+import needs
+import static_library
+
+INCLUDE = os.path.join(HERE, "..", "..", "include")
+SECONDS = 300
+STRICT = ["-Wall", "-Wextra", "-Wpedantic", "-Werror"]
+SANITIZED = ["-fsanitize=address,undefined", "-fno-sanitize-recover=all"]
+WRAPPED = ["-Wl,--wrap=malloc", "-Wl,--wrap=realloc", "-Wl,--wrap=free"]
+
+# The programs, with what each is linked with.
+PROGRAMS = {"wrong_use": [], "error_texts": [], "public_keys": WRAPPED, "out_of_memory": WRAPPED, "null": [], "guard_pages": [], "threads": ["-pthread"]}
+
+
+def run(command):
+    """Runs a command: its status, and all that it said."""
+    ran = subprocess.run(command, stdin=subprocess.DEVNULL, stdout=subprocess.PIPE, stderr=subprocess.STDOUT,
+                         timeout=SECONDS)
+    return ran.returncode, ran.stdout.decode(errors="replace")
+
+
+def layout_failures(compiler, cpp):
+    """What the compilers say of the layout, as C and as C++."""
+    source = os.path.join(HERE, "layout.c")
+    failures = []
+    for command in ([compiler, "-x", "c", "-std=c11"], [cpp, "-x", "c++", "-std=c++11"]):
+        status, said = run([*command, *STRICT, "-I", INCLUDE, "-fsyntax-only", source])
+        if status != 0:
+            failures.append(f"layout.c by {command[-1]}: {said[-1000:]}")
+    return failures, 2
+
+
+def program_failures(compiler, library, name, flags, room):
+    """What is wrong with a program, and how many of its checks hold."""
+    program = os.path.join(room, name)
+    source = os.path.join(HERE, f"{name}.c")
+    status, said = run([compiler, "-std=c11", *STRICT, "-g", "-O1", *flags, "-I", INCLUDE, "-o", program, source,
+                        library, *PROGRAMS[name]])
+    if status != 0:
+        return [f"{name}.c was not built: {said[-1000:]}"], 0
+    status, said = run([program])
+    if status != 0:
+        return [f"{name}: status {status}: {said[-2000:]}"], 0
+    return [], int(said.splitlines()[-1].split()[0])
+
+
+def has_sanitizers(compiler, room):
+    source = os.path.join(room, "empty.c")
+    with open(source, "w", encoding="utf-8") as file:
+        file.write(needs.HELLO)
+    return run([compiler, *SANITIZED, "-o", os.path.join(room, "empty"), source])[0] == 0
+
+
+def run_all(library, room):
+    """Runs everything: the failures, and how many checks hold."""
+    compiler, cpp = needs.c_compiler(), needs.cpp_compiler()
+    failures, count = layout_failures(compiler, cpp)
+    count -= len(failures)
+    kinds = [[]]
+    if has_sanitizers(compiler, room):
+        kinds.append(SANITIZED)
+    else:
+        print("skipped: the programs with sanitizers, which the compiler lacks")
+    for name in PROGRAMS:
+        for flags in kinds:
+            some, ran = program_failures(compiler, library, name, flags, room)
+            failures += some
+            count += ran
+    return failures, count
+
+
+def main():
+    with tempfile.TemporaryDirectory(prefix="c-library-") as room:
+        try:
+            library = sys.argv[1] if len(sys.argv) > 1 else static_library.library(os.path.join(room, "c"))
+            failures, count = run_all(os.path.realpath(library), room)
+        except (needs.Missing, static_library.NotBuilt) as why:
+            failures, count = [str(why)], 0
+    for failure in failures:
+        print(f"FAILED: {failure}")
+    print(f"{count} passed, {len(failures)} failed")
+    return 1 if failures else 0
+
+
+if __name__ == "__main__":
+    sys.exit(main())

@@ -1,0 +1,182 @@
+/*
+ * Each buffer that a call is given ends where a page without access begins, and then begins where one ends: no call reads or
+ * writes a byte beside what it was given. A wild access ends the program.
+ *
+ * The last line is `N passed, M failed`.
+ */
+#define _DEFAULT_SOURCE
+
+#include <stdint.h>
+#include <stdlib.h>
+#include <string.h>
+#include <sys/mman.h>
+
+#include "minisign.h"
+#include "texts_for_tests.h"
+
+enum { PAGE = 4096, BYTES = 32 * PAGE, REGIONS = 8 };
+
+static uint8_t *regions[REGIONS];
+static int used, at_end;
+
+/* A new buffer of so many bytes beside a page without access. */
+static uint8_t *buffer(size_t len)
+{
+    uint8_t *region = regions[used++];
+
+    memset(region, 0xaa, BYTES);
+    return at_end ? region + BYTES - len : region;
+}
+
+static uint8_t *copied(const void *bytes, size_t len)
+{
+    uint8_t *to = buffer(len);
+
+    memcpy(to, bytes, len);
+    return to;
+}
+
+static minisign_state *begun(void)
+{
+    minisign_state *state = (minisign_state *) (void *) buffer(sizeof *state);
+
+    minisign_init(state);
+    return state;
+}
+
+static void feeding(void)
+{
+    static uint8_t data[BYTES];
+    static const size_t lens[] = { 0, 1, 2, 63, 64, 127, 128, 129, 255, 256, 257, 383, 384, 385, 4095, 4096, 65535, 65536, BYTES };
+
+    for (size_t i = 0; i < sizeof data; i++) {
+        data[i] = (uint8_t) (i * 7);
+    }
+    for (size_t i = 0; i < sizeof lens / sizeof lens[0]; i++) {
+        for (size_t before = 0; before < 260; before += 43) {
+            minisign_state *state, other;
+
+            used = 0;
+            state = begun();
+            CHECK(minisign_update(state, copied(data, before), before) == MINISIGN_OK);
+            CHECK(minisign_update(state, copied(data, lens[i]), lens[i]) == MINISIGN_OK);
+            minisign_init(&other);
+            CHECK(minisign_update(&other, data, before) == MINISIGN_OK);
+            CHECK(minisign_update(&other, data, lens[i]) == MINISIGN_OK);
+            CHECK(memcmp(state, &other, sizeof other) == 0);
+        }
+    }
+}
+
+/* The texts cut at each length, and room of each length for the message. */
+static void asking(void)
+{
+    for (size_t len = 0; len < sizeof SIGNATURE; len++) {
+        minisign_state *state;
+        minisign_external *q;
+
+        used = 0;
+        state = begun();
+        q = (minisign_external *) (void *) buffer(sizeof *q);
+        CHECK(minisign_ask(state, copied(KEY, sizeof KEY - 1), sizeof KEY - 1, copied(SIGNATURE, len), len, 0, q, buffer(len), len)
+              == MINISIGN_OK || len < sizeof SIGNATURE - 1);
+    }
+    for (size_t len = 0; len < sizeof KEY; len++) {
+        minisign_state *state;
+        minisign_external *q;
+
+        used = 0;
+        state = begun();
+        q = (minisign_external *) (void *) buffer(sizeof *q);
+        CHECK(minisign_ask(state, copied(KEY, len), len, copied(SIGNATURE, sizeof SIGNATURE - 1), sizeof SIGNATURE - 1, 0, q,
+                           buffer(MESSAGE_LEN), MESSAGE_LEN) == MINISIGN_OK || len < sizeof KEY - 2);
+    }
+    for (size_t room = 0; room <= MESSAGE_LEN; room++) {
+        minisign_state *state;
+        minisign_external *q;
+        enum minisign_error wanted = room < MESSAGE_LEN ? MINISIGN_NO_ROOM : MINISIGN_OK;
+
+        used = 0;
+        state = begun();
+        q = (minisign_external *) (void *) buffer(sizeof *q);
+        CHECK(minisign_ask(state, copied(KEY, sizeof KEY - 1), sizeof KEY - 1, copied(SIGNATURE, sizeof SIGNATURE - 1),
+                           sizeof SIGNATURE - 1, 0, q, buffer(room), room) == wanted);
+        CHECK(minisign_verdict(state, MINISIGN_ANSWER_YES, MINISIGN_ANSWER_YES)
+              == (wanted == MINISIGN_OK ? MINISIGN_OK : MINISIGN_NOT_ASKED));
+    }
+}
+
+static void signing(void)
+{
+    for (size_t len = 0; len < sizeof SECRET_KEY; len++) {
+        minisign_state *state;
+        minisign_signing *s;
+
+        used = 0;
+        state = begun();
+        s = (minisign_signing *) (void *) buffer(sizeof *s);
+        CHECK(minisign_ask_signing(state, copied(SECRET_KEY, len), len, 0, buffer(0), 0, 1, 1, s) == MINISIGN_OK
+              || len < sizeof SECRET_KEY - 2);
+    }
+    for (size_t len = 0; len < 200; len++) {
+        static const char letters[200] = "a";
+        uint8_t *first, *second, *trusted, *untrusted;
+        size_t *text_len, need = 0;
+        minisign_state *state;
+        minisign_signing s;
+        enum minisign_error error;
+
+        used = 0;
+        state = begun();
+        CHECK(minisign_ask_signing(state, (const uint8_t *) SECRET_KEY, sizeof SECRET_KEY - 1, 0, NULL, 0, 1, 1, &s)
+              == MINISIGN_OK);
+        first = buffer(64);
+        second = buffer(64);
+        trusted = copied(letters, len);
+        memset(trusted, 't', len);
+        untrusted = copied(letters, len / 2);
+        memset(untrusted, 'u', len / 2);
+        text_len = (size_t *) (void *) buffer(sizeof *text_len);
+        CHECK(minisign_comment_message(first, trusted, len, buffer(64 + len), 64 + len) == MINISIGN_OK);
+        for (size_t room = 0;; room = room < 190 ? room + 95 : room + 1) {
+            used = 6;
+            error = minisign_signed_text(state, first, second, trusted, len, untrusted, len / 2, buffer(room), room, text_len);
+            if (error != MINISIGN_NO_ROOM) {
+                need = room;
+                break;
+            }
+        }
+        CHECK(error == MINISIGN_OK && need <= MINISIGN_TEXT_BYTES(len, len / 2) && *text_len <= need);
+    }
+}
+
+static void texts(void)
+{
+    for (uint32_t number = 0; number < 64; number++) {
+        for (size_t room = 0; room <= MINISIGN_ERROR_TEXT_BYTES; room++) {
+            used = 0;
+            CHECK(minisign_error_text(number, (char *) buffer(room), room) < MINISIGN_ERROR_TEXT_BYTES);
+        }
+    }
+}
+
+int main(void)
+{
+    for (int i = 0; i < REGIONS; i++) {
+        uint8_t *all = mmap(NULL, BYTES + 2 * PAGE, PROT_NONE, MAP_PRIVATE | MAP_ANONYMOUS, -1, 0);
+
+        if (all == MAP_FAILED || mprotect(all + PAGE, BYTES, PROT_READ | PROT_WRITE) != 0) {
+            puts("0 passed, 1 failed");
+            return 1;
+        }
+        regions[i] = all + PAGE;
+    }
+    for (at_end = 0; at_end < 2; at_end++) {
+        feeding();
+        asking();
+        signing();
+        texts();
+    }
+    printf("%u passed, %u failed\n", passed, failed);
+    return failed != 0;
+}

@@ -1,0 +1,286 @@
+#!/usr/bin/env python3
+"""Installs the library of `c/` into a folder of its own, and uses it from what was installed alone: from C, linked as a static and
+as a shared library, from C++, from Rust and from Python. The examples of the header verify and sign good and bad input.
+
+    tests/c/installed.py
+
+Also: exactly these files are installed; the shared library has its soname, and like the static one the names of the header and no
+other; a result that is dropped is a warning in C and in C++; the manual pages are read without a word.
+It prints a line for each failure; the last line is `N passed, M failed`.
+
+Needs Python 3.9 or later, make, binutils, pkg-config, groff, a C and a C++ compiler, rustc, libsodium with its header and
+minisign, and installs what is not there where it may. The library is built, and proved before where it was not
+(`static_library.py`).
+"""
+
+import os
+import re
+import shlex
+import subprocess
+import sys
+import tempfile
+
+HERE = os.path.dirname(os.path.realpath(__file__))
+sys.path.append(os.path.join(HERE, "..", "shared"))
+
+import needs
+import static_library
+
+TOP = os.path.join(HERE, "..", "..")
+EXAMPLES = os.path.join(TOP, "c", "examples")
+CORPUS = os.path.join(HERE, "..", "corpus")
+PREFIX = "/prefix"
+SECONDS = 300
+STRICT = ["-Wall", "-Wextra", "-Wpedantic", "-Werror"]
+
+# What is installed beside the shared library, whose name has its version.
+FILES = ["bin/minisign", "bin/minisign-sign", "bin/minisign-verify", "include/minisign.h", "lib/libminisign.a", "lib/libminisign.so",
+         "lib/pkgconfig/minisign.pc", "share/man/man1/minisign.1", "share/man/man1/minisign-sign.1", "share/man/man1/minisign-verify.1",
+         "share/man/man3/minisign.3"]
+
+# A result that is dropped.
+DROPPED = "#include <minisign.h>\nint main(void) { minisign_state s; minisign_init(&s); minisign_update(&s, 0, 0); return 0; }\n"
+
+# A key that Minisign made for these checks alone, by -G with the password `pw`.
+SEALED = ("untrusted comment: minisign encrypted secret key\n"
+          "RWRTY0IyQuX046PjIcXDk/r4CSffEseU3JAL7PlB8O5JOO7pY2sAAAACAAAAAAAAAEAAAAAAytQo"
+          "ugYoRybCRRAxLJa3E89PRFna1w3AliB7UuBmE8V3W7jVZ9SzrxGhcq3qwAvJfFXFH2KZgQM5n6I5"
+          "9WgTVn+cBdAVDfAnDcoms9nFfblMjk9dV4D6llvod023qwmFQVYufitrKbc=\n")
+
+COMMENT = "version 2 \u00e9"
+
+
+class Checks:
+    """The count of what holds, and what does not."""
+
+    def __init__(self):
+        self.passed, self.failures = 0, []
+
+    def check(self, holds, what):
+        if holds:
+            self.passed += 1
+        else:
+            self.failures.append(what)
+
+
+def run(command, folder=None, environment=None):
+    """Runs a command: its status, its output, and what it said."""
+    ran = subprocess.run(command, cwd=folder, env=dict(os.environ, **(environment or {})), stdin=subprocess.DEVNULL,
+                         stdout=subprocess.PIPE, stderr=subprocess.PIPE, timeout=SECONDS)
+    return ran.returncode, ran.stdout.decode(errors="replace"), ran.stderr.decode(errors="replace")
+
+
+def header_names(header):
+    """The names of the calls that the header declares."""
+    with open(header, encoding="utf-8") as file:
+        text = re.sub(r"/\*.*?\*/", "", file.read(), flags=re.S)
+    return set(re.findall(r"^(?!typedef|#)[^\n(]*?\b(minisign_\w+)\(", text, re.M))
+
+
+def defined_names(library, *flags):
+    """The names that a library defines for others."""
+    status, said, _ = run([needs.program("nm", "binutils"), "-g", "--defined-only", *flags, library])
+    return {line.split()[-1] for line in said.splitlines() if re.match(r"[0-9a-f]+ [A-Z] ", line)}
+
+
+def installed_files(checks, root):
+    """What was installed, and the names in it."""
+    found = {os.path.relpath(os.path.join(at, name), root) for at, _, names in os.walk(root) for name in names}
+    versions = [name for name in found if re.fullmatch(r"lib/libminisign\.so\.\d+(?:\.\d+\.\d+)?", name)]
+    checks.check(len(versions) == 2 and found == {*FILES, *versions}, f"other files were installed: {sorted(found)}")
+    names = header_names(os.path.join(root, "include", "minisign.h"))
+    checks.check(len(names) >= 9, f"the header has only the names {sorted(names)}")
+    for name, flags in (("libminisign.so", ["-D"]), ("libminisign.a", [])):
+        defined = defined_names(os.path.join(root, "lib", name), *flags)
+        checks.check(defined == names, f"{name} defines {sorted(defined ^ names)}, of which the header or the library has nothing")
+    _, said, _ = run([needs.program("readelf", "binutils"), "-d", os.path.join(root, "lib", "libminisign.so")])
+    soname = re.search(r"\(SONAME\).*\[(.*)\]", said)
+    checks.check(soname is not None and f"lib/{soname[1]}" in found, f"the soname is {soname and soname[1]}")
+    checks.check("TEXTREL" not in said, "the shared library has to be changed where it is loaded")
+    groff = needs.program("groff", "groff")
+    for page in (name for name in FILES if "/man/" in name):
+        status, _, said = run([groff, "-man", "-ww", "-Tutf8", os.path.join(root, page)])
+        checks.check(status == 0 and not said, f"{page}: {said}")
+
+
+def flags_of(root, room, *wanted):
+    """What pkg-config tells of what was installed."""
+    environment = {"PKG_CONFIG_PATH": os.path.join(root, "lib", "pkgconfig"), "PKG_CONFIG_SYSROOT_DIR": os.path.join(room, "dest")}
+    status, said, why = run([needs.program("pkg-config", "pkg-config"), *wanted, "minisign"], environment=environment)
+    if status != 0:
+        raise static_library.NotBuilt(f"pkg-config: {why}")
+    return shlex.split(said)
+
+
+def build_all(checks, root, room):
+    """Builds the programs that verify, and the one that signs: by their names what they are run with."""
+    compiler, cpp, rustc = needs.libsodium(), needs.cpp_compiler(), needs.program("rustc", "rustc")
+    cflags, libs = flags_of(root, room, "--cflags"), flags_of(root, room, "--libs")
+    archive, shared = os.path.join(root, "lib", "libminisign.a"), os.path.join(root, "lib")
+    verify = os.path.join(EXAMPLES, "verify.c")
+    commands = {
+        "C": [compiler, "-std=c11", *STRICT, *cflags, verify, archive, "-lsodium"],
+        "C over the shared library": [compiler, "-std=c99", *STRICT, *cflags, verify, *libs, "-lsodium"],
+        "C++ 11": [cpp, "-std=c++11", *STRICT, *cflags, os.path.join(HERE, "installed_verify.cpp"), archive, "-lsodium"],
+        "C++ 17 over the shared library": [cpp, "-std=c++17", *STRICT, *cflags, os.path.join(HERE, "installed_verify.cpp"), *libs,
+                                          "-lsodium"],
+        "Rust": [rustc, "--edition", "2021", "-D", "warnings", os.path.join(TOP, "examples", "rust", "minisign-verify.rs"),
+                 "-C", f"link-arg={archive}", "-l", "sodium"],
+        "Rust over the shared library": [rustc, "--edition", "2021", "-D", "warnings", "-L", shared, "-l", "dylib=minisign",
+                                         os.path.join(TOP, "examples", "rust", "minisign-verify.rs"), "-l", "sodium"],
+        "sign": [compiler, "-std=c11", *STRICT, *cflags, os.path.join(EXAMPLES, "sign.c"), archive, "-lsodium"],
+    }
+    programs = {}
+    for name, command in commands.items():
+        program = os.path.join(room, name.replace(" ", "-"))
+        status, _, said = run([*command, "-o", program])
+        checks.check(status == 0, f"{name} was not built: {said[-1000:]}")
+        programs[name] = [program]
+    programs["Python"] = [sys.executable, os.path.join(HERE, "installed_verify.py"), os.path.join(shared, "libminisign.so")]
+    for name, command in (("C", [compiler, "-std=c11", "-x", "c"]), ("C++", [cpp, "-std=c++17", "-x", "c++"])):
+        source = os.path.join(room, "dropped")
+        with open(source, "w", encoding="utf-8") as file:
+            file.write(DROPPED)
+        status, _, said = run([*command, *STRICT, *cflags, "-c", source, "-o", os.path.join(room, "dropped.o")])
+        checks.check(status != 0 and "minisign_update" in said, f"{name}: a result that is dropped is no warning")
+    return programs
+
+
+def changed(text, at):
+    """Bytes with one of them changed."""
+    return text[:at] + bytes([text[at] ^ 1]) + text[at + 1:]
+
+
+def write(room, name, data):
+    path = os.path.join(room, name)
+    with open(path, "wb") as file:
+        file.write(data)
+    return path
+
+
+def read(path):
+    with open(path, "rb") as file:
+        return file.read()
+
+
+def verifying_cases(room, minisign):
+    """Calls that verify: what they are given, and the trusted comment where the texts vouch for the data, else None."""
+    for name in ("key", "other"):
+        run([minisign, "-G", "-W", "-p", f"{name}.pub", "-s", f"{name}.key"], room)
+    data = write(room, "data", b"some data\n" * 20000)
+    run([minisign, "-S", "-s", "key.key", "-m", data, "-x", "sig", "-t", COMMENT, "-c", "u"], room)
+    run([minisign, "-S", "-l", "-s", "key.key", "-m", data, "-x", "legacy", "-t", COMMENT], room)
+    empty = write(room, "empty", b"")
+    run([minisign, "-S", "-s", "key.key", "-m", empty, "-x", "empty.sig", "-t", "t"], room)
+    key, other, sig = (os.path.join(room, name) for name in ("key.pub", "other.pub", "sig"))
+    text, key_text = read(sig), read(key)
+    second, fourth = (text.index(text.split(b"\n")[number]) for number in (1, 3))
+    comment = text.index(COMMENT.encode())
+    yield "good", (key, data, sig), COMMENT
+    yield "no data", (key, empty, os.path.join(room, "empty.sig")), "t"
+    yield "another key", (other, data, sig), None
+    yield "a key as the signature", (key, data, key), None
+    yield "other data", (key, write(room, "other", changed(read(data), 100000)), sig), None
+    yield "data cut short", (key, write(room, "short", read(data)[:-1]), sig), None
+    yield "no signature", (key, data, empty), None
+    yield "no key", (empty, data, sig), None
+    yield "a legacy signature", (key, data, os.path.join(room, "legacy")), None
+    yield "the first signature changed", (key, data, write(room, "first", changed(text, second + 40))), None
+    yield "the second signature changed", (key, data, write(room, "second", changed(text, fourth + 40))), None
+    yield "the identifier changed", (key, data, write(room, "identifier", changed(text, second + 5))), None
+    yield "the trusted comment changed", (key, data, write(room, "comment", changed(text, comment))), None
+    yield "the key changed", (write(room, "changed.pub", changed(key_text, key_text.index(b"\n") + 30)), data, sig), None
+    yield "no UTF-8", (key, data, write(room, "bytes", text[:19] + b"\xff" + text[19:])), None
+    yield "a file that is not there", (key, os.path.join(room, "nothing"), sig), None
+    yield "a key that is not there", (os.path.join(room, "nothing"), data, sig), None
+
+
+def run_verifiers(checks, programs, root, room, minisign):
+    shared = {"LD_LIBRARY_PATH": os.path.join(root, "lib")}
+    for what, names, comment in verifying_cases(room, minisign):
+        for name, program in programs.items():
+            if name == "sign":
+                continue
+            status, said, why = run([*program, *names], environment=shared if "shared" in name else None)
+            if comment is None:
+                checks.check(status in (1, 2) and not said and why, f"{name}, {what}: status {status}, {said!r}, {why!r}")
+            else:
+                checks.check(status == 0 and said == comment + "\n" and not why, f"{name}, {what}: status {status}, {said!r}, {why!r}")
+
+
+def run_signer(checks, program, room, minisign):
+    """Signs, and has Minisign's own program verify what was signed; what is refused leaves no signature."""
+    data, sealed = os.path.join(room, "data"), write(room, "sealed.key", SEALED.encode())
+    good, wrong, endless = (write(room, name, text) for name, text in (("pw", b"pw\n"), ("wrong", b"pv\n"), ("endless", b"pw")))
+    key, nothing = os.path.join(room, "key.key"), os.path.join(room, "nothing")
+    # The key, the data, the comment and the password, and what is said where no text is made.
+    cases = [
+        ("a key that was never sealed", (key, data, COMMENT), None),
+        ("no comment", (key, data, ""), None),
+        ("a sealed key", (sealed, data, COMMENT, good), None),
+        ("a sealed key without a password", (sealed, data, COMMENT), "Key might be encrypted"),
+        ("a wrong password", (sealed, data, COMMENT, wrong), "Wrong password for that key"),
+        ("a password without an end", (sealed, data, COMMENT, endless), "the password cannot be read"),
+        ("a password for a key without one", (key, data, COMMENT, good), "Key is not encrypted"),
+        ("a public key", (os.path.join(room, "key.pub"), data, COMMENT), "failed to fill whole buffer"),
+        ("a comment of two lines", (key, data, "a\nb"), "a comment has a line break, or the trusted one white space at an end"),
+        ("a carriage return", (key, data, "a\rb"), "a comment is too long for minisign, or has a zero byte or a carriage return"),
+        ("too long a comment", (key, data, "a" * 8174), "a comment is too long for minisign, or has a zero byte or a carriage return"),
+        ("the longest comment", (key, data, "a" * 8173), None),
+        ("no data", (key, nothing, COMMENT), "the data cannot be read"),
+        ("no key", (nothing, data, COMMENT), "the key cannot be read"),
+    ]
+    # The public key of the sealed one, which its signature is verified under, is read from that signature's maker.
+    for what, (secret, of, comment, *password), refused in cases:
+        made = os.path.join(room, "made")
+        if os.path.exists(made):
+            os.remove(made)
+        status, said, why = run([*program, secret, of, made, comment, *password])
+        if refused is None:
+            checks.check(status == 0 and not why, f"sign, {what}: status {status}, {why!r}")
+            if secret == key:
+                status, said, why = run([minisign, "-Q", "-V", "-p", "key.pub", "-m", of, "-x", made], room)
+                checks.check(status == 0 and said == comment + "\n", f"sign, {what}: minisign says {said!r}, {why!r}")
+        else:
+            checks.check(status == 1 and why == f"sign: {refused}\n", f"sign, {what}: status {status}, {why!r}")
+            checks.check(not os.path.exists(made), f"sign, {what}: a signature was written")
+    status, _, why = run([*program, key, data, os.path.join(room, "nothing", "made"), COMMENT])
+    checks.check(status == 1 and why == "sign: the signature cannot be written\n", f"sign, no folder: {why!r}")
+    status, _, why = run([*program, key, data, "/dev/full", COMMENT])
+    checks.check(status == 1 and why == "sign: the signature cannot be written\n", f"sign, a full disk: {why!r}")
+
+
+def run_programs(checks, root, room, minisign):
+    """The programs that were installed, once each; `tests/minisign/real_minisign.py` has all about them."""
+    key, data, sig = (os.path.join(room, name) for name in ("key.pub", "data", "installed.sig"))
+    status, _, why = run([os.path.join(root, "bin", "minisign-sign"), "-s", os.path.join(room, "key.key"), "-m", data, "-x", sig,
+                          "-t", COMMENT])
+    checks.check(status == 0, f"minisign-sign: {why}")
+    for program in (os.path.join(root, "bin", "minisign-verify"), minisign):
+        status, said, why = run([program, "-V", "-Q", "-p", key, "-m", data, "-x", sig])
+        checks.check(status == 0 and said == COMMENT + "\n", f"{program}: {said!r}, {why!r}")
+
+
+def main():
+    checks = Checks()
+    with tempfile.TemporaryDirectory(prefix="installed-") as room:
+        root = os.path.join(room, "dest") + PREFIX
+        try:
+            needs.libsodium()
+            minisign = needs.minisign()
+            static_library.run_make(f"OUT={room}/out", f"PREFIX={PREFIX}", f"DESTDIR={room}/dest", "install")
+            installed_files(checks, root)
+            programs = build_all(checks, root, room)
+            run_verifiers(checks, programs, root, room, minisign)
+            run_signer(checks, programs["sign"], room, minisign)
+            run_programs(checks, root, room, minisign)
+        except (needs.Missing, static_library.NotBuilt) as why:
+            checks.check(False, str(why))
+    for failure in checks.failures:
+        print(f"FAILED: {failure}")
+    print(f"{checks.passed} passed, {len(checks.failures)} failed")
+    return 1 if checks.failures else 0
+
+
+if __name__ == "__main__":
+    sys.exit(main())

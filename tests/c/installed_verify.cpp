@@ -1,0 +1,62 @@
+// Verifying from C++: the header as C++ reads it, and the flags that pkg-config tells.
+// installed_verify PUBLIC_KEY DATA SIGNATURE ends as the example in C does.
+#include <cstdio>
+#include <fstream>
+#include <iterator>
+#include <string>
+
+#include <sodium.h>
+
+#include <minisign.h>
+
+namespace {
+
+const std::uint8_t *bytes(const std::string &text)
+{
+    return reinterpret_cast<const std::uint8_t *>(text.data());
+}
+
+bool read(const char *name, std::string &text)
+{
+    std::ifstream file(name, std::ios::binary);
+    text.assign(std::istreambuf_iterator<char>(file), std::istreambuf_iterator<char>());
+    return file.good() || file.eof();
+}
+
+minisign_answer answer(const std::uint8_t *signature, const std::uint8_t *message, std::size_t len, const std::uint8_t *key)
+{
+    return crypto_sign_verify_detached(signature, message, len, key) == 0 ? MINISIGN_ANSWER_YES : MINISIGN_ANSWER_NO;
+}
+
+}
+
+int main(int argc, char **argv)
+{
+    std::string key, data, signature, message;
+    minisign_state state;
+    minisign_external q;
+
+    if (argc != 4 || sodium_init() < 0 || !read(argv[1], key) || !read(argv[2], data) || !read(argv[3], signature)) {
+        std::fputs("a file cannot be read\n", stderr);
+        return 1;
+    }
+    message.resize(signature.size());
+    minisign_init(&state);
+    minisign_error error = minisign_update(&state, bytes(data), data.size());
+    if (error == MINISIGN_OK) {
+        error = minisign_ask(&state, bytes(key), key.size(), bytes(signature), signature.size(), 0, &q,
+                             reinterpret_cast<std::uint8_t *>(&message[0]), message.size());
+    }
+    if (error == MINISIGN_OK) {
+        error = minisign_verdict(&state, answer(q.signature, q.digest, sizeof q.digest, q.public_key),
+                                 answer(q.comment_signature, bytes(message), q.message_len, q.public_key));
+    }
+    if (error != MINISIGN_OK) {
+        char why[MINISIGN_ERROR_TEXT_BYTES];
+        minisign_error_text(error, why, sizeof why);
+        std::fprintf(stderr, "%s\n", why);
+        return 1;
+    }
+    std::printf("%.*s\n", static_cast<int>(q.message_len - 64), message.data() + 64);
+    return 0;
+}

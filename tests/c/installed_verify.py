@@ -1,0 +1,72 @@
+"""Verifying from Python by ctypes, over the shared library alone: `installed_verify.py LIBRARY PUBLIC_KEY DATA SIGNATURE` ends as
+the example in C does. libsodium answers for Ed25519."""
+
+import ctypes
+import ctypes.util
+import sys
+
+YES, NO = 0x796573, 0x6E6F
+
+
+class Questions(ctypes.Structure):
+    _fields_ = [("public_key", ctypes.c_uint8 * 32), ("digest", ctypes.c_uint8 * 64), ("signature", ctypes.c_uint8 * 64),
+                ("comment_signature", ctypes.c_uint8 * 64), ("message_len", ctypes.c_uint64),
+                ("public_key_id", ctypes.c_uint8 * 8), ("signature_key_id", ctypes.c_uint8 * 8),
+                ("legacy", ctypes.c_uint32), ("reserved", ctypes.c_uint32)]
+
+
+def opened(path):
+    """The library, its calls with the types of their arguments."""
+    library = ctypes.CDLL(path)
+    text, size = ctypes.c_char_p, ctypes.c_size_t
+    library.minisign_init.argtypes = [ctypes.c_void_p]
+    library.minisign_init.restype = None
+    library.minisign_update.argtypes = [ctypes.c_void_p, text, size]
+    library.minisign_ask.argtypes = [ctypes.c_void_p, text, size, text, size, ctypes.c_uint32, ctypes.c_void_p,
+                                     ctypes.c_void_p, size]
+    library.minisign_verdict.argtypes = [ctypes.c_void_p, ctypes.c_uint32, ctypes.c_uint32]
+    library.minisign_error_text.argtypes = [ctypes.c_uint32, ctypes.c_void_p, size]
+    library.minisign_error_text.restype = size
+    return library
+
+
+def read(name):
+    with open(name, "rb") as file:
+        return file.read()
+
+
+def main():
+    path, *names = sys.argv[1:]
+    library, sodium = opened(path), ctypes.CDLL(ctypes.util.find_library("sodium") or "libsodium.so.23")
+    if sodium.sodium_init() < 0:
+        return "libsodium could not be started"
+
+    def answer(signature, message, length, key):
+        accepted = sodium.crypto_sign_verify_detached(signature, message, ctypes.c_ulonglong(length), key) == 0
+        return YES if accepted else NO
+
+    try:
+        key, data, signature = map(read, names)
+    except OSError as why:
+        return str(why)
+    state, questions, message = (ctypes.c_uint64 * 64)(), Questions(), ctypes.create_string_buffer(max(len(signature), 1))
+    library.minisign_init(state)
+    # NULL where there are no bytes, as other languages hand it over.
+    error = library.minisign_update(state, data or None, len(data))
+    if error == 0:
+        error = library.minisign_ask(state, key or None, len(key), signature or None, len(signature), 0,
+                                     ctypes.byref(questions), message, len(signature))
+    if error == 0:
+        error = library.minisign_verdict(
+            state, answer(questions.signature, questions.digest, 64, questions.public_key),
+            answer(questions.comment_signature, message, questions.message_len, questions.public_key))
+    if error != 0:
+        why = ctypes.create_string_buffer(128)
+        library.minisign_error_text(error, why, 128)
+        return why.value.decode()
+    sys.stdout.buffer.write(message.raw[64:questions.message_len] + b"\n")
+    return 0
+
+
+if __name__ == "__main__":
+    sys.exit(main())

@@ -1,0 +1,83 @@
+/*
+ * NULL with length 0 is what a pointer to no bytes is, in each place of each call: the same number, and the same state
+ * and bytes behind it.
+ *
+ * Prints a line for each check that failed; the last line is `N passed, M failed`.
+ */
+#include <stdint.h>
+#include <string.h>
+
+#include "minisign.h"
+#include "texts_for_tests.h"
+
+static const uint8_t *bytes(const char *text)
+{
+    return (const uint8_t *) text;
+}
+
+static minisign_state begun(void)
+{
+    minisign_state state;
+
+    minisign_init(&state);
+    return state;
+}
+
+static void feeding(void)
+{
+    minisign_state fed = begun(), empty = begun(), never;
+
+    CHECK(minisign_update(&fed, NULL, 0) == MINISIGN_OK);
+    CHECK(minisign_update(&empty, bytes(""), 0) == MINISIGN_OK);
+    CHECK(memcmp(&fed, &empty, sizeof fed) == 0);
+    CHECK(minisign_update(&fed, bytes("abc"), 3) == MINISIGN_OK);
+    CHECK(minisign_update(&fed, NULL, 0) == MINISIGN_OK);
+    CHECK(minisign_update(&empty, bytes("abc"), 3) == MINISIGN_OK);
+    CHECK(memcmp(&fed, &empty, sizeof fed) == 0);
+    memset(&never, 0, sizeof never);
+    CHECK(minisign_update(&never, NULL, 0) == MINISIGN_NOT_BEGUN);
+}
+
+static void asking(void)
+{
+    minisign_state state = begun();
+    minisign_external q;
+
+    CHECK(minisign_ask(&state, NULL, 0, NULL, 0, 0, &q, NULL, 0) == MINISIGN_MISSING_PUBLIC_KEY_COMMENT);
+    CHECK(minisign_ask(&state, bytes(KEY), sizeof KEY - 1, NULL, 0, 0, &q, NULL, 0) == MINISIGN_MISSING_UNTRUSTED_COMMENT);
+    CHECK(minisign_ask(&state, NULL, 0, bytes(SIGNATURE), sizeof SIGNATURE - 1, 0, &q, NULL, 0)
+          == MINISIGN_MISSING_PUBLIC_KEY_COMMENT);
+    CHECK(minisign_ask(&state, bytes(KEY), sizeof KEY - 1, bytes(SIGNATURE), sizeof SIGNATURE - 1, 0, &q, NULL, 0)
+          == MINISIGN_NO_ROOM);
+}
+
+static void signing(void)
+{
+    static const uint8_t first[64], second[64];
+    static uint8_t text[1024], empty[1024], message[64];
+    minisign_state state = begun();
+    minisign_signing s;
+    size_t text_len = 0, empty_len = 0;
+
+    CHECK(minisign_ask_signing(&state, NULL, 0, 0, NULL, 0, 1, 1, &s) == MINISIGN_MISSING_SECRET_KEY_COMMENT);
+    CHECK(minisign_ask_signing(&state, bytes(SECRET_KEY), sizeof SECRET_KEY - 1, 1, NULL, 0, 1, 1, &s)
+          == MINISIGN_KEY_NOT_SEALED);
+    CHECK(minisign_ask_signing(&state, bytes(SECRET_KEY), sizeof SECRET_KEY - 1, 0, NULL, 0, 1, 1, &s) == MINISIGN_OK);
+    CHECK(minisign_comment_message(first, NULL, 0, message, sizeof message) == MINISIGN_OK);
+    CHECK(minisign_comment_message(first, NULL, 0, NULL, 0) == MINISIGN_NO_ROOM);
+    CHECK(minisign_signed_text(&state, first, second, NULL, 0, NULL, 0, NULL, 0, &text_len) == MINISIGN_NO_ROOM);
+    CHECK(minisign_signed_text(&state, first, second, NULL, 0, NULL, 0, text, sizeof text, &text_len) == MINISIGN_OK);
+    CHECK(minisign_signed_text(&state, first, second, bytes(""), 0, bytes(""), 0, empty, sizeof empty, &empty_len)
+          == MINISIGN_OK);
+    CHECK(text_len == empty_len && text_len <= MINISIGN_TEXT_BYTES(0, 0) && memcmp(text, empty, text_len) == 0);
+}
+
+int main(void)
+{
+    feeding();
+    asking();
+    signing();
+    CHECK(minisign_error_text(MINISIGN_OK, NULL, 0) == strlen("no error"));
+    printf("%u passed, %u failed\n", passed, failed);
+    return failed != 0;
+}

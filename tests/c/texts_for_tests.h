@@ -1,0 +1,39 @@
+/* Texts and a count of checks for the programs of these tests, each of which is one file. What Ed25519 would answer is made up
+ * in them: no check depends on it. */
+#ifndef TEXTS_FOR_TESTS_H
+#define TEXTS_FOR_TESTS_H
+
+#include <stdio.h>
+
+static unsigned passed, failed;
+
+#define CHECK(condition) check((condition), #condition, __LINE__)
+
+static void check(int holds, const char *condition, int line)
+{
+    if (holds) {
+        passed++;
+    } else {
+        failed++;
+        printf("line %d: not so: %s\n", line, condition);
+    }
+}
+
+/* The published key, and its signature of `test`. */
+static const char KEY[] = "untrusted comment: minisign public key E7620F1842B4E81F\n"
+                          "RWQf6LRCGA9i53mlYecO4IzT51TGPpvWucNSCh1CBM0QTaLn73Y7GFO3\n";
+static const char SIGNATURE[] =
+    "untrusted comment: signature from minisign secret key\n"
+    "RUQf6LRCGA9i559r3g7V1qNyJDApGip8MfqcadIgT9CuhV3EMhHoN1mGTkUidF/z7SrlQgXdy8ofjb7bNJJylDOocrCo8KLzZwo=\n"
+    "trusted comment: timestamp:1556193335\tfile:test\n"
+    "y/rUw2y8/hOUYjZU71eHp/Wo1KZ40fGy2VJEDl34XMJM+TX48Ss/17u3IvIfbVR1FkZZSNCisQbuQY+bHwhEBg==";
+#define MESSAGE_LEN (64 + sizeof "timestamp:1556193335\tfile:test" - 1)
+
+/* A secret key that Minisign made with -G -W, for these checks alone. */
+static const char SECRET_KEY[] =
+    "untrusted comment: minisign encrypted secret key\n"
+    "RWQAAEIyAAAAAAAAAAAAAAAAAAAAAAAAAAAAAAAAAAAAAAAAAAAAAAAAAAAAAAAAAAAAAAAAu82A"
+    "eu/lPqv5tw414tB2l3S0AV4BthpWrWHyA+ItsehisjsR8AROg+V8Ng82TAEWPpchqblhFFay7/kQ"
+    "ioiXfnOLD1OmyTi9AAAAAAAAAAAAAAAAAAAAAAAAAAAAAAAAAAAAAAAAAAA=\n";
+
+#endif

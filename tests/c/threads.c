@@ -1,0 +1,84 @@
+/*
+ * Several threads at once, each with states of its own: each verifies and signs what no other does, again and again, and what it
+ * is told is what one thread alone is told.
+ *
+ * The last line is `N passed, M failed`.
+ */
+#define _POSIX_C_SOURCE 200809L
+
+#include <pthread.h>
+#include <stdint.h>
+#include <string.h>
+
+#include "minisign.h"
+#include "texts_for_tests.h"
+
+enum { THREADS = 8, ROUNDS = 40, BYTES = 30011 };
+
+/* What one run tells. */
+struct told {
+    minisign_external questions;
+    minisign_signing signing;
+    uint8_t message[sizeof SIGNATURE], text[1024];
+    size_t text_len;
+    int good;
+};
+
+static struct told alone[THREADS], together[THREADS];
+
+static void run(struct told *told, int number, int rounds)
+{
+    uint8_t data[BYTES];
+
+    memset(data, number, sizeof data);
+    told->good = 1;
+    for (int round = 0; round < rounds; round++) {
+        minisign_state state, copy;
+        enum minisign_error error;
+
+        minisign_init(&state);
+        error = minisign_update(&state, data, sizeof data);
+        copy = state;
+        told->good &= error == MINISIGN_OK;
+        error = minisign_ask(&state, (const uint8_t *) KEY, sizeof KEY - 1, (const uint8_t *) SIGNATURE, sizeof SIGNATURE - 1, 0,
+                             &told->questions, told->message, sizeof told->message);
+        told->good &= error == MINISIGN_OK;
+        error = minisign_verdict(&state, MINISIGN_ANSWER_YES, number % 2 ? MINISIGN_ANSWER_YES : MINISIGN_ANSWER_NO);
+        told->good &= error == (number % 2 ? MINISIGN_OK : MINISIGN_COMMENT_SIGNATURE_REFUSED);
+        error = minisign_ask_signing(&copy, (const uint8_t *) SECRET_KEY, sizeof SECRET_KEY - 1, 0, NULL, 0, 1, 1,
+                                     &told->signing);
+        told->good &= error == MINISIGN_OK;
+        error = minisign_signed_text(&copy, told->questions.signature, told->questions.comment_signature,
+                                     (const uint8_t *) "12345678", (size_t) number, NULL, 0, told->text, sizeof told->text,
+                                     &told->text_len);
+        told->good &= error == MINISIGN_OK;
+    }
+}
+
+static void *run_thread(void *number)
+{
+    int n = (int) (intptr_t) number;
+
+    run(&together[n], n, ROUNDS);
+    return NULL;
+}
+
+int main(void)
+{
+    pthread_t threads[THREADS];
+
+    for (int n = 0; n < THREADS; n++) {
+        CHECK(pthread_create(&threads[n], NULL, run_thread, (void *) (intptr_t) n) == 0);
+    }
+    for (int n = 0; n < THREADS; n++) {
+        CHECK(pthread_join(threads[n], NULL) == 0);
+    }
+    for (int n = 0; n < THREADS; n++) {
+        run(&alone[n], n, 1);
+        CHECK(alone[n].good && together[n].good);
+        CHECK(memcmp(&alone[n], &together[n], sizeof alone[n]) == 0);
+        CHECK(n == 0 || memcmp(alone[n].questions.digest, alone[n - 1].questions.digest, 64) != 0);
+    }
+    printf("%u passed, %u failed\n", passed, failed);
+    return failed != 0;
+}

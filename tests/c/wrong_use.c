@@ -1,0 +1,440 @@
+/*
+ * Calls of the library in the wrong order, on states that were never begun and with answers that are none: each
+ * is an error number, and changes nothing. Also right calls beside them, so that it is the use that is refused.
+ *
+ * Prints a line for each check that failed; the last line is `N passed, M failed`. What Ed25519 would answer is made
+ * up here: no check depends on it.
+ */
+#include <stdio.h>
+#include <stdlib.h>
+#include <string.h>
+
+#include "minisign.h"
+
+static unsigned passed, failed;
+
+#define CHECK(condition) check((condition), #condition, __LINE__)
+
+static void check(int holds, const char *condition, int line)
+{
+    if (holds) {
+        passed++;
+    } else {
+        failed++;
+        printf("line %d: not so: %s\n", line, condition);
+    }
+}
+
+/* The published key, and its signatures of `test`, prehashed and over the data itself. */
+static const char KEY[] = "untrusted comment: minisign public key E7620F1842B4E81F\n"
+                          "RWQf6LRCGA9i53mlYecO4IzT51TGPpvWucNSCh1CBM0QTaLn73Y7GFO3\n";
+static const char PREHASHED[] =
+    "untrusted comment: signature from minisign secret key\n"
+    "RUQf6LRCGA9i559r3g7V1qNyJDApGip8MfqcadIgT9CuhV3EMhHoN1mGTkUidF/z7SrlQgXdy8ofjb7bNJJylDOocrCo8KLzZwo=\n"
+    "trusted comment: timestamp:1556193335\tfile:test\n"
+    "y/rUw2y8/hOUYjZU71eHp/Wo1KZ40fGy2VJEDl34XMJM+TX48Ss/17u3IvIfbVR1FkZZSNCisQbuQY+bHwhEBg==";
+static const char LEGACY[] =
+    "untrusted comment: signature from minisign secret key\n"
+    "RWQf6LRCGA9i59SLOFxz6NxvASXDJeRtuZykwQepbDEGt87ig1BNpWaVWuNrm73YiIiJbq71Wi+dP9eKL8OC351vwIasSSbXxwA=\n"
+    "trusted comment: timestamp:1555779966\tfile:test\n"
+    "QtKMXWyYcwdpZAlPF7tE2ENJkRd1ujvKjlj1m9RtHTBnZPa5WKU5uWRs5GoP5M/VqE81QFuMKI5k/SfNQUaOAA==";
+/* A secret key that Minisign made with -G -W, for these checks alone. */
+static const char SECRET_KEY[] =
+    "untrusted comment: minisign encrypted secret key\n"
+    "RWQAAEIyAAAAAAAAAAAAAAAAAAAAAAAAAAAAAAAAAAAAAAAAAAAAAAAAAAAAAAAAAAAAAAAAu82A"
+    "eu/lPqv5tw414tB2l3S0AV4BthpWrWHyA+ItsehisjsR8AROg+V8Ng82TAEWPpchqblhFFay7/kQ"
+    "ioiXfnOLD1OmyTi9AAAAAAAAAAAAAAAAAAAAAAAAAAAAAAAAAAAAAAAAAAA=\n";
+#define COMMENT "timestamp:1556193335\tfile:test"
+#define MESSAGE_LEN (64 + sizeof COMMENT - 1)
+
+#define YES MINISIGN_ANSWER_YES
+#define NO MINISIGN_ANSWER_NO
+
+/* The data. */
+static const uint8_t ABC[] = { 'a', 'b', 'c' };
+
+/* The Blake2b digest of `abc`, RFC 7693, appendix A. */
+static const uint8_t DIGEST_OF_ABC[64] = {
+    0xba, 0x80, 0xa5, 0x3f, 0x98, 0x1c, 0x4d, 0x0d, 0x6a, 0x27, 0x97, 0xb6, 0x9f, 0x12, 0xf6, 0xe9,
+    0x4c, 0x21, 0x2f, 0x14, 0x68, 0x5a, 0xc4, 0xb7, 0x4b, 0x12, 0xbb, 0x6f, 0xdb, 0xff, 0xa2, 0xd1,
+    0x7d, 0x87, 0xc5, 0x39, 0x2a, 0xab, 0x79, 0x2d, 0xc2, 0x52, 0xd5, 0xde, 0x45, 0x33, 0xcc, 0x95,
+    0x18, 0xd3, 0x8a, 0xa8, 0xdb, 0xf1, 0x92, 0x5a, 0xb9, 0x23, 0x86, 0xed, 0xd4, 0x00, 0x99, 0x23,
+};
+
+static minisign_external questions;
+static uint8_t message[1024];
+
+static enum minisign_error ask_for(minisign_state *state, const char *sig_text, uint32_t allow_legacy, size_t room)
+{
+    return minisign_ask(state, (const uint8_t *) KEY, sizeof KEY - 1, (const uint8_t *) sig_text, strlen(sig_text),
+                        allow_legacy, &questions, message, room);
+}
+
+static enum minisign_error ask(minisign_state *state)
+{
+    return ask_for(state, PREHASHED, 0, sizeof message);
+}
+
+static minisign_signing signing;
+
+static enum minisign_error ask_signing_for(minisign_state *state, const char *sk_text, uint32_t with_password)
+{
+    return minisign_ask_signing(state, (const uint8_t *) sk_text, strlen(sk_text), with_password, ABC, sizeof ABC,
+                                MINISIGN_KEEP_EVERY_ROW, MINISIGN_USUAL_WORK, &signing);
+}
+
+static enum minisign_error ask_signing(minisign_state *state)
+{
+    return ask_signing_for(state, SECRET_KEY, 0);
+}
+
+static enum minisign_error feed(minisign_state *state)
+{
+    return minisign_update(state, ABC, sizeof ABC);
+}
+
+/* All calls but the beginning, on a state that was never begun or was ended: each says so and leaves it. */
+static void refused_all(minisign_state *state)
+{
+    minisign_state before = *state;
+
+    CHECK(feed(state) == MINISIGN_NOT_BEGUN);
+    CHECK(ask(state) == MINISIGN_NOT_BEGUN);
+    CHECK(ask_for(state, "", 1, 0) == MINISIGN_NOT_BEGUN);
+    CHECK(ask_for(state, "", 2, 0) == MINISIGN_BAD_LEGACY_FLAG);
+    CHECK(minisign_verdict(state, YES, YES) == MINISIGN_NOT_BEGUN);
+    CHECK(minisign_verdict(state, NO, NO) == MINISIGN_NOT_BEGUN);
+    CHECK(minisign_verdict(state, NO, 1) == MINISIGN_BAD_ANSWER);
+    CHECK(ask_signing(state) == MINISIGN_NOT_BEGUN);
+    CHECK(ask_signing_for(state, "", 1) == MINISIGN_NOT_BEGUN);
+    CHECK(ask_signing_for(state, "", 2) == MINISIGN_BAD_PASSWORD_FLAG);
+    CHECK(memcmp(&before, state, sizeof before) == 0);
+}
+
+static void never_begun(void)
+{
+    minisign_state state;
+    for (int byte = 0; byte < 256; byte++) {
+        memset(&state, byte, sizeof state);
+        refused_all(&state);
+    }
+    minisign_init(&state);
+    CHECK(ask(&state) == MINISIGN_OK);
+    CHECK(minisign_verdict(&state, YES, YES) == MINISIGN_OK);
+    refused_all(&state);
+    minisign_init(&state);
+    CHECK(feed(&state) == MINISIGN_OK);
+}
+
+static void after_asking(void)
+{
+    minisign_state state, before;
+    minisign_external asked;
+
+    minisign_init(&state);
+    CHECK(feed(&state) == MINISIGN_OK);
+    CHECK(ask(&state) == MINISIGN_OK);
+    before = state;
+    asked = questions;
+    CHECK(feed(&state) == MINISIGN_ALREADY_ASKED);
+    CHECK(minisign_update(&state, ABC, 0) == MINISIGN_ALREADY_ASKED);
+    CHECK(ask(&state) == MINISIGN_ALREADY_ASKED);
+    CHECK(ask_for(&state, "", 0, 0) == MINISIGN_ALREADY_ASKED);
+    CHECK(ask_for(&state, "", 2, 0) == MINISIGN_BAD_LEGACY_FLAG);
+    CHECK(ask_signing(&state) == MINISIGN_ALREADY_ASKED);
+    CHECK(memcmp(&before, &state, sizeof before) == 0);
+    CHECK(memcmp(&asked, &questions, sizeof asked) == 0);
+    CHECK(minisign_verdict(&state, YES, YES) == MINISIGN_OK);
+}
+
+static void before_asking(void)
+{
+    minisign_state state, before;
+
+    minisign_init(&state);
+    CHECK(feed(&state) == MINISIGN_OK);
+    before = state;
+    CHECK(minisign_verdict(&state, YES, YES) == MINISIGN_NOT_ASKED);
+    CHECK(minisign_verdict(&state, NO, NO) == MINISIGN_NOT_ASKED);
+    CHECK(minisign_verdict(&state, 2, 2) == MINISIGN_BAD_ANSWER);
+    CHECK(ask_for(&state, PREHASHED, 2, sizeof message) == MINISIGN_BAD_LEGACY_FLAG);
+    CHECK(ask_for(&state, PREHASHED, UINT32_MAX, sizeof message) == MINISIGN_BAD_LEGACY_FLAG);
+    CHECK(ask_for(&state, "", 0, sizeof message) == MINISIGN_MISSING_UNTRUSTED_COMMENT);
+    CHECK(ask_for(&state, "\xff", 0, sizeof message) == MINISIGN_NOT_UTF8);
+    CHECK(ask_for(&state, LEGACY, 0, sizeof message) == MINISIGN_LEGACY_NOT_ACCEPTED);
+    for (size_t room = 0; room < MESSAGE_LEN; room++) {
+        CHECK(ask_for(&state, PREHASHED, 0, room) == MINISIGN_NO_ROOM);
+    }
+    CHECK(memcmp(&before, &state, sizeof before) == 0);
+    CHECK(ask_for(&state, PREHASHED, 0, MESSAGE_LEN) == MINISIGN_OK);
+    CHECK(questions.message_len == MESSAGE_LEN);
+    CHECK(memcmp(message, questions.signature, 64) == 0);
+    CHECK(memcmp(message + 64, COMMENT, sizeof COMMENT - 1) == 0);
+    CHECK(memcmp(questions.digest, DIGEST_OF_ABC, 64) == 0);
+    CHECK(questions.legacy == 0);
+}
+
+static void answers(void)
+{
+    static const uint32_t none[] = { 0, 1, 2, 3, YES - 1, YES + 1, NO - 1, NO + 1, 0x736579, 0x6f6e, 0xff796573, 0x80006e6f, 255, 256, 65536,
+                                     0x80000000, 0xfffffffe, 0xffffffff };
+    static const enum minisign_answer given[2] = { NO, YES };
+    static const enum minisign_error verdicts[2][2] = {
+        { MINISIGN_SIGNATURE_REFUSED, MINISIGN_SIGNATURE_REFUSED },
+        { MINISIGN_COMMENT_SIGNATURE_REFUSED, MINISIGN_OK },
+    };
+    minisign_state asked, state;
+
+    minisign_init(&asked);
+    CHECK(ask(&asked) == MINISIGN_OK);
+    for (size_t i = 0; i < sizeof none / sizeof none[0]; i++) {
+        state = asked;
+        CHECK(minisign_verdict(&state, none[i], YES) == MINISIGN_BAD_ANSWER);
+        CHECK(minisign_verdict(&state, YES, none[i]) == MINISIGN_BAD_ANSWER);
+        CHECK(minisign_verdict(&state, NO, none[i]) == MINISIGN_BAD_ANSWER);
+        CHECK(minisign_verdict(&state, none[i], none[i]) == MINISIGN_BAD_ANSWER);
+        CHECK(memcmp(&asked, &state, sizeof asked) == 0);
+    }
+    for (uint32_t first = 0; first < 2; first++) {
+        for (uint32_t second = 0; second < 2; second++) {
+            state = asked;
+            CHECK(minisign_verdict(&state, given[first], given[second]) == verdicts[first][second]);
+            CHECK(minisign_verdict(&state, YES, YES) == MINISIGN_NOT_BEGUN);
+        }
+    }
+}
+
+/* A copied state goes on by itself; data in pieces is data in one piece. */
+static void copies(void)
+{
+    minisign_state one, two;
+
+    minisign_init(&one);
+    CHECK(minisign_update(&one, ABC, 0) == MINISIGN_OK);
+    CHECK(minisign_update(&one, ABC, 1) == MINISIGN_OK);
+    two = one;
+    CHECK(minisign_update(&one, ABC + 1, 1) == MINISIGN_OK);
+    CHECK(minisign_update(&one, ABC + 2, 1) == MINISIGN_OK);
+    CHECK(minisign_update(&two, ABC + 1, 2) == MINISIGN_OK);
+    CHECK(ask(&one) == MINISIGN_OK);
+    CHECK(memcmp(questions.digest, DIGEST_OF_ABC, 64) == 0);
+    CHECK(ask_for(&two, LEGACY, 1, sizeof message) == MINISIGN_OK);
+    CHECK(memcmp(questions.digest, DIGEST_OF_ABC, 64) == 0);
+    CHECK(questions.legacy == 1);
+}
+
+static uint8_t text[16384];
+static size_t text_len;
+
+static enum minisign_error make_text(const minisign_state *state, const char *trusted, size_t trusted_len,
+                                     const char *untrusted, size_t untrusted_len, size_t room)
+{
+    return minisign_signed_text(state, questions.signature, questions.comment_signature, (const uint8_t *) trusted,
+                                trusted_len, (const uint8_t *) untrusted, untrusted_len, text, room, &text_len);
+}
+
+static enum minisign_error make_short_text(const minisign_state *state, const char *trusted, const char *untrusted, size_t room)
+{
+    return make_text(state, trusted, strlen(trusted), untrusted, strlen(untrusted), room);
+}
+
+/* A state that has told a key is fed and asked no more, and stays as it is. */
+static void after_telling(minisign_state *state)
+{
+    minisign_state before = *state;
+
+    CHECK(feed(state) == MINISIGN_ALREADY_ASKED);
+    CHECK(ask(state) == MINISIGN_ALREADY_ASKED);
+    CHECK(ask_signing(state) == MINISIGN_ALREADY_ASKED);
+    CHECK(minisign_verdict(state, YES, YES) == MINISIGN_NOT_ASKED);
+    CHECK(memcmp(&before, state, sizeof before) == 0);
+}
+
+static void before_signing(void)
+{
+    static const minisign_signing nothing;
+    minisign_state state, before;
+
+    minisign_init(&state);
+    CHECK(feed(&state) == MINISIGN_OK);
+    before = state;
+    CHECK(ask_signing_for(&state, SECRET_KEY, 2) == MINISIGN_BAD_PASSWORD_FLAG);
+    CHECK(ask_signing_for(&state, SECRET_KEY, UINT32_MAX) == MINISIGN_BAD_PASSWORD_FLAG);
+    CHECK(ask_signing_for(&state, SECRET_KEY, 1) == MINISIGN_KEY_NOT_SEALED);
+    CHECK(ask_signing_for(&state, "", 0) == MINISIGN_MISSING_SECRET_KEY_COMMENT);
+    CHECK(ask_signing_for(&state, "\xff", 0) == MINISIGN_NOT_UTF8);
+    CHECK(ask_signing_for(&state, PREHASHED, 0) == MINISIGN_RECORD_TOO_SHORT);
+    CHECK(make_short_text(&state, "t", "u", sizeof text) == MINISIGN_NOT_ASKED);
+    CHECK(memcmp(&before, &state, sizeof before) == 0);
+    CHECK(memcmp(&nothing, &signing, sizeof nothing) == 0);
+    CHECK(ask_signing(&state) == MINISIGN_OK);
+    CHECK(memcmp(signing.digest, DIGEST_OF_ABC, 64) == 0);
+    after_telling(&state);
+}
+
+/* No text is made from a state that has told no key. */
+static void texts_of_no_key(void)
+{
+    minisign_state state;
+
+    memset(&state, 0, sizeof state);
+    CHECK(make_short_text(&state, "t", "u", sizeof text) == MINISIGN_NOT_BEGUN);
+    minisign_init(&state);
+    CHECK(make_short_text(&state, "t", "u", sizeof text) == MINISIGN_NOT_ASKED);
+    CHECK(make_short_text(&state, "\xff", "u", 0) == MINISIGN_NOT_ASKED);
+    CHECK(ask(&state) == MINISIGN_OK);
+    CHECK(make_short_text(&state, "t", "u", sizeof text) == MINISIGN_NOT_ASKED);
+    CHECK(minisign_verdict(&state, YES, YES) == MINISIGN_OK);
+    CHECK(make_short_text(&state, "t", "u", sizeof text) == MINISIGN_NOT_BEGUN);
+    CHECK(text_len == 0 && text[0] == 0);
+}
+
+/* Makes a key of zeros, sealed with little work where there is a password: N is 1024 and p is 4. */
+static enum minisign_error make_key(uint32_t with_password, uint64_t memory_limit, const char *comment, size_t room)
+{
+    static const uint8_t key_id[8], secret_key[64];
+    minisign_sealing sealing = { .operations_limit = 131072, .memory_limit = memory_limit };
+
+    return minisign_make_secret_key(key_id, secret_key, with_password, ABC, sizeof ABC, &sealing, MINISIGN_KEEP_FEW_ROWS,
+                                    (const uint8_t *) comment, strlen(comment), text, room, &text_len);
+}
+
+/* Keys that are made, and how opening them is bounded. */
+static void keys_made(void)
+{
+    static const uint64_t little = 1 << 20;
+    static const uint8_t key_id[8], secret_key[64], zeros[64];
+    const size_t room = MINISIGN_SECRET_KEY_BYTES(1);
+    minisign_state state, before;
+    uint8_t sealed[MINISIGN_SECRET_KEY_BYTES(1)];
+
+    memset(text, 0, sizeof text);
+    text_len = 0;
+    CHECK(make_key(2, UINT64_MAX, "\xff", 0) == MINISIGN_BAD_PASSWORD_FLAG);
+    CHECK(make_key(UINT32_MAX, little, "c", room) == MINISIGN_BAD_PASSWORD_FLAG);
+    CHECK(make_key(1, UINT64_MAX, "\n\xff", 0) == MINISIGN_NOT_UTF8);
+    CHECK(make_key(1, UINT64_MAX, "\n\r", 0) == MINISIGN_BAD_COMMENT);
+    CHECK(make_key(1, UINT64_MAX, "\r", 0) == MINISIGN_UNREADABLE_COMMENT);
+    CHECK(make_key(1, UINT64_MAX, "c", room - 1) == MINISIGN_NO_ROOM);
+    CHECK(make_key(1, UINT64_MAX, "c", room) == MINISIGN_PARAMETERS_TOO_HIGH);
+    CHECK(minisign_make_public_key(key_id, secret_key, (const uint8_t *) "c", 1, text, 77, &text_len) == MINISIGN_NO_ROOM);
+    CHECK(text_len == 0 && text[0] == 0);
+    CHECK(minisign_make_public_key(key_id, secret_key, (const uint8_t *) "c", 1, text, 78, &text_len) == MINISIGN_OK);
+    CHECK(text_len == MINISIGN_PUBLIC_KEY_BYTES(1));
+    CHECK(make_key(1, little, "c", room) == MINISIGN_OK);
+    CHECK(text_len == sizeof sealed);
+    memcpy(sealed, text, sizeof sealed);
+    minisign_init(&state);
+    before = state;
+    CHECK(minisign_ask_signing(&state, sealed, sizeof sealed, 1, ABC, sizeof ABC, 0, 3, &signing) == MINISIGN_WORK_TOO_HIGH);
+    CHECK(minisign_ask_signing(&state, sealed, sizeof sealed, 1, ABC, 2, 1, 4, &signing) == MINISIGN_WRONG_PASSWORD);
+    CHECK(memcmp(&before, &state, sizeof before) == 0);
+    CHECK(minisign_ask_signing(&state, sealed, sizeof sealed, 1, ABC, sizeof ABC, UINT64_MAX, 4, &signing) == MINISIGN_OK);
+    CHECK(memcmp(signing.secret_key, zeros, 64) == 0 && memcmp(signing.key_id, zeros, 8) == 0);
+    memset(&state, 0, sizeof state);
+    CHECK(minisign_ask_signing(&state, NULL, 0, 1, ABC, sizeof ABC, 1, 4, &signing) == MINISIGN_NOT_BEGUN);
+    CHECK(minisign_ask_signing(&state, (const uint8_t *) "\xff", 1, 1, ABC, sizeof ABC, 1, 4, &signing) == MINISIGN_NOT_BEGUN);
+}
+
+/* The base64 of the record of a prehashed signature, RFC 4648. */
+static void write_record(char base64[100], const uint8_t key_id[8], const uint8_t signature[64])
+{
+    static const char letters[] = "ABCDEFGHIJKLMNOPQRSTUVWXYZabcdefghijklmnopqrstuvwxyz0123456789+/";
+    uint8_t record[75] = { 'E', 'D' };
+
+    memcpy(record + 2, key_id, 8);
+    memcpy(record + 10, signature, 64);
+    for (size_t i = 0; i < 25; i++) {
+        uint32_t three = (uint32_t) record[3 * i] << 16 | (uint32_t) record[3 * i + 1] << 8 | record[3 * i + 2];
+
+        for (int k = 0; k < 4; k++) {
+            base64[4 * i + (size_t) k] = letters[three >> (18 - 6 * k) & 63];
+        }
+    }
+    base64[99] = '=';
+}
+
+/* The signatures of a text make that text again under the identifier that was told, where it has room. */
+static void texts_of_signatures(void)
+{
+    static const char *const refused[][2] = { { "t\n", "u" }, { "t ", "u" }, { "\tt", "u" }, { "t", "u\r" }, { "t", "\n" } };
+    static const char untrusted[] = "signature from minisign secret key";
+    static char expected[sizeof PREHASHED + 1];
+    const size_t second_line = strlen("untrusted comment: ") + sizeof untrusted;
+    minisign_state state, before;
+
+    minisign_init(&state);
+    CHECK(ask(&state) == MINISIGN_OK);
+    minisign_init(&state);
+    CHECK(ask_signing(&state) == MINISIGN_OK);
+    before = state;
+    for (size_t room = 0; room < sizeof PREHASHED; room++) {
+        CHECK(make_short_text(&state, COMMENT, untrusted, room) == MINISIGN_NO_ROOM);
+    }
+    for (size_t i = 0; i < sizeof refused / sizeof refused[0]; i++) {
+        CHECK(make_short_text(&state, refused[i][0], refused[i][1], 0) == MINISIGN_BAD_COMMENT);
+    }
+    CHECK(make_short_text(&state, "\xff", "u\r", 0) == MINISIGN_NOT_UTF8);
+    CHECK(make_short_text(&state, "t\n", "\xff", 0) == MINISIGN_NOT_UTF8);
+    CHECK(text_len == 0 && text[0] == 0);
+    CHECK(make_short_text(&state, COMMENT, untrusted, sizeof PREHASHED) == MINISIGN_OK);
+    memcpy(expected, PREHASHED, sizeof PREHASHED - 1);
+    expected[sizeof PREHASHED - 1] = '\n';
+    write_record(expected + second_line, signing.key_id, questions.signature);
+    CHECK(text_len == sizeof PREHASHED && memcmp(text, expected, text_len) == 0);
+    CHECK(memcmp(&before, &state, sizeof before) == 0);
+    for (size_t room = 0; room < MESSAGE_LEN; room++) {
+        CHECK(minisign_comment_message(questions.signature, (const uint8_t *) COMMENT, sizeof COMMENT - 1, text, room)
+              == MINISIGN_NO_ROOM);
+    }
+    CHECK(minisign_comment_message(questions.signature, (const uint8_t *) COMMENT, sizeof COMMENT - 1, text,
+                                   MESSAGE_LEN) == MINISIGN_OK);
+    CHECK(memcmp(text, message, MESSAGE_LEN) == 0);
+}
+
+/* What minisign -V would not read back: too long a comment, a zero byte, a carriage return. */
+static void texts_for_minisign(void)
+{
+    static const char *const refused[][2] = { { "a\rb", "u" }, { "t", "a\rb" }, { "t", "\ru" } };
+    static char letters[10000];
+    minisign_state state;
+
+    memset(letters, 'a', sizeof letters);
+    minisign_init(&state);
+    CHECK(ask_signing(&state) == MINISIGN_OK);
+    CHECK(make_text(&state, "t", 1, letters, 1003, sizeof text) == MINISIGN_OK);
+    CHECK(make_text(&state, "t", 1, letters, 1004, sizeof text) == MINISIGN_UNREADABLE_COMMENT);
+    CHECK(make_text(&state, "t", 1, letters, 10000, 0) == MINISIGN_UNREADABLE_COMMENT);
+    CHECK(make_text(&state, letters, 8173, "u", 1, sizeof text) == MINISIGN_OK);
+    CHECK(make_text(&state, letters, 8174, "u", 1, sizeof text) == MINISIGN_UNREADABLE_COMMENT);
+    CHECK(make_text(&state, "a\0b", 3, "u", 1, sizeof text) == MINISIGN_UNREADABLE_COMMENT);
+    CHECK(make_text(&state, "t", 1, "a\0b", 3, sizeof text) == MINISIGN_UNREADABLE_COMMENT);
+    CHECK(make_text(&state, "t", 1, "\0", 1, sizeof text) == MINISIGN_UNREADABLE_COMMENT);
+    for (size_t i = 0; i < sizeof refused / sizeof refused[0]; i++) {
+        CHECK(make_short_text(&state, refused[i][0], refused[i][1], sizeof text) == MINISIGN_UNREADABLE_COMMENT);
+    }
+}
+
+/* The numbers themselves, which other languages write out. */
+static void numbers(void)
+{
+    CHECK(YES == 7955827 && NO == 28271);
+    CHECK(minisign_version() == MINISIGN_VERSION);
+}
+
+int main(void)
+{
+    never_begun();
+    after_asking();
+    before_asking();
+    answers();
+    copies();
+    before_signing();
+    texts_of_no_key();
+    texts_of_signatures();
+    texts_for_minisign();
+    keys_made();
+    numbers();
+    printf("%u passed, %u failed\n", passed, failed);
+    return failed != 0;
+}

@@ -1,0 +1,857 @@
+#!/usr/bin/env python3
+"""Runs the built program `minisign_installer` on real files: updates that are good, bad and older, with each option and with
+words that ask for nothing, over what cannot be used, while it is killed at each of its calls of the system and with each of
+them failing, four at once with a reader beside them, on links, on files with access control lists, in a folder that may not
+be written, on a full disk, and on a disk that crashes. What stands at the place is always the old or a new update, whole.
+
+    tests/installer/installing.py [PROGRAM ..]
+
+Without arguments it runs the program that `rt ci` or `rt run` left in the folder `out` of `crates/minisign_installer`. It
+prints a line for each case that failed or was skipped; the last line is `N passed, M failed`.
+
+Needs Python 3.9 or later, a C compiler and setfacl, which it installs where it may. The disk that crashes is a file system
+in a file, which root mounts: where that is not allowed, those cases are skipped.
+"""
+
+import errno
+import os
+import pty
+import shutil
+import signal
+import stat
+import subprocess
+import sys
+import tempfile
+import threading
+import time
+
+HERE = os.path.dirname(os.path.realpath(__file__))
+sys.path += [os.path.join(HERE, "..", it) for it in ("shared", "tool")]
+
+import toy
+from real_runs import count_over
+from crashing import Disk, check_image, crash, make_image
+from running import NOBODY, SECONDS, Failure, Skip, build_preload, set_list
+from surviving import MEMORY, MOST_CALLS, SmallDisk, content
+
+PROGRAM = os.path.join(HERE, "..", "..", "crates", "minisign_installer", "out", "minisign_installer")
+PLACE, RECORD, LOCK, STAGE = "place", ".place.number", ".place.lock", ".place.stage-"
+PK = "key.pub"
+OLD, NEW = b"old" * 1000, b"new" * 50000
+LATER = b"later" * 40000
+
+# The exit statuses.
+FAILED, MISUSED, REFUSED, OLDER, IN_USE, NOT_ON_DISK, UNRECORDED = range(1, 8)
+
+
+def comment_of(number, names=PLACE, label="timestamp"):
+    return f"{label}:{number}\tfile:{names}\tprehashed".encode()
+
+
+# The calls of an installation by root over a file of another owner, in the order of docs/INSTALLING.md, as
+# `trace_calls.c` tells them; repeated ones stand once. S is the stage of the update, N that of its number.
+CALLS = f"""make {LOCK} new 600
+lock {LOCK}
+owner {LOCK}
+open .
+open {RECORD}
+make S new 600
+write S
+read-back S
+owner S
+rights S 711
+sync S
+make N new 600
+write N
+owner N
+sync N
+rename N {RECORD}
+open .
+sync .
+rename S {PLACE}
+open .
+sync .
+"""
+
+# What is taken away by `trace_calls.c`.
+STEPS = ("sync", "folder", "new", "mode", "rights", "owner", "lock", "rename", "digit")
+
+
+class Folder:
+    """A folder with a place, at which an update of the number 5 stands, or nothing."""
+
+    def __init__(self, path, is_installed=True):
+        self.path = path
+        self.put(PK, toy.public_text())
+        if is_installed:
+            self.put(PLACE, OLD)
+            os.chmod(os.path.join(path, PLACE), 0o751)
+            self.put(RECORD, b"5")
+
+    def mode(self, name=PLACE):
+        return stat.S_IMODE(os.stat(os.path.join(self.path, name)).st_mode)
+
+    @classmethod
+    def there(cls, path):
+        """A folder as it is."""
+        folder = cls.__new__(cls)
+        folder.path = path
+        return folder
+
+    def put(self, name, data):
+        with open(os.path.join(self.path, name), "wb") as file:
+            file.write(data)
+
+    def offer(self, name, data, number, signed=None, **how):
+        """The data of an update and its signature, which is over `signed` where that is given."""
+        self.put(name, data)
+        self.put(name + ".sig", toy.signature_text(data if signed is None else signed, trusted=comment_of(number, **how)))
+
+    def arguments(self, name, *options):
+        return [*options, PK, name, name + ".sig", PLACE]
+
+    def holds(self, name=PLACE):
+        return content(self.path, name)
+
+    def stages(self):
+        return [name for name in os.listdir(self.path) if name.startswith(STAGE)]
+
+    def expect(self, data, number):
+        """Raises a `Failure` where the place or the record holds anything else, or a stage is left."""
+        if self.holds() != data:
+            raise Failure(f"the place holds {str(self.holds())[:40]}")
+        if self.holds(RECORD) != number:
+            raise Failure(f"the record holds {self.holds(RECORD)}")
+        if self.stages():
+            raise Failure(f"it left {self.stages()}")
+
+
+class Installing:
+    def __init__(self, program, room):
+        self.program = os.path.join(room, "program")
+        shutil.copy(program, self.program)
+        os.chmod(room, 0o711)
+        self.room = room
+        self.place = MEMORY if os.access(MEMORY, os.W_OK) else room
+        self.preload = build_preload(room, "break_calls")
+        self.trace = build_preload(room, "trace_calls")
+
+    def folder(self):
+        return tempfile.TemporaryDirectory(dir=self.place)
+
+    def run(self, folder, arguments, environment=None, passed=(), **how):
+        ran = subprocess.run([self.program, *arguments], cwd=folder.path, env=environment or {}, stdin=subprocess.DEVNULL,
+                             stdout=subprocess.DEVNULL, stderr=subprocess.PIPE, pass_fds=passed, umask=0o022, timeout=SECONDS, **how)
+        return ran.returncode, ran.stderr
+
+    def check(self, folder, name, status, *options, said=None):
+        ended, text = self.run(folder, folder.arguments(name, *options))
+        if ended != status or said is not None and not text.endswith(said):
+            raise Failure(f"it ended with status {ended} in place of {status}, and said {text}")
+
+    # == One run ==
+
+    def installs(self):
+        """A newer update, one of the same number, and what is kept of the file that was there."""
+        with self.folder() as path:
+            folder = Folder(path)
+            folder.offer("new", NEW, 6)
+            self.check(folder, "new", 0)
+            folder.expect(NEW, b"6")
+            if folder.mode() != 0o711:
+                raise Failure(f"the place has the mode {folder.mode():o}")
+            folder.offer("later", LATER, 6)
+            self.check(folder, "later", 0)
+            folder.expect(LATER, b"6")
+            folder.offer("version", NEW, 2 ** 64 - 1, label="version")
+            self.check(folder, "version", 0, "--numbering", "version")
+            folder.expect(NEW, str(2 ** 64 - 1).encode())
+
+    def installs_first(self):
+        with self.folder() as path:
+            folder = Folder(path, is_installed=False)
+            folder.offer("new", NEW, 6)
+            self.check(folder, "new", UNRECORDED, said=b"error: place: no number is kept beside the place\n")
+            folder.expect(None, None)
+            self.check(folder, "new", 0, "--first")
+            folder.expect(NEW, b"6")
+            if folder.mode() != 0o600:
+                raise Failure(f"the place has the mode {folder.mode():o}")
+            folder.put(RECORD, b"six")
+            self.check(folder, "new", UNRECORDED, said=b"error: place: what is kept beside the place is no number\n")
+            folder.expect(NEW, b"six")
+            self.check(folder, "new", 0, "--first")
+            folder.offer("old", OLD, 4)
+            self.check(folder, "old", OLDER, "--first", said=b"error: old: the update is older than what was installed\n")
+            folder.expect(NEW, b"6")
+
+    def refuses(self, said, data=NEW, number=6, status=REFUSED, **how):
+        with self.folder() as path:
+            folder = Folder(path)
+            folder.offer("bad", data, number, **how)
+            self.check(folder, "bad", status, said=said)
+            folder.expect(OLD, b"5")
+
+    def refuses_legacy(self):
+        with self.folder() as path:
+            folder = Folder(path)
+            folder.put("bad", NEW)
+            record = toy.signature_record(NEW, algorithm=b"Ed")
+            folder.put("bad.sig", toy.signature_text(NEW, record=record, trusted=comment_of(6)))
+            self.check(folder, "bad", REFUSED, said=b"error: bad.sig: Legacy signatures are not accepted\n")
+            folder.expect(OLD, b"5")
+
+    def removes_leftovers(self):
+        """Stages of killed runs go, and files that only look alike stay."""
+        with self.folder() as path:
+            folder = Folder(path)
+            folder.offer("new", NEW, 6)
+            left = [STAGE + "0" * 32, STAGE + "0123456789abcdef" * 2]
+            alike = [STAGE + "0" * 31, STAGE + "A" * 32, ".other.stage-" + "0" * 32, STAGE + "0" * 33]
+            for name in left + alike:
+                folder.put(name, b"left")
+            self.check(folder, "new", 0)
+            found = set(os.listdir(path))
+            if found & set(left) or not found >= set(alike):
+                raise Failure(f"the folder has {sorted(found)}")
+
+    # == What stands beside the place ==
+
+    def passes_over(self, make, name):
+        """What is no leftover, or cannot be removed, stays, and stops no update."""
+        with self.folder() as path:
+            folder = Folder(path)
+            folder.offer("new", NEW, 6)
+            make(os.path.join(os.fsencode(path), name))
+            self.check(folder, "new", 0)
+            if name not in os.listdir(os.fsencode(path)) or folder.holds() != NEW or folder.holds(RECORD) != b"6":
+                raise Failure(f"{name} was removed, or the update is not there")
+
+    def refuses_record(self, record, status, said):
+        with self.folder() as path:
+            folder = Folder(path)
+            folder.put(RECORD, record)
+            folder.offer("new", NEW, 6)
+            self.check(folder, "new", status, said=said)
+            folder.expect(OLD, record)
+
+    def takes_record(self, record):
+        with self.folder() as path:
+            folder = Folder(path)
+            folder.put(RECORD, record)
+            folder.offer("old", LATER, 4)
+            self.check(folder, "old", OLDER)
+            folder.expect(OLD, record)
+            folder.offer("new", NEW, 6)
+            self.check(folder, "new", 0)
+            folder.expect(NEW, b"6")
+
+    def refuses_beside(self, name, make, said):
+        """A record or a lock file that is a link, or no regular file, is refused, left alone, and not waited for."""
+        with self.folder() as path:
+            folder = Folder(path)
+            folder.offer("new", NEW, 6)
+            folder.put("behind", b"4")
+            at = os.path.join(path, name)
+            if os.path.exists(at):
+                os.remove(at)
+            make(at)
+            before = os.lstat(at)
+            names = set(os.listdir(path)) | {LOCK}
+            self.check(folder, "new", FAILED, said=f"error: ./{name}: {said}\n".encode())
+            after = os.lstat(at)
+            if (before.st_ino, before.st_mode) != (after.st_ino, after.st_mode) or folder.holds("behind") != b"4":
+                raise Failure(f"{name} or what it leads to was changed")
+            if folder.holds() != OLD or not set(os.listdir(path)) <= names:
+                raise Failure("the update was installed, or something was left")
+
+    def belongs_to_owner(self):
+        """After a run by root the owner of the place may go on."""
+        if os.geteuid() != 0:
+            raise Skip("only root may become nobody")
+        with self.folder() as path:
+            folder = Folder(path)
+            os.chown(path, NOBODY, NOBODY)
+            os.chown(os.path.join(path, PLACE), NOBODY, NOBODY)
+            folder.offer("new", NEW, 6)
+            self.check(folder, "new", 0)
+            for name in (PLACE, RECORD, LOCK):
+                found = os.stat(os.path.join(path, name))
+                if (found.st_uid, found.st_gid) != (NOBODY, NOBODY):
+                    raise Failure(f"{name} is of {found.st_uid}:{found.st_gid}")
+            if stat.S_IMODE(os.stat(os.path.join(path, RECORD)).st_mode) != 0o600:
+                raise Failure("others may read the record")
+            folder.offer("later", LATER, 7)
+            status, said = self.run(folder, folder.arguments("later"), user=NOBODY, group=NOBODY, extra_groups=[])
+            if status != 0:
+                raise Failure(f"its owner's run ended with status {status}, and said {said}")
+            folder.expect(LATER, b"7")
+
+    def loses_lock(self):
+        """A run whose lock file is removed changes nothing once another one went past it."""
+        with self.folder() as path:
+            folder = Folder(path)
+            folder.offer("slow", NEW, 6)
+            os.remove(os.path.join(path, "slow"))
+            os.mkfifo(os.path.join(path, "slow"))
+            folder.offer("later", LATER, 7)
+            process = subprocess.Popen([self.program, *folder.arguments("slow")], cwd=path, env={}, stdin=subprocess.DEVNULL, stderr=subprocess.PIPE)
+            with open(os.path.join(path, "slow"), "wb", buffering=0) as pipe:
+                pipe.write(NEW[:1000])
+                for _ in range(1000):
+                    if folder.stages():
+                        break
+                    time.sleep(0.01)
+                else:
+                    raise Failure("it made no stage")
+                os.remove(os.path.join(path, LOCK))
+                self.check(folder, "later", 0)
+                try:
+                    pipe.write(NEW[1000:])
+                except BrokenPipeError:
+                    pass
+            said = process.communicate(timeout=SECONDS)[1]
+            if process.returncode != FAILED or b".place.lock: it was removed or replaced while it was locked" not in said or folder.holds() != LATER or folder.holds(RECORD) != b"7":
+                raise Failure(f"the slow run ended with status {process.returncode}, said {said}, and the record holds {folder.holds(RECORD)}")
+
+    # == Hurt ==
+
+    def break_each(self, judge, **how):
+        for number in range(1, MOST_CALLS):
+            with self.folder() as path:
+                folder = Folder(path)
+                folder.offer("new", NEW, 6)
+                told, says = os.pipe()
+                environment = {"LD_PRELOAD": self.preload, "BREAK_SAYS": str(says), "BREAK_AT": str(number), **how}
+                try:
+                    status, said = self.run(folder, folder.arguments("new"), environment, [says])
+                finally:
+                    os.close(says)
+                with os.fdopen(told, "rb") as pipe:
+                    came = pipe.read(1) != b""
+                try:
+                    judge(folder, status, said, came)
+                except Failure as why:
+                    raise Failure(f"at call {number}: {why}") from why
+            if not came:
+                return number - 1
+        raise Failure(f"it made {MOST_CALLS} calls")
+
+    def killed(self):
+        """The place holds the old or the new one; the record is never behind it; the next run finishes and cleans up."""
+        seen = set()
+
+        def judge(folder, status, said, came):
+            if status != (-signal.SIGKILL if came else 0):
+                raise Failure(f"it ended with status {status}, and said {said}")
+            state = (folder.holds(), folder.holds(RECORD))
+            if state not in [(OLD, b"5"), (OLD, b"6"), (NEW, b"6")]:
+                raise Failure("the place or the record is neither old nor new")
+            seen.add(state)
+            folder.offer("old", OLD, 5)
+            self.check(folder, "old", 0 if state[1] == b"5" else OLDER)
+            self.check(folder, "new", 0)
+            folder.expect(NEW, b"6")
+
+        self.break_each(judge)
+        if len(seen) != 3:
+            raise Failure(f"the kills left {len(seen)} states alone")
+
+    def failing(self, calls, number=errno.EIO):
+        """Each of these calls fails in turn."""
+
+        def judge(folder, status, said, came):
+            state = (folder.holds(), folder.holds(RECORD))
+            wanted = [(NEW, b"6")] if status == 0 else [(OLD, b"5"), (OLD, b"6")]
+            if status == NOT_ON_DISK and b"error: place: installed, but" in said:
+                wanted = [(NEW, b"6")]
+            if status not in (0, FAILED, NOT_ON_DISK) or state not in wanted or said.count(b"\n") < 2 and status:
+                raise Failure(f"it ended with status {status}, said {said}, and the place or the record is wrong")
+            if folder.stages():
+                raise Failure(f"it left {folder.stages()}")
+
+        if not self.break_each(judge, BREAK_CALLS=calls, BREAK_ERRNO=str(number)):
+            raise Failure("it made no such call")
+
+    def interrupted(self, calls):
+        """Each of these calls is interrupted in turn, and made again."""
+
+        def judge(folder, status, said, came):
+            if status != 0:
+                raise Failure(f"it ended with status {status}, and said {said}")
+            folder.expect(NEW, b"6")
+
+        if not self.break_each(judge, BREAK_CALLS=calls, BREAK_ERRNO=str(errno.EINTR)):
+            raise Failure("it made no such call")
+
+    def on_full_disk(self):
+        with self.folder() as path, SmallDisk(path):
+            folder = Folder(path)
+            folder.offer("new", b"n" * 20000, 6)
+            with open(os.path.join(path, "fill"), "wb", buffering=0) as fill:
+                try:
+                    while True:
+                        fill.write(bytes(4096))
+                except OSError as error:
+                    if error.errno != errno.ENOSPC:
+                        raise
+            self.check(folder, "new", FAILED, said=b": No space left on device (os error 28)\n")
+            os.remove(os.path.join(path, "fill"))
+            folder.expect(OLD, b"5")
+
+    def in_locked_folder(self):
+        if os.geteuid() != 0:
+            raise Skip("only root may become nobody")
+        with self.folder() as path:
+            folder = Folder(path)
+            folder.offer("new", NEW, 6)
+            os.chmod(path, 0o755)
+            status, said = self.run(folder, folder.arguments("new"), user=NOBODY, group=NOBODY, extra_groups=[])
+            if status != FAILED or not said.endswith(b"error: ./.place.lock: Permission denied (os error 13)\n"):
+                raise Failure(f"it ended with status {status}, and said {said}")
+            folder.expect(OLD, b"5")
+
+    def on_other(self, make, said):
+        """A link at the place is refused, and so is what is no file."""
+        with self.folder() as path:
+            folder = Folder(path)
+            folder.offer("new", NEW, 6)
+            at = os.path.join(path, PLACE)
+            os.rename(at, os.path.join(path, "behind"))
+            make(at)
+            before = os.lstat(at)
+            self.check(folder, "new", FAILED, said=b"error: place: " + said + b"\n")
+            if (before.st_ino, before.st_mode) != (os.lstat(at).st_ino, os.lstat(at).st_mode) or folder.holds("behind") != OLD:
+                raise Failure("the link or what it leads to was changed")
+
+    # == What a person gives and sees ==
+
+    def says(self, words, status, said, shown=b""):
+        """Words that ask for no installation, or for one that fails: a line says why, and no file is made."""
+        with self.folder() as path:
+            folder = Folder(path)
+            folder.offer("new", NEW, 6)
+            before = os.listdir(path)
+            ran = subprocess.run([self.program, *words], cwd=path, env={}, stdin=subprocess.DEVNULL, stdout=subprocess.PIPE,
+                                 stderr=subprocess.PIPE, timeout=SECONDS)
+            if ran.returncode != status or said not in ran.stderr or bool(said) != bool(ran.stderr) or not ran.stdout.startswith(shown):
+                raise Failure(f"it ended with status {ran.returncode}, said {ran.stderr} and showed {ran.stdout[:100]}")
+            if set(os.listdir(path)) - {LOCK} != set(before) or folder.holds() != OLD:
+                raise Failure(f"the folder has {os.listdir(path)}")
+
+    def takes(self, words, name=PLACE, mode=0o711, number=b"6", **how):
+        """An installation with these words."""
+        with self.folder() as path:
+            folder = Folder(path)
+            folder.offer("new", NEW, int(number), **how)
+            if name != PLACE:
+                os.rename(os.path.join(path, PLACE), os.path.join(path, name))
+                os.rename(os.path.join(path, RECORD), os.path.join(path, f".{name}.number"))
+            status, said = self.run(folder, words)
+            if status or said.count(b"\n") != 1:
+                raise Failure(f"it ended with status {status}, and said {said}")
+            if folder.holds(name) != NEW or folder.holds(f".{name}.number") != number or folder.mode(name) != mode:
+                raise Failure(f"the place holds {str(folder.holds(name))[:40]}, with the mode {folder.mode(name):o}")
+
+    def first_mode(self):
+        """A first installation with the rights that were asked for, whatever the mask."""
+        with self.folder() as path:
+            folder = Folder(path, is_installed=False)
+            folder.offer("new", NEW, 6)
+            self.check(folder, "new", 0, "--first", "--mode", "0775")
+            folder.expect(NEW, b"6")
+            if folder.mode() != 0o775 or folder.mode(RECORD) != 0o600:
+                raise Failure(f"the place has the mode {folder.mode():o}, and the record {folder.mode(RECORD):o}")
+
+    def bounded(self):
+        """Data of as many bytes as are allowed is taken; one more is refused, and data without end too."""
+        with self.folder() as path:
+            folder = Folder(path)
+            folder.offer("new", NEW, 6)
+            self.check(folder, "new", REFUSED, "--most", str(len(NEW) - 1), said=b"error: new: it is longer than it may be\n")
+            folder.expect(OLD, b"5")
+            self.check(folder, "new", 0, "--most", str(len(NEW)))
+            folder.expect(NEW, b"6")
+            os.remove(os.path.join(path, "new"))
+            os.symlink("/dev/zero", os.path.join(path, "new"))
+            self.check(folder, "new", REFUSED, "--most", "1000000", said=b"error: new: it is longer than it may be\n")
+            folder.expect(NEW, b"6")
+            os.remove(os.path.join(path, PK))
+            os.symlink("/dev/zero", os.path.join(path, PK))
+            self.check(folder, "new", REFUSED, said=b"error: key.pub: it is longer than it may be\n")
+
+    def at_terminal(self):
+        """Where the error stream is a terminal, it shows how far it is."""
+        data = b"large" * 1000000
+        with self.folder() as path:
+            folder = Folder(path)
+            folder.offer("new", data, 6)
+            ours, theirs = pty.openpty()
+            with open(ours, "rb", buffering=0) as screen:
+                process = subprocess.Popen([self.program, *folder.arguments("new")], cwd=path, env={}, stdin=subprocess.DEVNULL,
+                                           stdout=subprocess.DEVNULL, stderr=theirs)
+                os.close(theirs)
+                shown = b""
+                try:
+                    while piece := screen.read(1000):
+                        shown += piece
+                except OSError:
+                    pass
+                status = process.wait(timeout=SECONDS)
+            if status or b"copied 4 of 4 MiB\r" not in shown or b"verified 4 MiB\r" not in shown:
+                raise Failure(f"it ended with status {status}, and showed {shown}")
+            folder.expect(data, b"6")
+
+    def without_errors(self):
+        """No file gets the number of a closed error stream."""
+        with self.folder() as path:
+            folder = Folder(path)
+            folder.offer("bad", NEW, 6, signed=LATER)
+            folder.offer("new", NEW, 6)
+            for name, status in (("bad", REFUSED), ("new", 0)):
+                ran = subprocess.run(["sh", "-c", 'exec "$@" 2>&-', "sh", self.program, *folder.arguments(name)], cwd=path, env={},
+                                     stdin=subprocess.DEVNULL, timeout=SECONDS)
+                if ran.returncode != status:
+                    raise Failure(f"it ended with status {ran.returncode}")
+            folder.expect(NEW, b"6")
+
+    # == Rights ==
+
+    def keeps_rights(self, before, after, entries=None):
+        """An update over a file of this mode, with these entries of an access control list."""
+        with self.folder() as path:
+            folder = Folder(path)
+            at = os.path.join(path, PLACE)
+            os.chmod(at, before)
+            if entries:
+                set_list(at, entries)
+            folder.offer("new", NEW, 6)
+            self.check(folder, "new", 0)
+            folder.expect(NEW, b"6")
+            if folder.mode() != after:
+                raise Failure(f"the place has the mode {folder.mode():o} in place of {after:o}")
+
+    # == In order ==
+
+    def traced(self, away=None):
+        """The calls that an installation made, with a step taken away or none; and what it left."""
+        with self.folder() as path:
+            folder = Folder(path)
+            os.chown(os.path.join(path, PLACE), NOBODY, NOBODY)
+            folder.offer("new", NEW, 16)
+            told, says = os.pipe()
+            environment = {"LD_PRELOAD": self.trace, "TRACE_TO": str(says)}
+            if away is not None:
+                environment["TAKE_AWAY"] = away
+            try:
+                status, said = self.run(folder, folder.arguments("new"), environment, [says])
+            finally:
+                os.close(says)
+            with os.fdopen(told) as pipe:
+                calls = pipe.read().splitlines()
+            if status != 0:
+                raise Failure(f"it ended with status {status}, and said {said}")
+            return self.named(calls), (folder.holds(), folder.holds(RECORD))
+
+    def named(self, calls):
+        """The calls on what is in the folder, repeated ones once, with S and N for the stages in the order of their making."""
+        stages, lines = [], []
+        for call in calls:
+            words = call.split(" ")
+            if words[1].startswith(STAGE) and words[1] not in stages:
+                stages.append(words[1])
+            words = ["SN"[stages.index(word)] if word in stages[:2] else word for word in words]
+            line = " ".join(words)
+            if words[1] not in (PK, "new", "new.sig", "urandom") and lines[-1:] != [line]:
+                lines.append(line)
+        return "".join(line + "\n" for line in lines)
+
+    def in_order(self):
+        if os.geteuid() != 0:
+            raise Skip("only root may give files another owner")
+        calls, left = self.traced()
+        if calls != CALLS or left != (NEW, b"16"):
+            raise Failure(f"its calls were\n{calls}")
+
+    def notices(self, away):
+        """The order of the calls, or what is left, tells that a step was taken away."""
+        if os.geteuid() != 0:
+            raise Skip("only root may give files another owner")
+        calls, left = self.traced(away)
+        if calls == CALLS and left == (NEW, b"16"):
+            raise Failure("nothing tells it")
+
+    # == Crashes ==
+
+    def stopped(self, folder, number):
+        """A run that stops before its call of this number, and whether that call came."""
+        told, says = os.pipe()
+        environment = {"LD_PRELOAD": self.preload, "BREAK_SAYS": str(says), "BREAK_AT": str(number),
+                       "BREAK_SIGNAL": str(int(signal.SIGSTOP))}
+        try:
+            process = subprocess.Popen([self.program, *folder.arguments("new")], cwd=folder.path, env=environment, pass_fds=[says],
+                                       stdin=subprocess.DEVNULL, stdout=subprocess.DEVNULL, stderr=subprocess.DEVNULL)
+        finally:
+            os.close(says)
+        with os.fdopen(told, "rb") as pipe:
+            came = pipe.read(1) != b""
+        return process, came
+
+    def crashes(self):
+        """The disk as it is before each call of a run and after the last: the place holds the old or the new update, whole,
+        the record is never behind it, and the next run finishes. After the last call it is the new one."""
+        with tempfile.TemporaryDirectory(dir=self.room) as room:
+            fresh, image, crashed = (os.path.join(room, name) for name in ("fresh", "image", "crashed"))
+            make_image(fresh)
+            with Disk(fresh) as path:
+                Folder(path).offer("new", NEW, 6)
+            seen = set()
+            for number in range(1, MOST_CALLS):
+                shutil.copyfile(fresh, image)
+                with Disk(image) as path:
+                    process, came = self.stopped(Folder.there(path), number)
+                    try:
+                        if not came and process.wait(timeout=SECONDS) != 0:
+                            raise Failure(f"it ended with status {process.returncode}")
+                        crash(image, crashed)
+                    finally:
+                        process.kill()
+                        process.wait()
+                try:
+                    seen.add(self.after_crash(crashed, came))
+                except Failure as why:
+                    raise Failure(f"at call {number}: {why}") from why
+                if not came:
+                    break
+            if len(seen) != 3:
+                raise Failure(f"the crashes left {len(seen)} states alone")
+
+    def after_crash(self, crashed, may_be_old):
+        """What a machine finds that crashed; the next run finishes on it."""
+        with Disk(crashed) as path:
+            folder = Folder.there(path)
+            state = (folder.holds(), folder.holds(RECORD))
+            if state not in ([(OLD, b"5"), (OLD, b"6"), (NEW, b"6")] if may_be_old else [(NEW, b"6")]):
+                raise Failure(f"the place holds {str(state[0])[:40]}, and the record {state[1]}")
+            self.check(folder, "new", 0)
+            folder.expect(NEW, b"6")
+        check_image(crashed)
+        return state
+
+    def loses_without(self, away):
+        """A crash after a run without these syncs shows that they are missing."""
+        with tempfile.TemporaryDirectory(dir=self.room) as room:
+            image, crashed = (os.path.join(room, name) for name in ("image", "crashed"))
+            make_image(image)
+            with Disk(image) as path:
+                folder = Folder(path)
+                folder.offer("new", NEW, 6)
+                os.sync()
+                status, said = self.run(folder, folder.arguments("new"), {"LD_PRELOAD": self.trace, "TAKE_AWAY": away})
+                if status:
+                    raise Failure(f"it ended with status {status}, and said {said}")
+                crash(image, crashed)
+            try:
+                self.after_crash(crashed, False)
+            except Failure:
+                return
+            raise Failure("nothing tells it")
+
+    # == Several ==
+
+    def at_once(self, rounds=25, slow=None):
+        """Four runs at once, of which one brings a bad update and one an older one, and a reader. The place holds an update,
+        whole, the record its number or a greater one, and that number never falls. Where `slow` is given, each call of a run
+        waits first for up to so many microseconds."""
+        environment = {} if slow is None else {"LD_PRELOAD": self.trace, "SLOW": str(slow)}
+        with self.folder() as path:
+            folder = Folder(path)
+            updates = {OLD: 5}
+            stop, wrong = threading.Event(), []
+
+            def read():
+                before = 0
+                while not stop.is_set():
+                    found = folder.holds()
+                    kept = int(folder.holds(RECORD))
+                    if found not in updates or kept < updates[found] or kept < before:
+                        wrong.append((found, kept, before))
+                    before = kept
+
+            reader = threading.Thread(target=read)
+            reader.start()
+            try:
+                for number in range(rounds):
+                    one, two = (word * 20000 + str(number).encode() for word in (b"one", b"two"))
+                    updates.update({one: 2 * number + 6, two: 2 * number + 7})
+                    folder.offer("one", one, 2 * number + 6)
+                    folder.offer("two", two, 2 * number + 7)
+                    folder.offer("bad", NEW, 1000, signed=LATER)
+                    folder.offer("older", LATER, 4)
+                    started = {name: subprocess.Popen([self.program, *folder.arguments(name)], cwd=path, env=environment,
+                                                      stdin=subprocess.DEVNULL, stderr=subprocess.PIPE)
+                               for name in ("one", "two", "bad", "older")}
+                    for name, process in started.items():
+                        said = process.communicate(timeout=SECONDS)[1]
+                        allowed = {"bad": (REFUSED, IN_USE), "older": (OLDER, IN_USE), "one": (0, OLDER, IN_USE), "two": (0, IN_USE)}
+                        if process.returncode not in allowed[name]:
+                            raise Failure(f"{name} ended with status {process.returncode}, and said {said}")
+                    kept = int(folder.holds(RECORD))
+                    if folder.holds() == two and kept != 2 * number + 7 or folder.stages():
+                        raise Failure(f"the record holds {kept}, and the stages are {folder.stages()}")
+            finally:
+                stop.set()
+                reader.join()
+            if wrong:
+                found, kept, before = wrong[0]
+                raise Failure(f"a reader found {str(found)[:40]}, and then {kept} in the record, behind {before}")
+
+    def while_locked(self):
+        import fcntl
+        with self.folder() as path:
+            folder = Folder(path)
+            folder.offer("new", NEW, 6)
+            with open(os.path.join(path, LOCK), "wb") as lock:
+                fcntl.flock(lock, fcntl.LOCK_EX)
+                self.check(folder, "new", IN_USE, said=b"error: place: another installation is at work at this place\n")
+                folder.expect(OLD, b"5")
+            self.check(folder, "new", 0)
+
+
+def cases(it):
+    yield "newer updates", it.installs
+    yield "the first update", it.installs_first
+    yield "other data", lambda: it.refuses(b"error: bad: Signature verification failed\n", signed=LATER)
+    yield "no data", lambda: it.refuses(b"error: bad: Signature verification failed\n", data=b"", signed=LATER)
+    yield "an older update", lambda: it.refuses(b"error: bad: the update is older than what was installed\n", number=4, status=OLDER)
+    yield "another file", lambda: it.refuses(b"error: bad.sig: the signed comment does not name this file\n", names="other")
+    no_number = b"error: bad.sig: the signed comment has no such number\n"
+    yield "no number", lambda: it.refuses(no_number, label="version")
+    yield "a number too great", lambda: it.refuses(no_number, number=2 ** 64)
+    yield "a word for a number", lambda: it.refuses(no_number, number="six")
+    yield "a legacy signature", it.refuses_legacy
+    yield "leftovers", it.removes_leftovers
+    yield "a folder with a name that is not UTF-8", lambda: it.passes_over(os.mkdir, b"caf\xe9")
+    yield "a file with a name that is not UTF-8", lambda: it.passes_over(lambda at: open(at, "wb").close(), b".place.stage-\xe9")
+    yield "a folder with a stage's name", lambda: it.passes_over(os.mkdir, os.fsencode(STAGE + "0" * 32))
+    too_long = b"error: ./.place.number: it is too long for a number\n"
+    no_text = b"error: place: what is kept beside the place is no number\n"
+    yield "a record that is too long", lambda: it.refuses_record(b"0" * 64 + b"99", FAILED, too_long)
+    yield "a record of two lines", lambda: it.refuses_record(b"5\n5\n", UNRECORDED, no_text)
+    yield "a record with a line feed", lambda: it.takes_record(b"5\n")
+    yield "a record of 64 digits", lambda: it.takes_record(b"5".rjust(64, b"0"))
+    others = [("pipe", os.mkfifo, "what stands there is no regular file"),
+              ("link", lambda at: os.symlink("behind", at), "a link stands there, which is not followed"),
+              ("link to nothing", lambda at: os.symlink("nothing", at), "a link stands there, which is not followed"),
+              ("folder", os.mkdir, "a folder stands there")]
+    for kind, make, said in others:
+        for name, what in ((RECORD, "record"), (LOCK, "lock")):
+            yield f"a {what} that is a {kind}", lambda name=name, make=make, said=said: it.refuses_beside(name, make, said)
+        yield f"a {kind} at the place", lambda make=make, said=said.encode(): it.on_other(make, said)
+    yield from word_cases(it)
+    yield "a first installation with a mode", it.first_mode
+    yield "a bound on the data", it.bounded
+    yield "progress at a terminal", it.at_terminal
+    yield "a closed error stream", it.without_errors
+    yield "rights that a group and not all others have", lambda: it.keeps_rights(0o755, 0o755)
+    yield "rights of a group alone", lambda: it.keeps_rights(0o770, 0o700)
+    yield "a list with a user who may write", lambda: it.keeps_rights(0o600, 0o600, "g::---,u:65534:rw")
+    yield "a list in a file that all may read", lambda: it.keeps_rights(0o644, 0o644, "g::---,u:65534:rw")
+    yield "a list with a group that may write", lambda: it.keeps_rights(0o600, 0o600, "g:65534:rwx")
+    yield "a list that keeps a group from what all others may", lambda: it.keeps_rights(0o604, 0o644, "g::---,g:65534:rwx")
+    yield "the owner after root", it.belongs_to_owner
+    yield "a lock file that is removed", it.loses_lock
+    yield "killed at each call", it.killed
+    for call in ("open", "openat", "write", "fsync", "rename", "read", "pread", "flock", "getdents64", "fchmod", "statx", "close"):
+        yield f"{call} fails", lambda call=call: it.failing(call)
+    for call in ("open", "openat", "read", "write", "fsync", "pread", "flock", "fchmod"):
+        yield f"{call} is interrupted", lambda call=call: it.interrupted(call)
+    yield "write fails for want of room", lambda: it.failing("write", errno.ENOSPC)
+    yield "a full disk", it.on_full_disk
+    yield "a folder that may not be written", it.in_locked_folder
+    yield "the calls in their order", it.in_order
+    for away in STEPS:
+        yield f"{away} is taken away", lambda away=away: it.notices(away)
+    yield "a disk that crashes before each call", it.crashes
+    for away in ("sync", "folder"):
+        yield f"a disk that crashes, and {away} is taken away", lambda away=away: it.loses_without(away)
+    yield "four at once", it.at_once
+    yield "four slow ones at once", lambda: it.at_once(rounds=8, slow=20000)
+    yield "while another holds the lock", it.while_locked
+
+
+def word_cases(it):
+    """Words that ask for nothing, and words that ask for an installation in another way."""
+    paths = [PK, "new", "new.sig", PLACE]
+    usage = b"usage: minisign_installer [OPTION ..] PK DATA SIG PLACE\n"
+    misuses = [
+        ("no words", [], b"error: there are fewer than four paths\n" + usage),
+        ("three paths", paths[:3], b"error: there are fewer than four paths\n" + usage),
+        ("five paths", [*paths, "more"], b"error: more: there are four paths, and this is a fifth\n" + usage),
+        ("an option that is misspelt", ["--frist", *paths], b"error: --frist: there is no such option\n" + usage),
+        ("an option that is cut short", ["--num", "version", *paths], b"error: --num: there is no such option\n" + usage),
+        ("an option of one letter", ["-f", *paths], b"error: -f: there is no such option\n" + usage),
+        ("an option with its value in one word", ["--name=app", *paths], b"error: --name=app: there is no such option\n" + usage),
+        ("an option in another case", ["--First", *paths], b"error: --First: there is no such option\n" + usage),
+        ("an option twice", ["--first", *paths, "--first"], b"error: --first: it came before\n" + usage),
+        ("a name twice", ["--name", "a", *paths, "--name", "a"], b"error: --name: it came before\n" + usage),
+        ("an option without its value", [*paths, "--mode"], b"error: a value has to follow the last word\n" + usage),
+        ("a field that there is not", ["--numbering", "versions", *paths], b"error: versions: the option before it has no such value\n"),
+        ("a mode of two digits", ["--mode", "75", *paths], b"error: 75: the option before it has no such value\n"),
+        ("a mode of five digits", ["--mode", "00755", *paths], b"error: 00755: the option before it has no such value\n"),
+        ("a mode beyond rights", ["--mode", "4755", *paths], b"error: 4755: the option before it has no such value\n"),
+        ("a mode that is not octal", ["--mode", "758", *paths], b"error: 758: the option before it has no such value\n"),
+        ("a bound with a unit", ["--most", "5M", *paths], b"error: 5M: the option before it has no such value\n"),
+        ("a bound too great", ["--most", str(2 ** 64), *paths], b": the option before it has no such value\n"),
+        ("help beside other words", ["--help", *paths], b"error: --help: there is no such option\n" + usage),
+        ("an option behind the end of options", ["--", "--first", *paths], b"error: place: there are four paths, and this is a fifth\n"),
+        ("a folder as place", [*paths[:3], "place/"], b"error: place/: it does not end with the name of a file\n"),
+        ("the folder itself as place", [*paths[:3], "."], b"error: .: it does not end with the name of a file\n"),
+        ("bytes that are not UTF-8", [*paths[:3], b"pl\xe4ce"], b"error: an argument is not UTF-8\n" + usage),
+    ]
+    for name, words, said in misuses:
+        yield name, lambda words=words, said=said: it.says(words, MISUSED, said)
+    failures = [
+        ("no key", ["none.pub", *paths[1:]], FAILED, b"error: none.pub: No such file or directory (os error 2)\n"),
+        ("no data", [PK, "none", *paths[2:]], FAILED, b"error: none: No such file or directory (os error 2)\n"),
+        ("no signature", [PK, "new", "none.sig", PLACE], FAILED, b"error: none.sig: No such file or directory (os error 2)\n"),
+        ("no folder", [*paths[:3], "none/place"], FAILED, b"error: none: there is no such folder\n"),
+        ("a folder as key", [".", *paths[1:]], FAILED, b"error: .: Is a directory (os error 21)\n"),
+        ("a key that is no text", ["new.sig", *paths[1:]], REFUSED, b"error: new.sig: "),
+        ("a signature that is none", [PK, "new", PK, PLACE], REFUSED, b"error: key.pub: "),
+    ]
+    for name, words, status, said in failures:
+        yield name, lambda words=words, status=status, said=said: it.says(words, status, said)
+    yield "help", lambda: it.says(["--help"], 0, b"", shown=usage)
+    yield "the version", lambda: it.says(["--version"], 0, b"", shown=b"minisign_installer 0.1.0\n")
+    orders = [
+        ("options behind the paths", [*paths, "--first", "--mode", "0640"], 0o640),
+        ("options between the paths", [PK, "--mode", "640", "new", "--most", "1000000", "new.sig", "--first", PLACE], 0o640),
+        ("options before the paths", ["--most", "1000000", "--numbering", "timestamp", "--name", PLACE, *paths], 0o711),
+        ("the end of options first", ["--", *paths], 0o711),
+        ("the end of options between", [PK, "--first", "new", "--", "new.sig", PLACE], 0o711),
+    ]
+    for name, words, mode in orders:
+        yield name, lambda words=words, mode=mode: it.takes(words, mode=mode)
+    yield "a name that begins with a dash", lambda: it.takes(["--", *paths[:3], "--first"], name="--first", names="--first")
+    yield "another name than the signed one", lambda: it.takes([*paths[:3], "app", "--name", "app-1.2"], name="app", names="app-1.2")
+
+
+def run_all(program):
+    """Runs all cases, prints those that failed or were skipped, and answers how many passed and how many failed."""
+    passed = failed = 0
+    with tempfile.TemporaryDirectory(prefix="installing-") as room:
+        for name, case in cases(Installing(program, room)):
+            try:
+                case()
+                passed += 1
+            except Skip as why:
+                print(f"skipped: {name}: {why}")
+            except (Failure, subprocess.SubprocessError) as why:
+                print(f"FAILED: {name}: {why}")
+                failed += 1
+    return passed, failed
+
+
+if __name__ == "__main__":
+    sys.exit(count_over(sys.argv[1:] or [PROGRAM], run_all))

@@ -1,0 +1,69 @@
+"""How Minisign's own program and those of c/ and examples/ are run side by side."""
+
+import os
+import subprocess
+from dataclasses import dataclass
+
+SECONDS = 120
+
+
+@dataclass(frozen=True)
+class Programs:
+    """The programs that are run: Minisign's, and ours in C, in Rust, and for signing."""
+
+    minisign: str
+    verify: str
+    verify_rust: str
+    sign: str
+
+
+@dataclass(frozen=True)
+class Answer:
+    """How a program ended, and all that it wrote."""
+
+    status: int
+    output: bytes
+    said: bytes
+
+    def accepts(self):
+        return self.status == 0
+
+    def is_usage(self):
+        """Whether it is the program's usage, which each has in its own words."""
+        return self.status == 2 and self.output.startswith(b"Usage:\n")
+
+    def __str__(self):
+        return f"status {self.status}, {self.output[:80]!r}, {self.said[:120]!r}"
+
+
+def run(command, folder, stdin=None, stdout=subprocess.PIPE):
+    """Runs a program in a folder, with these bytes or nothing on its standard input."""
+    how = {"input": stdin} if stdin is not None else {"stdin": subprocess.DEVNULL}
+    ran = subprocess.run(command, cwd=folder, stdout=stdout, stderr=subprocess.PIPE, timeout=SECONDS, **how)
+    return Answer(ran.returncode, ran.stdout or b"", ran.stderr)
+
+
+def write(folder, name, data):
+    with open(os.path.join(folder, name), "wb") as file:
+        file.write(data)
+
+
+def read(folder, name):
+    with open(os.path.join(folder, name), "rb") as file:
+        return file.read()
+
+
+def put_case(folder, case):
+    """Writes the files of a case, or takes away those that it has to lack."""
+    for name, data in (("minisign.pub", case.pk), ("data.minisig", case.sig), ("data", case.data)):
+        if name not in case.without:
+            write(folder, name, data)
+        elif os.path.exists(os.path.join(folder, name)):
+            os.remove(os.path.join(folder, name))
+
+
+def arguments_of(case):
+    """The arguments that both programs get for a case."""
+    key = () if "-P" in case.flags or case.by_default else ("-p", "minisign.pub")
+    sig = () if case.by_default else ("-x", "data.minisig")
+    return ["-V", *key, *sig, "-m", "data", *case.flags]

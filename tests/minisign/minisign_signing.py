@@ -1,0 +1,231 @@
+"""What minisign-sign of c/ signs, beside Minisign's own program: the text has to be the same byte for byte, as
+Ed25519 is deterministic, and Minisign and our verifier have to accept it."""
+
+import base64
+import collections
+import hashlib
+import os
+import re
+import tempfile
+
+import minisign_differences as differences
+from minisign_cases import LENGTHS, PASSWORD, TRUSTED_COMMENTS, UNTRUSTED_COMMENTS, joined, lines, pattern
+from minisign_running import read, run, write
+
+# What ends no line and stands between no white space, and what does not: such a comment would not be read back.
+MORE_COMMENTS = [b"x", b"a  b", b"\xf0\x9f\x94\x91", b"timestamp:1\tfile:x\thashed", b"=" * 100, b"\x01"]
+NOT_KEPT = [b"two\nlines", b"a\rb", b"\n", b"end\n", b"end\r", b" front", b"end ", b"\ttab", b"\xc2\xa0", b"\xe3\x80\x80x"]
+NOT_KEPT_UNTRUSTED = [b"two\nlines", b"a\rb", b"end\n", b"end\r"]
+
+
+def is_utf8(comment):
+    try:
+        comment.decode()
+    except UnicodeDecodeError:
+        return False
+    return True
+
+
+def is_kept(trusted):
+    """Whether a trusted comment is read back as it is."""
+    return is_utf8(trusted) and b"\n" not in trusted and b"\r" not in trusted and trusted.decode().strip() == trusted.decode()
+
+
+class Signing:
+    """The two signing programs, in a folder with keys that Minisign made."""
+
+    def __init__(self, programs, folder):
+        self.programs, self.folder = programs, folder
+        self.failures, self.count = [], 0
+        self.entries = collections.Counter()
+
+    def ours(self, key, *flags, typed=None):
+        """Runs ours: how it ended, and the text that it wrote, or None."""
+        made = os.path.join(self.folder, "ours.minisig")
+        if os.path.exists(made):
+            os.remove(made)
+        ran = run([self.programs.sign, "-S", "-s", key, "-m", "data", "-x", "ours.minisig", *flags], self.folder,
+                  stdin=typed)
+        return ran, read(self.folder, "ours.minisig") if os.path.exists(made) else None
+
+    def accepted(self, public):
+        """Whether both verifiers accept what ours wrote."""
+        return [name for name, program in (("Minisign", self.programs.minisign), ("ours", self.programs.verify))
+                if run([program, "-V", "-p", public, "-m", "data", "-x", "ours.minisig"], self.folder).status != 0]
+
+    def case(self, name, wrong):
+        self.count += 1
+        if wrong:
+            self.failures.append(f"signing, {name}: {wrong}")
+
+    def signs(self, name, data, trusted, untrusted=b"u", key="first"):
+        """Ours signs, and Minisign with the same key and comments makes the same text."""
+        write(self.folder, "data", data)
+        comments = ("-t", trusted, "-c", untrusted)
+        ran, text = self.ours(f"{key}.key", *comments)
+        theirs = run([self.programs.minisign, "-S", "-s", f"{key}.key", "-m", "data", "-x", "theirs.minisig", *comments],
+                     self.folder)
+        if ran.status != 0 or text is None:
+            self.case(name, f"ours: {ran}")
+        elif theirs.status != 0 or text != read(self.folder, "theirs.minisig"):
+            self.case(name, f"Minisign writes another text: {theirs}: {text!r}")
+        else:
+            refusing = self.accepted(f"{key}.pub")
+            self.case(name, f"refused by {refusing}" if refusing else "")
+
+    def refuses(self, name, key, *flags, typed=None, said=b""):
+        """Ours refuses, and writes nothing."""
+        ran, text = self.ours(key, *flags, typed=typed)
+        self.case(name, f"ours: {ran}" if ran.status != 2 or text is not None or said not in ran.said else "")
+
+
+    def both(self, text, password):
+        """What both programs do with a key: whether each signs so that Minisign accepts it, and what they said."""
+        write(self.folder, "data", b"some data\n")
+        write(self.folder, "differing.key", text)
+        typed = None if password is None else password + b"\n"
+        flags = ("-t", "t", "-c", "u")
+        theirs = run([self.programs.minisign, "-S", "-s", "differing.key", "-m", "data", "-x", "theirs.minisig", *flags],
+                     self.folder, stdin=typed)
+        ours, _ = self.ours("differing.key", *flags, typed=typed)
+        signs = {differences.MINISIGN: theirs.status == 0, differences.OURS: ours.status == 0}
+        if ours.status == 0 and self.accepted("first.pub"):
+            return signs, f"what ours signed is refused: {theirs}, {ours}"
+        return signs, f"{theirs}, {ours}"
+
+    def differs(self, entry, text, password):
+        """One of the programs signs, and the other refuses, as the entry says."""
+        signs, said = self.both(text, password)
+        self.entries[entry] += 1
+        self.case(entry, "" if signs == {name: name == differences.SIGNING[entry] for name in signs} else said)
+
+    def signs_alike(self, name, text, password):
+        """Both programs sign."""
+        signs, said = self.both(text, password)
+        self.case(name, "" if all(signs.values()) else said)
+
+
+# The least limits that libsodium takes: N is 1024, r 8 and p 1.
+OPERATIONS, MEMORY = 32768, 2**24
+
+
+def sealed_key(text, password, memory):
+    """A key sealed under these limits; as few operations decide N, whatever the memory."""
+    record = base64.b64decode(lines(text)[1])
+    salt, plain = b"s" * 32, record[54:126]
+    plain += hashlib.blake2b(record[:2] + plain, digest_size=32).digest()
+    stream = hashlib.scrypt(password, salt=salt, n=1024, r=8, p=1, dklen=104)
+    limits = OPERATIONS.to_bytes(8, "little") + memory.to_bytes(8, "little")
+    sealed = bytes(a ^ b for a, b in zip(plain, stream))
+    return joined([lines(text)[0], base64.b64encode(record[:2] + b"Sc" + record[4:6] + salt + limits + sealed)])
+
+
+def differing_keys(text, checked):
+    """Keys with which one of the programs signs: the entry, the text and the password."""
+    head, encoded = lines(text)
+    record = base64.b64decode(encoded)
+    yield "signing with a key of another algorithm", joined([head, base64.b64encode(b"XX" + record[2:])]), None
+    yield "signing with a key of another checksum algorithm", joined([head, base64.b64encode(record[:4] + b"XX" + record[6:])]), None
+    of_sum = base64.b64decode(lines(checked)[1])
+    yield "signing with a key of another checksum algorithm", joined([head, base64.b64encode(of_sum[:4] + b"XX" + of_sum[6:])]), None
+    yield "a secret key's record with a byte more", joined([head, base64.b64encode(record + b"\0")]), None
+    for length in (1023, 5000):
+        yield "a secret key's comment of over 1,022 bytes", joined([head + b"a" * (length - len(head)), encoded]), None
+    yield "a secret key's comment that is not UTF-8", joined([head + b"\xff", encoded]), None
+    yield "carriage returns behind a secret key", text.replace(b"\n", b"\r\r\n"), None
+    yield "carriage returns behind a secret key", joined([head, encoded + b"\rHIDDEN"]), None
+    for memory in (2**30 + 1, 2**31, 2**40):
+        yield "a memory limit over 1 GiB", sealed_key(text, b"pw", memory), b"pw"
+    yield "a password of 1,024 bytes", sealed_key(text, b"p" * 1024, MEMORY), b"p" * 1024
+
+
+def sealed_alike(text):
+    """Keys next to the differences, with which both sign."""
+    yield "a comment of 1,022 bytes", joined([lines(text)[0].ljust(1022, b"a"), lines(text)[1]]), None
+    yield "CR LF", text.replace(b"\n", b"\r\n"), None
+    yield "a memory limit of 1 GiB", sealed_key(text, b"pw", 2**30), b"pw"
+    yield "a password of 1,023 bytes", sealed_key(text, b"p" * 1023, MEMORY), b"p" * 1023
+
+
+def with_checksum(text):
+    """The key with the checksum that Minisign leaves out where it does not seal."""
+    record = base64.b64decode(lines(text)[1])
+    digest = hashlib.blake2b(record[:2] + record[54:126], digest_size=32).digest()
+    return joined([lines(text)[0], base64.b64encode(record[:126] + digest)])
+
+
+def damaged_keys(text):
+    """Texts that read as no key, and what is said of each."""
+    head, encoded = lines(text)
+    record = base64.b64decode(encoded)
+    yield "nothing", b"", b"Missing comment in secret key"
+    yield "one line", head + b"\n", b"Missing encoded key in secret key"
+    yield "no base64", joined([head, encoded[:-2] + b"!="]), b"invalid base64"
+    yield "white space", joined([head, b" " + encoded]), b"invalid base64"
+    yield "a byte less", joined([head, base64.b64encode(record[:-1])]), b"failed to fill whole buffer"
+    yield "no UTF-8", b"\xff" + text, b"stream did not contain valid UTF-8"
+    for at in (0, 1, 54, 61, 62, 93, 94, 125, 126, 157):
+        changed = record[:at] + bytes([record[at] ^ 1]) + record[at + 1:]
+        yield f"bit of byte {at}", joined([head, base64.b64encode(changed)]), b"Corrupted key"
+    yield "another derivation", joined([head, base64.b64encode(record[:2] + b"XX" + record[4:])]), \
+        b"Unsupported encryption algorithm"
+
+
+def signing_cases(programs, minisign):
+    """Signs with keys that Minisign makes: the failures, how many cases ran, and how often each entry explained a difference."""
+    with tempfile.TemporaryDirectory(prefix="real-signing-") as folder:
+        signing = Signing(programs, folder)
+        for name in ("first.key", "first.pub", "sealed.key", "sealed.pub"):
+            write(folder, name, minisign.read(name))
+        write(folder, "checked.key", with_checksum(minisign.read("first.key")))
+        write(folder, "checked.pub", minisign.read("first.pub"))
+        for length in [*LENGTHS, 2**20, 2**20 + 1]:
+            for key in ("first", "checked"):
+                signing.signs(f"{length} bytes, {key} key", pattern(length), b"a trusted comment", key=key)
+        for comment in [*TRUSTED_COMMENTS, *MORE_COMMENTS, *NOT_KEPT]:
+            if is_kept(comment):
+                for length in (0, 13):
+                    signing.signs(f"trusted comment {comment[:20]!r}, {length} bytes", pattern(length), comment)
+            else:
+                signing.refuses(f"trusted comment {comment[:20]!r}", "first.key", "-t", comment)
+        for comment in [*UNTRUSTED_COMMENTS, *MORE_COMMENTS, *NOT_KEPT_UNTRUSTED]:
+            if is_utf8(comment) and comment not in NOT_KEPT_UNTRUSTED:
+                for length in (0, 13):
+                    signing.signs(f"untrusted comment {comment[:20]!r}", pattern(length), b"t", comment)
+            else:
+                signing.refuses(f"untrusted comment {comment[:20]!r}", "first.key", "-t", "t", "-c", comment)
+        by_default(signing)
+        sealed(signing)
+        for name, text, said in damaged_keys(read(folder, "checked.key")):
+            write(folder, "damaged.key", text)
+            signing.refuses(f"key with {name}", "damaged.key", typed=b"x\n", said=said)
+        for entry, text, password in differing_keys(read(folder, "first.key"), read(folder, "checked.key")):
+            signing.differs(entry, text, password)
+        for name, text, password in sealed_alike(read(folder, "first.key")):
+            signing.signs_alike(name, text, password)
+        signing.refuses("no key file", "missing.key")
+        os.remove(os.path.join(folder, "data"))
+        signing.refuses("no data", "first.key")
+        return signing.failures, signing.count, signing.entries
+
+
+def by_default(signing):
+    """The comments by default, as Minisign writes them."""
+    write(signing.folder, "data", b"some data\n")
+    _, text = signing.ours("first.key")
+    wanted = rb"untrusted comment: signature from minisign secret key\n[^\n]*\n" \
+        rb"trusted comment: timestamp:[0-9]+\tfile:data\thashed\n[^\n]*\n"
+    signing.case("comments by default", "" if text is not None and re.fullmatch(wanted, text) else f"{text!r}")
+    signing.case("comments by default, accepted", ", ".join(signing.accepted("first.pub")))
+
+
+def sealed(signing):
+    """A sealed key, with its password and with others."""
+    write(signing.folder, "data", pattern(1000))
+    for end in (b"\n", b"\r\n", b""):
+        ran, text = signing.ours("sealed.key", "-t", "t", typed=PASSWORD.encode() + end)
+        refusing = signing.accepted("sealed.pub") if text is not None else ["ours"]
+        signing.case(f"sealed key, {end!r}", f"{ran}, refused by {refusing}" if ran.status != 0 or refusing else "")
+    signing.refuses("wrong password", "sealed.key", typed=b"wrong\n", said=b"Wrong password for that key")
+    signing.refuses("no password", "sealed.key", typed=b"")
+    signing.refuses("a password that is no UTF-8", "sealed.key", typed=b"\xff\n", said=b"stream did not contain valid UTF-8")

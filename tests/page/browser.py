@@ -1,0 +1,160 @@
+"""A real browser with the page that verifies a download: Debian's Chromium without a window, driven by its own driver.
+
+A person's steps are taken as a person takes them, as far as a driver can: keys are typed and files are chosen or dropped.
+"""
+
+import contextlib
+import json
+import os
+import time
+
+from selenium import webdriver
+from selenium.webdriver.chrome.options import Options
+from selenium.webdriver.chrome.service import Service
+from selenium.webdriver.common.action_chains import ActionChains
+from selenium.webdriver.common.keys import Keys
+
+SECONDS = 120
+FLAGS = ("--headless=new", "--no-sandbox", "--disable-gpu", "--disable-dev-shm-usage", "--disable-background-networking",
+         "--disable-component-update", "--no-first-run", "--force-prefers-reduced-motion")
+# Each row as it stands: its verdict, its number, if it has one, and its parts.
+ROWS = """return Array.from(document.querySelectorAll("#verdicts > li"), row => ({
+  verdict: row.dataset.verdict, number: row.dataset.number === undefined ? null : Number(row.dataset.number),
+  head: row.querySelector(".verdict").textContent, name: row.querySelector(".name").textContent, text: row.innerText,
+  why: row.querySelector(".why")?.textContent ?? "", comment: row.querySelector(".comment")?.textContent ?? null}))"""
+IS_BUSY = """return document.querySelector('#verdicts > li[data-verdict="reading"]') !== null
+  || Array.from(document.querySelectorAll("#verdicts > li"), row => row.innerText).some(text => text.includes("It waits for those before it."))"""
+
+
+class Browser:
+    """A browser, whose profile is in this folder."""
+
+    def __init__(self, chromium, chromedriver, folder, width=800, height=1000):
+        options = Options()
+        options.binary_location = chromium
+        for flag in (*FLAGS, f"--window-size={width},{height}", f"--user-data-dir={os.path.join(folder, 'profile')}"):
+            options.add_argument(flag)
+        options.set_capability("goog:loggingPrefs", {"browser": "ALL", "performance": "ALL"})
+        self.driver = webdriver.Chrome(service=Service(chromedriver), options=options)
+        self.driver.set_script_timeout(SECONDS)
+
+    def quit(self):
+        self.driver.quit()
+
+    def run(self, script, *arguments):
+        return self.driver.execute_script(script, *arguments)
+
+    def command(self, name, **arguments):
+        """A command of the browser's own protocol."""
+        return self.driver.execute_cdp_cmd(name, arguments)
+
+    def open(self, address):
+        """Opens the page anew, and waits until it can be used or says that it cannot."""
+        self.driver.get("about:blank")
+        self.driver.get(address)
+        self.wait(lambda: self.run("return document.documentElement.dataset.ready === 'yes' || !document.getElementById('lacking').hidden"))
+
+    def wait(self, holds, seconds=SECONDS):
+        end = time.monotonic() + seconds
+        while not holds():
+            if time.monotonic() > end:
+                raise TimeoutError(f"the page did not get there in {seconds} s: {self.driver.find_element('tag name', 'body').text[:500]}")
+            time.sleep(0.02)
+
+    def element(self, name):
+        return self.driver.find_element("id", name)
+
+    def text_of(self, name):
+        return self.run("return document.getElementById(arguments[0]).innerText", name)
+
+    # What a person does.
+
+    def type_key(self, text):
+        """Has the key's field hold this text, as if it were pasted."""
+        self.run("""const field = document.getElementById("key-text"); field.value = arguments[0];
+          field.dispatchEvent(new Event("input", {bubbles: true}));""", text)
+
+    def choose_key(self, path):
+        self.element("key-file").send_keys(os.path.realpath(path))
+        self.wait(lambda: self.run("return document.getElementById('key-said').innerText !== ''"))
+
+    def choose(self, *paths):
+        """Chooses files together."""
+        self.element("files").send_keys("\n".join(map(os.path.realpath, paths)))
+
+    def drop(self, place, *paths):
+        """Drops files together on the element of this name."""
+        box = self.run("""const box = document.getElementById(arguments[0]).getBoundingClientRect();
+          return [box.left + box.width / 2, box.top + Math.min(box.height, innerHeight) / 2]""", place)
+        data = {"items": [], "files": [os.path.realpath(path) for path in paths], "dragOperationsMask": 1}
+        for kind in ("dragEnter", "dragOver", "drop"):
+            self.command("Input.dispatchDragEvent", type=kind, x=box[0], y=box[1], data=data)
+
+    def press(self, *keys):
+        """Presses keys, one after another, wherever the focus is."""
+        ActionChains(self.driver).send_keys(*keys).perform()
+
+    def tab(self):
+        """Moves the focus on by the keyboard: what has it then."""
+        self.press(Keys.TAB)
+        return self.run("const it = document.activeElement; return it.id || it.className || it.textContent")
+
+    # What a person sees.
+
+    def settle(self, seconds=SECONDS):
+        """Waits until nothing is verified any more: the rows."""
+        self.wait(lambda: not self.run(IS_BUSY), seconds)
+        return self.rows()
+
+    def rows(self):
+        return self.run(ROWS)
+
+    def row(self, name):
+        return next(row for row in self.rows() if row["name"] == name)
+
+    def clear(self):
+        self.run("document.getElementById('clear').click()")
+
+    def said(self):
+        """What the browser's console has: errors, and what the policy refused."""
+        return [entry["message"] for entry in self.driver.get_log("browser")]
+
+    def requests(self):
+        """The addresses that were asked for since this was last called."""
+        found = []
+        for entry in self.driver.get_log("performance"):
+            message = json.loads(entry["message"])["message"]
+            if message["method"] == "Network.requestWillBeSent":
+                found.append(message["params"]["request"]["url"])
+        return found
+
+    def picture(self, path, name="main"):
+        """Writes a picture of the page from its top."""
+        with open(path, "wb") as file:
+            file.write(self.driver.get_screenshot_as_png())
+
+    def processes(self):
+        """The numbers of the processes of the browser."""
+        children = {}
+        for number in filter(str.isdigit, os.listdir("/proc")):
+            with contextlib.suppress(OSError), open(f"/proc/{number}/stat", encoding="ascii", errors="replace") as file:
+                parent = file.read().rpartition(")")[2].split()[1]
+                children.setdefault(parent, []).append(number)
+        found, waiting = [], [str(self.driver.service.process.pid)]
+        while waiting:
+            below = children.get(waiting.pop(), [])
+            found += below
+            waiting += below
+        return found
+
+    def memory(self):
+        """The resident memory in MiB of the process that shows the page, or of the greatest that may."""
+        sizes = [0]
+        for number in self.processes():
+            with contextlib.suppress(OSError):
+                with open(f"/proc/{number}/cmdline", "rb") as file:
+                    is_page = b"--type=renderer" in file.read()
+                if is_page:
+                    with open(f"/proc/{number}/statm", encoding="ascii") as file:
+                        sizes.append(int(file.read().split()[1]) * os.sysconf("SC_PAGE_SIZE") / 1048576)
+        return max(sizes)

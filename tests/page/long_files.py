@@ -1,0 +1,55 @@
+"""Long files: they are stopped and begun again, and take no memory."""
+
+import os
+import re
+import time
+
+import looks
+from browser import Keys
+
+BIG_BYTES = 2_000_000_000
+# What the memory of the page may grow by, in MiB, while a file of BIG_BYTES is read.
+GROWTH = 32
+
+
+def check_stopping(person, minisign):
+    """Verifying is stopped by hand, and begun again; what was stopped looks like nothing else."""
+    browser, checks = person.browser, person.checks
+    browser.open(person.address)
+    browser.choose_key(person.put("first.pub", minisign.read("first.pub")))
+    big = person.put("big", b"")
+    os.truncate(big, BIG_BYTES)
+    small = person.pair("small", b"small", minisign.sign("first", b"small", trusted="t"))
+    minisign.run("-S", "-s", "first.key", "-m", big, "-x", f"{big}.minisig", "-t", "2 GB")
+    browser.choose(big, f"{big}.minisig", *small)
+    browser.wait(lambda: browser.run("return (document.querySelector('progress')?.value ?? 0) > 0"))
+    share = browser.row("big")["text"]
+    checks.check(re.search(r"[\d.]+ MB of 2\.0 GB read", share), f"the progress is {share!r}")
+    checks.check(any(role == "progressbar" and "big" in name for role, name, _ in looks.nodes(browser)), "the progress has no name")
+    browser.run("document.querySelector('#verdicts button').focus()")
+    browser.press(Keys.ENTER)
+    rows = {row["name"]: row for row in person.settled("stopped")}
+    checks.same((rows["big"]["verdict"], rows["small"]["verdict"]), ("stopped", "good"), "one that was stopped, and the next")
+    checks.same(browser.run("return document.activeElement.textContent"), "Verify it again", "where the focus is after a stop")
+    checks.check("big: stopped" in browser.run("return document.getElementById('log').textContent"), "a screen reader is not told of a stop")
+    return big
+
+
+def check_big(person, big):
+    """2 GB are read in pieces: the memory of the page does not grow, and it answers meanwhile."""
+    browser, checks = person.browser, person.checks
+    browser.clear()
+    before, greatest, begun = browser.memory(), 0, time.monotonic()
+    browser.choose(big, f"{big}.minisig")
+    while True:
+        greatest = max(greatest, browser.memory())
+        rows = browser.rows()
+        if rows and rows[0]["verdict"] in ("good", "bad"):
+            break
+        if time.monotonic() > begun + 240:
+            raise TimeoutError("2 GB take more than 240 s")
+        time.sleep(0.1)
+    person.expect(person.only(person.settled("2 GB"), "2 GB"), 0, "2 GB", "2 GB")
+    seconds = time.monotonic() - begun
+    checks.check(greatest < before + GROWTH, f"while 2 GB are read, the memory grows from {before:.0f} to {greatest:.0f} MiB")
+    print(f"page: 2 GB in {seconds:.1f} s, and the memory of its process from {before:.0f} to at most {greatest:.0f} MiB", flush=True)

@@ -1,0 +1,81 @@
+"""How the page looks and how it is used without a mouse: names for a screen reader, the order of the keyboard, colours that
+differ enough, and a narrow screen."""
+
+# Pairs of a text and its ground that differ by less than this are hard to read (WCAG 2, level AA).
+LEAST_CONTRAST = 4.5
+NARROW = 320
+
+# The least contrast of each text that is seen, with the text.
+CONTRASTS = """
+const channel = value => value <= 0.04045 ? value / 12.92 : ((value + 0.055) / 1.055) ** 2.4;
+const light = color => {
+  const [r, g, b] = color.match(/[\\d.]+/g).map(Number);
+  return 0.2126 * channel(r / 255) + 0.7152 * channel(g / 255) + 0.0722 * channel(b / 255);
+};
+const isClear = color => color === "transparent" || /, 0\\)$/.test(color);
+const ground = it => {
+  for (; it; it = it.parentElement) {
+    const color = getComputedStyle(it).backgroundColor;
+    if (!isClear(color)) return color;
+  }
+  return "rgb(255, 255, 255)";
+};
+const found = [];
+const walker = document.createTreeWalker(document.body, NodeFilter.SHOW_TEXT);
+for (let text; (text = walker.nextNode());) {
+  const it = text.parentElement;
+  if (text.data.trim() && it.checkVisibility() && !it.closest("script, .unseen")) {
+    const [one, other] = [light(getComputedStyle(it).color), light(ground(it))];
+    found.push([(Math.max(one, other) + 0.05) / (Math.min(one, other) + 0.05), text.data.trim().slice(0, 40)]);
+  }
+}
+return found;"""
+
+# Whether the page is no wider than the window, and nothing of a row stands outside of it.
+FITS = """
+const rows = Array.from(document.querySelectorAll("#verdicts > li"));
+const within = (it, row) => {
+  const a = it.getBoundingClientRect(), b = row.getBoundingClientRect();
+  return a.left >= b.left - 1 && a.right <= b.right + 1 && a.top >= b.top - 1 && a.bottom <= b.bottom + 1;
+};
+return document.documentElement.scrollWidth <= document.documentElement.clientWidth
+  && rows.every(row => Array.from(row.querySelectorAll(".verdict, .name, .comment, .why, button, progress")).every(it => within(it, row)));"""
+
+
+def contrasts_wrong(browser):
+    """The texts that are hard to read, in light and in dark."""
+    wrong = []
+    for scheme in ("light", "dark"):
+        browser.command("Emulation.setEmulatedMedia", features=[{"name": "prefers-color-scheme", "value": scheme}])
+        found = browser.run(CONTRASTS)
+        grounds = browser.run("return getComputedStyle(document.body).backgroundColor")
+        wrong += [f"{scheme}: {text!r} has contrast {value:.1f}" for value, text in found if value < LEAST_CONTRAST]
+        if not found or (scheme == "dark") != (grounds != "rgb(255, 255, 255)"):
+            wrong.append(f"{scheme}: the page's ground is {grounds}")
+    browser.command("Emulation.setEmulatedMedia", features=[])
+    return wrong
+
+
+def narrow(browser, width=NARROW):
+    """Makes the screen so narrow."""
+    browser.command("Emulation.setDeviceMetricsOverride", width=width, height=640, deviceScaleFactor=1, mobile=False)
+
+
+def wide(browser):
+    browser.command("Emulation.clearDeviceMetricsOverride")
+
+
+def nodes(browser):
+    """What a screen reader is told: the role and the name of each node, and its properties."""
+    found = []
+    for node in browser.command("Accessibility.getFullAXTree")["nodes"]:
+        if not node.get("ignored"):
+            properties = {it["name"]: it["value"].get("value") for it in node.get("properties", [])}
+            found.append((node["role"]["value"], node.get("name", {}).get("value", ""), properties))
+    return found
+
+
+def nameless(browser):
+    """What can have the focus and has no name for a screen reader."""
+    return [role for role, name, properties in nodes(browser)
+            if properties.get("focusable") and not name.strip() and role not in ("RootWebArea", "StaticText", "InlineTextBox")]

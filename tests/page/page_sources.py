@@ -1,0 +1,59 @@
+"""What the sources of the page have to have in common with those of the library for C, and what the built page may name."""
+
+import os
+import re
+
+import build
+import cases
+
+TOP = os.path.join(os.path.dirname(os.path.realpath(__file__)), "..", "..")
+
+
+def check_contracts(checks):
+    """Each export of the page has the signature and the clauses of the one for C, word for word."""
+    texts = {}
+    for crate, prefix in (("minisign_page", "page_"), ("minisign_c", "minisign_")):
+        with open(os.path.join(TOP, "crates", crate, "src", "lib.rt"), encoding="utf-8") as file:
+            found = re.findall(r'^pub extern "C" fn ' + prefix + r"(\w+)(\(.*?)^\{$", file.read(), re.M | re.S)
+        texts[crate] = {name: re.sub(r"\s+", " ", re.sub(r"(?m)^\s*//.*$", "", text)) for name, text in found}
+    checks.same(len(texts["minisign_page"]), 7, "the number of exports of minisign_page")
+    for name, text in texts["minisign_page"].items():
+        checks.check(text == texts["minisign_c"].get(name), f"page_{name} has another contract than minisign_{name}")
+
+
+def check_numbers(checks):
+    """The numbers of library.js are those of the header, and words.js has words for each that a call can answer."""
+    with open(os.path.join(TOP, "include", "minisign.h"), encoding="utf-8") as file:
+        header = file.read()
+    with open(os.path.join(TOP, "tests", "c", "layout.c"), encoding="utf-8") as file:
+        layout = file.read()
+    script = build.read("library.js")
+    for name in ("YES", "NO"):
+        number = re.search(rf"MINISIGN_ANSWER_{name} = (0x\w+)", header)[1]
+        checks.check(f"const ANSWER_{name} = {number};" in script, f"library.js has another number for {name}")
+    offsets = dict(re.findall(r"IS_AT\(minisign_external, (\w+), (\d+),", layout))
+    parts = dict(re.findall(r"(\w+): (\d+)", re.search(r"const QUESTIONS = \{(.*?)\};", script, re.S)[1]))
+    checks.check(parts and offsets, "no offsets of the questions are read")
+    for name, at in parts.items():
+        checks.same(at, offsets.get(name), f"library.js: where {name} begins")
+    sizes = dict(re.findall(r"IS_LAID_OUT\((\w+), (\d+),", layout))
+    for name, struct in (("STATE_BYTES", "minisign_state"), ("QUESTIONS_BYTES", "minisign_external")):
+        checks.same(re.search(rf"const {name} = (\d+)", script)[1], sizes.get(struct), f"library.js: {name}")
+    words = build.read("words.js")
+    told = {name: {int(number) for number in re.findall(r"^  \[(\d+), ", re.search(rf"{name} = new Map\(\[(.*?)\]\);", words, re.S)[1], re.M)}
+            for name in ("WHY_NO_KEY", "WHY_NOT")}
+    pk, sig = cases.read_kept("first.pub"), cases.read_kept("hello.minisig")
+    of_keys = {fault.number for fault in (*cases.key_faults(pk), *cases.typed_key_faults(pk))}
+    checks.same(told["WHY_NO_KEY"], of_keys, "words.js: the faults of keys")
+    checks.same(told["WHY_NOT"], {fault.number for fault in cases.signature_faults(sig, sig)} | {30}, "words.js: the faults of signatures")
+
+
+def check_file(checks, path):
+    """The page is one file that names nothing else, under a policy that allows nothing else."""
+    with open(path, encoding="utf-8") as file:
+        text = file.read()
+    checks.check(not re.search(r"https?:|\ssrc=|@import|url\(|<link (?!rel=\"icon\" href=\"data:,\")|\{\{", text), "the page names something outside of it")
+    policy = re.search(r'http-equiv="Content-Security-Policy" content="([^"]*)"', text)[1]
+    checks.check(policy.startswith("default-src 'none'; ") and "unsafe-inline" not in policy and "'unsafe-eval'" not in policy
+                 and "connect-src" not in policy, f"the policy is {policy}")
+    checks.same(len(re.findall("<script", text)), 1, "the number of scripts")

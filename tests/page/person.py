@@ -1,0 +1,79 @@
+"""Who uses the page in the tests, and what was seen to hold."""
+
+import os
+
+# The head of each row.
+VERIFIED, NOT_VERIFIED = "\u2713 Verified", "\u2717 NOT verified"
+STANDS = {"good": VERIFIED, "bad": NOT_VERIFIED, "waiting": "\u2026 Not verified yet", "reading": "\u2026 Not verified yet",
+          "stopped": "\u2013 Stopped: nothing is known of this file"}
+
+
+class Checks:
+    """What holds and what does not."""
+
+    def __init__(self):
+        self.passed, self.failures = 0, []
+
+    def check(self, holds, what):
+        if holds:
+            self.passed += 1
+        else:
+            self.failures.append(what)
+        return holds
+
+    def same(self, found, wanted, what):
+        return self.check(found == wanted, f"{what}: {found!r:.300}, and not {wanted!r:.300}")
+
+
+class Person:
+    """Who uses the page: the browser, the page's address, and a folder for files."""
+
+    def __init__(self, checks, browser, address, folder, programs):
+        self.checks, self.browser, self.address, self.folder = checks, browser, address, folder
+        self.programs = programs
+        self.count = 0
+
+    def put(self, name, data):
+        """Writes a file of this name into a folder of its own; its path."""
+        self.count += 1
+        folder = os.path.join(self.folder, f"files{self.count}")
+        os.mkdir(folder)
+        return self.put_beside(folder, name, data)
+
+    @staticmethod
+    def put_beside(folder, name, data):
+        path = os.path.join(folder, name)
+        with open(path, "wb") as file:
+            file.write(data)
+        return path
+
+    def pair(self, name, data, sig):
+        """Writes a file and its signature into a folder of their own; their paths."""
+        path = self.put(name, data)
+        return path, self.put_beside(os.path.dirname(path), f"{name}.minisig", sig)
+
+    def verdict(self, what, pk_path, *paths):
+        """The one row of a page that is opened anew with this key and these files."""
+        self.browser.open(self.address)
+        self.browser.choose_key(pk_path)
+        self.browser.choose(*paths)
+        return self.only(self.settled(what), what)
+
+    def only(self, rows, what):
+        self.checks.check(len(rows) == 1, f"{what}: {len(rows)} rows")
+        return rows[0]
+
+    def settled(self, what, seconds=60):
+        """The rows when nothing is verified any more. Each says what its verdict is, and nothing good that is not."""
+        rows = self.browser.settle(seconds)
+        for row in rows:
+            self.checks.check(row["head"] == STANDS[row["verdict"]] and (row["verdict"] == "good") == (row["number"] == 0)
+                              and row["text"].startswith(row["head"]) and (row["comment"] is None or row["number"] == 0),
+                              f"{what}: a row stands for {row}")
+        return rows
+
+    def expect(self, row, number, what, comment=None):
+        """A row has the number, and the comment that was signed."""
+        holds = self.checks.same(row["number"], number, f"{what}: the number")
+        if holds and number == 0 and comment is not None:
+            self.checks.same(row["comment"], comment, f"{what}: the trusted comment")

@@ -1,0 +1,126 @@
+"""What surrounds the page: the network, a browser that lacks something, the keyboard and a screen reader."""
+
+import http.server
+import threading
+
+import looks
+from browser import Keys
+from minisign_cases import lines
+
+
+def check_alone(person, minisign, page):
+    """Without a network the page works, and with one it asks for nothing."""
+    browser, checks = person.browser, person.checks
+    browser.command("Network.enable")
+    browser.command("Network.emulateNetworkConditions", offline=True, latency=0, downloadThroughput=-1, uploadThroughput=-1)
+    paths = person.pair("data", b"data", minisign.sign("first", b"data", trusted="t"))
+    key = person.put("first.pub", minisign.read("first.pub"))
+    browser.requests()
+    person.expect(person.verdict("offline", key, *paths), 0, "offline", "t")
+    browser.command("Network.emulateNetworkConditions", offline=False, latency=0, downloadThroughput=-1, uploadThroughput=-1)
+    asked = [it for it in browser.requests() if not it.startswith(("about:", "blob:", "data:"))]
+    checks.same(asked, [person.address], "what the page asks for, from disk")
+    with Served(page) as served:
+        person.address, kept = served.address, person.address
+        person.expect(person.verdict("served", key, *paths), 0, "served", "t")
+        person.address = kept
+        refused = browser.driver.execute_async_script("""const done = arguments[1], tried = [];
+          fetch(arguments[0] + "?fetched").then(() => tried.push("fetch"), () => {}).then(() => {
+            const picture = new Image(); picture.onload = picture.onerror = () => done(tried); picture.src = arguments[0] + "?picture"; })""", served.address)
+        checks.same(refused, [], "what the policy lets through")
+        checks.same(served.asked, ["/minisign.html"], "what the page asks for, served")
+    refusals = [it for it in browser.said() if "Content Security Policy" in it or "Refused" in it]
+    checks.check(len(refusals) >= 2, f"the browser tells of {refusals} that the policy refused")
+
+
+class Served:
+    """A server with the page and nothing else, which notes what it is asked for."""
+
+    def __init__(self, page):
+        with open(page, "rb") as file:
+            body = file.read()
+        asked = self.asked = []
+
+        class Handler(http.server.BaseHTTPRequestHandler):
+            def do_GET(self):
+                asked.append(self.path)
+                self.send_response(200 if self.path == "/minisign.html" else 404)
+                self.send_header("Content-Type", "text/html; charset=utf-8")
+                self.end_headers()
+                self.wfile.write(body)
+
+            def log_message(self, *words):
+                pass
+
+        self.server = http.server.ThreadingHTTPServer(("127.0.0.1", 0), Handler)
+        self.address = f"http://127.0.0.1:{self.server.server_address[1]}/minisign.html"
+
+    def __enter__(self):
+        threading.Thread(target=self.server.serve_forever, daemon=True).start()
+        return self
+
+    def __exit__(self, *_):
+        self.server.shutdown()
+        self.server.server_close()
+
+
+# What a browser may lack, how it is taken away, and what the page has to say.
+LACKING = [
+    ("WebAssembly.validate = () => false;", "64-bit WebAssembly", "Ed25519"),
+    ("delete globalThis.WebAssembly;", "64-bit WebAssembly", "Ed25519"),
+    ("crypto.subtle.importKey = async () => { throw new DOMException('no', 'NotSupportedError'); };", "Ed25519", "WebAssembly"),
+    ("crypto.subtle.verify = async () => true;", "Ed25519", "WebAssembly"),
+    ("WebAssembly.validate = () => false; crypto.subtle.verify = async () => false;", "64-bit WebAssembly, and Ed25519", "does not run"),
+    ("WebAssembly.instantiate = async () => { throw new RangeError('memory'); };", "does not run the proved library", "lacks"),
+]
+
+
+def check_lacking(person):
+    """Where the browser lacks something the page says what, and takes nothing."""
+    browser, checks = person.browser, person.checks
+    for script, wanted, unwanted in LACKING:
+        # (not in the empty page before it, which has no such parts)
+        source = f"if (location.protocol !== 'about:') {{ {script} }}"
+        number = browser.command("Page.addScriptToEvaluateOnNewDocument", source=source)["identifier"]
+        browser.open(person.address)
+        said = browser.text_of("lacking")
+        checks.check(wanted in said and unwanted not in said, f"after {script}: {said!r}")
+        checks.check(not browser.element("controls").is_displayed() and not browser.rows(), f"after {script}: the page can be used")
+        browser.command("Page.removeScriptToEvaluateOnNewDocument", identifier=number)
+
+
+def check_use(person, minisign):
+    """The page by the keyboard alone, and for a screen reader; and its two sentences of what it does not show."""
+    browser, checks = person.browser, person.checks
+    browser.open(person.address)
+    for name, wanted in (("of-the-key", "that the key is the right one"), ("of-the-page", "that the page itself is genuine")):
+        text = browser.text_of(name)
+        checks.check(wanted in text and text.count(".") == 1 and text.endswith("."), f"what the page does not show: {text!r}")
+    browser.run("document.body.focus()")
+    checks.same(browser.tab(), "key-text", "the first for the keyboard")
+    browser.press(lines(minisign.read("first.pub"))[1].decode())
+    checks.check(browser.text_of("key-said").startswith("Key "), "a key that is typed is not taken")
+    checks.same(browser.tab(), "key-file", "the second for the keyboard")
+    checks.check(browser.run("return getComputedStyle(document.querySelector('#key-file + label')).outlineStyle") == "solid", "the focus is not seen")
+    checks.same(browser.tab(), "files", "the third for the keyboard")
+    browser.choose(*person.pair("data", b"data", minisign.sign("first", b"data", trusted="t")),
+                   *person.pair("bad", b"bad", minisign.sign("first", b"data", trusted="t")))
+    person.settled("the keyboard")
+    browser.run("document.getElementById('files').focus()")
+    checks.same(browser.tab(), "comment", "the fourth for the keyboard")
+    checks.same(browser.tab(), "clear", "the fifth for the keyboard")
+    found = looks.nodes(browser)
+    named = {(role, name) for role, name, _ in found}
+    for role, name in (("textbox", "Paste its text, or its line of 56 letters"), ("button", "Clear the list"), ("heading", "3. The verdicts"), ("main", "")):
+        checks.check((role, name) in named, f"a screen reader is told of no {role} {name!r}: {sorted(named)!r:.400}")
+    for part in ("minisign.pub", ".minisig"):
+        checks.check(any(part in name and properties.get("focusable") for _, name, properties in found), f"a screen reader is told of no place for {part}")
+    live = {properties.get("live") for role, _, properties in found if role in ("log", "status")}
+    checks.same(live, {"polite"}, "what a screen reader is told as it changes")
+    checks.same(looks.nameless(browser), [], "what has no name for a screen reader")
+    log = browser.run("return Array.from(document.querySelectorAll('#log p'), it => it.textContent)")
+    checks.check(len(log) == 2 and log[0].startswith("data: verified, signed with key ") and log[1].startswith("bad: NOT verified. This file is not the one"),
+                 f"a screen reader is told {log}")
+    browser.press(Keys.ENTER)
+    checks.same(browser.rows(), [], "a list that was cleared by the keyboard")
+    checks.same(browser.run("return document.activeElement.id"), "files", "where the focus is after that")

@@ -1,0 +1,450 @@
+#!/usr/bin/env python3
+"""Tries the must-fail edits of crates/*/wrong-bodies/*.edit: the prover has to refuse each.
+
+An edit has the form of the kit's, a first line `why:`, and a line `fn:` with the function that has to be refused, as
+`rt check` prints it. `rt ci` would give each a check of its own, as it does with those of must-fail/; here edits of the
+bodies of different functions share one, and an edit that reaches beyond the body of its function is tried alone. All of
+it stands on what `rt check --only` prints in copies of the repository. First the functions that a crate's edits change
+are checked as they stand: each has to be proved. Then come the edits, a group at a time, over the work that this check
+kept. An edit that is not refused beside others is tried once more alone.
+
+An edit passes if the search for a proof of one of the function's own goals came to its end and found none. It counts
+apart, and not as passed, if the search gave up at one of its limits, or if only the function's written proof no longer
+fits: that happens to right bodies too, so what shows that the clause is false is the edit's line `why:`. It fails if the
+function is proved, if the prover could not tell, and if all that is left is a limit at which it stopped in a written
+proof, so that the goal may hold. tests/proofs/wrong_bodies.txt says how many edits each crate has and how many of these
+are refused by a written proof alone at the most: it fails too on other numbers of edits, and on more of these.
+
+usage: wrong_bodies.py [--beside FILE] [--keep FOLDER] [CRATE[/NAME]..]
+  --beside FILE  runs beside `rt ci`. FILE is what that says, with the line ENDED behind it. The edits of a crate are
+                 tried once `rt ci` has proved the crates that it depends on. What earlier checks kept is left alone.
+                 Otherwise the checks begin with the work that is kept in the crates' folders out/
+  --keep FOLDER  a new folder for the copy of the repository in which the libraries are proved and built. It is not removed
+"""
+
+import os
+import queue
+import re
+import shutil
+import subprocess
+import sys
+import tempfile
+import threading
+import time
+from collections import Counter, defaultdict
+from concurrent.futures import ThreadPoolExecutor
+from contextlib import contextmanager, suppress
+
+ROOT = os.path.dirname(os.path.dirname(os.path.dirname(os.path.abspath(__file__))))
+LIST = "tests/proofs/wrong_bodies.txt"
+# What a check of one of these crates takes at the most, in bytes.
+MEMORY = 3_000_000_000
+# How many checks run beside `rt ci`, and what has to be free for the first of them, in bytes; each further one needs
+# MEMORY more.
+BESIDE, FREE = 2, 5_000_000_000
+# The line behind what `rt ci` has said, once it has ended.
+ENDED = "rt ci has ended"
+# How many wrong bodies share a check, about.
+GROUP = 24
+# What a check of a crate reads.
+PARTS = ("src", "specs", "proofs")
+# Where a function and its body begin.
+HEADER = re.compile(r'(?m)^( *)(?:pub(?:\(\w+\))? )?(?:const )?(?:unsafe )?(?:extern "C" )?fn (\w+)')
+BODY = re.compile(r"(?m)\{$")
+# A goal of the function for which a search found no proof.
+SEARCHED = re.compile(r"did not prove `|it is not proved that")
+# A search for a proof did not come to its end.
+GAVE_UP = re.compile(r"gave up at one of its limits")
+# The prover stopped, so that the goal may hold.
+STOPPED = re.compile(r"may hold\b|could not tell|stopped at its own limit|step limit|memory limit")
+
+
+class WrongBody:
+    """A wrong body: its name, its file, the function to be refused, and what stands in place of what."""
+
+    def __init__(self, crate, file):
+        self.label = f"{crate}/{os.path.basename(file)[: -len('.edit')]}"
+        self.path = self.function = self.fault = ""
+        self.changes, self.is_alone, old = [], False, ""
+        with open(file, encoding="utf-8") as it:
+            lines = it.read().splitlines()
+        for line in lines:
+            key, _, value = line.partition(": ") if ": " in line else line.partition(":")
+            if key == "file":
+                self.path = value
+            elif key == "fn":
+                self.function = value
+            elif key == "old":
+                old = value
+            elif key == "new":
+                self.changes.append((old, value))
+        if not (file.endswith(".edit") and self.path and self.function and self.changes):
+            self.fault = "it is no file .edit with the lines `file:`, `fn:`, `old:` and `new:`"
+
+    def places(self, text):
+        """Returns where in the text of its file each change begins and ends, with the new text."""
+        found, left = [], text
+        for old, new in self.changes:
+            if left.count(old) != 1:
+                self.fault = f"its old text stands in {self.path} {left.count(old)} times, and not once"
+            at = left.find(old)
+            left = left.replace(old, "\0" * len(old))
+            self.is_alone |= function_at(text, at) != self.function.rpartition("::")[2]
+            found.append((at, at + len(old), new))
+        return found
+
+
+class Verdict:
+    """What there is to say of a wrong body: it is refused, refused in a way that counts apart, or neither."""
+
+    REFUSED, GAVE_UP, APART, FAILED = ("refused", "refused by a search that gave up at a limit",
+                                       "refused by its written proof alone", "FAILED")
+
+    def __init__(self, body, outcome, why):
+        self.label, self.crate, self.outcome = body.label, body.label.partition("/")[0], outcome
+        self.text = f"wrong body {body.label}: {outcome}: {why[:240]}"
+
+
+def crates_below():
+    """Returns the crates of crates.txt with the lines that name them, and with all crates that each depends on."""
+    lines = {}
+    with open("crates.txt", encoding="utf-8") as it:
+        for line in it.read().splitlines():
+            if ":" in line.partition("#")[0]:
+                lines[line.split(":")[0].split()[0]] = line
+    below = {}
+
+    def find(crate):
+        if crate not in below:
+            near = [it for it in lines[crate].partition(":")[2].split() if it in lines]
+            below[crate] = list(dict.fromkeys([name for it in near for name in (*find(it), it)]))
+        return below[crate]
+
+    for crate in lines:
+        find(crate)
+    return lines, below
+
+
+def bodies_of(crate):
+    """Returns the wrong bodies of a crate."""
+    folder = f"crates/{crate}/wrong-bodies"
+    files = sorted(os.listdir(folder)) if os.path.isdir(folder) else []
+    return [WrongBody(crate, f"{folder}/{it}") for it in files]
+
+
+def listed():
+    """Returns how many edits the list says each crate has, and how many of them count apart at the most."""
+    with open(LIST, encoding="utf-8") as it:
+        found = re.findall(r"(?m)^(\w+): (\d+) edits, (\d+) apart$", it.read())
+    return {crate: (int(edits), int(apart)) for crate, edits, apart in found}
+
+
+def free_memory():
+    """Returns the memory that is free, in bytes."""
+    with open("/proc/meminfo", encoding="ascii") as it:
+        found = re.search(r"MemAvailable:\s+(\d+)", it.read())
+    return 1024 * int(found[1]) if found else 0
+
+
+def link_or_copy(file, to):
+    """Has a file stand at a second place too. (A check makes what it keeps anew, and changes no file in place.)"""
+    try:
+        os.link(file, to)
+    except OSError:
+        shutil.copy2(file, to)
+
+
+def bring(crate, source, to, outs):
+    """Brings what a check reads of a crate from one repository to another, with these parts of its out/."""
+    for part in (*PARTS, *(f"out/{it}" for it in outs)):
+        if os.path.isdir(f"{source}/crates/{crate}/{part}"):
+            copy = shutil.copy2 if part in PARTS else link_or_copy
+            shutil.copytree(f"{source}/crates/{crate}/{part}", f"{to}/crates/{crate}/{part}", copy_function=copy)
+
+
+def run_rt(words, folder):
+    """Runs the kit's rt in a folder: its status, and all that it said."""
+    return subprocess.run(["rt", *words], cwd=folder, stdin=subprocess.DEVNULL, stdout=subprocess.PIPE,
+                          stderr=subprocess.STDOUT, errors="replace")
+
+
+def write_top(folder, lines):
+    """Writes what stands at the top of a repository of these crates."""
+    os.makedirs(f"{folder}/crates", exist_ok=True)
+    shutil.copy2("HANDLES", f"{folder}/HANDLES")
+    with open(f"{folder}/crates.txt", "w", encoding="utf-8") as it:
+        it.write("\n".join(lines) + "\n")
+
+
+class Proofs:
+    """The run of `rt ci` that proves the crates, by the file of what it says; with no file, there is none."""
+
+    def __init__(self, file):
+        self.file, self.checks, self.lock = file, 0, threading.Lock()
+
+    def said(self):
+        with open(self.file, encoding="utf-8", errors="replace") as it:
+            return it.read()
+
+    def is_under_way(self):
+        return bool(self.file) and not self.said().endswith(f"{ENDED}\n")
+
+    def has(self, crates):
+        return not self.file or all(re.search(rf"(?m)^rt: {it} proved$", self.said()) for it in crates)
+
+    def are_told(self, crates):
+        """Returns whether it is known if all of the crates are proved."""
+        return self.has(crates) or not self.is_under_way()
+
+    @contextmanager
+    def place(self):
+        """Waits until a check may begin: few run beside `rt ci`, and where they leave it its memory."""
+        while not self.is_taken():
+            time.sleep(1)
+        try:
+            yield
+        finally:
+            with self.lock:
+                self.checks -= 1
+
+    def is_taken(self):
+        """Takes a place for a check, where there is one."""
+        with self.lock:
+            is_room = self.checks < BESIDE and free_memory() >= FREE + MEMORY * self.checks
+            is_one = is_room or not self.is_under_way()
+            self.checks += is_one
+        return is_one
+
+
+class Libraries:
+    """The copy of the repository in which the libraries are proved and built, each once."""
+
+    def __init__(self, folder, proofs):
+        self.folder, self.proofs, self.built, self.locks = folder, proofs, {}, defaultdict(threading.Lock)
+
+    def build(self, crate):
+        """Proves and builds a library, those below which are built, and returns what is said if it is not proved."""
+        with self.locks[crate]:
+            if crate not in self.built:
+                with self.proofs.place():
+                    ran = run_rt(["lib", "--jobs", "1"], f"{self.folder}/crates/{crate}")
+                self.built[crate] = f"{crate}: {first_of(ran.stdout)}" if ran.returncode else ""
+        return self.built[crate]
+
+    def bring(self, crate, to, part):
+        """Brings what a check reads of a crate to another copy, with this part of its out/, while nothing writes it."""
+        with self.locks[crate]:
+            bring(crate, self.folder, to, [part])
+
+
+class Trial:
+    """The trial of a crate's wrong bodies, in copies of the repository in which this crate stands with its edits."""
+
+    def __init__(self, crate, crates, libraries, folder, tell):
+        self.crate, self.libraries, self.proofs, self.tell = crate, libraries, libraries.proofs, tell
+        lines, below = crates
+        self.folder = f"{folder}/{crate}"
+        self.below, self.lines = below[crate], [lines[it] for it in (*below[crate], crate)]
+        self.texts = {}
+
+    def begin(self, bodies, submit):
+        """Checks the functions as they stand, and submits the groups. It tells of each body once, here or there."""
+        for it in bodies:
+            if not it.fault and it.path not in self.texts:
+                with open(f"crates/{self.crate}/{it.path}", encoding="utf-8") as file:
+                    self.texts[it.path] = file.read()
+            if not it.fault:
+                it.places(self.texts[it.path])
+        whole = [it for it in bodies if not it.fault]
+        why = self.lacks_proof(whole)
+        for it in bodies:
+            if it.fault or why:
+                self.tell(Verdict(it, Verdict.FAILED, f"bad edit: {it.fault}" if it.fault else f"not tried: {why}"))
+        for group in [] if why else groups_of(whole):
+            submit(self.try_group, group)
+
+    def lacks_proof(self, bodies):
+        """Checks the functions that these bodies change as they stand, and returns why they are not proved."""
+        if not self.proofs.has(self.below):
+            return "`rt ci` did not prove what the crate depends on"
+        write_top(self.folder, self.lines)
+        for it in self.below:
+            why = self.libraries.build(it)
+            if why:
+                return f"a library is not proved: {why}"
+            self.libraries.bring(it, self.folder, "rlib")
+        self.libraries.bring(self.crate, self.folder, "incremental")
+        said = self.check(self.folder, bodies)
+        is_proved = re.search(r"(?m)^only=(\d+) proved=\1$", said)
+        return "" if is_proved else f"the crate as it stands is not proved: {first_of(said)}"
+
+    def try_group(self, group):
+        """Tries a group, and alone once more each of it that was not refused, and tells of each."""
+        for it, was in zip(group, self.tried(group)):
+            is_final = was.outcome != Verdict.FAILED or len(group) == 1
+            self.tell(was if is_final else self.tried([it])[0])
+
+    def tried(self, group):
+        """Tries a group in a copy of the repository, and returns what there is to say of each body."""
+        with tempfile.TemporaryDirectory(prefix="wrong-bodies-") as room:
+            write_top(room, self.lines)
+            for it in self.below:
+                bring(it, self.folder, room, ["rlib"])
+            bring(self.crate, self.folder, room, ["incremental"])
+            for path, text in self.changed(group).items():
+                with open(f"{room}/crates/{self.crate}/{path}", "w", encoding="utf-8") as it:
+                    it.write(text)
+            said = self.check(room, group)
+        return [self.judged(it, said) for it in group]
+
+    def check(self, repository, bodies):
+        """Checks the functions that these bodies change, in a copy of the repository, and returns what is said."""
+        words = [word for it in sorted({it.function for it in bodies}) for word in ("--only", it)]
+        with self.proofs.place():
+            return run_rt(["check", "--jobs", "1", *words], f"{repository}/crates/{self.crate}").stdout
+
+    def changed(self, group):
+        """Returns the texts of the files with the changes of a group in place."""
+        texts = {}
+        for path in {it.path for it in group}:
+            text = self.texts[path]
+            places = [place for it in group if it.path == path for place in it.places(text)]
+            for begin, end, new in sorted(places, reverse=True):
+                text = text[:begin] + new + text[end:]
+            texts[path] = text
+        return texts
+
+    def judged(self, body, said):
+        """Judges a body by what a check said of its function: by its line, those above it that belong to it, and the
+        errors in its written proof."""
+        lines = said.split("\n")
+        mine = f"fn {self.crate}::{body.function}: "
+        at = next((at for at, it in enumerate(lines) if it.startswith(mine)), None)
+        if at is None or not re.search(r"(?m)^only=", said):
+            return Verdict(body, Verdict.FAILED, f"bad edit: it did not reach the prover: {first_of(said)}")
+        line = lines[at][len(mine):]
+        if line.startswith("proved"):
+            return Verdict(body, Verdict.FAILED, f"the function is {line}")
+        begin = next((it for it in range(at - 1, -1, -1) if lines[it].startswith("fn ")), -1) + 1
+        above = [it for it in lines[begin:at] if it.startswith("note: ") and SEARCHED.search(it)]
+        proof = f"./proofs/{body.function.replace('::', '/')}/"
+        errors = [it for it in lines if it.startswith(proof) and ": error: " in it]
+        is_searched = bool(above or SEARCHED.search(line))
+        ended = [it for it in above if not GAVE_UP.search(it)]
+        if is_searched and (ended or not above) and "could not tell" not in line:
+            return Verdict(body, Verdict.REFUSED, (ended or [line])[0])
+        stopped = next((it for it in (line, *errors, *told_of(lines, proof)) if STOPPED.search(it)), "")
+        if stopped:
+            return Verdict(body, Verdict.FAILED, f"the prover could not tell, or stopped at a limit: {stopped}")
+        if is_searched:
+            return Verdict(body, Verdict.GAVE_UP, (above or [line])[0])
+        if errors or line.startswith("not proved") and "it calls `" not in line:
+            return Verdict(body, Verdict.APART, (errors or [line])[0])
+        return Verdict(body, Verdict.FAILED, f"it is not refused for a goal of its own: {line}")
+
+
+def told_of(lines, proof):
+    """Returns the lines that belong to the errors in a written proof: those that follow them, set in."""
+    found, is_mine = [], False
+    for it in lines:
+        is_mine = it.startswith(proof) if not it.startswith("  ") else is_mine
+        found += [it] * is_mine
+    return found
+
+
+def function_at(text, at):
+    """Returns the name of the function in whose body a place of a source file lies, if it lies in one."""
+    headers = [*HEADER.finditer(text, 0, max(at, 0))]
+    body = BODY.search(text, headers[-1].start()) if headers else None
+    end = re.compile(rf"(?m)^{headers[-1][1]}\}}").search(text, body.end()) if body else None
+    return headers[-1][2] if end and body.start() < at < end.start() else None
+
+
+def first_of(said):
+    """Returns the first error of what a check said, or its last line."""
+    lines = said.rstrip("\n").split("\n")
+    return next((it for it in lines if "error" in it), lines[-1])[:300]
+
+
+def groups_of(bodies):
+    """Returns the bodies in groups of about one size in which no function is changed twice, and alone what others see."""
+    alone = [[it] for it in bodies if it.is_alone]
+    in_order = sorted((it for it in bodies if not it.is_alone), key=lambda it: it.function)
+    most = max(Counter(it.function for it in in_order).values(), default=0)
+    number = max(most, -(-len(in_order) // GROUP))
+    return [*alone, *(in_order[at::number] for at in range(number))]
+
+
+def try_all(tasks, crates, libraries, folder):
+    """Tries the wrong bodies of each crate once what it depends on is proved, and yields what there is to say of each."""
+    told, left, works = queue.SimpleQueue(), sum(len(bodies) for bodies in tasks.values()), []
+    tasks, proofs = dict(tasks), libraries.proofs
+    with ThreadPoolExecutor(max(1, min(len(os.sched_getaffinity(0)), free_memory() // MEMORY))) as pool:
+        submit = lambda call, *given: works.append(pool.submit(call, *given))
+        while left:
+            for crate in [it for it in tasks if proofs.are_told(crates[1][it])]:
+                submit(Trial(crate, crates, libraries, folder, told.put).begin, tasks.pop(crate), submit)
+            with suppress(queue.Empty):
+                yield told.get(timeout=1)
+                left -= 1
+            for it in [it for it in works if it.done()]:
+                # (a call that ended by an exception ends this run so)
+                it.result()
+                works.remove(it)
+
+
+def wrong_numbers(bodies, names):
+    """Returns what is wrong with the numbers of edits, of the named crates or of all."""
+    told, wanted = listed(), {it.partition("/")[0] for it in names}
+    crates = {it for it in {*told, *bodies} if not wanted or it in wanted}
+    differ = [(it, told.get(it, (0, 0))[0], len(bodies.get(it, []))) for it in sorted(crates)]
+    return [f"{LIST} says that {it} has {said} edits, and it has {has}" for it, said, has in differ if said != has]
+
+
+def take(words, flag):
+    """Takes a flag and its value out of the words, and returns the value or None."""
+    at = words.index(flag) if flag in words else len(words)
+    taken = words[at : at + 2]
+    del words[at : at + 2]
+    return taken[1] if len(taken) == 2 else None
+
+
+def main(words):
+    names = [*words]
+    proofs, folder = Proofs(take(names, "--beside")), take(names, "--keep")
+    folder = folder and os.path.abspath(folder)
+    os.chdir(ROOT)
+    crates = crates_below()
+    bodies = {it: found for it in crates[0] for found in [bodies_of(it)] if found}
+    wrong = wrong_numbers(bodies, names)
+    found = {name for crate in bodies for name in (crate, *(it.label for it in bodies[crate]))}
+    wrong += [f"no wrong body is named {it}" for it in names if it not in found]
+    is_named = lambda it: not names or it.label in names or it.label.partition("/")[0] in names
+    tasks = {crate: [it for it in bodies[crate] if is_named(it)] for crate in bodies}
+    tasks = {crate: tasks[crate] for crate in sorted(tasks, key=lambda it: len(crates[1][it])) if tasks[crate]}
+    outcomes = {crate: Counter() for crate in tasks}
+    with tempfile.TemporaryDirectory(prefix="wrong-bodies-") as room:
+        folder = folder or f"{room}/libraries"
+        wanted = {name for crate in tasks for name in (crate, *crates[1][crate])}
+        write_top(folder, [line for crate, line in crates[0].items() if crate in wanted])
+        for it in wanted:
+            bring(it, ROOT, folder, [] if proofs.file else ["rlib", "incremental"])
+        for verdict in try_all(tasks, crates, Libraries(folder, proofs), f"{room}/trials"):
+            print(verdict.text, flush=True)
+            outcomes[verdict.crate][verdict.outcome] += 1
+    for crate, counted in outcomes.items():
+        kinds = (Verdict.REFUSED, Verdict.GAVE_UP, Verdict.APART, Verdict.FAILED)
+        print(f"{crate}: " + ", ".join(f"{counted[it]} {it}" for it in kinds))
+        if counted[Verdict.APART] > listed().get(crate, (0, 0))[1]:
+            wrong.append(f"{crate}: {counted[Verdict.APART]} are refused by their written proof alone, which is more "
+                         f"than {LIST} says")
+    for it in wrong:
+        print(f"FAILED: {it}")
+    passed = sum(it[Verdict.REFUSED] for it in outcomes.values())
+    failed = sum(it[Verdict.FAILED] for it in outcomes.values()) + len(wrong)
+    print(f"{passed} passed, {failed} failed")
+    return 1 if failed or not tasks else 0
+
+
+if __name__ == "__main__":
+    sys.exit(main(sys.argv[1:]))

@@ -1,0 +1,155 @@
+/* Preloaded into a program, breaks its call of the system number BREAK_AT among those that are named in BREAK_CALLS
+   (all below, where nothing is named): it is killed before the call, or gets the signal BREAK_SIGNAL, or, where
+   BREAK_ERRNO is set, the call fails so. With BREAK_SHORT a write takes half of its bytes first. Calls of `write` count
+   where they go to a regular file that the program has opened itself. Says so by one byte on the descriptor
+   BREAK_SAYS. */
+#define _GNU_SOURCE
+#include <dirent.h>
+#include <dlfcn.h>
+#include <errno.h>
+#include <fcntl.h>
+#include <signal.h>
+#include <stdarg.h>
+#include <stdlib.h>
+#include <string.h>
+#include <sys/file.h>
+#include <sys/stat.h>
+#include <unistd.h>
+
+static long calls;
+
+static int is_named(const char *name)
+{
+    const char *names = getenv("BREAK_CALLS");
+    size_t length = strlen(name);
+    const char *at;
+
+    if (!names || !*names)
+        return 1;
+    for (at = names; (at = strstr(at, name)) != NULL; at += length)
+        if ((at == names || at[-1] == ' ') && (at[length] == ' ' || at[length] == 0))
+            return 1;
+    return 0;
+}
+
+/* Whether this call is to fail; `errno` is set then. */
+static int is_broken(const char *name)
+{
+    const char *at = getenv("BREAK_AT");
+    const char *says = getenv("BREAK_SAYS");
+    const char *number = getenv("BREAK_ERRNO");
+    ssize_t (*put)(int, const void *, size_t) = (ssize_t (*)(int, const void *, size_t))dlsym(RTLD_NEXT, "write");
+
+    if (!at || !is_named(name))
+        return 0;
+    calls += 1;
+    if (calls != atol(at))
+        return 0;
+    if (says && put(atoi(says), "x", 1) != 1)
+        return 0;
+    if (!number) {
+        kill(getpid(), getenv("BREAK_SIGNAL") ? atoi(getenv("BREAK_SIGNAL")) : SIGKILL);
+        pause();
+    }
+    errno = atoi(number);
+    return 1;
+}
+
+static int is_opened_file(int fd)
+{
+    struct stat found;
+
+    return fd > 2 && fstat(fd, &found) == 0 && S_ISREG(found.st_mode);
+}
+
+/* The rights of a file that may be made: only then is there a third argument. */
+static mode_t mode_of(int flags, va_list more)
+{
+    return flags & (O_CREAT | O_TMPFILE) ? va_arg(more, mode_t) : 0;
+}
+
+int open(const char *path, int flags, ...)
+{
+    int (*real)(const char *, int, ...) = (int (*)(const char *, int, ...))dlsym(RTLD_NEXT, "open");
+    mode_t mode;
+    va_list more;
+
+    va_start(more, flags);
+    mode = mode_of(flags, more);
+    va_end(more);
+    return is_broken("open") ? -1 : real(path, flags, mode);
+}
+
+int openat(int folder, const char *path, int flags, ...)
+{
+    int (*real)(int, const char *, int, ...) = (int (*)(int, const char *, int, ...))dlsym(RTLD_NEXT, "openat");
+    mode_t mode;
+    va_list more;
+
+    va_start(more, flags);
+    mode = mode_of(flags, more);
+    va_end(more);
+    return is_broken("openat") ? -1 : real(folder, path, flags, mode);
+}
+
+ssize_t write(int fd, const void *bytes, size_t length)
+{
+    ssize_t (*real)(int, const void *, size_t) = (ssize_t (*)(int, const void *, size_t))dlsym(RTLD_NEXT, "write");
+    static int breaks_next;
+
+    if (is_opened_file(fd)) {
+        if (breaks_next || is_broken("write")) {
+            if (getenv("BREAK_SHORT") && !breaks_next && length > 1) {
+                breaks_next = 1;
+                return real(fd, bytes, length / 2);
+            }
+            errno = getenv("BREAK_ERRNO") ? atoi(getenv("BREAK_ERRNO")) : EIO;
+            return -1;
+        }
+    }
+    return real(fd, bytes, length);
+}
+
+/* Closes also where it then fails, as the system does. */
+int close(int fd)
+{
+    int (*real)(int) = (int (*)(int))dlsym(RTLD_NEXT, "close");
+    int broken = is_broken("close"), number = errno, answer = real(fd);
+
+    if (broken)
+        errno = number;
+    return broken ? -1 : answer;
+}
+
+/* With DRAW_ZEROS all that is drawn is zeros. */
+int getentropy(void *bytes, size_t length)
+{
+    int (*real)(void *, size_t) = (int (*)(void *, size_t))dlsym(RTLD_NEXT, "getentropy");
+
+    if (is_broken("getentropy"))
+        return -1;
+    if (!getenv("DRAW_ZEROS"))
+        return real(bytes, length);
+    memset(bytes, 0, length);
+    return 0;
+}
+
+#define BREAKS(answer, name, parameters, arguments)                                       \
+    answer name parameters                                                                \
+    {                                                                                     \
+        answer (*real) parameters = (answer (*) parameters)dlsym(RTLD_NEXT, #name);       \
+        return is_broken(#name) ? (answer)-1 : real arguments;                            \
+    }
+
+BREAKS(int, rename, (const char *from, const char *to), (from, to))
+BREAKS(int, renameat2, (int from_folder, const char *from, int to_folder, const char *to, unsigned flags), (from_folder, from, to_folder, to, flags))
+BREAKS(int, unlink, (const char *path), (path))
+BREAKS(int, fsync, (int fd), (fd))
+BREAKS(int, fchmod, (int fd, mode_t mode), (fd, mode))
+BREAKS(int, fchown, (int fd, uid_t uid, gid_t gid), (fd, uid, gid))
+BREAKS(ssize_t, read, (int fd, void *bytes, size_t length), (fd, bytes, length))
+BREAKS(ssize_t, pread, (int fd, void *bytes, size_t length, off_t at), (fd, bytes, length, at))
+BREAKS(int, flock, (int fd, int operation), (fd, operation))
+BREAKS(ssize_t, getdents64, (int fd, void *bytes, size_t length), (fd, bytes, length))
+BREAKS(ssize_t, readlink, (const char *path, char *bytes, size_t length), (path, bytes, length))
+BREAKS(int, statx, (int fd, const char *path, int flags, unsigned mask, struct statx *found), (fd, path, flags, mask, found))

@@ -1,0 +1,119 @@
+"""What scripts need from outside: each is looked for first. Where `CI` is set in the environment, what is not there is
+installed, as root on Debian; else it is a `Missing` that names its package.
+
+Needs Python 3.9 or later.
+"""
+
+import os
+import shutil
+import subprocess
+import sys
+import tempfile
+
+SECONDS = 600
+
+HELLO = "int main(void) { return 0; }\n"
+SODIUM = "#include <sodium.h>\nint main(void) { return sodium_init() < 0; }\n"
+
+
+class Missing(Exception):
+    """Something from outside that is not here and that the script may not, or could not, install."""
+
+
+def may_install():
+    """Whether `CI` is set, and the script runs as root on Debian or a system made of it."""
+    is_debian = os.path.exists("/etc/debian_version") and shutil.which("apt-get") is not None
+    return bool(os.environ.get("CI")) and os.geteuid() == 0 and is_debian
+
+
+def apt_get(*arguments):
+    """Runs apt-get, and answers the end of what it said where it failed."""
+    command = ["apt-get", "-q", "-y", "-o", "DPkg::Lock::Timeout=300", *arguments]
+    environment = dict(os.environ, DEBIAN_FRONTEND="noninteractive")
+    try:
+        ran = subprocess.run(command, env=environment, stdin=subprocess.DEVNULL, stdout=subprocess.PIPE,
+                             stderr=subprocess.STDOUT, timeout=SECONDS)
+    except subprocess.SubprocessError as error:
+        return str(error)
+    return ran.stdout.decode(errors="replace")[-300:] if ran.returncode else ""
+
+
+def install(packages):
+    """Installs packages, with a new list of them where the old one does not do; answers what went wrong."""
+    command = ["install", "--no-install-recommends", *packages]
+    if not apt_get(*command):
+        return ""
+    return apt_get("update") or apt_get(*command)
+
+
+def need(find, what, *packages):
+    """What `find` answers, once the packages are installed where it first answers None."""
+    found = find()
+    if found is None and may_install():
+        wrong = install(packages)
+        found = find()
+        if found is None:
+            raise Missing(f"{what} is not here, and installing {' '.join(packages)} did not bring it: {wrong}")
+    if found is None:
+        raise Missing(f"{what} is not here: install {' '.join(packages)}")
+    return found
+
+
+def program(name, package):
+    """The path of a program of a package."""
+    return need(lambda: shutil.which(name), f"the program {name}", package)
+
+
+def compiler_of(source, *flags):
+    """The path of a C compiler that makes a program of the source, or None."""
+    for name in ("gcc", "cc", "clang"):
+        path = shutil.which(name)
+        if path is not None and compiles(path, source, flags):
+            return path
+    return None
+
+
+def compiles(compiler, source, flags):
+    """Whether a compiler makes a program of the source."""
+    with tempfile.TemporaryDirectory() as room:
+        made = os.path.join(room, "made")
+        ran = subprocess.run([compiler, "-x", "c", "-", "-o", made, *flags], input=source.encode(),
+                             stdout=subprocess.DEVNULL, stderr=subprocess.DEVNULL, timeout=SECONDS)
+        return ran.returncode == 0 and os.path.exists(made)
+
+
+def c_compiler():
+    """The path of a C compiler that links with the C library."""
+    return need(lambda: compiler_of("#include <dlfcn.h>\n" + HELLO, "-ldl"), "a C compiler", "gcc", "libc6-dev")
+
+
+def cpp_compiler():
+    """The path of a C++ compiler."""
+    return need(lambda: shutil.which("g++") or shutil.which("c++") or shutil.which("clang++"), "a C++ compiler", "g++")
+
+
+def libsodium():
+    """The path of a C compiler that finds libsodium's header and links with `-lsodium`."""
+    c_compiler()
+    return need(lambda: compiler_of(SODIUM, "-lsodium"), "libsodium with its header", "libsodium-dev")
+
+
+def minisign():
+    """The path of the C program minisign."""
+    return program("minisign", "minisign")
+
+
+def chromium():
+    """The paths of the browser chromium, with letters to show, and of its driver."""
+    browser = need(lambda: shutil.which("chromium"), "the program chromium", "chromium", "fonts-dejavu-core")
+    return browser, program("chromedriver", "chromium-driver")
+
+
+def python_with_selenium():
+    """The path of a Python that has selenium: this one, or Debian's."""
+    return need(lambda: next(filter(has_selenium, (sys.executable, "/usr/bin/python3")), None), "selenium", "python3-selenium")
+
+
+def has_selenium(python):
+    """Whether a Python has selenium."""
+    return os.path.exists(python) and subprocess.run([python, "-c", "import selenium"], stderr=subprocess.DEVNULL).returncode == 0

@@ -1,0 +1,580 @@
+"""How the built program is run on real files, and how all that it says is compared with what it has to say."""
+
+import os
+import pty
+import shutil
+import signal
+import socket
+import stat
+import subprocess
+import tempfile
+import termios
+import threading
+import time
+from dataclasses import dataclass, field
+
+import needs
+
+SECONDS = 30
+NOBODY = 65534
+HERE = os.path.dirname(os.path.realpath(__file__))
+
+FOLDER = "a folder"
+LOCKED = "a folder in which nothing may be made"
+MISSING = "nothing"
+CLOSED = "a closed stream"
+WRITE_ONLY = "a stream that cannot be read"
+FULL = "a full stream"
+NO_READER = "a pipe that nobody reads"
+
+
+@dataclass(frozen=True)
+class Unreadable:
+    """A file that its owner may not read."""
+
+    data: bytes
+
+
+@dataclass(frozen=True)
+class WithMode:
+    """A file with these permission bits."""
+
+    data: bytes
+    mode: int
+
+
+@dataclass(frozen=True)
+class WithList:
+    """A file with these permission bits, and these entries of an access control list beside them."""
+
+    data: bytes
+    mode: int
+    entries: str
+
+
+@dataclass(frozen=True)
+class Link:
+    """A symbolic link to this path."""
+
+    target: str
+
+
+@dataclass(frozen=True)
+class SecondName:
+    """A second name of a file that was made before it, a hard link."""
+
+    first: str
+
+
+@dataclass(frozen=True)
+class OpenedPipe:
+    """A named pipe that the program has to open, and in which nothing ever comes."""
+
+
+@dataclass(frozen=True)
+class UnopenedPipe:
+    """A named pipe that the program has to leave closed."""
+
+
+@dataclass(frozen=True)
+class FedPipe:
+    """A named pipe that the program has to open, and in which this data comes."""
+
+    data: bytes
+
+
+@dataclass(frozen=True)
+class ReadLate:
+    """A pipe as standard output that is read only once the program has made so many writes on the error
+    stream and the folder that it runs in was changed. So a program that writes more than a pipe takes cannot
+    be further than that."""
+
+    writes: int
+    change: object
+
+
+@dataclass(frozen=True)
+class Pieces:
+    """A pipe in which the pieces come one by one, each once the one before it was taken."""
+
+    pieces: tuple
+
+
+@dataclass(frozen=True)
+class FromFile:
+    """A file as the standard input."""
+
+    data: bytes
+
+
+@dataclass(frozen=True)
+class IntoFile:
+    """A file of the folder as standard output, opened with these flags."""
+
+    name: str
+    flags: int
+
+
+@dataclass(frozen=True)
+class Typed:
+    """A terminal as standard input and output, at which a person types each piece once the program asks for
+    something, that is, once what it wrote ends with a colon and a space. With `shows` the terminal does with
+    letters and line feeds what terminals mostly do; else it shows what the program writes, byte by byte, and
+    not what is typed."""
+
+    pieces: tuple
+    shows: bool = False
+
+
+@dataclass(frozen=True)
+class OneOf:
+    """Lines on the error stream that may be these or those."""
+
+    choices: tuple
+
+
+@dataclass(frozen=True)
+class BeginningOf:
+    """A beginning of this output."""
+
+    whole: bytes
+
+
+@dataclass(frozen=True)
+class Case:
+    """A run of the program: what it is given, and all that it has to answer."""
+
+    name: str
+    arguments: list
+    status: int
+    # The lines on the error stream; each has to be one write.
+    lines: object = field(default_factory=list)
+    # All that is written on the standard output.
+    output: object = b""
+    # The files of the folder that it runs in, by their names; they replace those of the command.
+    files: dict = field(default_factory=dict)
+    # Its streams: bytes come through a pipe.
+    stdin: object = b""
+    stdout: object = None
+    stderr: object = None
+    # Each of its requests for memory is refused in turn; with `all`, all behind it too.
+    refusing: str = ""
+    # What looks at the folder that the run leaves, and raises a `Failure` where something is wrong there.
+    left: object = None
+    # The permission bits that files that are made do not get.
+    umask: int = 0o022
+    # Cases that run after it in the folder that it leaves.
+    then: tuple = ()
+
+
+class Failure(Exception):
+    """A run that did not answer what it had to."""
+
+
+class Skip(Exception):
+    """A run that cannot be made here, and why."""
+
+
+class Runner:
+    """Runs a program in fresh folders below a temporary one, as nobody where the script itself runs as root."""
+
+    def __init__(self, program, room):
+        self.room = room
+        self.program = os.path.join(room, "program")
+        shutil.copyfile(program, self.program)
+        os.chmod(self.program, 0o755)
+        os.chmod(room, 0o711)
+        self.nobody = runs_as_nobody(self.program)
+        self.preload = None
+
+    def run(self, case):
+        """Makes the run, or all runs of a case where memory is refused, and raises a `Failure` or a `Skip`."""
+        if any(is_forbidding(it) for it in case.files.values()) and os.geteuid() == 0 and not self.nobody:
+            raise Skip("root may read and write every file, and cannot become nobody here")
+        if not case.refusing:
+            self.run_once(case)
+            return
+        if self.preload is None:
+            self.preload = build_preload(self.room)
+        for number in range(1, 1000):
+            if not self.run_refusing(case, number):
+                if number == 1:
+                    raise Failure("it asked for no memory")
+                return
+        raise Failure("it asked for memory 1000 times")
+
+    def run_refusing(self, case, number):
+        """Runs with one request for memory refused, and answers whether the run came to it."""
+        told, says = os.pipe()
+        environment = {"LD_PRELOAD": self.preload, "REFUSE_AT": str(number), "REFUSE_SAYS": str(says)}
+        if case.refusing == "all":
+            environment["REFUSE_REST"] = "1"
+        try:
+            try:
+                self.run_once(case, environment, [says])
+                failure = None
+            except Failure as error:
+                failure = error
+            os.close(says)
+            says = None
+            was_refused = os.read(told, 1) != b""
+        finally:
+            os.close(told)
+            if says is not None:
+                os.close(says)
+        if was_refused and failure:
+            raise Failure(f"with request {number} for memory refused: {failure}")
+        return was_refused
+
+    def run_once(self, case, environment=None, passed=()):
+        with tempfile.TemporaryDirectory(dir=self.room) as folder:
+            for number, step in enumerate((case, *case.then)):
+                try:
+                    self.run_in(folder, step, environment, passed)
+                except Failure as error:
+                    raise Failure(f"at step {number}: {error}") if case.then else error
+
+    def run_in(self, folder, case, environment, passed):
+        """Makes the files and the run in a folder, and compares all that it answers."""
+        pipes = make_files(folder, case.files)
+        if self.nobody:
+            for at, _, names in os.walk(folder):
+                for path in [at, *(os.path.join(at, name) for name in names)]:
+                    os.lchown(path, NOBODY, NOBODY)
+        streams = Streams(folder, case)
+        try:
+            status = self.start(case, folder, streams, pipes, environment or {}, passed)
+            compare(case, status, streams)
+            if case.left:
+                case.left(folder)
+        finally:
+            streams.close()
+
+    def start(self, case, folder, streams, pipes, environment, passed):
+        """Starts the program, serves it until it has ended, and answers its exit status."""
+        how = {"user": NOBODY, "group": NOBODY, "extra_groups": []} if self.nobody else {}
+        process = subprocess.Popen(
+            [self.program, *case.arguments],
+            cwd=folder,
+            env=environment,
+            stdin=streams.stdin,
+            stdout=streams.stdout,
+            stderr=streams.stderr,
+            preexec_fn=streams.close_in_child,
+            pass_fds=passed,
+            umask=case.umask,
+            **how,
+        )
+        try:
+            streams.serve()
+            wait(process, pipes)
+        finally:
+            process.kill()
+            process.wait()
+            for pipe in pipes:
+                pipe.close()
+        return process.returncode
+
+
+class NamedPipe:
+    """A named pipe beside the files, and whether the program opened it."""
+
+    def __init__(self, path, kind):
+        self.name = os.path.basename(path)
+        self.path = path
+        self.has_to_open = isinstance(kind, (OpenedPipe, FedPipe))
+        self.data = kind.data if isinstance(kind, FedPipe) else None
+        self.opened = False
+        self.writer = None
+        os.mkfifo(path)
+
+    def poll(self):
+        """Opens the pipe for writing where the program has it open for reading."""
+        if not self.opened:
+            try:
+                self.writer = os.open(self.path, os.O_WRONLY | os.O_NONBLOCK)
+            except OSError:
+                return
+            self.opened = True
+            if not self.has_to_open:
+                raise Failure(f"it opened {self.name}, which it had to leave closed")
+            if self.data is not None:
+                os.set_blocking(self.writer, True)
+                threading.Thread(target=feed, args=(self.writer, self.data), daemon=True).start()
+                self.writer = None
+
+    def close(self):
+        if self.writer is not None:
+            os.close(self.writer)
+            self.writer = None
+
+
+def wait(process, pipes):
+    """Waits for the end of the program, and looks which pipes it opens."""
+    end = time.monotonic() + SECONDS
+    while True:
+        ended = process.poll() is not None
+        for pipe in pipes:
+            pipe.poll()
+        if ended:
+            break
+        if time.monotonic() > end:
+            raise Failure(f"it had not ended after {SECONDS} seconds")
+        time.sleep(0.001)
+    for pipe in pipes:
+        if pipe.has_to_open and not pipe.opened:
+            raise Failure(f"it never opened {pipe.name}")
+
+
+class Streams:
+    """The three streams of a run."""
+
+    def __init__(self, folder, case):
+        self.given = case.stdin
+        self.pipe = None
+        self.closed = [number for number, kind in enumerate((case.stdin, case.stdout, case.stderr)) if kind == CLOSED]
+        self.terminal = Terminal(case.stdin) if isinstance(case.stdin, Typed) else None
+        self.stdin = self.open_stdin(folder)
+        self.written = tempfile.TemporaryFile()
+        self.early = []
+        self.late = None
+        self.stdout = self.open_stdout(folder, case.stdout)
+        # Of such a pair of sockets each write is read by itself.
+        self.said, said = socket.socketpair(socket.AF_UNIX, socket.SOCK_SEQPACKET)
+        self.stderr = open_full(case.stderr) or os.dup(said.fileno())
+        said.close()
+        if case.stderr == NO_READER:
+            reader, writer = os.pipe()
+            os.close(reader)
+            os.close(self.stderr)
+            self.stderr = writer
+
+    def open_stdin(self, folder):
+        given = self.given
+        if self.terminal:
+            return os.dup(self.terminal.side)
+        if isinstance(given, (bytes, Pieces)):
+            reader, self.pipe = os.pipe()
+            return reader
+        if isinstance(given, FromFile):
+            with tempfile.TemporaryFile() as file:
+                file.write(given.data)
+                file.seek(0)
+                return os.dup(file.fileno())
+        if given == FOLDER:
+            return os.open(folder, os.O_RDONLY)
+        return os.open(os.devnull, os.O_WRONLY if given == WRITE_ONLY else os.O_RDONLY)
+
+    def open_stdout(self, folder, kind):
+        if isinstance(kind, ReadLate):
+            reader, writer = os.pipe()
+            self.late = threading.Thread(target=self.read_late, args=(reader, kind, folder), daemon=True)
+            return writer
+        if isinstance(kind, IntoFile):
+            return os.open(os.path.join(folder, kind.name), kind.flags)
+        return open_full(kind) or os.dup(self.stdin if self.terminal else self.written.fileno())
+
+    def read_late(self, reader, kind, folder):
+        """Waits for the writes on the error stream, changes the folder, and reads the output to its end."""
+        with os.fdopen(reader, "rb") as output:
+            while len(self.early) < kind.writes:
+                text = self.said.recv(1 << 20)
+                if not text:
+                    break
+                self.early.append(text.decode(errors="backslashreplace"))
+            kind.change(folder)
+            shutil.copyfileobj(output, self.written)
+            self.written.flush()
+
+    def close_in_child(self):
+        for number in self.closed:
+            os.close(number)
+
+    def serve(self):
+        """Lets go of the program's ends, and feeds its standard input."""
+        for stream in (self.stdin, self.stdout, self.stderr):
+            os.close(stream)
+        self.stdin = self.stdout = self.stderr = None
+        if self.terminal:
+            self.terminal.serve()
+        if self.late:
+            self.late.start()
+        if self.pipe is not None:
+            threading.Thread(target=feed, args=(self.pipe, self.given), daemon=True).start()
+            self.pipe = None
+
+    def output(self):
+        if self.terminal:
+            return self.terminal.output()
+        self.written.seek(0)
+        return self.written.read()
+
+    def writes(self):
+        """Each write on the error stream, once the program has ended."""
+        if self.late:
+            self.late.join(SECONDS)
+        writes = list(self.early)
+        while True:
+            text = self.said.recv(1 << 20)
+            if not text:
+                return writes
+            writes.append(text.decode(errors="backslashreplace"))
+
+    def close(self):
+        for stream in (self.stdin, self.stdout, self.stderr, self.pipe):
+            if stream is not None:
+                os.close(stream)
+        if self.terminal:
+            self.terminal.close()
+        self.written.close()
+        self.said.close()
+
+
+class Terminal:
+    """A terminal with a person at it."""
+
+    def __init__(self, typed):
+        self.pieces = list(typed.pieces)
+        self.shown = []
+        self.person, self.side = pty.openpty()
+        if not typed.shows:
+            settings = termios.tcgetattr(self.side)
+            settings[1] &= ~termios.OPOST
+            settings[3] &= ~termios.ECHO
+            termios.tcsetattr(self.side, termios.TCSANOW, settings)
+        self.thread = threading.Thread(target=self.type, daemon=True)
+
+    def serve(self):
+        """Lets go of the program's side, and starts the person."""
+        os.close(self.side)
+        self.side = None
+        self.thread.start()
+
+    def type(self):
+        """Looks at what the terminal shows and types, until the program has ended."""
+        while True:
+            try:
+                shown = os.read(self.person, 4096)
+            except OSError:
+                return
+            if not shown:
+                return
+            self.shown.append(shown)
+            if self.pieces and b"".join(self.shown).endswith(b": "):
+                os.write(self.person, self.pieces.pop(0))
+
+    def output(self):
+        """All that the terminal showed, once the program has ended."""
+        self.thread.join(SECONDS)
+        return b"".join(self.shown)
+
+    def close(self):
+        if self.side is not None:
+            os.close(self.side)
+        if self.thread.ident is not None:
+            self.thread.join(SECONDS)
+        os.close(self.person)
+
+
+def open_full(kind):
+    """What takes nothing that is written to it, where that is asked for."""
+    if kind != FULL:
+        return None
+    try:
+        return os.open("/dev/full", os.O_WRONLY)
+    except OSError as error:
+        raise Skip(f"there is no full device here: {error}") from error
+
+
+def feed(pipe, given):
+    """Writes what the program is given on its standard input, and closes it."""
+    pieces = given.pieces if isinstance(given, Pieces) else (given,)
+    try:
+        with os.fdopen(pipe, "wb", buffering=0) as writer:
+            for piece in pieces:
+                rest = memoryview(piece)
+                while rest:
+                    rest = rest[writer.write(rest):]
+                if len(pieces) > 1:
+                    time.sleep(0.02)
+    except BrokenPipeError:
+        pass
+
+
+def compare(case, status, streams):
+    """Raises a `Failure` where the run answered anything else than it had to."""
+    writes, output = streams.writes(), streams.output()
+    if status != case.status:
+        ended = f"status {status}" if status >= 0 else signal.Signals(-status).name
+        raise Failure(f"it ended with {ended} in place of status {case.status}, and said {writes}")
+    if writes not in (case.lines.choices if isinstance(case.lines, OneOf) else (case.lines,)):
+        raise Failure(f"it said {writes} in place of {case.lines}")
+    if isinstance(case.output, BeginningOf):
+        if not case.output.whole.startswith(output):
+            raise Failure(f"it wrote {output[:200]}, which is no beginning of {case.output.whole[:200]}")
+    elif output != case.output:
+        raise Failure(f"it wrote {output[:200]} in place of {case.output[:200]}")
+
+
+def make_files(folder, files):
+    """Makes the files of a run, and answers its named pipes."""
+    pipes = []
+    for name, kind in files.items():
+        path = os.path.join(folder, name)
+        if kind == MISSING:
+            continue
+        if kind in (FOLDER, LOCKED):
+            os.mkdir(path, 0o555 if kind == LOCKED else 0o755)
+        elif isinstance(kind, (OpenedPipe, UnopenedPipe, FedPipe)):
+            pipes.append(NamedPipe(path, kind))
+        elif isinstance(kind, Link):
+            os.symlink(kind.target, path)
+        elif isinstance(kind, SecondName):
+            os.link(os.path.join(folder, kind.first), path)
+        else:
+            with open(path, "wb") as file:
+                file.write(kind if isinstance(kind, bytes) else kind.data)
+            if isinstance(kind, Unreadable):
+                os.chmod(path, 0)
+            elif isinstance(kind, WithMode):
+                os.chmod(path, kind.mode)
+            elif isinstance(kind, WithList):
+                os.chmod(path, kind.mode)
+                set_list(path, kind.entries)
+    return pipes
+
+
+def set_list(path, entries):
+    """Gives a file entries of an access control list, whose mask then stands in the group's bits of its mode."""
+    before = os.stat(path).st_mode
+    subprocess.run([needs.program("setfacl", "acl"), "-m", entries, path], check=True, timeout=SECONDS)
+    if os.stat(path).st_mode == before:
+        raise Failure(f"the list of {path} has no mask")
+
+
+def is_forbidding(kind):
+    """Whether a file or folder lacks rights that root would have all the same."""
+    return kind == LOCKED or isinstance(kind, (Unreadable, WithMode))
+
+
+def runs_as_nobody(program):
+    """Whether the script runs as root and may start the program as nobody."""
+    if os.geteuid() != 0:
+        return False
+    try:
+        subprocess.run([program], user=NOBODY, group=NOBODY, extra_groups=[], stdin=subprocess.DEVNULL,
+                       stdout=subprocess.DEVNULL, stderr=subprocess.DEVNULL, timeout=SECONDS)
+    except (OSError, subprocess.SubprocessError):
+        return False
+    return True
+
+
+def build_preload(room, name="refuse_memory"):
+    """Compiles a library that is preloaded into the program, and answers its path."""
+    made = os.path.join(room, name + ".so")
+    source = os.path.join(HERE, name + ".c")
+    ran = subprocess.run([needs.c_compiler(), "-shared", "-fPIC", "-O1", "-o", made, source, "-ldl"], stderr=subprocess.PIPE)
+    if ran.returncode:
+        raise needs.Missing(f"{name}.c was not compiled: {ran.stderr.decode(errors='replace')[-300:]}")
+    os.chmod(made, 0o755)
+    return made

@@ -1,0 +1,215 @@
+/* Preloaded into a program, writes a line to the descriptor TRACE_TO for each of its calls that opens, writes, reads
+   back, locks, syncs, renames or removes a file below the working folder: what was really done, with the last part of
+   the file's path. With TAKE_AWAY a step is left out or done wrongly, as if it had succeeded: `sync` of files,
+   `folder` for syncs of folders, `new` for O_EXCL, `mode`, `rights`, `owner`, `lock`, `rename`, or `digit` for the
+   last digit of a number that is written. With SLOW each of these calls waits first, for up to as many microseconds. */
+#define _GNU_SOURCE
+#include <dlfcn.h>
+#include <fcntl.h>
+#include <stdarg.h>
+#include <stdio.h>
+#include <stdlib.h>
+#include <string.h>
+#include <sys/stat.h>
+#include <unistd.h>
+
+static int is_taken(const char *step)
+{
+    const char *away = getenv("TAKE_AWAY");
+
+    return away && strcmp(away, step) == 0;
+}
+
+/* Waits for a while that differs from call to call and from process to process. */
+static void wait_first(void)
+{
+    static unsigned long seed;
+    const char *most = getenv("SLOW");
+
+    if (!most)
+        return;
+    seed = (seed ? seed : (unsigned long)getpid()) * 6364136223846793005ul + 1442695040888963407ul;
+    usleep((useconds_t)((seed >> 33) % (unsigned long)(atol(most) + 1)));
+}
+
+static const char *last_part(const char *path)
+{
+    const char *slash = strrchr(path, '/');
+
+    return slash ? slash + 1 : path;
+}
+
+/* The last part of the path that a descriptor was opened by, where it is a regular file or a folder. */
+static const char *name_of(int fd, char *room, size_t size)
+{
+    char link[64];
+    struct stat found;
+    ssize_t length;
+
+    if (fstat(fd, &found) != 0 || !(S_ISREG(found.st_mode) || S_ISDIR(found.st_mode)))
+        return NULL;
+    snprintf(link, sizeof link, "/proc/self/fd/%d", fd);
+    length = readlink(link, room, size - 1);
+    if (length < 0)
+        return NULL;
+    room[length] = 0;
+    return S_ISDIR(found.st_mode) ? "." : last_part(room);
+}
+
+static void say(const char *call, const char *name, const char *more)
+{
+    ssize_t (*put)(int, const void *, size_t) = (ssize_t (*)(int, const void *, size_t))dlsym(RTLD_NEXT, "write");
+    const char *to = getenv("TRACE_TO");
+    char line[600];
+    int length = snprintf(line, sizeof line, "%s %s%s%s\n", call, name, *more ? " " : "", more);
+
+    if (to && length > 0 && put(atoi(to), line, (size_t)length) < 0)
+        abort();
+}
+
+static int say_open(int folder, const char *path, int flags, mode_t mode)
+{
+    int (*real)(int, const char *, int, ...) = (int (*)(int, const char *, int, ...))dlsym(RTLD_NEXT, "openat");
+    char more[32];
+    int fd;
+
+    wait_first();
+    if (is_taken("new"))
+        flags &= ~O_EXCL;
+    if (is_taken("mode") && flags & O_CREAT)
+        mode |= 0044;
+    fd = real(folder, path, flags, mode);
+    if (fd < 0)
+        return fd;
+    more[0] = 0;
+    if (flags & O_CREAT)
+        snprintf(more, sizeof more, "%s %o", flags & O_EXCL ? "new" : "perhaps-new", (unsigned)mode);
+    say(flags & O_CREAT ? "make" : "open", flags & O_DIRECTORY || strcmp(path, ".") == 0 ? "." : last_part(path), more);
+    return fd;
+}
+
+int open(const char *path, int flags, ...)
+{
+    mode_t mode = 0;
+    va_list more;
+
+    va_start(more, flags);
+    if (flags & O_CREAT)
+        mode = va_arg(more, mode_t);
+    va_end(more);
+    return say_open(AT_FDCWD, path, flags, mode);
+}
+
+int openat(int folder, const char *path, int flags, ...)
+{
+    mode_t mode = 0;
+    va_list more;
+
+    va_start(more, flags);
+    if (flags & O_CREAT)
+        mode = va_arg(more, mode_t);
+    va_end(more);
+    return say_open(folder, path, flags, mode);
+}
+
+ssize_t write(int fd, const void *bytes, size_t length)
+{
+    ssize_t (*real)(int, const void *, size_t) = (ssize_t (*)(int, const void *, size_t))dlsym(RTLD_NEXT, "write");
+    char room[4096];
+    const char *name = fd > 2 ? name_of(fd, room, sizeof room) : NULL;
+    int is_number = name && length > 1 && length < 21 && strspn((const char *)bytes, "0123456789") >= length;
+    ssize_t n;
+
+    if (name)
+        wait_first();
+    n = real(fd, bytes, is_taken("digit") && is_number ? length - 1 : length);
+
+    if (name && n >= 0)
+        say("write", name, "");
+    return is_taken("digit") && is_number && n >= 0 ? (ssize_t)length : n;
+}
+
+ssize_t pread(int fd, void *bytes, size_t length, off_t at)
+{
+    ssize_t (*real)(int, void *, size_t, off_t) = (ssize_t (*)(int, void *, size_t, off_t))dlsym(RTLD_NEXT, "pread");
+    char room[4096];
+    const char *name = name_of(fd, room, sizeof room);
+
+    wait_first();
+    if (name)
+        say("read-back", name, "");
+    return real(fd, bytes, length, at);
+}
+
+int fsync(int fd)
+{
+    int (*real)(int) = (int (*)(int))dlsym(RTLD_NEXT, "fsync");
+    char room[4096];
+    const char *name = name_of(fd, room, sizeof room);
+
+    if (name && is_taken(strcmp(name, ".") == 0 ? "folder" : "sync"))
+        return 0;
+    wait_first();
+    if (name)
+        say("sync", name, "");
+    return real(fd);
+}
+
+int rename(const char *from, const char *to)
+{
+    int (*real)(const char *, const char *) = (int (*)(const char *, const char *))dlsym(RTLD_NEXT, "rename");
+    int answer;
+
+    wait_first();
+    answer = is_taken("rename") ? 0 : real(from, to);
+
+    if (answer == 0 && !is_taken("rename"))
+        say("rename", last_part(from), last_part(to));
+    return answer;
+}
+
+int unlink(const char *path)
+{
+    int (*real)(const char *) = (int (*)(const char *))dlsym(RTLD_NEXT, "unlink");
+
+    say("remove", last_part(path), "");
+    return real(path);
+}
+
+int flock(int fd, int operation)
+{
+    int (*real)(int, int) = (int (*)(int, int))dlsym(RTLD_NEXT, "flock");
+    char room[4096];
+    const char *name = name_of(fd, room, sizeof room);
+
+    if (is_taken("lock"))
+        return 0;
+    wait_first();
+    say("lock", name ? name : "?", "");
+    return real(fd, operation);
+}
+
+int fchmod(int fd, mode_t mode)
+{
+    int (*real)(int, mode_t) = (int (*)(int, mode_t))dlsym(RTLD_NEXT, "fchmod");
+    char room[4096], more[16];
+    const char *name = name_of(fd, room, sizeof room);
+
+    if (is_taken("rights"))
+        return 0;
+    snprintf(more, sizeof more, "%o", (unsigned)mode);
+    say("rights", name ? name : "?", more);
+    return real(fd, mode);
+}
+
+int fchown(int fd, uid_t owner, gid_t group)
+{
+    int (*real)(int, uid_t, gid_t) = (int (*)(int, uid_t, gid_t))dlsym(RTLD_NEXT, "fchown");
+    char room[4096];
+    const char *name = name_of(fd, room, sizeof room);
+
+    if (is_taken("owner"))
+        return 0;
+    say("owner", name ? name : "?", "");
+    return real(fd, owner, group);
+}

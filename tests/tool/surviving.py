@@ -1,0 +1,464 @@
+#!/usr/bin/env python3
+"""Runs the built program `minisign_tool` while it is hurt: killed at each of its calls of the system, with each call
+failing in turn, on a full disk, under a limit on the size of files, and with data that could fill the memory. After
+each run every older file is the old or the new one, whole, and but for a kill nothing is left beside it.
+
+    tests/tool/surviving.py [PROGRAM ..]
+
+Without arguments it runs the program that `rt ci` or `rt run` left in the folder `out` of
+`crates/minisign_tool`. It prints a line for each case that failed or was skipped; the last line is `N passed, M failed`.
+
+Needs Python 3.9 or later and a C compiler, which it installs where it may.
+"""
+
+import errno
+import os
+import resource
+import shutil
+import signal
+import stat
+import subprocess
+import sys
+import tempfile
+
+HERE = os.path.dirname(os.path.realpath(__file__))
+sys.path.append(os.path.join(HERE, "..", "shared"))
+
+import toy
+from keygen_runs import PK, SK, check_pair, public_record, record_of
+from real_runs import count_over
+from running import NOBODY, SECONDS, Failure, Skip, build_preload
+from sign_runs import FILE, OPEN_KEY, SIG, check_signature
+
+WRITING_FAILED = toy.WRITING_FAILED.encode()
+LEGACY = b"error: Legacy signatures are not accepted\n"
+STAGE = ".minisign_tool-"
+MEMORY = "/dev/shm"
+TYPED = b"p\np\n"
+MOST_CALLS = 500
+
+
+class Task:
+    """A run that replaces files, by what stands in its folder before it. What a link names is its value."""
+
+    def __init__(self, name, arguments, targets, files, links=None, mode=0o644):
+        self.name = name
+        self.arguments = arguments
+        # What each file that is written has to hold, in the order in which they are replaced.
+        self.targets = targets
+        self.files = files
+        self.links = links or {}
+        self.mode = mode
+
+    def make(self, folder):
+        os.makedirs(os.path.join(folder, "kept"))
+        for name, data in self.files.items():
+            path = os.path.join(folder, name)
+            with open(path, "wb") as file:
+                file.write(data)
+            os.chmod(path, self.mode)
+        for name, target in self.links.items():
+            os.symlink(target, os.path.join(folder, name))
+
+    def check(self, folder, killed=False):
+        """Which of the targets are new. Raises a `Failure` where one is neither the old nor a new one, where anything
+        else was changed, and where a file stands beside them."""
+        for name, target in self.links.items():
+            if not os.path.islink(os.path.join(folder, name)) or os.readlink(os.path.join(folder, name)) != target:
+                raise Failure(f"the link {name} is gone")
+        found = {os.path.relpath(os.path.join(at, name), folder) for at, _, names in os.walk(folder) for name in names}
+        for name in sorted(found - set(self.files) - set(self.links) - set(self.targets)):
+            self.check_stage(folder, name, killed)
+        for name, data in self.files.items():
+            if name not in self.targets and content(folder, name) != data:
+                raise Failure(f"{name} was changed")
+        return tuple(self.is_new(folder, name, judge) for name, judge in self.targets.items())
+
+    def check_stage(self, folder, name, killed):
+        """Only a killed run leaves a file beside the others, under a name of its own. Where no secret key was there
+        before, one that is left is for its owner alone; else it has at most the rights of that one."""
+        if not killed or not os.path.basename(name).startswith(STAGE):
+            raise Failure(f"it left {name}")
+        rights = self.mode if any(it.endswith(SK) for it in self.files) else 0o600
+        if content(folder, name).startswith(b"untrusted comment: rsign") and mode_of(folder, name) & ~rights:
+            raise Failure(f"{name} has the mode {mode_of(folder, name):o}")
+
+    def is_new(self, folder, name, judge):
+        held, older = content(folder, name), self.files.get(name)
+        if held == older:
+            return False
+        if held is None:
+            raise Failure(f"{name} is gone")
+        judge(held)
+        if older is not None and mode_of(folder, name) != self.mode:
+            raise Failure(f"{name} has the mode {mode_of(folder, name):o}")
+        return True
+
+
+def content(folder, name):
+    """What a file holds, or None where it is not there."""
+    try:
+        with open(os.path.join(folder, name), "rb") as file:
+            return file.read()
+    except FileNotFoundError:
+        return None
+
+
+def mode_of(folder, name):
+    return stat.S_IMODE(os.stat(os.path.join(folder, name)).st_mode)
+
+
+def is_secret(text):
+    record_of(text, 158)
+
+
+def is_signature(text):
+    check_signature(b"abc", text)
+
+
+KEYGEN, SIGN = ["keygen", PK, SK], ["sign", SK, FILE, SIG]
+PAIR = {PK: public_record, SK: is_secret}
+OLDER_PAIR = {PK: toy.public_text(), SK: toy.sealed_text(b"older")}
+TO_SIGN = {SK: OPEN_KEY, FILE: b"abc"}
+
+REPLACED_PAIR = Task("a pair over an older one", KEYGEN, PAIR, OLDER_PAIR)
+REPLACED_SIGNATURE = Task("a signature over an older one", SIGN, {SIG: is_signature}, {**TO_SIGN, SIG: toy.signature_text(b"abc")})
+NEW_SIGNATURE = Task("a new signature", SIGN, {SIG: is_signature}, TO_SIGN)
+TASKS = [
+    REPLACED_PAIR,
+    Task("a new pair", KEYGEN, PAIR, {}),
+    Task("a pair through links", KEYGEN, {"kept/" + name: judge for name, judge in PAIR.items()},
+         {"kept/" + name: text for name, text in OLDER_PAIR.items()},
+         {PK: "kept/" + PK, SK: "chain", "chain": "./kept/" + SK}, mode=0o604),
+    REPLACED_SIGNATURE,
+    NEW_SIGNATURE,
+    Task("a signature through a link that leads nowhere", SIGN, {"kept/" + SIG: is_signature}, TO_SIGN, {SIG: "kept/" + SIG}),
+]
+
+
+class Surviving:
+    """Runs a program in fresh folders, in memory where that can be had, since each run brings its files to the disk.
+    What is run stands in a folder of its own, as programs in memory may not be run everywhere."""
+
+    def __init__(self, program, room):
+        self.program = program
+        self.room = room
+        self.place = MEMORY if os.access(MEMORY, os.W_OK) else room
+        self.preload = build_preload(room, "break_calls")
+
+    def run(self, folder, arguments, environment=None, passed=(), prepare=None, stdin=TYPED):
+        """The exit status and the error stream of a run in a folder."""
+        ran = subprocess.run([self.program, *arguments], cwd=folder, env=environment or {}, input=stdin, pass_fds=passed,
+                             stdout=subprocess.PIPE, stderr=subprocess.PIPE, preexec_fn=prepare, umask=0o022, timeout=SECONDS)
+        return ran.returncode, ran.stderr
+
+    def run_broken(self, folder, task, **how):
+        """The same with a call broken, and whether the run came to that call."""
+        told, says = os.pipe()
+        environment = {"LD_PRELOAD": self.preload, "BREAK_SAYS": str(says), **{name: str(value) for name, value in how.items()}}
+        try:
+            status, said = self.run(folder, task.arguments, environment, [says])
+        finally:
+            os.close(says)
+        with os.fdopen(told, "rb") as pipe:
+            return status, said, pipe.read(1) != b""
+
+    def break_each(self, task, judge, **how):
+        """Breaks each of the calls in turn, and hands to `judge` what each run left; answers how many there were."""
+        for number in range(1, MOST_CALLS):
+            with tempfile.TemporaryDirectory(dir=self.place) as folder:
+                task.make(folder)
+                status, said, came = self.run_broken(folder, task, BREAK_AT=number, **how)
+                try:
+                    judge(number if came else None, status, said, folder)
+                except Failure as why:
+                    raise Failure(f"at call {number}: {why}") from why
+            if not came:
+                return number - 1
+        raise Failure(f"it made {MOST_CALLS} calls")
+
+    def killed(self, task):
+        """A run that is killed before each of its calls. The secret key is replaced last."""
+        seen = set()
+
+        def judge(number, status, said, folder):
+            expect(status, -signal.SIGKILL if number else 0, said)
+            new = task.check(folder, killed=number is not None)
+            if list(new) != sorted(new, reverse=True):
+                raise Failure("a later file is new, and an earlier one is not")
+            seen.add(sum(new))
+
+        self.break_each(task, judge)
+        if seen != set(range(len(task.targets) + 1)):
+            raise Failure(f"the kills left {sorted(seen)} new files alone")
+
+    def failing(self, task, calls, number_of_new, number=errno.EIO, **how):
+        """A run in which each of these calls fails in turn; `number_of_new` answers how many files are new then, or
+        None where it has to succeed all the same."""
+
+        def judge(at, status, said, folder):
+            new = sum(task.check(folder))
+            wanted = number_of_new(at) if at else None
+            if wanted is None:
+                expect(status, 0, said)
+                wanted = len(task.targets)
+            else:
+                expect(status, 1, said)
+                if not said.endswith(WRITING_FAILED):
+                    raise Failure(f"it said {said}")
+            if new != wanted:
+                raise Failure(f"{new} files are new in place of {wanted}")
+
+        if not self.break_each(task, judge, BREAK_CALLS=calls, BREAK_ERRNO=number, **how):
+            raise Failure("it made no such call")
+
+    def failing_whatever(self, task, calls):
+        """A run in which each of these calls fails in turn, and which ends with all files old or all new."""
+
+        def judge(at, status, said, folder):
+            new = sum(task.check(folder))
+            if (status, new) not in [(0, len(task.targets)), (1, 0)]:
+                raise Failure(f"it ended with status {status} and {new} new files, and said {said}")
+
+        self.break_each(task, judge, BREAK_CALLS=calls, BREAK_ERRNO=errno.EIO)
+
+    def on_full_disk(self, task):
+        """A run on a small file system without room."""
+        with tempfile.TemporaryDirectory(dir=self.place) as folder, SmallDisk(folder):
+            task.make(folder)
+            fill = os.open(os.path.join(folder, "fill"), os.O_WRONLY | os.O_CREAT)
+            try:
+                while True:
+                    os.write(fill, bytes(4096))
+            except OSError as error:
+                if error.errno != errno.ENOSPC:
+                    raise
+            finally:
+                os.close(fill)
+            status, said = self.run(folder, task.arguments)
+            os.remove(os.path.join(folder, "fill"))
+            expect(status, 1, said)
+            if not said.endswith(WRITING_FAILED) or any(task.check(folder)):
+                raise Failure(f"it said {said}")
+
+    def within_file_size(self, task, ignored):
+        """A run with a limit on the size of files, whose signal ends it, or is ignored as its caller may have it."""
+
+        def prepare():
+            resource.setrlimit(resource.RLIMIT_FSIZE, (100, 100))
+            signal.signal(signal.SIGXFSZ, signal.SIG_IGN if ignored else signal.SIG_DFL)
+
+        with tempfile.TemporaryDirectory(dir=self.place) as folder:
+            task.make(folder)
+            status, said = self.run(folder, task.arguments, prepare=prepare)
+            expect(status, 1 if ignored else -signal.SIGXFSZ, said)
+            if any(task.check(folder, killed=not ignored)):
+                raise Failure("a file is new")
+            if ignored and not said.endswith(WRITING_FAILED):
+                raise Failure(f"it said {said}")
+
+    def keeps_owner(self):
+        """A run as root over another's file, which stays that one's."""
+        if os.geteuid() != 0:
+            raise Skip("only root may give a file away")
+        task = REPLACED_PAIR
+        with tempfile.TemporaryDirectory(dir=self.place) as folder:
+            task.make(folder)
+            for name in (PK, SK):
+                os.chown(os.path.join(folder, name), 12345, 54321)
+            status, said = self.run(folder, task.arguments)
+            expect(status, 0, said)
+            if not all(task.check(folder)):
+                raise Failure("a file is old")
+            for name in (PK, SK):
+                found = os.stat(os.path.join(folder, name))
+                if (found.st_uid, found.st_gid) != (12345, 54321):
+                    raise Failure(f"{name} belongs to {found.st_uid} and {found.st_gid}")
+
+    def takes_what_it_may(self, owner, group, mode, left):
+        """A run as nobody over a file that may be written, of this owner, group and mode, which leaves `left`."""
+        if os.geteuid() != 0:
+            raise Skip("only root may give a file away and become nobody")
+        with tempfile.TemporaryDirectory(dir=self.place) as folder:
+            REPLACED_SIGNATURE.make(folder)
+            program = os.path.join(self.room, "program")
+            shutil.copy(self.program, program)
+            os.chmod(self.room, 0o711)
+            os.chown(folder, NOBODY, NOBODY)
+            os.chown(os.path.join(folder, SIG), owner, group)
+            os.chmod(os.path.join(folder, SIG), mode)
+            ran = subprocess.run([program, *SIGN], cwd=folder, env={}, stdin=subprocess.DEVNULL, stdout=subprocess.DEVNULL,
+                                 stderr=subprocess.PIPE, user=NOBODY, group=NOBODY, extra_groups=[], timeout=SECONDS)
+            expect(ran.returncode, 0, ran.stderr)
+            is_signature(content(folder, SIG))
+            found = os.stat(os.path.join(folder, SIG))
+            if (found.st_uid, found.st_gid, stat.S_IMODE(found.st_mode)) != left:
+                raise Failure(f"it left the owner {found.st_uid}, the group {found.st_gid} and the mode {stat.S_IMODE(found.st_mode):o}")
+
+    def taken_names(self, count):
+        """A run that draws the same number each time, in a folder in which so many names from that one on are taken."""
+        taken = [f"{STAGE}{number:016x}" for number in range(count)]
+        environment = {"LD_PRELOAD": self.preload, "DRAW_ZEROS": "1"}
+        with tempfile.TemporaryDirectory(dir=self.place) as folder:
+            REPLACED_PAIR.make(folder)
+            for name in taken:
+                with open(os.path.join(folder, name), "wb") as file:
+                    file.write(b"another's")
+            status, said = self.run(folder, REPLACED_PAIR.arguments, environment)
+            for name in taken:
+                if content(folder, name) != b"another's":
+                    raise Failure(f"{name} was changed")
+                os.remove(os.path.join(folder, name))
+            expect(status, 0 if count < 99 else 1, said)
+            if sum(REPLACED_PAIR.check(folder)) != (2 if status == 0 else 0):
+                raise Failure("a file is old, or new")
+
+    def at_once(self, runs=8):
+        """Runs that replace the same file at once."""
+        with tempfile.TemporaryDirectory(dir=self.place) as folder:
+            NEW_SIGNATURE.make(folder)
+            started = [subprocess.Popen([self.program, *SIGN], cwd=folder, env={}, stdin=subprocess.DEVNULL, stdout=subprocess.DEVNULL,
+                                        stderr=subprocess.PIPE) for _ in range(runs)]
+            for process in started:
+                said = process.communicate(timeout=SECONDS)[1]
+                expect(process.returncode, 0, said)
+            if not all(NEW_SIGNATURE.check(folder)):
+                raise Failure("there is no signature")
+
+    def into_standard_output(self):
+        """A signature into a file that standard output leads into goes into that very file."""
+        with tempfile.TemporaryDirectory(dir=self.place) as folder:
+            NEW_SIGNATURE.make(folder)
+            with open(os.path.join(folder, SIG), "w+b") as output:
+                inode = os.fstat(output.fileno()).st_ino
+                ran = subprocess.run([self.program, "sign", SK, FILE, "/dev/stdout"], cwd=folder, env={}, stdin=subprocess.DEVNULL,
+                                     stdout=output, stderr=subprocess.PIPE, timeout=SECONDS)
+                expect(ran.returncode, 0, ran.stderr)
+            is_signature(content(folder, SIG))
+            if os.stat(os.path.join(folder, SIG)).st_ino != inode or set(os.listdir(folder)) != {SK, FILE, SIG, "kept"}:
+                raise Failure("it replaced the file")
+
+    def under_odd_path(self):
+        """A program whose path is no UTF-8."""
+        with tempfile.TemporaryDirectory(dir=self.place) as folder:
+            odd = os.path.join(os.fsencode(self.room), b"tool\xff")
+            shutil.copy(self.program, odd)
+            NEW_SIGNATURE.make(folder)
+            ran = subprocess.run([odd, b"sign", os.fsencode(SK), os.fsencode(FILE), os.fsencode(SIG)], cwd=folder, env={},
+                                 stdin=subprocess.DEVNULL, stdout=subprocess.PIPE, stderr=subprocess.PIPE, timeout=SECONDS)
+            expect(ran.returncode, 0, ran.stderr)
+            is_signature(content(folder, SIG))
+
+    def legacy_within(self, command, mebibytes=2):
+        """A legacy signature over 1 GiB is refused within so many MiB more than a prehashed one over nothing takes."""
+        with tempfile.TemporaryDirectory(dir=self.place) as folder:
+            legacy, prehashed = (toy.signature_record(b"", algorithm=algorithm) for algorithm in (b"Ed", b"ED"))
+            contents = {"raw.pk": b"Ed" + toy.KEYNUM + toy.KEY, PK: toy.public_text(), "large": b"", "nothing": b"",
+                        "old.raw": legacy, "old.sig": toy.signature_text(b"", record=legacy),
+                        "new.raw": prehashed, "new.sig": toy.signature_text(b"", record=prehashed)}
+            for name, data in contents.items():
+                with open(os.path.join(folder, name), "wb") as file:
+                    file.write(data)
+            os.truncate(os.path.join(folder, "large"), 1 << 30)
+            least = next((kibibytes for kibibytes in range(1024, 65536, 256)
+                          if self.run_within(folder, command, "nothing", "new", kibibytes)[0] == 0), None)
+            if least is None:
+                raise Failure("64 MiB are not enough for no data")
+            status, said = self.run_within(folder, command, "large", "old", least + 1024 * mebibytes)
+            expect(status, 1, said)
+            if not said.endswith(LEGACY):
+                raise Failure(f"it said {said}")
+
+    def run_within(self, folder, command, data, signature, kibibytes):
+        """A run of a command that verifies within so much memory."""
+        raw = command == "verify-raw"
+        arguments = [command, "raw.pk", signature + ".raw"] if raw else [command, PK, data, signature + ".sig"]
+        bound = kibibytes * 1024
+        with open(os.path.join(folder, data), "rb") as file:
+            ran = subprocess.run([self.program, *arguments], cwd=folder, env={}, stdin=file if raw else subprocess.DEVNULL,
+                                 stdout=subprocess.DEVNULL, stderr=subprocess.PIPE, timeout=SECONDS,
+                                 preexec_fn=lambda: resource.setrlimit(resource.RLIMIT_AS, (bound, bound)))
+        return ran.returncode, ran.stderr
+
+
+class SmallDisk:
+    """A file system of 64 KiB in a folder, while it is entered."""
+
+    def __init__(self, folder):
+        self.folder = folder
+
+    def __enter__(self):
+        if os.geteuid() != 0 or shutil.which("mount") is None:
+            raise Skip("no small disk may be mounted here")
+        if subprocess.run(["mount", "-t", "tmpfs", "-o", "size=64k", "tmpfs", self.folder], stderr=subprocess.DEVNULL).returncode:
+            raise Skip("no small disk may be mounted here")
+
+    def __exit__(self, *_):
+        subprocess.run(["umount", self.folder], check=True)
+
+
+def expect(status, wanted, said):
+    if status != wanted:
+        raise Failure(f"it ended with status {status} in place of {wanted}, and said {said}")
+
+
+def cases(surviving):
+    """The names of all cases, and what makes each."""
+    for task in TASKS:
+        count = len(task.targets)
+        is_replaced = bool(set(task.targets) & set(task.files))
+        yield f"{task.name}, killed", lambda it=task: surviving.killed(it)
+        for number in (errno.ENOSPC, errno.EDQUOT):
+            name = f"{task.name}, and a write fails by {errno.errorcode[number]}"
+            yield name, lambda it=task, number=number: surviving.failing(it, "write", lambda at: 0, number)
+            yield f"{name} half way", lambda it=task, number=number: surviving.failing(it, "write", lambda at: 0, number, BREAK_SHORT=1)
+        # Behind the files themselves their folder is brought to the disk, when all are replaced.
+        yield f"{task.name}, and a sync fails", lambda it=task, n=count: surviving.failing(it, "fsync", lambda at: 0 if at <= n else n)
+        yield (f"{task.name}, and a sync is of no use", lambda it=task, n=count:
+               surviving.failing(it, "fsync", lambda at: 0 if at <= n else None, errno.EINVAL))
+        yield f"{task.name}, and a rename fails", lambda it=task: surviving.failing(it, "rename", lambda at: at - 1)
+        yield f"{task.name}, and a close fails", lambda it=task: surviving.failing(it, "close", lambda at: None)
+        yield f"{task.name}, and no name is drawn", lambda it=task: surviving.failing(it, "getentropy", lambda at: 0)
+        if is_replaced:
+            yield f"{task.name}, and no rights are given", lambda it=task: surviving.failing(it, "fchmod", lambda at: 0)
+        for calls in ("open", "read", "statx readlink"):
+            yield f"{task.name}, and {calls} fails", lambda it=task, calls=calls: surviving.failing_whatever(it, calls)
+        yield f"{task.name}, on a full disk", lambda it=task: surviving.on_full_disk(it)
+        yield f"{task.name}, beyond the size of files", lambda it=task: surviving.within_file_size(it, False)
+        yield f"{task.name}, beyond the size of files, whose signal is ignored", lambda it=task: surviving.within_file_size(it, True)
+    yield "another's files stay another's", surviving.keeps_owner
+    rows = [
+        ("its own", NOBODY, NOBODY, 0o664, (NOBODY, NOBODY, 0o644)),
+        ("of another group", NOBODY, 54321, 0o664, (NOBODY, NOBODY, 0o604)),
+        ("of another owner", 12345, NOBODY, 0o664, (NOBODY, NOBODY, 0o644)),
+        ("of another owner and group", 12345, 54321, 0o666, (NOBODY, NOBODY, 0o606)),
+    ]
+    for name, *row in rows:
+        yield f"a file that is {name}", lambda it=row: surviving.takes_what_it_may(*it)
+    for count in (1, 40, 200):
+        yield f"{count} names that are taken", lambda it=count: surviving.taken_names(it)
+    yield "runs at once", surviving.at_once
+    yield "a signature into standard output", surviving.into_standard_output
+    yield "a program whose path is no UTF-8", surviving.under_odd_path
+    for command in ("verify", "cat", "verify-raw"):
+        yield f"{command} of large data with a legacy signature", lambda it=command: surviving.legacy_within(it)
+
+
+def run_all(program):
+    """Runs all cases, prints those that failed or were skipped, and answers how many passed and how many failed."""
+    passed, failed = 0, 0
+    with tempfile.TemporaryDirectory(prefix="surviving-") as room:
+        for name, run in cases(Surviving(program, room)):
+            try:
+                run()
+                passed += 1
+            except Skip as why:
+                print(f"skipped: {os.path.basename(program)}: {name}: {why}")
+            except (Failure, subprocess.SubprocessError) as why:
+                failed += 1
+                print(f"FAILED: {os.path.basename(program)}: {name}: {why}")
+    return passed, failed
+
+
+if __name__ == "__main__":
+    sys.exit(count_over(sys.argv[1:], run_all))

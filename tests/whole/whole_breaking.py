@@ -1,0 +1,324 @@
+"""`c/minisign` while it is disturbed: killed at each of its calls of the system, with each of them failing, on a full disk
+and within a bound on the size of files, while it makes keys, changes one, writes a public key again and signs. After each
+run every file is the older one or a new one, whole, and a secret key is its owner's alone."""
+
+import errno
+import os
+import resource
+import signal
+import stat
+import subprocess
+import tempfile
+
+from running import Failure, Skip, build_preload
+from surviving import SmallDisk
+from whole_running import SECONDS, files_in, put_files, record_of
+
+MEMORY = "/dev/shm"
+MOST_CALLS = 400
+STAGE = ".minisign-"
+
+
+class Task:
+    """A run that replaces files: what stands in its folder before it, a judge of each file that it writes, and how many may be
+    new where it fails, which is none where they belong together."""
+
+    def __init__(self, name, arguments, files, judges, before_failing=0):
+        self.name, self.arguments, self.files, self.judges, self.before_failing = name, arguments, files, judges, before_failing
+
+    def check(self, folder, killed=False):
+        """How many files are new."""
+        found = {name: held for name, held in files_in(folder).items() if held[1] is not None}
+        new = 0
+        for name, (mode, data) in found.items():
+            if name.endswith(".key") or data.startswith(b"untrusted comment: minisign encrypted"):
+                if mode != 0o600:
+                    raise Failure(f"{name} has the mode {mode:o}")
+            if name in self.judges:
+                if data != self.files.get(name):
+                    self.judges[name](data)
+                    new += 1
+            elif name not in self.files:
+                if not killed or not os.path.basename(name).startswith(STAGE):
+                    raise Failure(f"it left {name}")
+            elif data != self.files[name]:
+                raise Failure(f"{name} was changed")
+        lost = set(self.files) - set(found)
+        if lost:
+            raise Failure(f"{sorted(lost)} are gone")
+        return new
+
+
+def is_public(data):
+    """A whole text of a public key."""
+    if not data.startswith(b"untrusted comment: minisign public key ") or len(record_of(data)) != 42 or not data.endswith(b"\n"):
+        raise Failure(f"it left {data!r}")
+
+
+def is_secret(data):
+    """A whole text of a secret key."""
+    if not data.startswith(b"untrusted comment: ") or len(record_of(data)) != 158 or not data.endswith(b"\n"):
+        raise Failure(f"it left {data!r}")
+
+
+def is_signature(data):
+    """A whole text of a signature."""
+    lines = data.split(b"\n")
+    if len(lines) != 5 or lines[4] != b"" or len(record_of(data)) != 74 or len(lines[3]) != 88:
+        raise Failure(f"it left {data!r}")
+
+
+def tasks(keys):
+    """The runs that are disturbed, none of which derives a key."""
+    pair = {"a.pub": is_public, "a.key": is_secret}
+    older = {"a.pub": keys["other.pub"], "a.key": keys["other.key"]}
+    signs = {"data": b"some data\n", "a.key": keys["first.key"]}
+    names = ("-p", "a.pub", "-s", "a.key")
+    several = ("one", "two", "three")
+    return [
+        Task("a new pair", ("-GW", *names), {}, pair),
+        Task("a pair over an older one", ("-GWf", *names), older, pair),
+        Task("a key that is changed", ("-CW", "-s", "a.key"), {"a.key": keys["first.key"]}, {"a.key": is_secret}),
+        Task("a public key written again", ("-R", *names), {"a.key": keys["first.key"]}, {"a.pub": is_public}),
+        Task("a signature", ("-Sm", "data", "-s", "a.key"), signs, {"data.minisig": is_signature}),
+        Task("a signature over an older one", ("-Sm", "data", "-s", "a.key"), {**signs, "data.minisig": b"older"},
+             {"data.minisig": is_signature}),
+        Task("signatures over older ones", ("-Sm", *several, "-s", "a.key"),
+             {**signs, **{name: b"data" for name in several}, **{f"{name}.minisig": b"older" for name in several}},
+             {f"{name}.minisig": is_signature for name in several}, before_failing=len(several) - 1),
+    ]
+
+
+class Breaking:
+    """Runs the program in fresh folders, in memory where that can be had."""
+
+    def __init__(self, program, room):
+        self.program = program
+        self.place = MEMORY if os.access(MEMORY, os.W_OK) else room
+        self.preload = build_preload(room, "break_calls")
+        self.refusing = build_preload(room, "refuse_memory")
+
+    def run(self, folder, task, environment=None, passed=(), prepare=None):
+        ran = subprocess.run([self.program, *task.arguments], cwd=folder, env=environment or {}, stdin=subprocess.DEVNULL,
+                             pass_fds=passed, stdout=subprocess.PIPE, stderr=subprocess.PIPE, umask=0o022, timeout=SECONDS,
+                             preexec_fn=prepare)
+        return ran.returncode, ran.stderr
+
+    def break_each(self, task, judge, **how):
+        """Breaks each of the calls in turn, and hands to `judge` what each run left: how many calls there were."""
+        for number in range(1, MOST_CALLS):
+            with tempfile.TemporaryDirectory(dir=self.place) as folder:
+                put_files(folder, task.files)
+                told, says = os.pipe()
+                environment = {"LD_PRELOAD": self.preload, "BREAK_SAYS": str(says), "BREAK_AT": str(number),
+                               **{name: str(value) for name, value in how.items()}}
+                try:
+                    status, said = self.run(folder, task, environment, [says])
+                finally:
+                    os.close(says)
+                with os.fdopen(told, "rb") as pipe:
+                    came = pipe.read(1) != b""
+                try:
+                    judge(came, status, said, folder)
+                except Failure as why:
+                    raise Failure(f"at call {number}: {why}") from why
+            if not came:
+                return number - 1
+        raise Failure(f"it made {MOST_CALLS} calls")
+
+    def killed(self, task):
+        """A run that is killed before each of its calls leaves each number of new files, the public key before the
+        secret one."""
+        seen = set()
+
+        def judge(came, status, said, folder):
+            if status != (-signal.SIGKILL if came else 0):
+                raise Failure(f"it ended with {status}, and said {said}")
+            new = task.check(folder, killed=came)
+            seen.add(new)
+            if new == 1 and len(task.judges) == 2 and files_in(folder).get("a.pub", (0, None))[1] == task.files.get("a.pub"):
+                raise Failure("the secret key is new, and the public one is not")
+
+        self.break_each(task, judge)
+        if seen != set(range(len(task.judges) + 1)):
+            raise Failure(f"the kills left {sorted(seen)} new files")
+
+    def failing(self, task, number, **how):
+        """A run in which each call fails in turn: it ends with 2 and says why, or does all that it has to."""
+        count = len(task.judges)
+
+        def judge(came, status, said, folder):
+            new = task.check(folder)
+            if status == 0 and new != count or status != 0 and (status != 2 or not said):
+                raise Failure(f"it ended with {status} and {new} new files, and said {said}")
+            if not came and status != 0:
+                raise Failure(f"it ended with {status}, and said {said}")
+
+        if self.break_each(task, judge, BREAK_ERRNO=number, **how) < 3:
+            raise Failure("it made hardly any call")
+
+    def failing_writes(self, task, number, **how):
+        """A run in which a write fails: nothing is new but what was written before."""
+
+        def judge(came, status, said, folder):
+            new = task.check(folder)
+            if came and (status != 2 or new > task.before_failing or os.strerror(number).encode() not in said):
+                raise Failure(f"it ended with {status} and {new} new files, and said {said}")
+
+        if not self.break_each(task, judge, BREAK_ERRNO=number, BREAK_CALLS="write", **how):
+            raise Failure("it writes nothing")
+
+    def wanting_memory(self, task):
+        """A run with each of its requests for memory refused in turn ends with 2 and no new file, or does all that it has to."""
+        count = len(task.judges)
+        for number in range(1, MOST_CALLS):
+            with tempfile.TemporaryDirectory(dir=self.place) as folder:
+                put_files(folder, task.files)
+                told, says = os.pipe()
+                try:
+                    status, said = self.run(folder, task, {"LD_PRELOAD": self.refusing, "REFUSE_AT": str(number),
+                                                           "REFUSE_SAYS": str(says)}, [says])
+                finally:
+                    os.close(says)
+                with os.fdopen(told, "rb") as pipe:
+                    came = pipe.read(1) != b""
+                new = task.check(folder)
+                if (status, new) != (0, count) and (status != 2 or not said or not came):
+                    raise Failure(f"request {number}: it ended with {status} and {new} new files, and said {said}")
+            if not came:
+                return
+        raise Failure(f"it made {MOST_CALLS} requests")
+
+    def on_full_disk(self, task):
+        """A run on a file system without room: nothing is new, and it says so."""
+        with tempfile.TemporaryDirectory(dir=self.place) as folder, SmallDisk(folder):
+            put_files(folder, task.files)
+            with open(os.path.join(folder, "fill"), "wb", buffering=0) as fill:
+                try:
+                    while True:
+                        fill.write(bytes(4096))
+                except OSError as error:
+                    if error.errno != errno.ENOSPC:
+                        raise
+            status, said = self.run(folder, task)
+            os.remove(os.path.join(folder, "fill"))
+            if status != 2 or os.strerror(errno.ENOSPC).encode() not in said or task.check(folder) != 0:
+                raise Failure(f"it ended with {status}, and said {said}")
+
+    def within_file_size(self, task):
+        """A run with a bound on the size of files."""
+        with tempfile.TemporaryDirectory(dir=self.place) as folder:
+            put_files(folder, task.files)
+            status, said = self.run(folder, task, prepare=lambda: resource.setrlimit(resource.RLIMIT_FSIZE, (50, 50)))
+            if status != 2 or os.strerror(errno.EFBIG).encode() not in said or task.check(folder) != 0:
+                raise Failure(f"it ended with {status}, and said {said}")
+
+    def ended_by_signal(self, task, number):
+        """A run gets a signal when it brings its file to the disk or puts it in its place: nothing is left beside it."""
+        with tempfile.TemporaryDirectory(dir=self.place) as folder:
+            put_files(folder, task.files)
+            status, said = self.run(folder, task, {"LD_PRELOAD": self.preload, "BREAK_AT": "1", "BREAK_CALLS": "fsync rename renameat2",
+                                                   "BREAK_SIGNAL": str(int(number))})
+            if status != -number or task.check(folder) != 0:
+                raise Failure(f"it ended with {status}, and said {said}")
+
+    def keeps_rights(self, task, mode):
+        """A run over a file with these rights, of another owner where that can be had, keeps both."""
+        name = next(iter(task.judges))
+        with tempfile.TemporaryDirectory(dir=self.place) as folder:
+            put_files(folder, task.files)
+            path = os.path.join(folder, name)
+            os.chmod(path, mode)
+            owner = (12345, 54321) if os.geteuid() == 0 else (os.geteuid(), os.stat(path).st_gid)
+            os.chown(path, *owner)
+            status, said = self.run(folder, task)
+            found = os.stat(path)
+            if status != 0 or (found.st_uid, found.st_gid, stat.S_IMODE(found.st_mode)) != (*owner, mode):
+                raise Failure(f"it ended with {status}, and left {found.st_uid}, {found.st_gid}, {found.st_mode:o}: {said}")
+
+    def through_links(self, task):
+        """A run over files that are reached by links, of which the last may lead to nothing yet, keeps the links."""
+        with tempfile.TemporaryDirectory(dir=self.place) as folder:
+            put_files(folder, {"kept": None, **task.files})
+            for name in task.judges:
+                kept = os.path.join(folder, "kept", name)
+                if name in task.files:
+                    os.rename(os.path.join(folder, name), kept)
+                os.symlink(f"./kept/{name}", os.path.join(folder, f"{name}.link"))
+                os.symlink(f"{name}.link", os.path.join(folder, name))
+            status, said = self.run(folder, task)
+            if status != 0 or not all(os.path.islink(os.path.join(folder, name)) for name in task.judges):
+                raise Failure(f"it ended with {status}, and said {said}")
+            for name, judge in task.judges.items():
+                with open(os.path.join(folder, "kept", name), "rb") as file:
+                    judge(file.read())
+
+    def into_pipe(self, task):
+        """A signature that goes into a pipe."""
+        with tempfile.TemporaryDirectory(dir=self.place) as folder:
+            put_files(folder, task.files)
+            ran = subprocess.run([self.program, *task.arguments, "-x", "/dev/stdout"], cwd=folder, stdin=subprocess.DEVNULL,
+                                 stdout=subprocess.PIPE, stderr=subprocess.PIPE, timeout=SECONDS)
+            if ran.returncode != 0:
+                raise Failure(f"it ended with {ran.returncode}, and said {ran.stderr}")
+            is_signature(ran.stdout)
+
+    def at_once(self, task, runs=8):
+        """Runs that write the same files at once: all end well, and each file is whole."""
+        with tempfile.TemporaryDirectory(dir=self.place) as folder:
+            put_files(folder, task.files)
+            started = [subprocess.Popen([self.program, *task.arguments], cwd=folder, stdin=subprocess.DEVNULL,
+                                        stdout=subprocess.DEVNULL, stderr=subprocess.PIPE, umask=0o022) for _ in range(runs)]
+            ended = [(process.communicate(timeout=SECONDS)[1], process.returncode) for process in started]
+            if any(status for _, status in ended) or task.check(folder) != len(task.judges):
+                raise Failure(f"they ended with {ended}")
+
+    def first_alone(self, task, runs=8):
+        """Runs that make the same new pair at once: it is the pair of one of them."""
+        with tempfile.TemporaryDirectory(dir=self.place) as folder:
+            started = [subprocess.Popen([self.program, *task.arguments], cwd=folder, stdin=subprocess.DEVNULL,
+                                        stdout=subprocess.DEVNULL, stderr=subprocess.PIPE, umask=0o022) for _ in range(runs)]
+            statuses = sorted(process.wait(SECONDS) for process in started)
+            for process in started:
+                process.stderr.close()
+            public, secret = (record_of(files_in(folder)[name][1]) for name in ("a.pub", "a.key"))
+            if statuses != [0] + [1] * (runs - 1) or (public[2:10], public[10:]) != (secret[54:62], secret[94:126]):
+                raise Failure(f"they ended with {statuses}")
+
+
+def cases(breaking, keys):
+    """The names of all cases, and what runs each."""
+    found = tasks(keys)
+    for task in found:
+        yield f"{task.name}, killed", lambda it=task: breaking.killed(it)
+        yield f"{task.name}, and a call fails", lambda it=task: breaking.failing(it, errno.EIO)
+        for number in (errno.ENOSPC, errno.EDQUOT):
+            yield f"{task.name}, and a write fails by {errno.errorcode[number]}", lambda it=task, n=number: breaking.failing_writes(it, n)
+        yield f"{task.name}, and a write fails half way", lambda it=task: breaking.failing_writes(it, errno.ENOSPC, BREAK_SHORT=1)
+        yield f"{task.name}, and memory is refused", lambda it=task: breaking.wanting_memory(it)
+        yield f"{task.name}, on a full disk", lambda it=task: breaking.on_full_disk(it)
+        yield f"{task.name}, with a bound on files", lambda it=task: breaking.within_file_size(it)
+        yield f"{task.name}, through links", lambda it=task: breaking.through_links(it)
+        for number in (signal.SIGTERM, signal.SIGINT, signal.SIGHUP):
+            yield f"{task.name}, and {number.name}", lambda it=task, n=number: breaking.ended_by_signal(it, n)
+        if set(task.judges) <= set(task.files):
+            yield f"{task.name}, at once", lambda it=task: breaking.at_once(it)
+    yield "a new pair, at once", lambda: breaking.first_alone(found[0])
+    yield "a signature over an older one keeps its rights", lambda: breaking.keeps_rights(found[5], 0o640)
+    yield "a key that is changed keeps its rights", lambda: breaking.keeps_rights(found[2], 0o400 if os.geteuid() == 0 else 0o600)
+    yield "a signature into a pipe", lambda: breaking.into_pipe(found[4])
+
+
+def run_breaking(program, room, keys):
+    """Runs all of them: the failures, and how many cases there were."""
+    failures, count = [], 0
+    for name, run in cases(Breaking(program, room), keys):
+        count += 1
+        try:
+            run()
+        except Skip as why:
+            print(f"skipped: {name}: {why}")
+            count -= 1
+        except (Failure, subprocess.SubprocessError) as why:
+            failures.append(f"{name}: {why}")
+    return failures, count

@@ -1,0 +1,427 @@
+"""What `c/minisign` does better than Minisign's own program: what a person types stays hidden and is shown again after a
+signal, secrets are locked in memory, comments cannot talk to a terminal, what is copied out is what was verified, a key
+opens in little memory."""
+
+import os
+import re
+import resource
+import signal
+import struct
+import subprocess
+import sys
+import tempfile
+import threading
+import time
+
+import needs
+import static_library
+from minisign_streams import full_pipe, wait_for_rest
+from running import Failure, build_preload
+from whole_cases import CLOSED, DATA, OPEN, OTHER, PASSWORD, PUBLIC
+from whole_running import HOME, SECONDS, AtTerminal, Step, put_files, record_of, run_step, run_steps, sealed, text_of
+
+HERE = os.path.dirname(os.path.realpath(__file__))
+C_FOLDER = static_library.FOLDER
+QUESTION = rb"Password: $"
+# A key of Minisign's limits takes 1 GiB; with one of 16 rows it has to open within so many MiB, all of the program's.
+ROWS, MEBIBYTES = "16", 68
+# The length of data that changes between two readings: its last piece and its last block are not full.
+LARGE = 2000003
+
+# What a shell does with a program at its terminal: it is stopped alone, and goes on a while later.
+SHELL = """
+import os, signal, sys, time
+signal.signal(signal.SIGTTOU, signal.SIG_IGN)
+child = os.fork()
+if child == 0:
+    os.setpgid(0, 0)
+    os.tcsetpgrp(0, os.getpid())
+    signal.signal(signal.SIGTTOU, signal.SIG_DFL)
+    os.execv(sys.argv[1], ["minisign", *sys.argv[2:]])
+_, status = os.waitpid(child, os.WUNTRACED)
+if os.WIFSTOPPED(status):
+    time.sleep(0.5)
+    os.kill(child, signal.SIGCONT)
+    _, status = os.waitpid(child, 0)
+sys.exit(os.waitstatus_to_exitcode(status) & 255)
+"""
+
+
+class Safety:
+    """The programs, the keys, and what is tried."""
+
+    def __init__(self, whole, room, keys):
+        self.whole, self.room, self.keys = whole, room, keys
+
+    def folder(self, **files):
+        made = tempfile.mkdtemp(dir=self.room)
+        os.mkdir(os.path.join(made, HOME))
+        put_files(made, {**self.keys, **DATA, **files})
+        return made
+
+    def ours(self, folder, *arguments, typed=b"", at_terminal=False):
+        return run_step(self.whole.ours, "", folder, Step(arguments, typed, at_terminal=at_terminal))
+
+    def asked(self, folder, *arguments):
+        """A run at a terminal that has asked for a password."""
+        at = AtTerminal(["minisign", *arguments], self.whole.ours, folder, {"HOME": HOME})
+        if not at.read_until(QUESTION):
+            raise Failure(f"it never asked: {at.shown!r}")
+        wait_until(lambda: not at.shows_typed(), "it shows what is typed")
+        return at
+
+    # ---- Passwords ----
+
+    def echo_after(self, number):
+        """A signal while a password is typed ends the program, and the terminal shows again what is typed."""
+        for arguments in (("-Sm", "data", "-s", CLOSED), ("-G", "-p", "a.pub", "-s", "a.key")):
+            at = self.asked(self.folder(), *arguments)
+            at.type(b"half")
+            at.process.send_signal(number)
+            at.process.wait(SECONDS)
+            shows = at.shows_typed()
+            status = at.end()
+            if status != -number or not shows:
+                raise Failure(f"it ended with {status}, and the terminal shows what is typed: {shows}")
+
+    def echo_by_key(self):
+        """The keys of a person that end a program do the same."""
+        at = self.asked(self.folder(), "-Sm", "data", "-s", CLOSED)
+        at.type(b"half\x03")
+        at.process.wait(SECONDS)
+        shows = at.shows_typed()
+        if at.end() != -signal.SIGINT or not shows:
+            raise Failure("the terminal does not show what is typed")
+
+    def stopped_and_continued(self):
+        """A program that a person stops while it asks lets the terminal show what is typed, and asks again afterwards."""
+        folder = self.folder()
+        at = AtTerminal(["python", "-c", SHELL, self.whole.ours, "-Sm", "data", "-s", CLOSED], sys.executable, folder, {"HOME": HOME})
+        if not at.read_until(QUESTION):
+            raise Failure(f"it never asked: {at.shown!r}")
+        wait_until(lambda: not at.shows_typed(), "it shows what is typed")
+        at.type(b"half\x1a")
+        wait_until(at.shows_typed, "the terminal does not show what is typed")
+        if not at.read_until(rb"Password: [^P]*Password: $"):
+            raise Failure(f"it does not ask again: {at.shown!r}")
+        wait_until(lambda: not at.shows_typed(), "it shows what is typed")
+        at.type(PASSWORD + b"\n")
+        at.read_until(None)
+        if at.end() != 0 or not os.path.exists(os.path.join(folder, "data.minisig")):
+            raise Failure(f"it did not sign: {at.shown!r}")
+
+    def locked(self):
+        """While it asks, its secrets are locked in memory, and no core file would be written."""
+        at = self.asked(self.folder(), "-Sm", "data", "-s", CLOSED)
+        with open(f"/proc/{at.process.pid}/status", encoding="ascii") as status:
+            kibibytes = int(re.search(r"VmLck:\s+(\d+) kB", status.read()).group(1))
+        with open(f"/proc/{at.process.pid}/limits", encoding="ascii") as limits:
+            core = re.search(r"Max core file size\s+(\d+)", limits.read())
+        at.process.kill()
+        at.end()
+        if kibibytes < 12 or core is None or int(core.group(1)) != 0:
+            raise Failure(f"{kibibytes} KiB are locked, and core files: {core}")
+
+    def cleared_by_signal(self, number):
+        """A signal at the second question of a new pair: the password that was typed, and the secret key that was drawn, were in
+        memory and are not there when the program ends."""
+        finder = build_preload(self.room, "find_bytes")
+        # The first key was made of the same random bytes.
+        seed = record_of(self.keys[OPEN])[62:94]
+        for secret, draws in ((b"a long password", ""), (seed, self.whole.preload)):
+            folder = self.folder()
+            says = os.path.join(folder, "found")
+            turned = bytes(byte ^ 0xff for byte in secret).hex()
+            at = AtTerminal(["minisign", "-G", "-p", "a.pub", "-s", "a.key"], self.whole.ours, folder,
+                            {"HOME": HOME, "LD_PRELOAD": f"{finder} {draws}", "FIND": turned, "FIND_SAYS": says})
+            for question, typed in ((QUESTION, b"a long password\n"), (rb"\(one more time\): $", b"a long p")):
+                if not at.read_until(question):
+                    raise Failure(f"it never asked: {at.shown!r}")
+                at.wait_for_hiding()
+                at.type(typed)
+            at.process.send_signal(number)
+            at.process.wait(SECONDS)
+            status = at.end()
+            with open(says, encoding="ascii") as file:
+                found = file.read()
+            if status != -number or not re.search(r"\+!\+!-$", found):
+                raise Failure(f"it ended with {status}, and {secret!r} was found so: {found[-20:]}")
+
+    def passwords_apart(self):
+        """Bytes behind the line of a password are left on the pipe."""
+        reader, writer = os.pipe()
+        os.write(writer, PASSWORD + b"\nleft over")
+        os.close(writer)
+        with os.fdopen(reader, "rb", buffering=0) as pipe:
+            ran = subprocess.run([self.whole.ours, "-Sm", "data", "-s", CLOSED], cwd=self.folder(), stdin=pipe,
+                                 stdout=subprocess.PIPE, stderr=subprocess.PIPE, timeout=SECONDS)
+            if ran.returncode != 0 or pipe.read() != b"left over":
+                raise Failure(f"it ended with {ran.returncode}: {ran.stderr!r}")
+
+    # ---- Memory ----
+
+    def opens_in_little_memory(self):
+        """With -k a key of Minisign's own limits opens in little memory, and signs the same."""
+        ran, files = run_steps(self.whole.theirs, self.whole.preload, {}, (Step(("-G", "-p", "a.pub", "-s", "a.key"), b"p\np\n"),))
+        if ran[0].status != 0:
+            raise Failure(f"Minisign makes no key: {ran[0]}")
+        folder = self.folder(**{"default.key": files["a.key"][1], "default.pub": files["a.pub"][1]})
+        status, kibibytes, said = with_memory([self.whole.ours, "-Sm", "data", "-s", "default.key", "-k", ROWS], folder, b"p\n")
+        if status != 0 or kibibytes > 1024 * MEBIBYTES:
+            raise Failure(f"it ended with {status} and took {kibibytes} KiB: {said!r}")
+        self.expect_accepted(folder, "default.pub")
+        status, kibibytes, said = with_memory([self.whole.ours, "-C", "-s", "default.key", "-k", ROWS], folder, b"p\nq\nq\n")
+        if status != 0 or kibibytes > 1024 * MEBIBYTES:
+            raise Failure(f"changing: it ended with {status} and took {kibibytes} KiB: {said!r}")
+        ran = run_step(self.whole.theirs, "", folder, Step(("-Sm", "more", "-s", "default.key"), b"q\n"))
+        if ran.status != 0:
+            raise Failure(f"Minisign does not open what was changed: {ran}")
+
+    def opens_where_memory_is_short(self):
+        """A key of usual limits opens where there is no room for all of its rows: of those that do not fit, fewer are kept."""
+        record = record_of(self.keys[CLOSED])
+        costly = text_of(record[:38] + (33554432).to_bytes(8, "little") + (1 << 30).to_bytes(8, "little") + record[54:])
+        folder = self.folder(**{"costly.key": costly})
+        bound = 300 << 20
+        ran = subprocess.run([self.whole.ours, "-Sm", "data", "-s", "costly.key"], cwd=folder, input=b"wrong\n", stdout=subprocess.PIPE,
+                             stderr=subprocess.PIPE, timeout=SECONDS, preexec_fn=lambda: resource.setrlimit(resource.RLIMIT_AS, (bound, bound)))
+        if ran.returncode != 2 or not ran.stderr.endswith(b"Wrong password for that key\n"):
+            raise Failure(f"it ended with {ran.returncode}: {ran.stderr!r}")
+
+    def expect_accepted(self, folder, public):
+        for program in (self.whole.theirs, self.whole.ours):
+            ran = run_step(program, "", folder, Step(("-Vm", "data", "-p", public)))
+            if ran.status != 0:
+                raise Failure(f"{program} refuses it: {ran}")
+
+    def shows_derivation(self):
+        """At a terminal a long derivation shows a dot each second."""
+        record = record_of(self.keys[CLOSED])
+        costly = record[:38] + (33554432).to_bytes(8, "little") + (1 << 30).to_bytes(8, "little") + record[54:]
+        at = self.asked(self.folder(**{"costly.key": text_of(costly)}), "-Sm", "data", "-s", "costly.key", "-k", "2")
+        at.type(b"wrong\n")
+        at.read_until(None)
+        if at.end() != 2 or not re.search(rb"secret key\.\.\. \.+done\r\n\r\nWrong password", at.shown):
+            raise Failure(f"it showed {at.shown!r}")
+
+    def shows_reading(self):
+        """At a terminal it shows how much of a file was read that takes long, and takes that away at the end."""
+        folder = self.folder()
+        self.ours(folder, "-Sm", "data", "-s", OPEN)
+        os.mkfifo(os.path.join(folder, "slow"))
+        writer = threading.Thread(target=write_slowly, args=(os.path.join(folder, "slow"), DATA["data"]))
+        writer.start()
+        at = AtTerminal(["minisign", "-Vm", "slow", "-x", "data.minisig", "-p", PUBLIC], self.whole.ours, folder, {})
+        at.read_until(None)
+        writer.join(SECONDS)
+        if at.end() != 0 or not re.search(rb"\rslow: 0 MB\r\x1b\[KSignature and", at.shown):
+            raise Failure(f"it showed {at.shown!r}")
+
+    # ---- What is shown and copied ----
+
+    def comments_at_terminal(self):
+        """Control characters and those that turn the direction are made visible at a terminal, and written as they are
+        elsewhere."""
+        comment = "tab\there \x1b[31mred\x07 \x7f \u0085 \u009b2J \u202egnp\u202c \u2066x\u2069 \u00e9\u20ac\U0001f511"
+        folder = self.folder()
+        self.ours(folder, "-Sm", "data", "-s", OPEN, "-t", comment)
+        piped = self.ours(folder, "-Vm", "data", "-p", PUBLIC)
+        if not piped.output.endswith(f"Trusted comment: {comment}\n".encode()):
+            raise Failure(f"into a pipe: {piped}")
+        for flags in ((), ("-Q",)):
+            shown = self.ours(folder, "-Vm", "data", "-p", PUBLIC, *flags, at_terminal=True)
+            wanted = ("tab\there \\u{1b}[31mred\\u{7} \\u{7f} \\u{85} \\u{9b}2J \\u{202e}gnp\\u{202c} \\u{2066}x\\u{2069} "
+                      "\u00e9\u20ac\U0001f511\r\n")
+            # A terminal may show a tab as spaces.
+            if not re.sub(rb"[\t ]+", b" ", shown.output).endswith(re.sub(rb"[\t ]+", b" ", wanted.encode())):
+                raise Failure(f"at a terminal: {shown}")
+
+    def copies_of_pipes(self):
+        """Data from a pipe is copied out once it was verified, and nothing is copied where it was not."""
+        folder = self.folder()
+        self.ours(folder, "-Sm", "data", "-s", OPEN)
+        for data, wanted in ((DATA["data"], (0, DATA["data"])), (b"other data\n", (1, b""))):
+            ran = self.ours(folder, "-Vom", "/dev/stdin", "-x", "data.minisig", "-p", PUBLIC, typed=data)
+            if (ran.status, ran.output) != wanted:
+                raise Failure(f"{data!r}: {ran}")
+
+    def changed_while_copied(self, change):
+        """Data that changes once it was verified: what is copied is the front of what was verified, and it ends badly."""
+        # Each block of 4096 bytes is another, and the last byte is zero.
+        folder = self.folder(large=b"".join(number.to_bytes(4, "little") * 1024 for number in range(LARGE // 4096)) + bytes(LARGE % 4096))
+        path = os.path.join(folder, "large")
+        self.ours(folder, "-Sm", "large", "-s", OPEN)
+        with open(path, "rb") as file:
+            before = file.read()
+        reader, writer = full_pipe()
+        process = subprocess.Popen([self.whole.ours, "-Vom", "large", "-p", PUBLIC], cwd=folder, stdin=subprocess.DEVNULL,
+                                   stdout=subprocess.PIPE, stderr=writer)
+        os.close(writer)
+        wait_for_rest(process)
+        change(path)
+        drain = threading.Thread(target=read_all, args=(reader,))
+        drain.start()
+        output, _ = process.communicate(timeout=SECONDS)
+        drain.join(SECONDS)
+        if process.returncode != 1 or not before.startswith(output) or len(output) == len(before):
+            raise Failure(f"it ended with {process.returncode} and copied {len(output)} bytes, a front: {before.startswith(output)}")
+
+    def tags_of_pieces(self):
+        """The tags by which two readings of a piece are compared are those of the formula."""
+        program = os.path.join(self.room, "tags")
+        sources = [os.path.join(HERE, "tags.c"), os.path.join(C_FOLDER, "tags.c")]
+        subprocess.run([needs.libsodium(), "-O2", f"-I{C_FOLDER}", "-o", program, *sources], check=True)
+        key = os.urandom(4096 + 512)
+        for length in (0, 1, 8, 15, 16, 17, 4095, 4096, 4097, 70000, 131071, 131072):
+            piece = os.urandom(length)
+            ran = subprocess.run([program], input=key + piece, stdout=subprocess.PIPE, timeout=SECONDS, check=True)
+            if int(ran.stdout, 16) != tag_of(key, piece):
+                raise Failure(f"{length} bytes have the tag {ran.stdout}")
+
+    def copies_large_files(self):
+        """Data of many pieces is copied whole."""
+        for length in (4096, 4097, 131071, 131072, 131073, 262144, 1048576, 1500001):
+            data = os.urandom(length)
+            folder = self.folder(large=data)
+            self.ours(folder, "-Sm", "large", "-s", OPEN)
+            ran = self.ours(folder, "-Vom", "large", "-p", PUBLIC)
+            if ran.status != 0 or ran.output != data:
+                raise Failure(f"{length} bytes: {ran.status}, {len(ran.output)} bytes")
+
+    def full_output(self):
+        """Where the output is full it does not end well."""
+        folder = self.folder()
+        self.ours(folder, "-Sm", "data", "-s", OPEN)
+        for arguments in (("-Vm", "data", "-p", PUBLIC), ("-v",), ("-h",), ("-CW", "-s", OPEN)):
+            with open("/dev/full", "wb") as full:
+                ran = subprocess.run([self.whole.ours, *arguments], cwd=folder, stdin=subprocess.DEVNULL, stdout=full,
+                                     stderr=subprocess.PIPE, timeout=SECONDS)
+            if ran.returncode != 2:
+                raise Failure(f"{arguments}: it ended with {ran.returncode}")
+
+    # ---- Keys ----
+
+    def never_signs_wrongly(self):
+        """A secret key whose public half is not its own makes no signature."""
+        record = bytearray(record_of(self.keys[OPEN]))
+        record[94:126] = record_of(self.keys[OTHER])[10:]
+        folder = self.folder(**{"mixed.key": text_of(bytes(record))})
+        ran = self.ours(folder, "-Sm", "data", "-s", "mixed.key")
+        if ran.status != 2 or os.path.exists(os.path.join(folder, "data.minisig")):
+            raise Failure(f"{ran}")
+
+
+def nh(key, message):
+    """NH with words of 64 bits: the sum of the products of neighbouring words, to which those of the key were added."""
+    message += bytes(-len(message) % 16)
+    words = struct.unpack(f"<{len(message) // 8}Q", message)
+    added = [(word + other) % 2**64 for word, other in zip(words, struct.unpack(f"<{len(words)}Q", key[:len(message)]))]
+    return sum(one * other for one, other in zip(added[::2], added[1::2])) % 2**128
+
+
+def tag_of(key, piece):
+    """NH of NH of each block."""
+    blocks = [piece[at:at + 4096] for at in range(0, len(piece), 4096)]
+    return nh(key[4096:], b"".join(nh(key, block).to_bytes(16, "little") for block in blocks))
+
+
+def with_memory(command, folder, typed):
+    """Runs a command: its status, the most memory that it took in KiB, and what it said."""
+    reader, writer = os.pipe()
+    process = subprocess.Popen(command, cwd=folder, stdin=subprocess.PIPE, stdout=writer, stderr=writer)
+    os.close(writer)
+    process.stdin.write(typed)
+    process.stdin.close()
+    with os.fdopen(reader, "rb") as said:
+        text = said.read()
+    _, status, used = os.wait4(process.pid, 0)
+    process.returncode = os.waitstatus_to_exitcode(status)
+    return process.returncode, used.ru_maxrss, text
+
+
+def read_all(reader):
+    with os.fdopen(reader, "rb") as pipe:
+        pipe.read()
+
+
+def write_slowly(path, data):
+    """Writes data in two pieces, the second one two seconds later."""
+    with open(path, "wb", buffering=0) as pipe:
+        for piece in (bytes(0), data[:65536], data[65536:]):
+            pipe.write(piece)
+            time.sleep(2.1)
+
+
+def wait_until(holds, otherwise):
+    end = time.monotonic() + SECONDS / 10
+    while not holds():
+        if time.monotonic() > end:
+            raise Failure(otherwise)
+        time.sleep(0.01)
+
+
+def overwrite(path):
+    with open(path, "r+b") as file:
+        file.seek(1000000)
+        file.write(b"changed")
+
+
+def swap_blocks(path):
+    """Puts two neighbouring blocks of a piece into each other's place."""
+    with open(path, "r+b") as file:
+        file.seek(1048576)
+        one, other = file.read(4096), file.read(4096)
+        file.seek(1048576)
+        file.write(other + one)
+
+
+def turn_last(path):
+    """Turns one bit of the last byte."""
+    with open(path, "r+b") as file:
+        file.seek(-1, os.SEEK_END)
+        last = file.read(1)[0]
+        file.seek(-1, os.SEEK_END)
+        file.write(bytes([last ^ 1]))
+
+
+def add_zero(path):
+    with open(path, "ab") as file:
+        file.write(bytes(1))
+
+
+def cases(safety):
+    """The names of all cases, and what runs each."""
+    for number in (signal.SIGINT, signal.SIGTERM, signal.SIGHUP, signal.SIGQUIT):
+        yield f"the terminal after {number.name}", lambda n=number: safety.echo_after(n)
+    yield "the terminal after a key that interrupts", safety.echo_by_key
+    yield "the terminal after a stop", safety.stopped_and_continued
+    yield "secrets are locked", safety.locked
+    for number in (signal.SIGINT, signal.SIGTERM, signal.SIGHUP):
+        yield f"secrets after {number.name}", lambda n=number: safety.cleared_by_signal(n)
+    yield "a password and what is behind it", safety.passwords_apart
+    yield "a key of default limits in little memory", safety.opens_in_little_memory
+    yield "a key where memory is short", safety.opens_where_memory_is_short
+    yield "a long derivation at a terminal", safety.shows_derivation
+    yield "a slow file at a terminal", safety.shows_reading
+    yield "comments at a terminal", safety.comments_at_terminal
+    yield "copies of pipes", safety.copies_of_pipes
+    for name, change in (("changed", overwrite), ("changed in its order", swap_blocks), ("changed at its end", turn_last), ("longer", add_zero),
+                         ("cut", lambda path: os.truncate(path, 1000000)), ("cut at a zero", lambda path: os.truncate(path, LARGE - 1)),
+                         ("emptied", lambda path: os.truncate(path, 0))):
+        yield f"data that is {name} before it is copied", lambda it=change: safety.changed_while_copied(it)
+    yield "tags of pieces", safety.tags_of_pieces
+    yield "copies of large files", safety.copies_large_files
+    yield "a full output", safety.full_output
+    yield "a key of which one half is another's", safety.never_signs_wrongly
+
+
+def run_safety(whole, room, keys):
+    """Runs all of them: the failures, and how many cases there were."""
+    failures, count = [], 0
+    for name, run in cases(Safety(whole, room, keys)):
+        count += 1
+        try:
+            run()
+        except (Failure, subprocess.SubprocessError, OSError) as why:
+            failures.append(f"{name}: {why}")
+    return failures, count

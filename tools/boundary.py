@@ -1,0 +1,216 @@
+"""Makes the boundary in C between the header and the proved library: `c/boundary.c`, and `c/names`, which lists the
+names of the proved calls. `tools/header.py` calls it.
+
+Each function that the header declares is compared with the export of the crate `minisign_c` of the same name: what
+Rattle hands over as a slice is a pointer and a length in C. So a declaration that does not fit fails, and so does an export
+without one.
+"""
+
+import re
+from dataclasses import dataclass
+
+
+class Unfit(Exception):
+    """A declaration of the header and an export of the crate that do not fit."""
+
+
+# What the boundary answers by itself.
+OWN = {"minisign_version"}
+
+# The structs by their names in Rattle.
+STRUCTS = {"State": "minisign_state", "Questions": "minisign_external", "SigningQuestions": "minisign_signing",
+           "Sealing": "minisign_sealing"}
+
+# Types of the header that the proved calls know as numbers or bytes.
+PLAIN = {"enum minisign_error": "uint32_t", "enum minisign_answer": "uint32_t", "char *": "uint8_t *",
+         "const char *": "const uint8_t *"}
+
+DECLARATION = re.compile(r"^(?:MINISIGN_MUST_USE )?((?:const )?(?:enum )?\w+ \*?)(minisign_\w+)\(([^)]*)\);$", re.M)
+EXPORT = re.compile(r'^pub extern "C" fn (minisign_\w+)\((.*?)\)(?: -> (\w+))?\s*$', re.M | re.S)
+
+
+@dataclass
+class Parameter:
+    """A parameter in C: its type without the name, its name, how it is declared, and the name of the length behind it."""
+
+    kind: str
+    name: str
+    text: str
+    length: str = ""
+
+    @property
+    def plain(self):
+        return PLAIN.get(self.kind, self.kind)
+
+    @property
+    def is_pointer(self):
+        return "*" in self.kind
+
+
+@dataclass
+class Function:
+    """A function of the header."""
+
+    kind: str
+    name: str
+    parameters: list
+
+    @property
+    def plain_kind(self):
+        return PLAIN.get(self.kind, self.kind)
+
+
+def without_comments(text):
+    return re.sub(r"/\*.*?\*/", "", text, flags=re.S)
+
+
+def parameter_of(text):
+    """A parameter as it is declared; an array is a pointer."""
+    text = " ".join(text.split())
+    found = re.fullmatch(r"(.*?)(\w+)(\[\w+\])?", text)
+    kind = found[1].strip()
+    return Parameter(f"{kind} *" if found[3] else kind, found[2], text)
+
+
+def declared(header):
+    """The functions that the header declares."""
+    functions = []
+    for kind, name, parameters in DECLARATION.findall(without_comments(header)):
+        made = [] if parameters.strip() == "void" else [parameter_of(it) for it in parameters.split(",")]
+        for one, following in zip(made, made[1:]):
+            if one.is_pointer and following.kind == "size_t":
+                one.length = following.name
+        functions.append(Function(kind.strip(), name, made))
+    return functions
+
+
+def kinds_in_c(kind):
+    """The types in C of what Rattle calls this."""
+    kind = kind.strip()
+    if kind == "Global":
+        return []
+    if kind in ("u32", "u64"):
+        return [f"uint{kind[1:]}_t"]
+    if kind == "usize":
+        return ["size_t"]
+    found = re.fullmatch(r"&(mut )?\[u8(; \d+)?\]", kind)
+    if found:
+        pointer = "uint8_t *" if found[1] else "const uint8_t *"
+        return [pointer] if found[2] else [pointer, "size_t"]
+    found = re.fullmatch(r"&(mut )?(\w+)", kind)
+    if found:
+        struct = "size_t" if found[2] == "usize" else "uint32_t" if found[2] == "u32" else STRUCTS.get(found[2])
+        if struct:
+            return [f"{struct} *" if found[1] else f"const {struct} *"]
+    raise Unfit(f"an export has a parameter {kind}, which tools/boundary.py does not know")
+
+
+def exported(crate):
+    """The types in C of the exports of the crate, by their names: those of the parameters, and of the result."""
+    exports = {}
+    for name, parameters, result in EXPORT.findall(crate):
+        kinds = []
+        for parameter in re.split(r",\s*(?![^\[]*\])", parameters.strip().rstrip(",")):
+            kinds += kinds_in_c(parameter.partition(":")[2])
+        exports[name] = (kinds, kinds_in_c(result)[0] if result else "void")
+    return exports
+
+
+def functions_of(header, crate):
+    """The functions of the header that are proved, once they fit the exports."""
+    functions = [it for it in declared(header) if it.name not in OWN]
+    exports = exported(crate)
+    if {it.name for it in functions} != set(exports):
+        differ = {it.name for it in functions} ^ set(exports)
+        raise Unfit(f"include/minisign.h and the exports of minisign_c differ in {', '.join(sorted(differ))}")
+    for it in functions:
+        kinds = ([parameter.plain for parameter in it.parameters], it.plain_kind)
+        if kinds != exports[it.name]:
+            raise Unfit(f"include/minisign.h declares {it.name} with {kinds}, and the crate has {exports[it.name]}")
+    return functions
+
+
+def argument(parameter):
+    if parameter.length:
+        side = "READ" if parameter.kind.startswith("const") else "WRITTEN"
+        return f"{side}({parameter.name}, {parameter.length})"
+    return parameter.name
+
+
+def in_lines(begin, parts, end):
+    """The parts behind `begin`, in lines of at most 116 characters."""
+    lines, line = [], begin
+    for number, part in enumerate(parts):
+        piece = part + (end if number == len(parts) - 1 else ",")
+        if len(line) + len(piece) + 1 > 116:
+            lines.append(line.rstrip())
+            line = " " * len(begin)
+        line += piece + " "
+    return "\n".join([*lines, line.rstrip()])
+
+
+def spaced(kind):
+    return kind if kind.endswith("*") else kind + " "
+
+
+HEAD = """\
+/*
+ * The boundary between minisign.h and the proved calls of the crate minisign_c. Made by tools/header.py.
+ *
+ * It decides two things. A pointer that is NULL where its length is 0 is replaced by one that is not, which the
+ * proved calls need. And of the two copies of these calls, one built for x86-64-v2 and one for x86-64-v3, it takes
+ * the second where the processor has what that needs.
+ *
+ * SPDX-License-Identifier: MIT
+ */
+#include <stddef.h>
+#include <stdint.h>
+
+#include "minisign.h"
+
+/* Nothing is read or written here. */
+static const uint8_t nothing;
+
+#define READ(pointer, length) ((pointer) == NULL && (length) == 0 ? &nothing : (const uint8_t *) (pointer))
+#define WRITTEN(pointer, length) ((pointer) == NULL && (length) == 0 ? (uint8_t *) &nothing : (uint8_t *) (pointer))
+
+/* Whether the processor, and the system on it, have what x86-64-v3 is. */
+static int is_v3(void)
+{
+    return __builtin_cpu_supports("avx2") && __builtin_cpu_supports("bmi") && __builtin_cpu_supports("bmi2")
+           && __builtin_cpu_supports("f16c") && __builtin_cpu_supports("fma") && __builtin_cpu_supports("lzcnt")
+           && __builtin_cpu_supports("movbe");
+}
+
+uint32_t minisign_version(void)
+{
+    return MINISIGN_VERSION;
+}
+"""
+
+
+def boundary_text(header, crate):
+    """The source of the boundary."""
+    parts = [HEAD]
+    for it in functions_of(header, crate):
+        kinds = [parameter.plain for parameter in it.parameters]
+        names = [parameter.text for parameter in it.parameters]
+        arguments = [argument(parameter) for parameter in it.parameters]
+        for copy in ("v2", "v3"):
+            parts.append(in_lines(f"{spaced(it.plain_kind)}{copy}_{it.name}(", kinds, ");"))
+        parts.append("")
+        parts.append(in_lines(f"{spaced(it.kind)}{it.name}(", names, ")"))
+        parts.append("{")
+        result = "" if it.kind == "void" else "return " if it.kind == it.plain_kind else f"return ({it.kind}) "
+        parts.append("    if (is_v3()) {")
+        parts.append(in_lines(f"        {result}v3_{it.name}(", arguments, ");"))
+        parts += ["        return;"] if it.kind == "void" else []
+        parts.append("    }")
+        parts.append(in_lines(f"    {result}v2_{it.name}(", arguments, ");"))
+        parts += ["}", ""]
+    return "\n".join(parts)
+
+
+def names_text(header, crate):
+    """The names of the proved calls, one in each line."""
+    return "".join(f"{it.name}\n" for it in functions_of(header, crate))
