@@ -16,7 +16,7 @@ use minisign::base::devices::sources::Source;
 use minisign::base::prompt::Prompt;
 use minisign::base::scheme::Scheme;
 use minisign::reading::read_text;
-use minisign::{Result, sign_texts};
+use minisign::{Result, default_comments_are_read_back, sign_texts};
 use std::alloc::Global;
 
 /// Signs the data ahead of `data_reader` with the secret key text that `sk_file` holds, and hands
@@ -158,6 +158,7 @@ fn make_text<S: Scheme, K: Source, R: Source, Z: RandomSource, A: Source, B: Sin
 {
     let sk_text = read_text(alloc, sk_file)?;
     let (password, trusted_comment, untrusted_comment) = (None, None, None);
+    default_comments_are_read_back(moment);
     sign_texts(
         alloc,
         scheme,

@@ -3,6 +3,21 @@ use Rattle.std.proofs.lemmas.Result.{IfOk-weaker, MatchResult-weaker}
 use Rattle.minisign.specs.Reading.{ReadsWhole}
 use Rattle.minisign_tool.proofs.sign.make_text.Goals as goal
 
+pub returns-clause-headline : goal.returns-clause-headline
+returns-clause-headline g c =
+    let read : ReadsWhole g.K.Source c.args.sk_file.now c.read_text.new.source c.deref.result.now = rw c.deref.ensures c.in_ok-sk_text.ensures.text in
+    IfOk-weaker c.sign_texts.result _ _
+    (λ t h. record {
+      sk_text = c.deref.result.now;
+      message = h.1;
+      key = h.0;
+      held = read.given;
+      signed = h.2;
+      given = h.3;
+      vouched = λ seed genuine. h.4 seed genuine c.default_comments_are_read_back.ensures.one_line;
+    })
+    c.sign_texts.ensures.headline
+
 pub returns-clause-signed : goal.returns-clause-signed
 returns-clause-signed g c =
     IfOk-weaker c.sign_texts.result _ _
