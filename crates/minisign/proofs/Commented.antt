@@ -6,7 +6,7 @@ use Rattle.std.specs.Prelude.{◌&&◌, ⊤, IsSome}
 use Rattle.std.specs.declared.result.Result.{Result}
 use Rattle.std.specs.declared.result.Result.TheVariants.{Ok, Err}
 use Rattle.minisign_base.specs.Fault.{Fault, Named}
-use Rattle.minisign_base.specs.declared.faults.NamedFault.TheVariants.{OutOfMemory, ReadingFailed}
+use Rattle.minisign_base.specs.declared.faults.NamedFault.TheVariants.{OutOfMemory}
 use Rattle.minisign_base.specs.Passages.{RereaderPassage, SinkPassage}
 use Rattle.minisign.specs.Acceptance.{Flags, Refuses, Verifier, Vouches}
 use Rattle.minisign.specs.Calls.{CopyIsVouchedWith, CopyingFails, IsCommentOf, IsCommentVerdict, IsFileVerdict, TextsVouchWith}

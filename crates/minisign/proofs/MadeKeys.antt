@@ -1,6 +1,6 @@
 -- Keys that are made of their parts, and their texts.
-use Rattle.std.proofs.Common.{◌≡◌, ◌⊎◌, ℕ, ◌^◌, ◌<◌, ◌+◌, false, List, ◌++◌, length, Option, None, Some, Result, Ok, Err, IsOk, IfOk, inl, inr, refl, sym, ap, subst, ◌∙◌, arith}
-use Rattle.std.specs.Int.{w64, to_le_bytes, from_le_bytes}
+use Rattle.std.proofs.Common.{◌≡◌, ◌⊎◌, ℕ, ◌^◌, ◌<◌, ◌+◌, List, length, Option, None, Some, Result, Ok, Err, IsOk, IfOk, inl, inr, refl, sym, ap, subst, ◌∙◌}
+use Rattle.std.specs.Int.{w64, to_le_bytes}
 use Rattle.std.specs.Str.Iter.{LacksByte}
 use Rattle.std.proofs.lemmas.Bool.{true≢false}
 use Rattle.std.proofs.lemmas.Nat.{from_le_bytes-to_le_bytes_8}
@@ -9,10 +9,10 @@ use Rattle.minisign_base.specs.declared.faults.NamedFault.TheVariants.{OutOfMemo
 use Rattle.minisign_base.specs.Limits.{numbers, sealing_limits}
 use Rattle.minisign_kdf.specs.Params.{Numbers}
 use Rattle.minisign.specs.Generation.{key_to_seal, unsealed_key}
-use Rattle.minisign.specs.Making.{GivesParts, IsMadePublicText, IsMadeText, IsOfParts, OpensToParts, made_key}
+use Rattle.minisign.specs.Making.{IsMadePublicText, IsMadeText, IsOfParts, OpensToParts}
 use Rattle.minisign.specs.PublicKeyText.{PublicKeyText, commented_public_key_text}
 use Rattle.minisign.specs.Records.{PublicKeyRecord, SecretKeyRecord, own_public_key}
-use Rattle.minisign.specs.Sealing.{IsWithin, Opens, bound_refusal, checksum_of, is_encrypted, key_limits, key_numbers, key_xor, scrypt_kdf, work_refusal, xored_key}
+use Rattle.minisign.specs.Sealing.{IsWithin, Opens, bound_refusal, checksum_of, key_limits, key_numbers, key_xor, work_refusal, xored_key}
 use Rattle.minisign.specs.SecretKeyText.{SecretKeyText, secret_key_text}
 use Rattle.minisign.specs.declared.making.Sealing.{Sealing}
 use Rattle.minisign.proofs.GeneratedKeys.{opened_checksum, opened_is_open, sealed_kdf, unsealed_is_open, unsealed_is_unencrypted}

@@ -4,8 +4,6 @@ use denote.Ref.{Bor}
 use Rattle.std.specs.Option.{option_copied, option_map_or, unwrap_or}
 use Rattle.std.specs.Fmt.{decimal}
 use Rattle.std.specs.Io.KnownBytes.{Consumes}
-use Rattle.std.specs.Str.{trim}
-use Rattle.std.specs.Str.Iter.{LacksByte}
 use Rattle.minisign_hash.specs.Blake2b.{blake2b_digest}
 use Rattle.minisign_base.specs.Devices.{Rose}
 use Rattle.minisign_base.specs.Passages.{RandomPassage, SourcePassage}

@@ -9,7 +9,7 @@ ghost use Rattle.minisign.specs.InPlace.{IsViewOf, first_64};
 ghost use Rattle.minisign.specs.PublicKeyText.{BarePublicKey, EncodesPublicKey, PublicKeyText, bare_public_key_refusal, public_key_refusal};
 ghost use Rattle.minisign.specs.Records.{PublicKeyRecord, SignatureBoxRecord, is_prehashed};
 ghost use Rattle.minisign.specs.SignatureText.{EncodesSignature, HasFourLines, SignatureText, signature_refusal};
-ghost use Rattle.minisign.specs.Texts.{HasSecondLine, IsBase64Of, IsDecided, IsRefused, base64_bytes, is_base64};
+ghost use Rattle.minisign.specs.Texts.{HasSecondLine, IsBase64Of, IsRefused, base64_bytes, is_base64};
 
 use crate::base64_front::decode_front;
 use crate::constants::SIGALG_PREHASHED;
@@ -89,7 +89,6 @@ pub fn read_public_key(text: &str) -> Result<PublicKey>
     ensures read { IfOk result (PublicKeyText text.now) }
     ensures exact { (k : PublicKeyRecord) → PublicKeyText text.now k → result ≡ Ok k }
     ensures refused { IfErr result (IsRefused (PublicKeyText text.now) (public_key_refusal text.now)) }
-    ensures decided { IsDecided (PublicKeyText text.now) (public_key_refusal text.now) }
 {
     read_key_text(text)
 }
@@ -102,7 +101,6 @@ pub fn read_bare_public_key(text: &str) -> Result<PublicKey>
     ensures read { IfOk result (BarePublicKey text.now) }
     ensures exact { (k : PublicKeyRecord) → BarePublicKey text.now k → result ≡ Ok k }
     ensures refused { IfErr result (IsRefused (BarePublicKey text.now) (bare_public_key_refusal text.now)) }
-    ensures decided { IsDecided (BarePublicKey text.now) (bare_public_key_refusal text.now) }
 {
     read_bare(text)
 }
@@ -118,7 +116,6 @@ pub fn read_signature(text: &str) -> Result<SignatureView<'_>>
     ensures exact { (x : SignatureBoxRecord) → SignatureText text.now x →
         MatchResult result (λ v. IsViewOf v x) (λ _. ⊥) }
     ensures refused { IfErr result (IsRefused (SignatureText text.now) (signature_refusal text.now)) }
-    ensures decided { IsDecided (SignatureText text.now) (signature_refusal text.now) }
 {
     read_box(text)
 }

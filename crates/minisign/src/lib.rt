@@ -66,5 +66,6 @@ pub use signature_bones::SignatureBones;
 pub use signature_box::SignatureBox;
 pub use signing::{default_comments_are_read_back, sign};
 pub use signing_texts::sign_texts;
-pub use verifying::verify;
+pub use texts::texts_are_decided;
+pub use verifying::{unvouched_parts_change_no_verdict, verify};
 pub use verifying_texts::verify_texts;

@@ -5,8 +5,7 @@ ghost use Rattle.std.specs.Option.{option_map};
 ghost use Rattle.minisign_base.specs.Fault.{Named};
 ghost use Rattle.minisign_base.specs.declared.faults.NamedFault.TheVariants.{OutOfMemory, WritingFailed, WrongPassword};
 ghost use Rattle.minisign.specs.Records.{SecretKeyRecord};
-ghost use Rattle.minisign.specs.SecretKeyText.{SecretKeyText, secret_key_refusal};
-ghost use Rattle.minisign.specs.Texts.{IsDecided};
+ghost use Rattle.minisign.specs.SecretKeyText.{SecretKeyText};
 ghost use Rattle.minisign.specs.Headline.{OpeningHeadline};
 ghost use Rattle.minisign.specs.Sealing.{checksum_refusal, is_encrypted, kdf_refusal, password_refusal, unencrypted_refusal, work_refusal, xored_key};
 ghost use Rattle.minisign.specs.Opening.{IsFileOpening, IsOpening, IsUnencryptedText, RefusesKey, RefusesUnencrypted, asking_text, deriving_text, done_text, ending, opening, telling};
@@ -209,10 +208,6 @@ impl SecretKey {
             (λ e. (e ≡ Named OutOfMemory) ⊎ RefusesUnencrypted sk_box e) }
         ensures one_reading { IfOk result
             (λ v. (other : SecretKeyRecord) → SecretKeyText sk_box other → other ≡ v) }
-
-        // No test fails exactly when the text of a secret key reads as some key, and it reads as
-        // one at most.
-        ensures decided { IsDecided (SecretKeyText sk_box) (secret_key_refusal sk_box) }
     {
         SecretKey::unencrypted_from_text(alloc, sk_box.as_str())
     }

@@ -5,7 +5,7 @@ ghost use Rattle.std.specs.Cmp.{on_per, on_equiv, partial_equiv_from_equiv};
 ghost use Rattle.std.specs.Cmp.Lexicographic.{nat_list_eq_equiv};
 ghost use Rattle.minisign_base.specs.Fault.{Named};
 ghost use Rattle.minisign_base.specs.declared.faults.NamedFault.TheVariants.{OutOfMemory, RecordTooShort};
-ghost use Rattle.minisign.specs.Texts.{IsRefused, IsDecided, base64_of, is_base64, base64_bytes};
+ghost use Rattle.minisign.specs.Texts.{IsRefused, base64_of, is_base64, base64_bytes};
 ghost use Rattle.std.specs.Str.{trim};
 ghost use Rattle.minisign.specs.Records.{own_public_key};
 ghost use Rattle.minisign.specs.PublicKeyText.{EncodesPublicKey, PublicKeyText, BarePublicKey, public_key_refusal, bare_public_key_refusal, commented_public_key_text, public_key_text};
@@ -87,10 +87,6 @@ impl PublicKey {
         // reads as no key.
         ensures refused { IfErr result (λ e. (e ≡ Named OutOfMemory)
             ⊎ IsRefused (PublicKeyText public_key_box) (public_key_refusal public_key_box) e) }
-
-        // No test fails exactly when the text reads as some key, and it reads as one at most.
-        ensures decided { IsDecided (PublicKeyText public_key_box)
-            (public_key_refusal public_key_box) }
     {
         read_text(alloc, public_key_box.as_str())
     }
@@ -129,9 +125,6 @@ impl PublicKey {
         // reads as no key.
         ensures refused { IfErr result (λ e. (e ≡ Named OutOfMemory)
             ⊎ IsRefused (BarePublicKey text.now) (bare_public_key_refusal text.now) e) }
-
-        // No test fails exactly when the text reads as some key, and it reads as one at most.
-        ensures decided { IsDecided (BarePublicKey text.now) (bare_public_key_refusal text.now) }
     {
         read_bare(alloc, text)
     }

@@ -7,7 +7,7 @@ ghost use Rattle.minisign_base.specs.declared.faults.NamedFault.TheVariants.{Out
 ghost use Rattle.minisign.specs.Records.{CommentsRecord, SignatureBoxRecord, IsKnownAlgorithm};
 ghost use Rattle.minisign.specs.SignatureText.{AreOneLine, EncodesSignature, HasFourLines, SignatureText, AreReadBack, box_read_back, comments_read_back, is_known_algorithm, signature_refusal, signature_text, trusted_comment_label};
 ghost use Rattle.minisign.specs.TextFiles.{IsTextFileFault};
-ghost use Rattle.minisign.specs.Texts.{IsBase64Of, IsDecided, IsRefused, base64_bytes, is_base64, untrusted_comment_label};
+ghost use Rattle.minisign.specs.Texts.{IsBase64Of, IsRefused, base64_bytes, is_base64, untrusted_comment_label};
 
 use crate::constants::{SIGALG, SIGALG_PREHASHED};
 use crate::reading::read_text_file;
@@ -94,9 +94,6 @@ impl SignatureBox {
         // reads as no box.
         ensures refused { IfErr result (λ e. (e ≡ Named OutOfMemory)
             ⊎ IsRefused (SignatureText text.now) (signature_refusal text.now) e) }
-
-        // No test fails exactly when the text reads as some box, and it reads as one at most.
-        ensures decided { IsDecided (SignatureText text.now) (signature_refusal text.now) }
     {
         read_text(alloc, text)
     }

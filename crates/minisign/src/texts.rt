@@ -1,18 +1,33 @@
 //! Reading and writing texts: their lines one after the other, and base64.
 
-ghost use Rattle.std.specs.Prelude.{◌≡◌, ◌+◌, ◌≤◌, [], ◌∷◌, ◌++◌, length, false, string_bytes, IfOk, IfErr, OnOk, IfSome, IfNone};
+ghost use Rattle.std.specs.Prelude.{◌≡◌, ℕ, ◌+◌, ◌≤◌, List, [], ◌∷◌, ◌++◌, length, false, string_bytes, IfOk, IfErr, OnOk, IfSome, IfNone};
 ghost use Rattle.std.specs.Str.Lines.{lines};
 ghost use Rattle.std.specs.Str.Iter.{lines_rest};
 ghost use Rattle.minisign_base.specs.Fault.{Named};
 ghost use Rattle.minisign_base.specs.declared.faults.NamedFault.TheVariants.{OutOfMemory};
 ghost use Rattle.minisign.specs.Lines.{line};
-ghost use Rattle.minisign.specs.Texts.{IsBase64Of, base64_of, is_base64};
+ghost use Rattle.minisign.specs.PublicKeyText.{BarePublicKey, PublicKeyText, bare_public_key_refusal, public_key_refusal};
+ghost use Rattle.minisign.specs.SecretKeyText.{SecretKeyText, secret_key_refusal};
+ghost use Rattle.minisign.specs.SignatureText.{SignatureText, signature_refusal};
+ghost use Rattle.minisign.specs.Texts.{IsBase64Of, IsDecided, base64_of, is_base64};
 
 use base64::DecodeAllocError;
 use base64::engine::general_purpose::STANDARD;
 use minisign_base::{NamedFault, Result};
 use std::alloc::Global;
 use std::str::Lines;
+
+/// A law, for which nothing is done: the first case that fails decides about each text that the
+/// library reads.
+#[tactic(auto, using(crate::proofs::PublicKeyTexts::decided, crate::proofs::PublicKeyTexts::bare_decided, crate::proofs::SignatureTexts::decided, crate::proofs::SecretKeyTexts::decided))]
+pub fn texts_are_decided()
+    // No test fails exactly when a text reads as some public key (from its text, or from bare
+    // base64), as some box, or as some secret key; and it reads as one at most.
+    ensures public_key { (text : List ℕ) → IsDecided (PublicKeyText text) (public_key_refusal text) }
+    ensures bare_public_key { (text : List ℕ) → IsDecided (BarePublicKey text) (bare_public_key_refusal text) }
+    ensures signature { (text : List ℕ) → IsDecided (SignatureText text) (signature_refusal text) }
+    ensures secret_key { (text : List ℕ) → IsDecided (SecretKeyText text) (secret_key_refusal text) }
+{}
 
 // The next line of a text: what comes before a line feed, less one carriage return at its end, or
 // what is left.

@@ -1,13 +1,13 @@
 //! Whether a signature box vouches for data under a public key.
 
-ghost use Rattle.std.specs.Prelude.{◌≡◌, ℕ, List, true, false, ◌⊎◌, IfOk, IfErr, OnOk, OnErr};
+ghost use Rattle.std.specs.Prelude.{◌≡◌, ℕ, Bool, List, true, false, ◌⊎◌, IfOk, IfErr, OnOk, OnErr};
 ghost use Rattle.minisign_base.specs.Devices.{Rose, HasGiven};
 ghost use Rattle.minisign_base.specs.Fault.{Named};
 ghost use Rattle.minisign_base.specs.declared.faults.NamedFault.TheVariants.{OutOfMemory, ReadingFailed, WritingFailed};
 ghost use Rattle.minisign_base.specs.Passages.{Takes, TakesFront, rereader_passage, sink_passage};
 ghost use Rattle.minisign.specs.Reading.{IsReadFault};
 ghost use Rattle.minisign.specs.Records.{PublicKeyRecord, SignatureBoxRecord};
-ghost use Rattle.minisign.specs.Acceptance.{Vouches, Refuses, SameWhereVouched, first_refusal, status_lines};
+ghost use Rattle.minisign.specs.Acceptance.{Verifier, Vouches, Refuses, SameWhereVouched, first_refusal, status_lines};
 ghost use Rattle.minisign.specs.SignedData.{AreSigned, HoldsSigned};
 ghost use Rattle.minisign.specs.Verifying.{FirstPass, MarkFails, VerifyingFails, VerifyingSucceeds, is_reread, wanted_status};
 
@@ -41,7 +41,6 @@ use std::alloc::Global;
 /// failing `out` last. Memory may run out for the buffer of a reading, for the data of a legacy
 /// box, for the trusted comment behind the signature, and for the lines of the status, with
 /// `status` and `out` untouched, and for the buffer of the second reading.
-#[tactic(auto, using(crate::proofs::Unvouched::unvouched_same))]
 pub fn verify<S: Scheme, R: Rereader, W: Sink, O: Sink>(
     alloc: Global,
     scheme: &S,
@@ -120,13 +119,6 @@ pub fn verify<S: Scheme, R: Rereader, W: Sink, O: Sink>(
     // After a refusal the status took a beginning of the lines of the box.
     ensures said_front { OnErr result (TakesFront (sink_passage W.Sink status.old status.new) (wanted_status quiet signature_box.now)) }
 
-    // The verdict does not depend on the untrusted comment, the key's algorithm bytes, or bytes
-    // past the 64th of the comment signature.
-    ensures unvouched { (key : PublicKeyRecord) (other : SignatureBoxRecord) (message : List ℕ) →
-        SameWhereVouched pk.now key signature_box.now other →
-        first_refusal (S.accepts scheme.now) key other message allow_legacy
-        ≡ first_refusal (S.accepts scheme.now) pk.now signature_box.now message allow_legacy }
-
     // Whatever the result, but for `output` of a prehashed box, the source lost at most some bytes
     // at its front.
     ensures given { is_reread output signature_box.now ≡ false → HasGiven (R.ahead data_reader.old) (R.ahead data_reader.new) }
@@ -149,6 +141,17 @@ pub fn verify<S: Scheme, R: Rereader, W: Sink, O: Sink>(
     say(alloc, status, signature_box, quiet)?;
     copy_out(alloc, &signed, data_reader, output, out)
 }
+
+/// A law, for which nothing is done: what a verdict does not depend on, whatever the scheme accepts.
+#[tactic(auto, using(crate::proofs::Unvouched::unvouched_same))]
+pub fn unvouched_parts_change_no_verdict()
+    // The verdict does not depend on the untrusted comment, the key's algorithm bytes, or bytes
+    // past the 64th of the comment signature.
+    ensures { (accepts : Verifier) (pk key : PublicKeyRecord) (x other : SignatureBoxRecord)
+        (message : List ℕ) (legacy : Bool) → SameWhereVouched pk key x other →
+        first_refusal accepts key other message legacy
+        ≡ first_refusal accepts pk x message legacy }
+{}
 
 // Marks the place where the data will be read again, and reads it to its end.
 fn read_data<R: Rereader>(

@@ -10,7 +10,9 @@ ghost use Rattle.minisign.specs.Records.{CommentsRecord, PublicKeyRecord, Signat
 ghost use Rattle.minisign.specs.SignatureText.{SignatureText};
 ghost use Rattle.minisign_external.specs.Questions.{AreOpen, AreReadAs, AreTexts, HoldsMessage, IsRefusedUnasked, has_whole_signature, told_signature};
 
-use minisign::{PError, PublicKey, Result, SignatureView, read_public_key, read_signature};
+use minisign::{
+    PError, PublicKey, Result, SignatureView, read_public_key, read_signature, texts_are_decided,
+};
 use minisign_base::NamedFault;
 use std::marker::Model;
 
@@ -40,6 +42,7 @@ impl<'a> Texts<'a> {
         ensures exact { (k : PublicKeyRecord) (x : SignatureBoxRecord) → PublicKeyText pk_text.now k → SignatureText sig_text.now x → IsOk result }
         ensures refused { IfErr result (λ e. (legacy : Bool) → IsRefusedUnasked pk_text.now sig_text.now legacy e) }
     {
+        texts_are_decided();
         let pk = read_public_key(pk_text)?;
         let signature = read_signature(sig_text)?;
         Ok(Texts { pk, signature })

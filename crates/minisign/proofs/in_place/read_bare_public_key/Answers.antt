@@ -10,6 +10,3 @@ returns-clause-exact c =
 pub returns-clause-refused : goal.returns-clause-refused
 returns-clause-refused c =
     plainly_refused BarePublicKey bare_public_key_refusal bare_decided c.args.text.now c.read_bare.result c.read_bare.ensures.refused
-
-pub returns-clause-decided : goal.returns-clause-decided
-returns-clause-decided c = bare_decided c.args.text.now

@@ -10,6 +10,3 @@ returns-clause-exact c =
 pub returns-clause-refused : goal.returns-clause-refused
 returns-clause-refused c =
     plainly_refused PublicKeyText public_key_refusal decided c.args.text.now c.read_key_text.result c.read_key_text.ensures.refused
-
-pub returns-clause-decided : goal.returns-clause-decided
-returns-clause-decided c = decided c.args.text.now

@@ -10,6 +10,3 @@ returns-clause-exact c = view_exact c.args.text.now c.read_box.result c.read_box
 pub returns-clause-refused : goal.returns-clause-refused
 returns-clause-refused c =
     plainly_refused SignatureText signature_refusal decided c.args.text.now c.read_box.result c.read_box.ensures.refused
-
-pub returns-clause-decided : goal.returns-clause-decided
-returns-clause-decided c = decided c.args.text.now

@@ -1,4 +1,3 @@
-use Rattle.std.proofs.Common.{sym}
 use Rattle.minisign.proofs.MadeKeys.{returned_unsealed}
 use Rattle.minisign.proofs.making.make_secret_key.Goals as goal
 

@@ -11,6 +11,3 @@ returns-clause-exact c =
 pub returns-clause-refused : goal.returns-clause-refused
 returns-clause-refused c =
     refused_for BarePublicKey bare_public_key_refusal bare_decided _ _ c.read_bare.result refl c.read_bare.ensures.refused
-
-pub returns-clause-decided : goal.returns-clause-decided
-returns-clause-decided c = bare_decided c.args.text.now

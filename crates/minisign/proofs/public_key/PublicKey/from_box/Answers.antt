@@ -10,6 +10,3 @@ returns-clause-exact c =
 pub returns-clause-refused : goal.returns-clause-refused
 returns-clause-refused c =
     refused_for PublicKeyText public_key_refusal decided _ _ c.read_text.result c.as_str.ensures c.read_text.ensures.refused
-
-pub returns-clause-decided : goal.returns-clause-decided
-returns-clause-decided c = decided c.args.public_key_box

@@ -1,5 +1,4 @@
 use Rattle.minisign.proofs.Openings.{unencrypted_outcome}
-use Rattle.minisign.proofs.SecretKeyTexts.{decided}
 use Rattle.minisign.proofs.secret_key.SecretKey.from_unencrypted_box.Goals as goal
 
 pub returns-clause-outcome : goal.returns-clause-outcome
@@ -9,6 +8,3 @@ returns-clause-outcome c =
 
 pub returns-clause-one_reading : goal.returns-clause-one_reading
 returns-clause-one_reading c = rw (c.as_str.ensures) at c.unencrypted_from_text.ensures.one_reading
-
-pub returns-clause-decided : goal.returns-clause-decided
-returns-clause-decided c = decided c.args.sk_box

@@ -11,6 +11,3 @@ returns-clause-exact c =
 pub returns-clause-refused : goal.returns-clause-refused
 returns-clause-refused c =
     refused_for SignatureText signature_refusal decided _ _ c.read_text.result refl c.read_text.ensures.refused
-
-pub returns-clause-decided : goal.returns-clause-decided
-returns-clause-decided c = decided c.args.text.now

@@ -10,14 +10,14 @@ returns-in_err-pk-clause-refused c =
 pub returns-in_err-signature-clause-refused : goal.returns-in_err-signature-clause-refused
 returns-in_err-signature-clause-refused c =
     let p = err_from_is_err_and c.from_residual-in_err-signature.result c.from_residual-in_err-signature.ensures.1 in
-    rw (p.1, p.2) (no_box c.args.pk_text.now c.args.sig_text.now c.in_ok-pk.pk _ c.in_ok-pk.ensures.decided c.in_ok-pk.ensures.read c.in_err-signature.ensures.refused)
+    rw (p.1, p.2) (no_box c.args.pk_text.now c.args.sig_text.now c.in_ok-pk.pk _ (c.texts_are_decided.ensures.public_key c.args.pk_text.now) c.in_ok-pk.ensures.read c.in_err-signature.ensures.refused)
 
 pub returns-clause-read : goal.returns-clause-read
 returns-clause-read c =
     let (x, read, view) = c.in_ok-signature.ensures.read in
     record {
       box = x;
-      read = read_as c.args.pk_text.now c.args.sig_text.now c.in_ok-pk.pk x c.in_ok-pk.ensures.decided c.in_ok-pk.ensures.read c.in_ok-signature.ensures.decided read;
+      read = read_as c.args.pk_text.now c.args.sig_text.now c.in_ok-pk.pk x (c.texts_are_decided.ensures.public_key c.args.pk_text.now) c.in_ok-pk.ensures.read (c.texts_are_decided.ensures.signature c.args.sig_text.now) read;
       view = view;
     }
 
