@@ -1,6 +1,6 @@
 -- What a prompt reads and writes: which password is in a line, what a conversation does step by step, and the
 -- steps of asking for a password. The bytes of a prompt are all that its reader has ahead.
-use Rattle.std.specs.Prelude.{◌≡◌, ℕ, ◌+◌, ◌<◌, min, nat_lt, ◌==◌, not, List, [], ◌∷◌, ◌++◌, length, take, drop, Option, None, Some, IfSome, Result, Ok, Err, codes, if◌then◌else◌}
+use Rattle.std.specs.Prelude.{◌≡◌, ◌⊎◌, ℕ, ◌+◌, ◌<◌, ◌≤◌, min, nat_lt, ◌==◌, not, List, [], ◌∷◌, ◌++◌, length, take, drop, Option, None, Some, IfSome, Result, Ok, Err, MatchResult, codes, if◌then◌else◌}
 use Rattle.std.specs.Io.KnownBytes.{Appends}
 use Rattle.std.specs.List.{position_or_len}
 use Rattle.std.specs.Result.{result_err, result_unwrap_or}
@@ -60,6 +60,15 @@ pub record HasFailedInLine {R : Type 0} (r : SourcePassage R) : Type 0 where
   pub fault : Rose (r.source.faults r.old) (r.source.faults r.new)
   pub given : IfSome (r.source.ahead r.new) (λ ys. IfSome (r.source.ahead r.old) (λ xs.
       (front : List ℕ) × (xs ≡ front ++ ys) × (length front < 1026)))
+
+-- how reading a line into a buffer ends: this many bytes of the buffer are the line, and they give the password or the
+-- fault that the bytes ahead give; or the reader failed inside the line, or the bytes ahead give this fault
+abbrev pub IsReadingLine : {R : Type 0} → SourcePassage R → List ℕ → Result ℕ Fault → Type 0
+IsReadingLine r line answer =
+    MatchResult answer
+    (λ n. (bytes : List ℕ) × HasReadLine r bytes × (n ≤ length line) × (password_of bytes ≡ accepted_line (take n line)))
+    (λ e. ((e ≡ Named ReadingFailed) × HasFailedInLine r)
+    ⊎ ((bytes : List ℕ) × HasReadLine r bytes × (password_of bytes ≡ Err e)))
 
 -- the passage over a prompt's reader
 abbrev pub reader_passage : {R W : Type 0} → PromptPassage R W → SourcePassage R

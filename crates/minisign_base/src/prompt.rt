@@ -7,7 +7,7 @@ ghost use Rattle.minisign_base.specs.Devices.{Rose, StaysOrHides};
 ghost use Rattle.minisign_base.specs.Passages.{prompt_passage, source_passage};
 ghost use Rattle.minisign_base.specs.Fault.{Named};
 ghost use Rattle.minisign_base.specs.declared.faults.NamedFault.TheVariants.{EndOfInput, ReadingFailed, WritingFailed};
-ghost use Rattle.minisign_base.specs.Prompts.{HasFailedInLine, HasHeld, HasNotSaid, HasReadLine, HasSaid, HasStopped, accepted_line, marking, password_of};
+ghost use Rattle.minisign_base.specs.Prompts.{HasFailedInLine, HasHeld, HasNotSaid, HasReadLine, HasSaid, HasStopped, IsReadingLine, accepted_line, marking, password_of};
 
 use crate::devices::sinks::{NoSink, Sink, put_and_flush};
 use crate::devices::sources::{NoSource, Source};
@@ -116,13 +116,7 @@ impl Prompt<NoSource, NoSink> {
 // before it are no part of it. No more than 1026 bytes are read, one at a time.
 fn read_line<R: Source>(source: &mut R, line: &mut [u8]) -> Result<usize>
     requires { length line.old ≡ 1026 }
-    ensures outcome { MatchResult result
-        (λ n. (bytes : List ℕ) × HasReadLine (source_passage R.Source source.old source.new) bytes
-        × (n ≤ length line.new) × (password_of bytes ≡ accepted_line (take n line.new)))
-        (λ e. ((e ≡ Named ReadingFailed)
-        × HasFailedInLine (source_passage R.Source source.old source.new))
-        ⊎ ((bytes : List ℕ) × HasReadLine (source_passage R.Source source.old source.new) bytes
-        × (password_of bytes ≡ Err e))) }
+    ensures outcome { IsReadingLine (source_passage R.Source source.old source.new) line.new result }
 {
     let mut used = 0;
     'bytes: while used < line.len() {

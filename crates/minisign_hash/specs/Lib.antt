@@ -1,4 +1,5 @@
 pub mod Words
 pub mod Blake2b
+pub mod Blocks
 pub mod Fed
 pub mod Stored
