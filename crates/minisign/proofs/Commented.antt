@@ -9,7 +9,7 @@ use Rattle.minisign_base.specs.Fault.{Fault, Named}
 use Rattle.minisign_base.specs.declared.faults.NamedFault.TheVariants.{OutOfMemory}
 use Rattle.minisign_base.specs.Passages.{RereaderPassage, SinkPassage}
 use Rattle.minisign.specs.Acceptance.{Flags, Refuses, Verifier, Vouches}
-use Rattle.minisign.specs.Calls.{CopyIsVouchedWith, CopyingFails, IsCommentOf, IsCommentVerdict, IsFileVerdict, TextsVouchWith}
+use Rattle.minisign.specs.Calls.{CopyIsVouchedWith, CopyVerifiedFails, IsCommentOf, IsCommentVerdict, IsFileVerdict, TextsVouchWith}
 use Rattle.minisign.specs.Headline.{IsVerdict, TextsRefuse, TextsVouchFor}
 use Rattle.minisign.specs.Reading.{IsAhead, ReadingFails}
 use Rattle.minisign.specs.Records.{PublicKeyRecord, SignatureBoxRecord, is_prehashed, prehashed_algorithm}
@@ -170,7 +170,7 @@ copied_with bytes accepts pk sig reader status out (Err e) ok said = tt
 -- why nothing, or not all, was copied
 pub copy_refused : {T R W O : Type 0} (accepts : Verifier) (pk sig : List ℕ) (reader : RereaderPassage R) (status : SinkPassage W) (out : SinkPassage O) (r : Result T Fault)
     → IfErr r (VerifyingTextsFails accepts pk sig (silently true) reader status out)
-    → IfErr r (CopyingFails accepts pk sig reader out)
+    → IfErr r (CopyVerifiedFails accepts pk sig reader out)
 copy_refused accepts pk sig reader status out (Ok t) err = tt
 copy_refused accepts pk sig reader status out (Err e) err =
     ⊎_elim

@@ -57,16 +57,16 @@ abbrev goes_back : Fault → Bool
 goes_back (Named GoingBackFailed) = true
 goes_back _ = false
 
--- a failing mark is not told as a failing read
+-- a failing mark is not reported as a failing read
 unlike_reading : Named GoingBackFailed ≢ Named ReadingFailed
 unlike_reading same = true≢false (ap goes_back same)
 
--- where a mark fails nothing is told as a failing read
+-- where a mark fails nothing is reported as a failing read
 pub mark_is_no_read : {R : Type 0} (again other : Bool) (reader : RereaderPassage R) (e : Fault) → MarkFails again reader e
     → other ≡ true → e ≡ Named ReadingFailed → reader.source.is_marked reader.new ≡ true
 mark_is_no_read again other reader e fails wanted fault = absurd (unlike_reading (sym fails.fault ∙ fault))
 
--- the first pass was made, and then memory was wanting or the box is refused
+-- the first pass was made, and then memory ran out or the box is refused
 pub judging_fails : {R W O : Type 0} (accepts : Verifier) (pk : PublicKeyRecord) (x : SignatureBoxRecord) (flags : Flags)
     (reader : RereaderPassage R) (status : SinkPassage W) (out : SinkPassage O) (message : List ℕ) (e : Fault)
     → out.new ≡ out.old → status.new ≡ status.old → SourceGives reader → FirstPass (is_reread flags.output x) reader message

@@ -2,7 +2,7 @@
 use Rattle.std.proofs.Common.{◌≡◌, ℕ, true, List, ◌++◌, length, Option, Some, inl, refl, sym, ◌∙◌, arith}
 use Rattle.std.proofs.lemmas.List.{take_all}
 use Rattle.minisign_hash.specs.Blake2b.{blake2b_digest}
-use Rattle.minisign_base.specs.Scheme.{IsBytes, IsNonce}
+use Rattle.minisign_base.specs.Scheme.{IsBytes, AreRandomBytes}
 use Rattle.minisign.specs.Records.{SecretKeyRecord, SignatureBoxRecord, prehashed_algorithm}
 use Rattle.minisign.specs.Acceptance.{Verifier}
 use Rattle.minisign.specs.Signing.{Signer, ChosenComments, signed_box, VouchesWhereGenuine}
@@ -24,7 +24,7 @@ made_box sign sk message chosen first second keynum signature global same_keynum
 
 -- the law of a scheme: what was signed with a seed's secret key is accepted under its public key
 abbrev pub AcceptsOwn : Verifier → Signer → (List ℕ → List ℕ) → Type 0
-AcceptsOwn accepts sign public_of = (seed m : List ℕ) (z : Option (List ℕ)) → IsBytes seed → length seed ≡ 32 → IsBytes m → IsNonce z
+AcceptsOwn accepts sign public_of = (seed m : List ℕ) (z : Option (List ℕ)) → IsBytes seed → length seed ≡ 32 → IsBytes m → AreRandomBytes z
     → accepts m (public_of seed) (sign m (seed ++ public_of seed) z) ≡ true
 
 -- parts that were made with a genuine key are accepted under its public key
@@ -32,12 +32,12 @@ pub genuine_box : (accepts : Verifier) (sign : Signer) (public_of : List ℕ →
     → (sk : SecretKeyRecord) (message : List ℕ) (chosen : ChosenComments) (first second keynum signature global : List ℕ)
     → keynum ≡ sk.keynum → signature ≡ sign (blake2b_digest 64 message) sk.secret (Some first)
     → global ≡ sign (signature ++ chosen.trusted) sk.secret (Some second)
-    → IsBytes (blake2b_digest 64 message) → IsBytes (signature ++ chosen.trusted) → IsNonce (Some first) → IsNonce (Some second)
+    → IsBytes (blake2b_digest 64 message) → IsBytes (signature ++ chosen.trusted) → AreRandomBytes (Some first) → AreRandomBytes (Some second)
     → length global ≡ 64 → VouchesWhereGenuine accepts public_of sk message (box_of keynum signature chosen global)
 genuine_box accepts sign public_of own sk message chosen first second keynum signature global
-    same_keynum same_signature same_global digest_bytes signed_bytes first_nonce second_nonce long seed genuine pk legacy key identifier =
-    let digest_accepted = own seed (blake2b_digest 64 message) (Some first) genuine.seed_bytes genuine.seed_length digest_bytes first_nonce in
-    let comment_accepted = own seed (signature ++ chosen.trusted) (Some second) genuine.seed_bytes genuine.seed_length signed_bytes second_nonce in
+    same_keynum same_signature same_global digest_bytes signed_bytes first_random second_random long seed genuine pk legacy key identifier =
+    let digest_accepted = own seed (blake2b_digest 64 message) (Some first) genuine.seed_bytes genuine.seed_length digest_bytes first_random in
+    let comment_accepted = own seed (signature ++ chosen.trusted) (Some second) genuine.seed_bytes genuine.seed_length signed_bytes second_random in
     record {
       same_key = same_keynum ∙ sym identifier;
       allowed = inl refl;

@@ -88,8 +88,8 @@ pub record CopyingBreaksOff {R O : Type 0} (accepts : Verifier) (pk_text sig_tex
   pub again : SecondPassFails (SecondPass reader) reader out (blake2b_digest 64 message) e
 
 -- why copying was refused: before anything was copied, or meanwhile
-abbrev pub CopyingFails : {R O : Type 0} → Verifier → List ℕ → List ℕ → RereaderPassage R → SinkPassage O → Fault → Type 0
-CopyingFails accepts pk_text sig_text reader out e =
+abbrev pub CopyVerifiedFails : {R O : Type 0} → Verifier → List ℕ → List ℕ → RereaderPassage R → SinkPassage O → Fault → Type 0
+CopyVerifiedFails accepts pk_text sig_text reader out e =
     NothingIsCopied accepts pk_text sig_text reader out e ⊎ CopyingBreaksOff accepts pk_text sig_text reader out e
 
 -- the text gives this key under the password: the key was never sealed and its checksum matches, whatever the

@@ -9,7 +9,7 @@ use Rattle.minisign_base.specs.Devices.{Rose}
 use Rattle.minisign_base.specs.Passages.{RandomPassage, SourcePassage}
 use Rattle.minisign_base.specs.Fault.{Fault, Named}
 use Rattle.minisign_base.specs.declared.faults.NamedFault.TheVariants.{OutOfMemory, RandomSourceFailed, EncryptedKeyRefused, RefusedByGivenKey}
-use Rattle.minisign_base.specs.Scheme.{IsBytes, IsNonce}
+use Rattle.minisign_base.specs.Scheme.{IsBytes, AreRandomBytes}
 use Rattle.minisign.specs.Records.{PublicKeyRecord, SecretKeyRecord, SignatureBoxRecord, prehashed_algorithm}
 use Rattle.minisign.specs.Acceptance.{Verifier, VouchesUnderEachKey, accepts_comments}
 use Rattle.minisign.specs.Reading.{ReadsWhole, ReadingFails}
@@ -60,8 +60,8 @@ HasDrawn z bytes = Consumes (z.random.random_ahead z.old) (z.random.random_ahead
 pub record IsSigned {Z : Type 0} (sign : Signer) (sk : SecretKeyRecord) (message : List ℕ) (chosen : ChosenComments) (z : RandomPassage Z) (x : SignatureBoxRecord) : Type 0 where
   pub first : List ℕ
   pub second : List ℕ
-  pub first_nonce : IsNonce (Some first)
-  pub second_nonce : IsNonce (Some second)
+  pub first_random : AreRandomBytes (Some first)
+  pub second_random : AreRandomBytes (Some second)
   pub drawn : HasDrawn z (first ++ second)
   pub box : x ≡ signed_box sign sk message chosen first second
 

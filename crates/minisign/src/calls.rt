@@ -4,7 +4,7 @@ ghost use Rattle.std.specs.Prelude.{◌≡◌, ◌⊎◌, ℕ, List, true, false
 ghost use Rattle.minisign_base.specs.Fault.{Named};
 ghost use Rattle.minisign_base.specs.declared.faults.NamedFault.TheVariants.{OutOfMemory};
 ghost use Rattle.minisign_base.specs.Passages.{rereader_passage, sink_passage};
-ghost use Rattle.minisign.specs.Calls.{CopiesExactly, CopyIsVouchedWith, CopyingFails, IsCommentOf, IsCommentVerdict, IsFileVerdict, ReadsExactly, TextsVouchWith};
+ghost use Rattle.minisign.specs.Calls.{CopiesExactly, CopyIsVouchedWith, CopyVerifiedFails, IsCommentOf, IsCommentVerdict, IsFileVerdict, ReadsExactly, TextsVouchWith};
 ghost use Rattle.minisign.specs.Headline.{TextsRefuse, VerifiesExactly};
 ghost use Rattle.minisign.specs.Reading.{IsAhead, ReadingFails};
 ghost use Rattle.minisign.specs.VerifyingTexts.{ReadTexts, TextsFail, VerifyingTextsFails, VerifyingTextsSucceeds};
@@ -268,7 +268,7 @@ pub fn copy_verified<S: Scheme, R: Rereader, O: Sink>(
     // After a refusal nothing was copied, or the texts vouch for what was read first and the
     // copying failed: going back, memory, the second reading or the output did, or the second
     // reading had another digest.
-    ensures refused { IfErr result (CopyingFails (S.accepts scheme.now) pk_text.now sig_text.now
+    ensures refused { IfErr result (CopyVerifiedFails (S.accepts scheme.now) pk_text.now sig_text.now
         (rereader_passage R.Source R.steady data_reader.old data_reader.new) (sink_passage O.Sink out.old out.new)) }
 {
     verify_with(

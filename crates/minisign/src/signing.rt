@@ -5,7 +5,7 @@ ghost use Rattle.std.specs.Option.{option_copied, unwrap_or};
 ghost use Rattle.minisign_hash.specs.Blake2b.{blake2b_digest};
 ghost use Rattle.minisign_base.specs.Devices.{HasGiven};
 ghost use Rattle.minisign_base.specs.Passages.{random_passage, source_passage};
-ghost use Rattle.minisign_base.specs.Scheme.{IsNonce};
+ghost use Rattle.minisign_base.specs.Scheme.{AreRandomBytes};
 ghost use Rattle.minisign_base.specs.Fault.{Named};
 ghost use Rattle.minisign_base.specs.declared.faults.NamedFault.TheVariants.{OutOfMemory};
 ghost use Rattle.minisign.specs.Reading.{ReadsWhole};
@@ -159,8 +159,8 @@ fn draw_twice<Z: RandomSource>(random: &mut Z) -> Result<([u8; 64], [u8; 64])>
     ensures drawn { IfOk result
         (λ z. HasDrawn (random_passage Z.RandomSource random.old random.new) (z.0 ++ z.1)) }
     ensures calm { OnOk result (Z.random_faults random.new ≡ Z.random_faults random.old) }
-    ensures first { IfOk result (λ z. IsNonce (Some z.0)) }
-    ensures second { IfOk result (λ z. IsNonce (Some z.1)) }
+    ensures first { IfOk result (λ z. AreRandomBytes (Some z.0)) }
+    ensures second { IfOk result (λ z. AreRandomBytes (Some z.1)) }
     ensures refused { IfErr result
         (DrawFails (random_passage Z.RandomSource random.old random.new)) }
     ensures given { HasGiven (Z.random_ahead random.old) (Z.random_ahead random.new) }

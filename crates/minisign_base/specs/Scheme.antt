@@ -6,5 +6,5 @@ abbrev pub IsBytes : List ℕ → Type 0
 IsBytes b = (i : ℕ) → slice_index b i < 256
 
 -- 64 random bytes, or none
-abbrev pub IsNonce : Option (List ℕ) → Type 0
-IsNonce z = IfSome z (λ r. IsBytes r × (length r ≡ 64))
+abbrev pub AreRandomBytes : Option (List ℕ) → Type 0
+AreRandomBytes z = IfSome z (λ r. IsBytes r × (length r ≡ 64))

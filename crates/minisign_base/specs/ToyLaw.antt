@@ -2,16 +2,16 @@
 use Rattle.std.proofs.Common.{◌≡◌, ℕ, Option, None, Some, List, ◌++◌, length, drop, ◌||◌, true, false, refl, arith}
 use Rattle.std.proofs.lemmas.List.{drop_at, length-replicate, length-take-le, take_at}
 use Rattle.std.proofs.lemmas.Slice.Eq.{bytes_eq-Decides}
-use Rattle.minisign_base.specs.Scheme.{IsBytes, IsNonce}
+use Rattle.minisign_base.specs.Scheme.{IsBytes, AreRandomBytes}
 use Rattle.minisign_base.specs.Toy.{toy_public_of, toy_signature_of, toy_accepts, toy_accepts_with, is_listed, random_half, tied_half}
 use Rattle.minisign_base.specs.declared.toy.Triple.{Triple}
 
 -- the random half has 32 bytes
-length-random_half : (z : Option (List ℕ)) → IsNonce z → length (random_half z) ≡ 32
+length-random_half : (z : Option (List ℕ)) → AreRandomBytes z → length (random_half z) ≡ 32
 length-random_half None h = length-replicate {A = ℕ} 32 0
 length-random_half (Some z) h = length-take-le 32 z (omega (arith, h.1))
 
-tied_accepted : (seed m : List ℕ) (z : Option (List ℕ)) → IsBytes seed → length seed ≡ 32 → IsBytes m → IsNonce z
+tied_accepted : (seed m : List ℕ) (z : Option (List ℕ)) → IsBytes seed → length seed ≡ 32 → IsBytes m → AreRandomBytes z
     → toy_accepts m (toy_public_of seed) (toy_signature_of m (seed ++ toy_public_of seed) z) ≡ true
 tied_accepted seed m z bytes len message nonce =
     let random = random_half z in
@@ -20,7 +20,7 @@ tied_accepted seed m z bytes len message nonce =
     let tied = tied_half random (drop 32 (seed ++ key)) m in
     rw (take_at random tied 32 size, drop_at random tied 32 size, drop_at seed key 32 len) ((bytes_eq-Decides (tied_half random key m) (tied_half random key m)).1 refl)
 
-pub own_accepted : (table : List Triple) (seed m : List ℕ) (z : Option (List ℕ)) → IsBytes seed → length seed ≡ 32 → IsBytes m → IsNonce z
+pub own_accepted : (table : List Triple) (seed m : List ℕ) (z : Option (List ℕ)) → IsBytes seed → length seed ≡ 32 → IsBytes m → AreRandomBytes z
     → toy_accepts_with table m (toy_public_of seed) (toy_signature_of m (seed ++ toy_public_of seed) z) ≡ true
 own_accepted table seed m z bytes len message nonce =
     let key = toy_public_of seed in

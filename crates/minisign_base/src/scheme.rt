@@ -2,7 +2,7 @@
 
 ghost use Rattle.std.specs.Prelude.{◌≡◌, ℕ, List, ◌++◌, Option, Bool, true, length};
 ghost use Rattle.std.specs.Option.{option_map};
-ghost use Rattle.minisign_base.specs.Scheme.{IsBytes, IsNonce};
+ghost use Rattle.minisign_base.specs.Scheme.{IsBytes, AreRandomBytes};
 
 /// A lawful signature scheme. A secret key has 64 bytes, the 32 of its seed and then the 32 of its
 /// public key, and a signature has 64. No call refuses or takes memory.
@@ -31,6 +31,6 @@ pub trait Scheme {
 
     // What was signed with a seed's secret key is accepted under its public key.
     ghost accepts_own: { (s : Self) (seed m : List ℕ) (z : Option (List ℕ)) → IsBytes seed → length seed ≡ 32
-        → IsBytes m → IsNonce z
+        → IsBytes m → AreRandomBytes z
         → accepts s m (public_of s seed) (signature_of s m (seed ++ public_of s seed) z) ≡ true };
 }

@@ -42,7 +42,7 @@ pub fn holds(answer: &Result<bool>) -> bool {
     }
 }
 
-/// Whether it was found out and holds, or memory was wanting.
+/// Whether it was found out and holds, or memory ran out.
 pub fn is_right_or_wanting(answer: &Result<bool>) -> bool {
     match answer {
         Ok(right) => *right,

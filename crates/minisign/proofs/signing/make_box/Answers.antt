@@ -25,8 +25,8 @@ returns-clause-signed g c = λ message same_digest.
       record {
         first = c.in_ok-first.first;
         second = c.in_ok-first.second;
-        first_nonce = c.in_ok-first.ensures.first;
-        second_nonce = c.in_ok-first.ensures.second;
+        first_random = c.in_ok-first.ensures.first;
+        second_random = c.in_ok-first.ensures.second;
         drawn = c.in_ok-first.ensures.drawn;
         box = made_box sign c.args.sk.now message chosen c.in_ok-first.first c.in_ok-first.second c.sk.inside.keynum_sk.keynum c.signature-sig.result c.in_ok-from_slice.field-0.items
             keynum signature global;
