@@ -1,5 +1,5 @@
 -- What the parts of an installation bring together.
-use Rattle.std.proofs.Common.{◌≡◌, ◌≢◌, ◌⊎◌, ◌≤◌, ◌<◌, ◌^◌, inl, inr, ⊎_elim, ℕ, suc, zero, Bool, false, List, ◌∷◌, ◌++◌, Option, Some, None, ap, sym, subst, refl, ◌∙◌, append_assoc, get_or, OnOk, true, arith, lit<}
+use Rattle.std.proofs.Common.{◌≡◌, ◌≢◌, ◌≤◌, ◌<◌, ◌^◌, inl, inr, ⊎_elim, ℕ, suc, zero, Bool, false, List, Option, Some, None, ap, sym, subst, ◌∙◌, get_or, OnOk, true, arith, lit<}
 use Rattle.std.proofs.lemmas.Fmt.{decimal_digit, decimal_is_IsNumeral, first_decimal, IsAscii-decimal}
 use Rattle.std.proofs.lemmas.Str.{IsUtf8-from_ascii}
 use Rattle.std.proofs.lemmas.Str.Parse.{without_leading_plus_none}

@@ -7,19 +7,19 @@ use Rattle.minisign_base.specs.declared.faults.NamedFault.TheVariants.{OutOfMemo
 use Rattle.minisign.specs.Acceptance.{Verifier}
 use Rattle.minisign.specs.Headline.{TextsRefuse}
 use Rattle.minisign.specs.Reading.{IsAhead}
-use Rattle.minisign_install.specs.Folders.{Clears, HasCreated, HasLocked, HasStepped, IsFound, KeepsNames, Reads, Renames, Run, SettlesNames}
+use Rattle.minisign_install.specs.Folders.{Clears, HasCreated, HasLocked, HasStepped, IsBusy, IsFound, IsStill, KeepsNames, Reads, Renames, Run, SettlesNames}
 use Rattle.minisign_install.specs.Installing.{IsBrought, IsKeptNumber, IsRecordBrought, IsUpdate, Terms}
 use Rattle.minisign_install.specs.Refusals.{Counts, IsCause, IsDataCause, IsDeviceFault, HasNamed, IsDataRefusal, IsLockedRefusal, IsReadingFault, IsRecordRefused, IsRefusal, counts}
 use Rattle.minisign_install.specs.Runs.{BringsNothing, BringsOnly, HasCleared, HasStage}
 use Rattle.minisign_base.specs.Devices.{Rose}
 use Rattle.minisign_install.proofs.Counts.{Lasts, device_lasts, with_random}
 use Rattle.minisign_install.specs.declared.faults.InstallFault.{InstallFault}
-use Rattle.minisign_install.specs.declared.faults.InstallFault.TheVariants.{DamagedRecord, FolderNotOnDisk, Library, NoRecord}
+use Rattle.minisign_install.specs.declared.faults.InstallFault.TheVariants.{DamagedRecord, FolderNotOnDisk, Library, NoRecord, PlaceInUse}
 use Rattle.minisign_install.specs.declared.folders.Name.{Name}
 use Rattle.minisign_install.specs.declared.folders.Name.TheVariants.{Place, Record}
 use Rattle.minisign_install.proofs.Installs.{found_first}
 use Rattle.minisign_install.proofs.Moments.{step}
-use Rattle.minisign_install.proofs.Works.{created_brings, created_stage, brings_nothing, brings_trans, renamed_stands}
+use Rattle.minisign_install.proofs.Works.{asked_still, created_brings, created_stage, brings_nothing, brings_trans, renamed_stands}
 
 -- a fault that is passed on
 pub passed_up : {T E : Type 0} (r : Result T E) (e : E) (W : E → Type 0) → IsErrAnd r (λ y. y ≡ e) → W e → IfErr r W
@@ -218,6 +218,23 @@ record_refused accepts terms ahead first begin before after old cleared read e c
     inl (none, (_, reading, inr (inl (refl, inr (subst (λ c. Rose c.folder after.folder) calm rose)))))
 record_refused accepts terms ahead first begin before after old cleared read e calm locked clear all none (inr (found, s, why)) =
     inr (inl (all, none, (found, found_first found old cleared read locked clear s, why)))
+
+-- the lock was not got
+pub lock_refused : (accepts : Verifier) (terms : Terms) (first : Bool) (ahead : Option (List ℕ)) (before after : Counts) (old new : Run) (e : InstallFault)
+    → (HasStepped old new IsBusy × (e ≡ PlaceInUse)) ⊎ (HasStepped old new IsStill × (e ≡ Library (Named ReadingFailed)) × Rose before.folder after.folder)
+    → IsRefusal accepts terms first ahead before after old new e
+lock_refused accepts terms first ahead before after old new e (inl busy) = inl busy
+lock_refused accepts terms first ahead before after old new e (inr (still, reading, rose)) = inr (inl (still, (_, reading, inr (inl (refl, inr rose)))))
+
+pub lock_still : (old new : Run) (e : InstallFault) (f g : ℕ) → (HasStepped old new IsBusy × (e ≡ PlaceInUse)) ⊎ (HasStepped old new IsStill × (e ≡ Library (Named ReadingFailed)) × Rose f g)
+    → HasStepped old new IsStill
+lock_still old new e f g (inl (busy, in_use)) = asked_still false old new busy
+lock_still old new e f g (inr (still, reading, rose)) = still
+
+pub lock_cause : (accepts : Verifier) (terms : Terms) (first : Bool) (before after : Counts) (e : InstallFault) → (e ≡ PlaceInUse) ⊎ ((e ≡ Library (Named ReadingFailed)) × Rose before.folder after.folder)
+    → IsCause accepts terms first before after e
+lock_cause accepts terms first before after e (inl busy) = inl busy
+lock_cause accepts terms first before after e (inr (reading, rose)) = inr (inr (inl (_, reading, inr (inl (refl, inr rose)))))
 
 -- the lock was held for what was refused
 pub update_refused : (accepts : Verifier) (terms : Terms) (first : Bool) (ahead : Option (List ℕ)) (begin before after : Counts) (old locked new : Run) {A : Type 0} (r : Result A InstallFault)

@@ -1,5 +1,5 @@
 -- An update is installed exactly where it can be.
-use Rattle.std.proofs.Common.{◌≡◌, ◌≢◌, ◌⊎◌, inl, inr, ◌<◌, ◌≤◌, ◌++◌, ℕ, Bool, true, false, List, [], Option, Some, None, ap, sym, subst, ◌∙◌, refl, length, drop, arith, IfErr, OnOk}
+use Rattle.std.proofs.Common.{◌≡◌, ◌≢◌, inl, inr, ◌++◌, ℕ, Bool, true, false, List, [], Option, Some, None, ap, sym, subst, ◌∙◌, refl, length, drop, arith, IfErr, OnOk}
 use Rattle.std.proofs.lemmas.Bool.{true≢false}
 use Rattle.std.proofs.Math.Seq.{drop-append_seam}
 use Rattle.std.specs.Str.{IsUtf8, trim}
@@ -103,7 +103,7 @@ module _ (accepts : Verifier) (terms : Terms) (first : Bool) where
   locked_verdict ahead before after locked new e memory calm (inr (inr (cleared, (found, kept, there, number, (inr (inr (inr (inl (brings, writing, rose))))))))) = absurd (calm (inr (inr rose)))
   locked_verdict ahead before after locked new e memory calm (inr (inr (cleared, (found, kept, there, number, (inr (inr (inr (inr (brings, placed, folder, rose))))))))) = absurd (calm (inr (inr rose)))
 
-  refused_exactly : (A : Type 0) (ahead : Option (List ℕ)) (before after : Counts) (old new : Run) (e : InstallFault) → IsRefusal accepts terms first ahead before after old new e
+  pub refused_exactly : (A : Type 0) (ahead : Option (List ℕ)) (before after : Counts) (old new : Run) (e : InstallFault) → IsRefusal accepts terms first ahead before after old new e
       → InstallsExactly {T = A} accepts terms first ahead before after old new (Err e)
   refused_exactly A ahead before after old new e (inl (busy, in_use)) = λ memory calm. inl (busy, in_use)
   refused_exactly A ahead before after old new e (inr (inl (still, device))) = λ memory calm. memory_only before after e _ memory calm device

@@ -4,7 +4,7 @@ use Rattle.std.proofs.Common.{Bool, false, ◌≡◌, ◌≢◌, ◌⊎◌, inl,
 use Rattle.std.proofs.lemmas.List.Elements.{All-cons, All-nil, All-append}
 use Rattle.std.specs.declared.result.Result.{Result}
 use Rattle.std.specs.declared.result.Result.TheVariants.{Ok, Err}
-use Rattle.minisign_install.specs.Folders.{Appends, Clears, ClearsAll, Creates, GivesRights, HasCreated, HasLocked, HasRemoved, HasStepped, HasTried, IsApart, IsAsked, IsStill, KeepsNames, KeepsOwn, MayLead, Moment, OthersLeave, OwnsLess, OwnsMore, Perhaps, Removes, Renames, Run, Settles, SettlesNames, Spoils, Stands, Step}
+use Rattle.minisign_install.specs.Folders.{Appends, Clears, ClearsAll, Creates, GivesRights, HasCreated, HasLocked, HasRemoved, HasStepped, HasTried, IsApart, IsAsked, IsStill, KeepsNames, KeepsOwn, MayLead, Moment, OthersLeave, OwnsLess, OwnsMore, Perhaps, Removes, Renames, Run, Settles, SettlesNames, Spoils, Stands}
 use Rattle.minisign_install.specs.Runs.{Brings, HasCleared, HasLetGo, KeepsAt, Lasts, BringsNothing, BringsOnly, Goes, GoesBeside, HasRecorded, HasStage, IsKept, IsOnly, KeepsOthers, KeepsStages, OwnsNoMore, WorksOn, IsPublished, rights_of}
 use Rattle.minisign_install.specs.declared.folders.Name.{Name}
 use Rattle.minisign_install.specs.declared.folders.Name.TheVariants.{Record}

@@ -7,8 +7,8 @@ ghost use Rattle.minisign_base.specs.declared.faults.NamedFault.TheVariants.{Out
 ghost use Rattle.minisign.specs.Calls.{TextsVouchWith};
 ghost use Rattle.minisign.specs.Headline.{TextsRefuse};
 ghost use Rattle.minisign.specs.Reading.{IsAhead};
-ghost use Rattle.minisign_install.specs.declared.faults.InstallFault.TheVariants.{FolderNotOnDisk, Library};
-ghost use Rattle.minisign_install.specs.Folders.{HasLocked, Held, Run, Told};
+ghost use Rattle.minisign_install.specs.declared.faults.InstallFault.TheVariants.{FolderNotOnDisk, Library, PlaceInUse};
+ghost use Rattle.minisign_install.specs.Folders.{Clears, ClearsAll, HasLocked, HasStepped, HasTried, Held, IsBusy, IsStill, KeepsOwn, Run, Told};
 ghost use Rattle.minisign_install.specs.Installing.{HasInstalled, InstallsLocked, InstallsOnlyUpdates, IsInstalled, IsVouched, PlacesOnly, terms_of};
 ghost use Rattle.minisign_install.specs.Names.{drawn_bytes};
 ghost use Rattle.minisign_install.specs.Refusals.{InstallsExactly, IsCause, IsDataCause, IsDataRefusal, IsDeviceFault, IsLockedRefusal, IsReadingFault, IsRefusal, counts};
@@ -22,7 +22,7 @@ use crate::publishing::{Unpublished, publish};
 use crate::recording::{keep_number, kept_number};
 use crate::stage_names::StageName;
 use crate::stage_reader::StageReader;
-use crate::staging::{fill, settle_stage};
+use crate::staging::{fill, remove_stage, settle_stage};
 use crate::wanted::Wanted;
 use minisign::PError;
 use minisign_base::NamedFault;
@@ -201,7 +201,7 @@ fn install_staged<S: Scheme, Z: RandomSource, R: Source, F: Folder>(
     ) {
         Ok(()) => Ok(()),
         Err(fault) => {
-            let _removed = folder.remove(name);
+            remove_stage(folder, name);
             Err(fault)
         }
     }
@@ -254,9 +254,7 @@ fn install_alone<S: Scheme, Z: RandomSource, R: Source, F: Folder>(
     ensures causes { IfErr result (IsCause (S.accepts scheme.now) (terms_of wanted.entry) is_first (counts (Z.random_faults random.old) (R.faults update.old) (F.folder_faults folder.old)) (counts (Z.random_faults random.new) (R.faults update.new) (F.folder_faults folder.new))) }
     ensures calm { OnOk result (counts (Z.random_faults random.new) (R.faults update.new) (F.folder_faults folder.new) ≡ counts (Z.random_faults random.old) (R.faults update.old) (F.folder_faults folder.old)) }
 {
-    let Ok(()) = folder.clear() else {
-        return Err(NamedFault::WritingFailed.into());
-    };
+    clear_leftovers(folder)?;
     let kept = kept_number(alloc, folder, is_first)?;
     install_newer(alloc, scheme, random, wanted, kept, update, folder)
 }
@@ -346,9 +344,36 @@ pub fn install_update<S: Scheme, Z: RandomSource, R: Source, F: Folder>(
     // On success no device failed.
     ensures calm { OnOk result (counts (Z.random_faults random.new) (R.faults update.new) (F.folder_faults folder.new) ≡ counts (Z.random_faults random.old) (R.faults update.old) (F.folder_faults folder.old)) }
 {
+    match take_lock(folder) {
+        Ok(()) => install_alone(alloc, scheme, random, wanted, is_first, update, folder),
+        Err(fault) => Err(fault),
+    }
+}
+
+// Locks the place. It does not wait for another run.
+fn take_lock<F: Folder>(folder: &mut F) -> Result<(), InstallFault>
+    ensures got { OnOk result (Told (F.run folder.old) (HasLocked (F.run folder.old) (F.run folder.new))) }
+    ensures refused { IfErr result (λ e. Told (F.run folder.old) ((HasStepped (F.run folder.old) (F.run folder.new) IsBusy × (e ≡ PlaceInUse))
+        ⊎ (HasStepped (F.run folder.old) (F.run folder.new) IsStill × (e ≡ Library (Named ReadingFailed)) × Rose (F.folder_faults folder.old) (F.folder_faults folder.new)))) }
+    ensures own { Told (F.run folder.old) (KeepsOwn (F.run folder.old) (F.run folder.new)) }
+    ensures causes { IfErr result (λ e. (e ≡ PlaceInUse) ⊎ ((e ≡ Library (Named ReadingFailed)) × Rose (F.folder_faults folder.old) (F.folder_faults folder.new))) }
+    ensures calm { OnOk result (F.folder_faults folder.new ≡ F.folder_faults folder.old) }
+{
     match folder.lock() {
-        Ok(true) => install_alone(alloc, scheme, random, wanted, is_first, update, folder),
+        Ok(true) => Ok(()),
         Ok(false) => Err(InstallFault::PlaceInUse),
         Err(_) => Err(NamedFault::ReadingFailed.into()),
+    }
+}
+
+// Removes what killed runs have left, as far as it can be removed.
+fn clear_leftovers<F: Folder>(folder: &mut F) -> Result<(), PError>
+    ensures cleared { Held (F.run folder.old) (HasTried ClearsAll Clears (F.run folder.old) (F.run folder.new) result) }
+    ensures refused { IfErr result (λ e. (e ≡ Named WritingFailed) × Rose (F.folder_faults folder.old) (F.folder_faults folder.new)) }
+    ensures calm { OnOk result (F.folder_faults folder.new ≡ F.folder_faults folder.old) }
+{
+    match folder.clear() {
+        Ok(()) => Ok(()),
+        Err(_) => Err(NamedFault::WritingFailed.into()),
     }
 }

@@ -19,7 +19,7 @@ use crate::faults::InstallFault;
 use crate::folders::{Folder, Handle, Name};
 use crate::publishing::publish;
 use crate::stage_names::StageName;
-use crate::staging::write_all;
+use crate::staging::{remove_stage, write_all};
 use minisign::PError;
 use minisign_base::NamedFault;
 use minisign_base::devices::DeviceFault;
@@ -140,7 +140,7 @@ fn write_record<F: Folder>(
     match publish_record(folder, name, handle, bytes) {
         Ok(()) => Ok(()),
         Err(_) => {
-            let _removed = folder.remove(name);
+            remove_stage(folder, name);
             Err(NamedFault::WritingFailed.into())
         }
     }

@@ -1,14 +1,16 @@
-//! What is written into a stage.
+//! What is written into a stage, and its removal.
 
 ghost use Rattle.std.specs.Prelude.{◌≡◌, ◌⊎◌, ◌++◌, ◌<◌, ◌^◌, ℕ, List, length, true, vec_len, IfOk, IfErr, IfSome, OnOk, OnErr};
 ghost use Rattle.minisign_base.specs.Devices.{Rose};
 ghost use Rattle.minisign_base.specs.Fault.{Named};
 ghost use Rattle.minisign_base.specs.declared.faults.NamedFault.TheVariants.{OutOfMemory, ReadingFailed, WritingFailed};
 ghost use Rattle.minisign.specs.Reading.{IsAhead};
-ghost use Rattle.minisign_install.specs.Folders.{HasCounted};
+ghost use Rattle.minisign_install.specs.Folders.{HasCounted, HasTriedRemoving};
+ghost use Rattle.minisign_install.specs.Names.{drawn_bytes};
 ghost use Rattle.minisign_install.specs.Runs.{HasStage, WorksOn};
 
 use crate::folders::{Folder, Handle};
+use crate::stage_names::StageName;
 use minisign::Result;
 use minisign_base::NamedFault;
 use minisign_base::devices::DeviceFault;
@@ -109,4 +111,12 @@ pub(crate) fn settle_stage<F: Folder>(
 {
     folder.take_rights(handle)?;
     folder.settle(handle)
+}
+
+// Removes a stage that gets no lasting name. Where it cannot be removed, it is left to `clear` of a
+// later run.
+pub(crate) fn remove_stage<F: Folder>(folder: &mut F, name: &StageName)
+    ensures { HasTriedRemoving (drawn_bytes name.now) (F.run folder.old) (F.run folder.new) (F.folder_faults folder.old) (F.folder_faults folder.new) }
+{
+    let _removed = folder.remove(name);
 }

@@ -12,16 +12,16 @@ returns-in-Err-clause-goes g c = λ stage empty.
     let file = g.F.Handle.Handle.file c.args.handle.now in
     let so_far = c.in-Err.ensures.goes stage empty in
     goes_trans (IsOnly Record c.args.bytes.now) name file _ _ _ so_far
-    (perhaps_removed_goes (IsOnly Record c.args.bytes.now) name file _ _ c.remove-removed.result (c.remove-removed.ensures.removed (so_far.brings.told ∙ stage.told) (so_far.brings.locked stage.locked)))
+    (perhaps_removed_goes (IsOnly Record c.args.bytes.now) name file _ _ c.remove_stage.ensures.answer (c.remove_stage.ensures.removed (so_far.brings.told ∙ stage.told) (so_far.brings.locked stage.locked)))
 
 pub returns-in-Err-clause-own : goal.returns-in-Err-clause-own
 returns-in-Err-clause-own g c = λ stage empty.
     let so_far = c.in-Err.ensures.goes stage empty in
-    let removed = c.remove-removed.ensures.removed (so_far.brings.told ∙ stage.told) (so_far.brings.locked stage.locked) in
+    let removed = c.remove_stage.ensures.removed (so_far.brings.told ∙ stage.told) (so_far.brings.locked stage.locked) in
     let_go_after (drawn_bytes c.args.name.now) _ _ _ (c.in-Err.ensures.own stage) (less_let_go (drawn_bytes c.args.name.now) _ _ removed.own)
 
 pub returns-in-Err-clause-counted : goal.returns-in-Err-clause-counted
 returns-in-Err-clause-counted g c = record {
   calm = tt;
-  fault = counted_lasts _ _ c.remove-removed.result c.remove-removed.ensures.counted _ c.in-Err.ensures.counted.fault;
+  fault = counted_lasts _ _ c.remove_stage.ensures.answer c.remove_stage.ensures.counted _ c.in-Err.ensures.counted.fault;
 }
