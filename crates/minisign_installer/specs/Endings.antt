@@ -1,5 +1,14 @@
 -- How a run ends, and its exit status.
-use Rattle.std.specs.Prelude.{ℕ, Option, Some, None}
+use Rattle.std.specs.Prelude.{◌≡◌, ◌<◌, ℕ, Bool, List, Option, Some, None, ⊤, option_map}
+use Rattle.minisign.specs.Acceptance.{Verifier}
+use Rattle.minisign_install.specs.Installing.{IsVouched, Terms}
+use Rattle.minisign_install.specs.Refusals.{Counts, IsCause}
+use Rattle.minisign_install.specs.declared.comments.Numbering.{Numbering}
+use Rattle.minisign_install.specs.declared.comments.Numbering.TheVariants.{Timestamp}
+use Rattle.minisign_installer.specs.Requests.{IsRequest}
+use Rattle.minisign_installer.specs.declared.requests.Asked.{Asked}
+use Rattle.minisign_installer.specs.declared.requests.Request.{Request}
+use Rattle.minisign_installer.specs.declared.requests.Request.TheVariants as request
 use Rattle.minisign_base.specs.Fault.{name_of}
 use Rattle.minisign_base.specs.declared.faults.NamedFault.{NamedFault}
 use Rattle.minisign_base.specs.declared.faults.NamedFault.TheVariants.{OutOfMemory, RandomSourceFailed, ReadingFailed, WritingFailed}
@@ -38,3 +47,42 @@ ending_of OtherFile = Refused
 ending_of NoNumber = Refused
 ending_of OlderUpdate = Older
 ending_of FolderNotOnDisk = NotOnDisk
+
+-- the name that the signed comment has to have: the one that was asked for, or else this one
+abbrev pub wanted_name : Option (List ℕ) → List ℕ → List ℕ
+wanted_name None of_place = of_place
+wanted_name (Some name) of_place = name
+
+-- where the signed comment has the number: as was asked for, or else its timestamp
+abbrev pub wanted_numbering : Option Numbering → Numbering
+wanted_numbering None = Timestamp
+wanted_numbering (Some numbering) = numbering
+
+-- there are two texts and data for which they vouch, and the comment that was signed with it has the name and the number
+-- that were asked for
+abbrev pub IsAskedUpdate : Verifier → Asked → Type 0
+IsAskedUpdate accepts asked =
+    (pk_text sig_text of_place : List ℕ) × IsVouched accepts (record {
+      pk_text = pk_text;
+      sig_text = sig_text;
+      file = wanted_name (option_map (λ name. name.now) asked.name) of_place;
+      numbering = wanted_numbering asked.numbering;
+    })
+
+-- what is so where a run that was asked for this ends with 0
+abbrev pub HoldsAfter : Verifier → Request → Type 0
+HoldsAfter accepts request.Help = ⊤
+HoldsAfter accepts request.Version = ⊤
+HoldsAfter accepts (request.Install asked) = IsAskedUpdate accepts asked
+
+-- the run ends with 0 only where the words ask for something, and that was done
+abbrev pub ShowsRequest : Verifier → List (List ℕ) → Ending → Type 0
+ShowsRequest accepts words ending = status_of ending ≡ 0 → (request : Request) × IsRequest words request × HoldsAfter accepts request
+
+-- the run does not end with 0
+abbrev pub IsNoSuccess : Ending → Type 0
+IsNoSuccess ending = 0 < status_of ending
+
+-- some counts of faults make this the cause of the fault
+abbrev pub HasCause : Verifier → Terms → Bool → InstallFault → Type 0
+HasCause accepts terms first fault = (before after : Counts) × IsCause accepts terms first before after fault

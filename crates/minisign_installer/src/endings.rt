@@ -2,7 +2,7 @@
 
 ghost use Rattle.std.specs.Prelude.{◌≡◌};
 ghost use Rattle.minisign_base.specs.Fault.{name_of};
-ghost use Rattle.minisign_installer.specs.Endings.{ending_of, library_ending, status_of};
+ghost use Rattle.minisign_installer.specs.Endings.{IsNoSuccess, ending_of, library_ending, status_of};
 
 use minisign::{NamedFault, PError};
 use minisign_install::InstallFault;
@@ -50,7 +50,9 @@ impl Ending {
 
 /// How a run ends that this fault stops.
 pub fn ending_of(fault: &InstallFault) -> Ending
-    ensures { result ≡ ending_of fault.now }
+    // Each fault has its ending, by one table, and none is a success.
+    ensures ending { result ≡ ending_of fault.now }
+    ensures failure { IsNoSuccess result }
 {
     match fault {
         InstallFault::Library(fault) => library_ending(fault),
@@ -65,7 +67,8 @@ pub fn ending_of(fault: &InstallFault) -> Ending
 // How a run ends that a fault of the library stops: a device or memory failed, or the texts do not
 // vouch for the data.
 fn library_ending(fault: &PError) -> Ending
-    ensures { result ≡ library_ending (name_of fault.now) }
+    ensures ending { result ≡ library_ending (name_of fault.now) }
+    ensures failure { IsNoSuccess result }
 {
     match fault.named() {
         Some(

@@ -2,8 +2,9 @@
 //! scheme that is insecure, and says so.
 #![tactic(auto)]
 
-ghost use Rattle.std.specs.Prelude.{ℕ, List, OnOk};
+ghost use Rattle.std.specs.Prelude.{◌≡◌, ℕ, List, OnOk, IfErr, map, option_map, string_bytes};
 ghost use Rattle.minisign_install.specs.Installing.{IsVouched, terms_of};
+ghost use Rattle.minisign_installer.specs.Endings.{HasCause, IsAskedUpdate, ShowsRequest, status_of, wanted_name, wanted_numbering};
 
 mod arguments;
 mod endings;
@@ -53,21 +54,42 @@ fn main(rt: HostRuntime) -> ExitCode {
 
 // Does what the arguments ask for.
 fn run(rt: &HostRuntime, report: &Report) -> Ending {
-    let arguments = match read_arguments(rt) {
-        Ok(Some(arguments)) => arguments,
-        Ok(None) => return report.misuse_of_bytes(),
-        Err(fault) => return report.fault(&fault.into()),
-    };
-    let words = match words_of(rt.alloc(), arguments.as_slice()) {
-        Ok(words) => words,
-        Err(fault) => return report.fault(&fault.into()),
-    };
-    match request_of(words.as_slice()) {
+    match read_arguments(rt) {
+        Ok(Some(arguments)) => run_arguments(rt, &ToyScheme::new(), arguments.as_slice(), report),
+        Ok(None) => report.misuse_of_bytes(),
+        Err(fault) => report.fault(&fault.into()),
+    }
+}
+
+// Does what these arguments ask for, which stand behind the program's name.
+fn run_arguments<S: Scheme>(
+    rt: &HostRuntime,
+    scheme: &S,
+    arguments: &[String],
+    report: &Report,
+) -> Ending
+    // A run ends with 0 only where the arguments ask for the help or the version, or for an
+    // installation, and then only where some texts vouch for some data, and the comment that was
+    // signed with it has the name that `--name` gives, where it does, and a number in the field that
+    // `--numbering` names.
+    ensures ended { ShowsRequest (S.accepts scheme.now) (map (λ a. string_bytes a) arguments.now) result }
+{
+    match words_of(rt.alloc(), arguments) {
+        Ok(words) => run_words(rt, scheme, words.as_slice(), report),
+        Err(fault) => report.fault(&fault.into()),
+    }
+}
+
+// Does what these words ask for.
+fn run_words<S: Scheme>(rt: &HostRuntime, scheme: &S, words: &[&str], report: &Report) -> Ending
+    ensures ended { ShowsRequest (S.accepts scheme.now) (map (λ w. w.now) words.now) result }
+{
+    match request_of(words) {
         Ok(Request::Help) => show_help(rt),
         Ok(Request::Version) => show_version(rt),
         Ok(Request::Install(asked)) => {
             report.warn();
-            install_asked(rt, &ToyScheme::new(), asked, report)
+            install_asked(rt, scheme, asked, report)
         }
         Err(misuse) => report.misuse(misuse),
     }
@@ -79,7 +101,9 @@ fn install_asked<S: Scheme>(
     scheme: &S,
     asked: Asked<'_>,
     report: &Report,
-) -> Ending {
+) -> Ending
+    ensures ended { status_of result ≡ 0 → IsAskedUpdate (S.accepts scheme.now) asked.entry }
+{
     let Some(mut folder) = FileFolder::of_place(rt, asked.place, asked.mode) else {
         return report.bad_place(asked.place);
     };
@@ -102,8 +126,8 @@ fn install_asked<S: Scheme>(
     let wanted = Wanted {
         pk_text: pk_text.as_str(),
         sig_text: sig_text.as_str(),
-        file: asked.name.unwrap_or(folder.name()),
-        numbering: asked.numbering.unwrap_or(Numbering::Timestamp),
+        file: wanted_name(asked.name, folder.name()),
+        numbering: wanted_numbering(asked.numbering),
     };
     match install_files(
         rt,
@@ -119,6 +143,26 @@ fn install_asked<S: Scheme>(
     }
 }
 
+// The name that the signed comment has to have.
+fn wanted_name<'a>(name: Option<&'a str>, of_place: &'a str) -> &'a str
+    ensures { result.now ≡ wanted_name (option_map (λ n. n.now) name.entry) of_place.now }
+{
+    match name {
+        Some(name) => name,
+        None => of_place,
+    }
+}
+
+// Where the signed comment has the number.
+fn wanted_numbering(numbering: Option<Numbering>) -> Numbering
+    ensures { result ≡ wanted_numbering numbering }
+{
+    match numbering {
+        Some(numbering) => numbering,
+        None => Numbering::Timestamp,
+    }
+}
+
 // Installs the data over a folder of files.
 fn install_files<S: Scheme>(
     rt: &HostRuntime,
@@ -131,7 +175,11 @@ fn install_files<S: Scheme>(
 ) -> Result<(), InstallFault>
     // The program succeeds only if some texts vouch for some data, with such a comment; that these
     // are the named files, the code and tests show.
-    ensures { OnOk result (IsVouched (S.accepts scheme.now) (terms_of wanted.entry)) }
+    ensures vouched { OnOk result (IsVouched (S.accepts scheme.now) (terms_of wanted.entry)) }
+
+    // Why a fault may come: the record is refused only where it is not the first installation, and
+    // all that is said of the data only where some data has it.
+    ensures causes { IfErr result (HasCause (S.accepts scheme.now) (terms_of wanted.entry) is_first) }
 {
     install_update(
         rt.alloc(),

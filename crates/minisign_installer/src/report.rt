@@ -1,5 +1,7 @@
 //! What the program says, each line in one write. What cannot be written changes no exit status.
 
+ghost use Rattle.minisign_installer.specs.Endings.{IsNoSuccess};
+
 use crate::endings::{Ending, ending_of};
 use crate::files::FileFolder;
 use crate::inputs::Unread;
@@ -85,7 +87,9 @@ impl Report {
     }
 
     /// The words are no request.
-    pub fn misuse(&self, misuse: Misuse<'_>) -> Ending {
+    pub fn misuse(&self, misuse: Misuse<'_>) -> Ending
+        ensures { IsNoSuccess result }
+    {
         match misuse {
             Misuse::UnknownOption(word) => self.line(word, "there is no such option"),
             Misuse::Twice(word) => self.line(word, "it came before"),
@@ -99,20 +103,26 @@ impl Report {
     }
 
     /// An argument is not UTF-8.
-    pub fn misuse_of_bytes(&self) -> Ending {
+    pub fn misuse_of_bytes(&self) -> Ending
+        ensures { IsNoSuccess result }
+    {
         self.say("error: an argument is not UTF-8\n");
         self.say(USAGE);
         Ending::Misused
     }
 
     /// The path of the place does not end with a name.
-    pub fn bad_place(&self, place: &str) -> Ending {
+    pub fn bad_place(&self, place: &str) -> Ending
+        ensures { IsNoSuccess result }
+    {
         self.line(place, "it does not end with the name of a file");
         Ending::Misused
     }
 
     /// A fault before any file was used.
-    pub fn fault(&self, fault: &PError) -> Ending {
+    pub fn fault(&self, fault: &PError) -> Ending
+        ensures { IsNoSuccess result }
+    {
         if let Ok(line) = format!(in self.rt.alloc(); "error: {fault}\n") {
             self.say(&line);
         }
@@ -120,7 +130,9 @@ impl Report {
     }
 
     /// A file could not be opened or read.
-    pub fn unread(&self, path: &str, why: Unread) -> Ending {
+    pub fn unread(&self, path: &str, why: Unread) -> Ending
+        ensures { IsNoSuccess result }
+    {
         self.line(path, why);
         match why {
             Unread::System(_) | Unread::OutOfMemory => Ending::Failed,
@@ -136,7 +148,9 @@ impl Report {
         pk_text: &str,
         unread: Option<Unread>,
         folder: &FileFolder<'_>,
-    ) -> Ending {
+    ) -> Ending
+        ensures { IsNoSuccess result }
+    {
         let ending = ending_of(fault);
         match ending {
             Ending::Failed => match (unread, folder.trouble()) {
