@@ -12,10 +12,11 @@ held_bytes (Digest digest) = digest
 held_bytes (Kept bytes) = bytes.items
 held_bytes Unkept = []
 
--- for a prehashed box the digest of the message is held; for another, where it is allowed, the message
+-- for a prehashed box the digest of the message is held; for another the message where that is allowed, and
+-- nothing where it is not
 abbrev pub HoldsSigned : SignedData → SignatureBoxRecord → Bool → List ℕ → Type 0
 HoldsSigned (Digest digest) x legacy message = (is_prehashed x.signature ≡ true) × (digest ≡ blake2b_digest 64 message)
-HoldsSigned (Kept bytes) x legacy message = (is_prehashed x.signature ≡ false) × (bytes.items ≡ message)
+HoldsSigned (Kept bytes) x legacy message = (is_prehashed x.signature ≡ false) × (bytes.items ≡ message) × (legacy ≡ true)
 HoldsSigned Unkept x legacy message = (is_prehashed x.signature ≡ false) × (legacy ≡ false)
 
 -- these bytes are those that the signature is over, where such a signature is allowed
