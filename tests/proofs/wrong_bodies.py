@@ -190,7 +190,8 @@ class Proofs:
         return bool(self.file) and not self.said().endswith(f"{ENDED}\n")
 
     def has(self, crates):
-        return not self.file or all(re.search(rf"(?m)^rt: {it} proved$", self.said()) for it in crates)
+        """Returns whether all of the crates are proved, in this run of `rt ci` or in an earlier one that it keeps."""
+        return not self.file or all(re.search(rf"(?m)^rt: {it} (proved$|is kept: )", self.said()) for it in crates)
 
     def are_told(self, crates):
         """Returns whether it is known if all of the crates are proved."""
