@@ -9,6 +9,8 @@ crates/library_bench (`rt run` there leaves the program) and of beside_rust.rs, 
 optimization for the processor that `rt run` builds for. The time is processor time, of the program and of the
 system for it, the least of ROUNDS runs (5 where it is left out) that take turns. It stops where the two
 programs print other results.
+
+Needs Python 3.9 or later and rustc, which it installs where it may.
 """
 
 import base64
@@ -18,8 +20,7 @@ import subprocess
 import sys
 import tempfile
 
-from timing import HERE, run
-import toy
+from timing import HERE, installed, needs, run, toy
 
 OURS = os.path.join(HERE, "..", "crates", "library_bench", "out", "library_bench")
 TARGET = "-C opt-level=3 -C target-cpu=x86-64-v2"
@@ -28,12 +29,13 @@ MEGABYTE = 1 << 20
 
 def built(upstream, folder):
     """The Rust program over the crate."""
-    environment = dict(os.environ, OPT=TARGET)
+    rustc = installed(needs.rust_compiler)
+    environment = dict(os.environ, OPT=TARGET, RUSTC=rustc)
     build = os.path.join(HERE, "..", "compare", "oracle", "build.sh")
     subprocess.run(["sh", build, upstream, folder], check=True, env=environment, stdout=subprocess.DEVNULL)
     lib = os.path.join(folder, "lib")
     program = os.path.join(folder, "beside_rust")
-    subprocess.run(["rustc", "--edition", "2021", *TARGET.split(), "-L", lib, "--extern",
+    subprocess.run([rustc, "--edition", "2021", *TARGET.split(), "-L", lib, "--extern",
                     f"minisign={lib}/libminisign.rlib", "-o", program,
                     os.path.join(HERE, "beside_rust.rs")], check=True)
     return program

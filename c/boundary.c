@@ -218,3 +218,168 @@ enum minisign_error minisign_make_public_key(const uint8_t key_id[8], const uint
     return (enum minisign_error) v2_minisign_make_public_key(key_id, secret_key, READ(comment, comment_len),
                                                              comment_len, WRITTEN(text, room), room, text_len);
 }
+
+uint32_t v2_minisign_install_init(minisign_installation *, uint32_t);
+uint32_t v3_minisign_install_init(minisign_installation *, uint32_t);
+
+enum minisign_error minisign_install_init(minisign_installation *installation, uint32_t is_first)
+{
+    if (is_v3()) {
+        return (enum minisign_error) v3_minisign_install_init(installation, is_first);
+    }
+    return (enum minisign_error) v2_minisign_install_init(installation, is_first);
+}
+
+uint32_t v2_minisign_install_due(const minisign_installation *);
+uint32_t v3_minisign_install_due(const minisign_installation *);
+
+uint32_t minisign_install_due(const minisign_installation *installation)
+{
+    if (is_v3()) {
+        return v3_minisign_install_due(installation);
+    }
+    return v2_minisign_install_due(installation);
+}
+
+uint32_t v2_minisign_install_done(minisign_installation *);
+uint32_t v3_minisign_install_done(minisign_installation *);
+
+enum minisign_error minisign_install_done(minisign_installation *installation)
+{
+    if (is_v3()) {
+        return (enum minisign_error) v3_minisign_install_done(installation);
+    }
+    return (enum minisign_error) v2_minisign_install_done(installation);
+}
+
+uint32_t v2_minisign_install_more(minisign_installation *);
+uint32_t v3_minisign_install_more(minisign_installation *);
+
+enum minisign_error minisign_install_more(minisign_installation *installation)
+{
+    if (is_v3()) {
+        return (enum minisign_error) v3_minisign_install_more(installation);
+    }
+    return (enum minisign_error) v2_minisign_install_more(installation);
+}
+
+uint32_t v2_minisign_install_failed(minisign_installation *, uint32_t);
+uint32_t v3_minisign_install_failed(minisign_installation *, uint32_t);
+
+enum minisign_error minisign_install_failed(minisign_installation *installation, enum minisign_error why)
+{
+    if (is_v3()) {
+        return (enum minisign_error) v3_minisign_install_failed(installation, why);
+    }
+    return (enum minisign_error) v2_minisign_install_failed(installation, why);
+}
+
+uint32_t v2_minisign_install_record(minisign_installation *, const uint8_t *, size_t);
+uint32_t v3_minisign_install_record(minisign_installation *, const uint8_t *, size_t);
+
+enum minisign_error minisign_install_record(minisign_installation *installation, const uint8_t *record,
+                                            size_t record_len)
+{
+    if (is_v3()) {
+        return (enum minisign_error) v3_minisign_install_record(installation, READ(record, record_len),
+                                                                record_len);
+    }
+    return (enum minisign_error) v2_minisign_install_record(installation, READ(record, record_len), record_len);
+}
+
+uint32_t v2_minisign_install_no_record(minisign_installation *);
+uint32_t v3_minisign_install_no_record(minisign_installation *);
+
+enum minisign_error minisign_install_no_record(minisign_installation *installation)
+{
+    if (is_v3()) {
+        return (enum minisign_error) v3_minisign_install_no_record(installation);
+    }
+    return (enum minisign_error) v2_minisign_install_no_record(installation);
+}
+
+uint32_t v2_minisign_install_piece(minisign_installation *, const uint8_t *, size_t);
+uint32_t v3_minisign_install_piece(minisign_installation *, const uint8_t *, size_t);
+
+enum minisign_error minisign_install_piece(minisign_installation *installation, const uint8_t *piece,
+                                           size_t piece_len)
+{
+    if (is_v3()) {
+        return (enum minisign_error) v3_minisign_install_piece(installation, READ(piece, piece_len), piece_len);
+    }
+    return (enum minisign_error) v2_minisign_install_piece(installation, READ(piece, piece_len), piece_len);
+}
+
+uint32_t v2_minisign_install_ask(minisign_installation *, const uint8_t *, size_t, const uint8_t *, size_t,
+                                 const uint8_t *, size_t, uint32_t, minisign_external *, uint8_t *, size_t);
+uint32_t v3_minisign_install_ask(minisign_installation *, const uint8_t *, size_t, const uint8_t *, size_t,
+                                 const uint8_t *, size_t, uint32_t, minisign_external *, uint8_t *, size_t);
+
+enum minisign_error minisign_install_ask(minisign_installation *installation, const uint8_t *pk_text,
+                                         size_t pk_text_len, const uint8_t *sig_text, size_t sig_text_len,
+                                         const uint8_t *file, size_t file_len, uint32_t numbering,
+                                         minisign_external *questions, uint8_t *message, size_t room)
+{
+    if (is_v3()) {
+        return (enum minisign_error) v3_minisign_install_ask(installation, READ(pk_text, pk_text_len), pk_text_len,
+                                                             READ(sig_text, sig_text_len), sig_text_len,
+                                                             READ(file, file_len), file_len, numbering, questions,
+                                                             WRITTEN(message, room), room);
+    }
+    return (enum minisign_error) v2_minisign_install_ask(installation, READ(pk_text, pk_text_len), pk_text_len,
+                                                         READ(sig_text, sig_text_len), sig_text_len,
+                                                         READ(file, file_len), file_len, numbering, questions,
+                                                         WRITTEN(message, room), room);
+}
+
+uint32_t v2_minisign_install_answer(minisign_installation *, uint32_t, uint32_t);
+uint32_t v3_minisign_install_answer(minisign_installation *, uint32_t, uint32_t);
+
+enum minisign_error minisign_install_answer(minisign_installation *installation, enum minisign_answer first,
+                                            enum minisign_answer second)
+{
+    if (is_v3()) {
+        return (enum minisign_error) v3_minisign_install_answer(installation, first, second);
+    }
+    return (enum minisign_error) v2_minisign_install_answer(installation, first, second);
+}
+
+size_t v2_minisign_install_number_text(const minisign_installation *, uint8_t *, size_t);
+size_t v3_minisign_install_number_text(const minisign_installation *, uint8_t *, size_t);
+
+size_t minisign_install_number_text(const minisign_installation *installation, uint8_t *text, size_t room)
+{
+    if (is_v3()) {
+        return v3_minisign_install_number_text(installation, WRITTEN(text, room), room);
+    }
+    return v2_minisign_install_number_text(installation, WRITTEN(text, room), room);
+}
+
+uint32_t v2_minisign_install_error(const minisign_installation *);
+uint32_t v3_minisign_install_error(const minisign_installation *);
+
+enum minisign_error minisign_install_error(const minisign_installation *installation)
+{
+    if (is_v3()) {
+        return (enum minisign_error) v3_minisign_install_error(installation);
+    }
+    return (enum minisign_error) v2_minisign_install_error(installation);
+}
+
+uint32_t v2_minisign_judge_comment(const uint8_t *, size_t, const uint8_t *, size_t, uint32_t, uint64_t,
+                                   uint64_t *);
+uint32_t v3_minisign_judge_comment(const uint8_t *, size_t, const uint8_t *, size_t, uint32_t, uint64_t,
+                                   uint64_t *);
+
+enum minisign_error minisign_judge_comment(const uint8_t *comment, size_t comment_len, const uint8_t *file,
+                                           size_t file_len, uint32_t numbering, uint64_t kept, uint64_t *number)
+{
+    if (is_v3()) {
+        return (enum minisign_error) v3_minisign_judge_comment(READ(comment, comment_len), comment_len,
+                                                               READ(file, file_len), file_len, numbering, kept,
+                                                               number);
+    }
+    return (enum minisign_error) v2_minisign_judge_comment(READ(comment, comment_len), comment_len,
+                                                           READ(file, file_len), file_len, numbering, kept,
+                                                           number);
+}

@@ -99,3 +99,40 @@ void end_progress(const struct progress *progress)
         fputs("\r\033[K", stderr);
     }
 }
+
+/* ---- Steps ---- */
+
+#define STEP_BYTES (1 << 20)
+
+struct steps begin_steps(const char *work, uint64_t size)
+{
+    return (struct steps) { work, size, 0, 0, isatty(STDERR_FILENO) };
+}
+
+/* Writes how far it is over what stands in the line. */
+static void write_step(const struct steps *steps, char end)
+{
+    if (steps->size > 0) {
+        fprintf(stderr, "%s %" PRIu64 " of %" PRIu64 " MiB%c", steps->work, steps->shown / STEP_BYTES,
+                steps->size / STEP_BYTES, end);
+    } else {
+        fprintf(stderr, "%s %" PRIu64 " MiB%c", steps->work, steps->shown / STEP_BYTES, end);
+    }
+}
+
+void show_steps(struct steps *steps, uint64_t bytes)
+{
+    steps->done += bytes;
+    if (steps->is_shown && steps->done / STEP_BYTES > steps->shown / STEP_BYTES) {
+        steps->shown = steps->done;
+        write_step(steps, '\r');
+    }
+}
+
+void end_steps(struct steps *steps)
+{
+    if (steps->shown > 0) {
+        write_step(steps, '\n');
+        steps->shown = 0;
+    }
+}

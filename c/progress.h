@@ -4,6 +4,7 @@
 #ifndef PROGRESS_H
 #define PROGRESS_H
 
+#include <stdbool.h>
 #include <stdint.h>
 
 /* Between the two a dot is shown each second. */
@@ -26,5 +27,23 @@ void show_progress(struct progress *progress, uint64_t bytes);
 
 /* Takes away what was shown. */
 void end_progress(const struct progress *progress);
+
+/* A work on bytes: what was done, as "copied", how many bytes there are, where that is known and else 0, on how many it
+ * was done, and at how many that was shown. */
+struct steps {
+    const char *work;
+    uint64_t size;
+    uint64_t done;
+    uint64_t shown;
+    bool is_shown;
+};
+
+struct steps begin_steps(const char *work, uint64_t size);
+
+/* So many bytes more are done: shows how far it is, at each MiB at most. */
+void show_steps(struct steps *steps, uint64_t bytes);
+
+/* All is done, or no more will be: what was shown stays. */
+void end_steps(struct steps *steps);
 
 #endif

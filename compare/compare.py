@@ -8,7 +8,9 @@ UPSTREAM is the folder of the crate's own files. oracle/build.sh builds the crat
 answers requests; the build goes into a folder of its own, which is deleted again. `run`
 makes requests by seed, has both programs answer them, and prints each difference that known.py does not name,
 the shortest request of its kind first. `list` makes the stored run of crates/minisign_compare anew from the
-crate's answers: stdin, stdout and data/. Wants a Rust compiler; README.md says more.
+crate's answers: stdin, stdout and data/. README.md says more.
+
+Needs Python 3.9 or later and rustc, which it installs where it may.
 """
 
 import argparse
@@ -23,8 +25,10 @@ import tempfile
 HERE = os.path.dirname(os.path.abspath(__file__))
 CRATE = os.path.join(HERE, '..', 'crates', 'minisign_compare')
 DIFFERENCES = os.path.join(HERE, '..', 'docs', 'DIFFERENCES.md')
-sys.path.insert(0, HERE)
+# The tests have what finds or installs what a script needs.
+sys.path[:0] = [HERE, os.path.join(HERE, '..', 'tests', 'shared')]
 import known  # noqa: E402
+import needs  # noqa: E402
 import requests  # noqa: E402
 
 # How many requests the stored run has, and at most of each name: few of those that derive keys.
@@ -41,7 +45,11 @@ TYPED = ('get_password', 'sk_open', 'gen_sealed', 'gen_write_sealed')
 def built_oracle(arguments, folder):
     """Builds the crate and the program over it."""
     build = os.path.join(HERE, 'oracle', 'build.sh')
-    made = subprocess.run(['sh', build, arguments.upstream, folder], capture_output=True, text=True)
+    try:
+        environment = dict(os.environ, RUSTC=needs.rust_compiler())
+    except needs.Missing as why:
+        sys.exit(f'FAILED: {why}')
+    made = subprocess.run(['sh', build, arguments.upstream, folder], env=environment, capture_output=True, text=True)
     if made.returncode:
         sys.exit(f'{build} ended with status {made.returncode}:\n{made.stderr[-2000:]}')
     return os.path.join(folder, 'oracle')

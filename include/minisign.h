@@ -341,6 +341,12 @@ enum minisign_error {
     MINISIGN_BAD_PASSWORD_FLAG = 10,
     /* A comment of a signature is one that Minisign would not read back: too long, or with a zero byte or a carriage return. */
     MINISIGN_UNREADABLE_COMMENT = 11,
+    /* A call of installing is not due, or cannot go so. */
+    MINISIGN_NOT_DUE = 12,
+    /* is_first is neither 0 nor 1. */
+    MINISIGN_BAD_FIRST_FLAG = 13,
+    /* A numbering is neither MINISIGN_NUMBERING_TIMESTAMP nor MINISIGN_NUMBERING_VERSION. */
+    MINISIGN_BAD_NUMBERING = 14,
     /* A public key text has no first line. */
     MINISIGN_MISSING_PUBLIC_KEY_COMMENT = 16,
     /* A public key text has no second line. */
@@ -400,7 +406,27 @@ enum minisign_error {
     /* A public key given as base64 alone has not 56 bytes. */
     MINISIGN_BARE_PUBLIC_KEY_LENGTH = 44,
     /* A public key given as base64 alone is not base64. */
-    MINISIGN_BARE_PUBLIC_KEY_NOT_BASE64 = 45
+    MINISIGN_BARE_PUBLIC_KEY_NOT_BASE64 = 45,
+    /* Another run holds the lock on this place. */
+    MINISIGN_PLACE_IN_USE = 46,
+    /* No number is kept beside the place, and this was not said to be the first installation. */
+    MINISIGN_NO_RECORD = 47,
+    /* What is kept beside the place does not read as a number, and this was not said to be the first installation. */
+    MINISIGN_DAMAGED_RECORD = 48,
+    /* The trusted comment does not name the file that the caller expects. */
+    MINISIGN_OTHER_FILE = 49,
+    /* The trusted comment has no number under the label that the caller chose, or none below 2^64. */
+    MINISIGN_NO_NUMBER = 50,
+    /* The number of the trusted comment is below the one that is kept. */
+    MINISIGN_OLDER_UPDATE = 51,
+    /* The update stands at the place, but a crash may still bring back what stood there before. */
+    MINISIGN_FOLDER_NOT_ON_DISK = 52,
+    /* A source, a file or a prompt's reader failed at a read. */
+    MINISIGN_READING_FAILED = 64,
+    /* A sink or a prompt's writer failed at a write or a flush. */
+    MINISIGN_WRITING_FAILED = 65,
+    /* A random source failed or had too few bytes. */
+    MINISIGN_RANDOM_SOURCE_FAILED = 67
 };
 /* The end of the numbers. */
 
@@ -646,6 +672,192 @@ MINISIGN_MUST_USE enum minisign_error minisign_make_secret_key(
 MINISIGN_MUST_USE enum minisign_error minisign_make_public_key(
     const uint8_t key_id[8], const uint8_t secret_key[64], const uint8_t *comment, size_t comment_len, uint8_t *text,
     size_t room, size_t *text_len);
+
+/* ---- Installing ---- */
+
+/*
+ * Installs an update at a place, beside which the number of the newest one is kept: nothing else gets there, no older one
+ * either, and whatever comes between, a crash too, what stands there is whole. The library knows no folder. It tells which
+ * call is due; you make it, and say how it went. A program that does no more than that, over calls of the system relative to
+ * a folder that is open, is c/minisign-install.c of the sources.
+ *
+ * Both are files of one folder: the place, and the record with the number. A stage is a new file beside them, of a name that
+ * nobody else has; what is renamed is always whole and on the disk.
+ *
+ * What is outside, and what you owe beyond the head of this page: the lock is held from MINISIGN_DUE_LOCK to the end of the
+ * run, and others keep to it; you say that a call was done only where it was made and went well, and what it is about is
+ * what this page says; and what you hand to minisign_install_piece is what the stage holds, read through the
+ * descriptor that it was written by, from its first byte to its end. Where one of these is broken, nothing is promised of
+ * the place.
+ */
+
+/* What is due, in the order of a run that fails nowhere, but for the last four. */
+/* Calls of installing, made by tools/header.py. */
+enum minisign_due {
+    /* Lock the place, without waiting for another run. */
+    MINISIGN_DUE_LOCK = 1,
+    /* Remove the stages that killed runs have left, as far as they can be removed. */
+    MINISIGN_DUE_CLEAR = 2,
+    /* Read what the record holds. */
+    MINISIGN_DUE_READ_RECORD = 3,
+    /* Draw a name, and make the stage under it. */
+    MINISIGN_DUE_CREATE = 4,
+    /* Copy the next piece of the data into the stage. */
+    MINISIGN_DUE_COPY = 5,
+    /* Read back the next piece of what the stage holds. */
+    MINISIGN_DUE_READ_BACK = 6,
+    /* Have the signature scheme answer the two questions. */
+    MINISIGN_DUE_ANSWER = 7,
+    /* Give the stage the rights of the file at the place. */
+    MINISIGN_DUE_TAKE_RIGHTS = 8,
+    /* Bring to the disk what the stage holds. */
+    MINISIGN_DUE_SETTLE = 9,
+    /* Draw a name, and make the stage of the record under it. */
+    MINISIGN_DUE_CREATE_RECORD = 10,
+    /* Write the number into the stage of the record. */
+    MINISIGN_DUE_WRITE_RECORD = 11,
+    /* Bring to the disk what the stage of the record holds. */
+    MINISIGN_DUE_SETTLE_RECORD = 12,
+    /* Give the stage of the record the record's name. */
+    MINISIGN_DUE_RENAME_RECORD = 13,
+    /* Bring the record's name to the disk. */
+    MINISIGN_DUE_SETTLE_RECORD_NAME = 14,
+    /* Give the stage the place's name. */
+    MINISIGN_DUE_RENAME = 15,
+    /* Bring the place's name to the disk. */
+    MINISIGN_DUE_SETTLE_NAME = 16,
+    /* Remove the stage of the record: the run is refused for this fault. */
+    MINISIGN_DUE_REMOVE_RECORD = 17,
+    /* Remove the stage: the run is refused for this fault. */
+    MINISIGN_DUE_REMOVE = 18,
+    /* Nothing: the update is installed. */
+    MINISIGN_DUE_INSTALLED = 19,
+    /* Nothing: the run was refused for this fault. */
+    MINISIGN_DUE_REFUSED = 20
+};
+/* The end of the calls. */
+
+/* Which field of the signed comment has the number. */
+/* Numberings, made by tools/header.py. */
+enum minisign_numbering {
+    /* timestamp:, as signing writes it if no comment is given. */
+    MINISIGN_NUMBERING_TIMESTAMP = 0,
+    /* version:, which the signer writes. */
+    MINISIGN_NUMBERING_VERSION = 1
+};
+/* The end of the numberings. */
+
+/* An installation: yours, of fixed size, its bytes the library's. No call on it takes memory. */
+typedef struct minisign_installation {
+    uint64_t opaque[80];
+} minisign_installation;
+
+/*
+ * Begins: MINISIGN_DUE_LOCK is due. With is_first 1 an update is taken also where no number is kept, or none that reads as
+ * one; otherwise is_first is 0.
+ *
+ * MINISIGN_BAD_FIRST_FLAG: nothing is written.
+ */
+MINISIGN_MUST_USE enum minisign_error minisign_install_init(minisign_installation *installation, uint32_t is_first);
+
+/*
+ * What is due: a number of enum minisign_due, or 0 of an installation that was never begun. Make that call, and tell its
+ * outcome by one of the calls below, until MINISIGN_DUE_INSTALLED or MINISIGN_DUE_REFUSED is due.
+ */
+uint32_t minisign_install_due(const minisign_installation *installation);
+
+/*
+ * The call that was due was done: the lock was got, leftovers were removed as far as they can be, a stage was made, all of
+ * the data was copied into it, and so on. Also where the removal of a stage went well.
+ *
+ * MINISIGN_NOT_DUE where that is told otherwise: of MINISIGN_DUE_READ_RECORD, MINISIGN_DUE_READ_BACK and
+ * MINISIGN_DUE_ANSWER, which have calls of their own, and once the run has ended. Nothing changes.
+ */
+MINISIGN_MUST_USE enum minisign_error minisign_install_done(minisign_installation *installation);
+
+/* A piece was copied into the stage, and there may be more: MINISIGN_DUE_COPY is due again. MINISIGN_NOT_DUE otherwise. */
+MINISIGN_MUST_USE enum minisign_error minisign_install_more(minisign_installation *installation);
+
+/*
+ * The call that was due failed, also where it is one with a call of its own: MINISIGN_OUT_OF_MEMORY,
+ * MINISIGN_READING_FAILED, MINISIGN_WRITING_FAILED or MINISIGN_RANDOM_SOURCE_FAILED, and of MINISIGN_DUE_LOCK also
+ * MINISIGN_PLACE_IN_USE. What was made is then to be removed, and at the end that is what the run was refused for. Of
+ * MINISIGN_DUE_SETTLE_NAME it becomes MINISIGN_FOLDER_NOT_ON_DISK: the update stands at the place.
+ *
+ * MINISIGN_NOT_DUE for another number, and once the run has ended: nothing changes.
+ */
+MINISIGN_MUST_USE enum minisign_error minisign_install_failed(minisign_installation *installation, enum minisign_error why);
+
+/*
+ * MINISIGN_DUE_READ_RECORD: the bytes of the record, of which one line feed at the end is left out; more than 64 of them are
+ * no number, so there is no need to read more than 65. Or there is no record. Where there is no number and this is not
+ * the first installation, the run is refused, with MINISIGN_DAMAGED_RECORD or MINISIGN_NO_RECORD; the call is MINISIGN_OK
+ * then too.
+ *
+ * MINISIGN_NOT_DUE: nothing changes.
+ */
+MINISIGN_MUST_USE enum minisign_error minisign_install_record(
+    minisign_installation *installation, const uint8_t *record, size_t record_len);
+MINISIGN_MUST_USE enum minisign_error minisign_install_no_record(minisign_installation *installation);
+
+/*
+ * MINISIGN_DUE_READ_BACK: the next bytes of what the stage holds, in pieces of any length; at its end 0 bytes, and
+ * MINISIGN_DUE_ANSWER is due.
+ *
+ * MINISIGN_NOT_DUE: nothing changes.
+ */
+MINISIGN_MUST_USE enum minisign_error minisign_install_piece(
+    minisign_installation *installation, const uint8_t *piece, size_t piece_len);
+
+/*
+ * MINISIGN_DUE_ANSWER, first: what Ed25519 has to answer, as minisign_ask tells it; signatures over the data itself are never
+ * taken. The signed comment is judged too: whether it has a field "file:" with exactly this name, and, behind the label of
+ * the numbering, a number below 2^64 that is not below the one that is kept. What came of that is told only behind the
+ * answers, since nothing vouches for it before.
+ *
+ * The errors, in this order: MINISIGN_BAD_NUMBERING; MINISIGN_NOT_DUE; MINISIGN_NOT_UTF8 of the name; those of minisign_ask.
+ * Behind MINISIGN_BAD_NUMBERING, MINISIGN_NOT_DUE, MINISIGN_ALREADY_ASKED and MINISIGN_NO_ROOM nothing changes. Behind the
+ * others the run is refused for that, and MINISIGN_DUE_REMOVE is due.
+ */
+MINISIGN_MUST_USE enum minisign_error minisign_install_ask(
+    minisign_installation *installation, const uint8_t *pk_text, size_t pk_text_len, const uint8_t *sig_text,
+    size_t sig_text_len, const uint8_t *file, size_t file_len, uint32_t numbering, minisign_external *questions,
+    uint8_t *message, size_t room);
+
+/*
+ * MINISIGN_DUE_ANSWER, then: what Ed25519 answered to the two questions. MINISIGN_OK, and MINISIGN_DUE_TAKE_RIGHTS is due,
+ * exactly where the texts vouch for what was read back, and the comment that was signed with it names the file and has a
+ * number that is not below the one that is kept. Otherwise MINISIGN_DUE_REMOVE is due, and the call answers the first
+ * reason: MINISIGN_SIGNATURE_REFUSED, MINISIGN_COMMENT_SIGNATURE_REFUSED, MINISIGN_OTHER_FILE, MINISIGN_NO_NUMBER or
+ * MINISIGN_OLDER_UPDATE.
+ *
+ * MINISIGN_BAD_ANSWER, then MINISIGN_NOT_DUE, MINISIGN_NOT_ASKED: nothing changes.
+ */
+MINISIGN_MUST_USE enum minisign_error minisign_install_answer(
+    minisign_installation *installation, enum minisign_answer first, enum minisign_answer second);
+
+/*
+ * MINISIGN_DUE_WRITE_RECORD: writes the number of the update to the front of text, of room bytes, in decimal digits, as it is
+ * to be written into the stage of the record: at most MINISIGN_NUMBER_TEXT_BYTES, with no 0 behind them. Returns how many,
+ * and 0 where no number is to be written or there is no room; then nothing is written.
+ */
+#define MINISIGN_NUMBER_TEXT_BYTES 20
+size_t minisign_install_number_text(const minisign_installation *installation, uint8_t *text, size_t room);
+
+/* MINISIGN_DUE_REFUSED: why the run was refused. MINISIGN_OK before its end, and where the update is installed. */
+enum minisign_error minisign_install_error(const minisign_installation *installation);
+
+/*
+ * Judges a signed comment by itself, for programs that install in other ways: one that minisign_verdict has vouched for.
+ * Writes its number where the comment has a field "file:" with exactly this name, and, behind the label of the numbering, a
+ * number below 2^64 that is not below kept. Fields end at tabs, and the first with a label counts.
+ *
+ * After an error the number stays as it was. The errors, in this order: MINISIGN_BAD_NUMBERING; MINISIGN_NOT_UTF8 of the
+ * comment or the name; MINISIGN_OTHER_FILE; MINISIGN_NO_NUMBER; MINISIGN_OLDER_UPDATE. Takes no memory.
+ */
+MINISIGN_MUST_USE enum minisign_error minisign_judge_comment(
+    const uint8_t *comment, size_t comment_len, const uint8_t *file, size_t file_len, uint32_t numbering, uint64_t kept,
+    uint64_t *number);
 
 #ifdef __cplusplus
 }

@@ -19,7 +19,10 @@ OWN = {"minisign_version"}
 
 # The structs by their names in Rattle.
 STRUCTS = {"State": "minisign_state", "Questions": "minisign_external", "SigningQuestions": "minisign_signing",
-           "Sealing": "minisign_sealing"}
+           "Sealing": "minisign_sealing", "Installation": "minisign_installation"}
+
+# The numbers by their names in Rattle.
+NUMBERS = {"u32": "uint32_t", "u64": "uint64_t", "usize": "size_t"}
 
 # Types of the header that the proved calls know as numbers or bytes.
 PLAIN = {"enum minisign_error": "uint32_t", "enum minisign_answer": "uint32_t", "char *": "uint8_t *",
@@ -89,17 +92,15 @@ def kinds_in_c(kind):
     kind = kind.strip()
     if kind == "Global":
         return []
-    if kind in ("u32", "u64"):
-        return [f"uint{kind[1:]}_t"]
-    if kind == "usize":
-        return ["size_t"]
+    if kind in NUMBERS:
+        return [NUMBERS[kind]]
     found = re.fullmatch(r"&(mut )?\[u8(; \d+)?\]", kind)
     if found:
         pointer = "uint8_t *" if found[1] else "const uint8_t *"
         return [pointer] if found[2] else [pointer, "size_t"]
     found = re.fullmatch(r"&(mut )?(\w+)", kind)
     if found:
-        struct = "size_t" if found[2] == "usize" else "uint32_t" if found[2] == "u32" else STRUCTS.get(found[2])
+        struct = NUMBERS.get(found[2]) or STRUCTS.get(found[2])
         if struct:
             return [f"{struct} *" if found[1] else f"const {struct} *"]
     raise Unfit(f"an export has a parameter {kind}, which tools/boundary.py does not know")

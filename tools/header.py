@@ -36,9 +36,15 @@ SECRETS = "crates/minisign_external/src/secrets.rt"
 STORED = "crates/minisign_hash/src/blake2b/stored.rt"
 EXPORTS = "crates/minisign_c/src/lib.rt"
 MAKING = "crates/minisign/src/making.rt"
+INSTALL_FAULTS = "crates/minisign_install/src/faults.rt"
+HOST_NUMBERS = "crates/minisign_install/src/host_numbers.rt"
+HOSTED = "crates/minisign_install/src/hosted.rt"
+ORDER = "crates/minisign_install/src/order.rt"
+COMMENTS = "crates/minisign_install/src/comments.rt"
 
-# Faults with this number or a greater one are answered by no call of the header.
+# Named faults with this number or a greater one are answered by no call of the header, but for those that a host may tell.
 UNANSWERED = 46
+TOLD_BY_HOSTS = ("ReadingFailed", "WritingFailed", "RandomSourceFailed")
 
 # Where C has a better name than the source.
 NAMES = {
@@ -56,7 +62,8 @@ NAMES = {
 
 # The structs of C, with those of the crate; the fields of the first are the library's.
 STRUCTS = (("minisign_state", "State", False), ("minisign_external", "Questions", True),
-           ("minisign_signing", "SigningQuestions", True), ("minisign_sealing", "Sealing", True))
+           ("minisign_signing", "SigningQuestions", True), ("minisign_sealing", "Sealing", True),
+           ("minisign_installation", "Installation", False))
 
 SIZES = {"u8": 1, "u32": 4, "u64": 8}
 
@@ -92,7 +99,7 @@ def item_text(file, what, name):
 def comments_of(file, enum):
     """The variants of an enum with their first sentences."""
     body = item_text(file, "enum", enum).partition("{")[2]
-    found = re.findall(r"((?:^    ///.*\n)+)    (\w+)(?: \{[^}]*\})?,$", body, re.M)
+    found = re.findall(r"((?:^    ///.*\n)+)    (\w+)(?: \{[^}]*\}|\(\w+\))?,$", body, re.M)
     if len(found) != len(re.findall(r"^    [A-Z]\w*", body, re.M)):
         raise Unreadable(f"{enum}: a variant without a comment")
     return {variant: first_sentence(comment) for comment, variant in found}
@@ -134,7 +141,53 @@ def faults():
     comments = comments_of(FAULTS, "NamedFault")
     rows = match_arms((FAULTS, "NamedFault", "row"), r"(\w+)(?: \{ \.\. \})? => \(\s*(\d+),\s*&[\w:]+,\s*" + TEXT)
     return [Number(int(rows[variant][0]), variant, comment, rows[variant][1])
-            for variant, comment in comments.items() if int(rows[variant][0]) < UNANSWERED]
+            for variant, comment in comments.items() if int(rows[variant][0]) < UNANSWERED or variant in TOLD_BY_HOSTS]
+
+
+def install_rows():
+    """The faults that installing adds, in their order: their names, numbers, kinds and texts."""
+    numbers = match_arms((HOST_NUMBERS, "InstallFault", "number"), r"(\w+)(?:\(fault\))? => ([\w:]+)[(,]")
+    specs = read_text(os.path.join(ROOT, "crates", "minisign_install", "specs", "Faults.antt"))
+    texts = {name: (kind, text) for name, kind, text in
+             re.findall(r'^install_row (\w+) = record \{ kind = (\w+); text = codes "([^"]*)" \}$', specs, re.M)}
+    own = [variant for variant in comments_of(INSTALL_FAULTS, "InstallFault") if variant != "Library"]
+    if set(own) != set(texts) or set(own) | {"Library"} != set(numbers):
+        raise Unreadable("the faults of installing, their numbers and their texts differ")
+    return [(variant, int(numbers[variant][0]), *texts[variant]) for variant in own]
+
+
+def install_faults():
+    """The faults that installing adds."""
+    comments = comments_of(INSTALL_FAULTS, "InstallFault")
+    return [Number(number, variant, comments[variant], text) for variant, number, _, text in install_rows()]
+
+
+def due_text():
+    """The enum of the calls that may be due."""
+    comments = comments_of(ORDER, "Due")
+    numbers = match_arms((HOSTED, "Due", "number"), r"(\w+)(?:\(_\))? => (\d+),")
+    if set(comments) != set(numbers):
+        raise Unreadable("the calls that may be due and their numbers differ")
+    return variants_text("minisign_due", "DUE_", [Number(int(numbers[it][0]), it, comment, "") for it, comment in comments.items()])
+
+
+def numbering_text():
+    """The enum of the numberings."""
+    comments = comments_of(COMMENTS, "Numbering")
+    numbers = dict(re.findall(r"(\d+) => Some\(Numbering::(\w+)\),", source_text(HOST_NUMBERS)))
+    if sorted(comments) != sorted(numbers.values()):
+        raise Unreadable("the numberings and their numbers differ")
+    return variants_text("minisign_numbering", "NUMBERING_",
+                         [Number(int(number), it, comments[it], "") for number, it in numbers.items()])
+
+
+def variants_text(enum, prefix, numbers):
+    """An enum of the header, of variants with their comments."""
+    lines = [f"enum {enum} {{"]
+    for it in numbers:
+        comma = "" if it is numbers[-1] else ","
+        lines += [f"    /* {it.comment} */", f"    {it.name.replace('MINISIGN_', 'MINISIGN_' + prefix, 1)} = {it.number}{comma}"]
+    return "\n".join([*lines, "};", ""])
 
 
 ROW = re.compile(r'^fault_row \(?(\w+).*? = record \{ number = (\d+); kind = (?:kind\.)?(\w+); summary = codes "([^"]*)" \}', re.M)
@@ -151,16 +204,17 @@ def faults_of_specs(library):
         yield name, number, kind, longer.get(name, summary)
 
 
-def faults_text():
-    """The table of all named faults."""
-    comments = comments_of(FAULTS, "NamedFault")
-    rows = [f"| `{name}` | {number} | {kind} | `{text}` | {comments[name]} |"
-            for name, number, kind, text in faults_of_specs(sources.Library(own=True))]
-    return "\n".join(["", "| Name | Number | Kind | Text | When |", "|---|---|---|---|---|", *rows, "", ""])
+def faults_text(numbers):
+    """The table of all named faults, and of those that installing adds, with the names of those that C knows."""
+    comments = comments_of(FAULTS, "NamedFault") | comments_of(INSTALL_FAULTS, "InstallFault")
+    in_c = {it.variant: f"`{it.name}`" for it in numbers}
+    rows = [f"| `{name}` | {number} | {in_c.get(name, '')} | {kind} | `{text}` | {comments[name]} |".replace("|  |", "| |")
+            for name, number, kind, text in [*faults_of_specs(sources.Library(own=True)), *install_rows()]]
+    return "\n".join(["", "| Name | Number | Name in C | Kind | Text | When |", "|---|---|---|---|---|---|", *rows, "", ""])
 
 
 def all_numbers():
-    numbers = sorted(misuses() + faults(), key=lambda it: it.number)
+    numbers = sorted(misuses() + faults() + install_faults(), key=lambda it: it.number)
     if len({it.number for it in numbers}) != len(numbers) or len({it.name for it in numbers}) != len(numbers):
         raise Unreadable("two errors have one number or one name")
     unknown = set(NAMES) - {it.variant for it in numbers}
@@ -199,7 +253,7 @@ def example_text(name):
 
 
 def table_text(numbers):
-    """The table of the formats."""
+    """The table of the numbers of wrong uses."""
     rows = [f"| {it.number} | `{it.name}` | {it.comment} | `{it.text}` |" for it in numbers]
     return "\n".join(["", "| Number | Name in C | When | Text |", "|---|---|---|---|", *rows, "", ""])
 
@@ -210,7 +264,7 @@ def table_text(numbers):
 
 def fields_of(struct):
     """The fields of a struct of the crates with the layout of C, with their types."""
-    for file in (STATE, SECRETS, STORED, MAKING):
+    for file in (STATE, SECRETS, STORED, MAKING, HOSTED):
         if f"struct {struct} " in source_text(file):
             text = item_text(file, "struct", struct)
             if "#[repr(C)]" not in text:
@@ -294,6 +348,9 @@ def documents():
     header = between(HEADER, "/* Numbers, made by tools/header.py. */", "/* The end of the numbers. */", enum_text(numbers))
     header = between(HEADER, "/* Answers, made by tools/header.py. */", "/* The end of the answers. */",
                      answers_text(numbers), header)
+    header = between(HEADER, "/* Calls of installing, made by tools/header.py. */", "/* The end of the calls. */", due_text(), header)
+    header = between(HEADER, "/* Numberings, made by tools/header.py. */", "/* The end of the numberings. */",
+                     numbering_text(), header)
     for name in ("verify.c", "sign.c"):
         header = between(HEADER, f" * The example, made by tools/header.py from {EXAMPLES}/{name}.",
                          " * The end of the example.", example_text(name), header)
@@ -301,8 +358,8 @@ def documents():
     yield BOUNDARY, boundary.boundary_text(header, source_text(EXPORTS))
     yield MANUAL, manual.manual_text(header)
     yield NAMES_FILE, boundary.names_text(header, source_text(EXPORTS))
-    formats = between(FORMATS, "<!-- numbers, made by tools/header.py -->", "<!-- the end of the numbers -->", table_text(numbers))
-    yield FORMATS, between(FORMATS, "<!-- faults, made by tools/header.py -->", "<!-- the end of the faults -->", faults_text(), formats)
+    formats = between(FORMATS, "<!-- numbers, made by tools/header.py -->", "<!-- the end of the numbers -->", table_text(misuses()))
+    yield FORMATS, between(FORMATS, "<!-- faults, made by tools/header.py -->", "<!-- the end of the faults -->", faults_text(numbers), formats)
     yield LAYOUT, layout_text()
 
 

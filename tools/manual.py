@@ -24,6 +24,7 @@ END = """\
 .SH SEE ALSO
 .BR minisign-verify (1),
 .BR minisign-sign (1),
+.BR minisign-install (1),
 .BR minisign (1)
 """
 

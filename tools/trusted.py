@@ -205,7 +205,7 @@ class Trusted:
 
 def is_of_devices(shown):
     """Whether a file has devices or prompts."""
-    return bool(re.search(r"/src/(?:devices|prompt)\b|/specs/(?:Devices|Prompts|Passages)\b", shown))
+    return bool(re.search(r"/src/(?:devices|prompt)\b|/specs/(?:Devices|Prompts|DeviceCalls)\b", shown))
 
 
 def is_of_faults(shown):

@@ -21,7 +21,7 @@ static void check(int holds, uint32_t number, const char *what)
     }
 }
 
-#define GREATEST 45
+#define GREATEST 70
 
 static const char *const texts[GREATEST + 1] = {
     [MINISIGN_OK] = "no error",
@@ -66,6 +66,19 @@ static const char *const texts[GREATEST + 1] = {
     [MINISIGN_WORK_TOO_HIGH] = "scrypt work too high",
     [MINISIGN_BARE_PUBLIC_KEY_LENGTH] = "base64 conversion failed - was an actual public key given?",
     [MINISIGN_BARE_PUBLIC_KEY_NOT_BASE64] = "base64 conversion failed - was an actual public key given?: invalid base64",
+    [MINISIGN_NOT_DUE] = "the call is not due, or cannot go so",
+    [MINISIGN_BAD_FIRST_FLAG] = "is_first is neither 0 nor 1",
+    [MINISIGN_BAD_NUMBERING] = "numbering is neither MINISIGN_NUMBERING_TIMESTAMP nor MINISIGN_NUMBERING_VERSION",
+    [MINISIGN_PLACE_IN_USE] = "another installation is at work at this place",
+    [MINISIGN_NO_RECORD] = "no number is kept beside the place",
+    [MINISIGN_DAMAGED_RECORD] = "what is kept beside the place is no number",
+    [MINISIGN_OTHER_FILE] = "the signed comment does not name this file",
+    [MINISIGN_NO_NUMBER] = "the signed comment has no such number",
+    [MINISIGN_OLDER_UPDATE] = "the update is older than what was installed",
+    [MINISIGN_FOLDER_NOT_ON_DISK] = "installed, but the folder could not be brought to the disk",
+    [MINISIGN_READING_FAILED] = "reading failed",
+    [MINISIGN_WRITING_FAILED] = "writing failed",
+    [MINISIGN_RANDOM_SOURCE_FAILED] = "random source failed",
 };
 
 int main(void)
@@ -73,6 +86,9 @@ int main(void)
     char whole[MINISIGN_ERROR_TEXT_BYTES], cut[MINISIGN_ERROR_TEXT_BYTES];
 
     for (uint32_t number = 0; number <= GREATEST; number++) {
+        if (texts[number] == NULL && number > 63) {
+            continue; /* of faults that no call answers */
+        }
         const char *text = texts[number] != NULL ? texts[number] : "unknown error";
         size_t len = strlen(text);
 

@@ -150,9 +150,83 @@ static void signing(void)
     }
 }
 
+/* An installation at which the answers are due, or the number is to be written. */
+static minisign_installation *installing(uint32_t due)
+{
+    minisign_installation *i = (minisign_installation *) (void *) buffer(sizeof *i);
+    enum minisign_error error = minisign_install_init(i, 0);
+
+    while (error == MINISIGN_OK && minisign_install_due(i) != due) {
+        switch (minisign_install_due(i)) {
+        case MINISIGN_DUE_READ_RECORD: error = minisign_install_record(i, copied("5", 1), 1); break;
+        case MINISIGN_DUE_READ_BACK: error = minisign_install_piece(i, buffer(0), 0); break;
+        case MINISIGN_DUE_ANSWER: {
+            minisign_external *q = (minisign_external *) (void *) buffer(sizeof *q);
+
+            error = minisign_install_ask(i, (const uint8_t *) KEY, sizeof KEY - 1, (const uint8_t *) SIGNATURE, sizeof SIGNATURE - 1,
+                                         copied("test", 4), 4, MINISIGN_NUMBERING_TIMESTAMP, q, buffer(MESSAGE_LEN), MESSAGE_LEN);
+            if (error == MINISIGN_OK) {
+                error = minisign_install_answer(i, MINISIGN_ANSWER_YES, MINISIGN_ANSWER_YES);
+            }
+            break;
+        }
+        default: error = minisign_install_done(i);
+        }
+    }
+    CHECK(error == MINISIGN_OK);
+    return i;
+}
+
+/* Records, names and comments of each length, and room of each length for the message and the number. */
+static void installations(void)
+{
+    static const char zeros[100] = "0";
+    static const char comment[] = "timestamp:1556193335\tfile:test";
+
+    for (size_t len = 0; len < sizeof zeros; len++) {
+        uint8_t *record;
+        minisign_installation *i;
+
+        used = 0;
+        i = installing(MINISIGN_DUE_READ_RECORD);
+        record = copied(zeros, len);
+        memset(record, '0', len);
+        CHECK(minisign_install_record(i, record, len) == MINISIGN_OK);
+        CHECK(minisign_install_due(i) == (0 < len && len <= 64 ? MINISIGN_DUE_CREATE : MINISIGN_DUE_REFUSED));
+    }
+    for (size_t room = 0; room <= MESSAGE_LEN; room++) {
+        minisign_installation *i;
+        minisign_external *q;
+
+        used = 0;
+        i = installing(MINISIGN_DUE_ANSWER);
+        used = 1;
+        q = (minisign_external *) (void *) buffer(sizeof *q);
+        CHECK(minisign_install_ask(i, copied(KEY, sizeof KEY - 1), sizeof KEY - 1, copied(SIGNATURE, sizeof SIGNATURE - 1),
+                                   sizeof SIGNATURE - 1, copied("test", 4), 4, MINISIGN_NUMBERING_TIMESTAMP, q, buffer(room), room)
+              == (room < MESSAGE_LEN ? MINISIGN_NO_ROOM : MINISIGN_OK));
+    }
+    for (size_t room = 0; room <= MINISIGN_NUMBER_TEXT_BYTES; room++) {
+        minisign_installation *i;
+
+        used = 0;
+        i = installing(MINISIGN_DUE_WRITE_RECORD);
+        used = 1;
+        CHECK(minisign_install_number_text(i, buffer(room), room) == (room < 10 ? 0 : 10));
+    }
+    for (size_t len = 0; len < sizeof comment; len++) {
+        uint64_t *number;
+
+        used = 0;
+        number = (uint64_t *) (void *) buffer(sizeof *number);
+        CHECK(minisign_judge_comment(copied(comment, len), len, copied("test", 4), 4, MINISIGN_NUMBERING_TIMESTAMP, 0, number)
+              == (len < sizeof comment - 1 ? MINISIGN_OTHER_FILE : MINISIGN_OK));
+    }
+}
+
 static void texts(void)
 {
-    for (uint32_t number = 0; number < 64; number++) {
+    for (uint32_t number = 0; number < 70; number++) {
         for (size_t room = 0; room <= MINISIGN_ERROR_TEXT_BYTES; room++) {
             used = 0;
             CHECK(minisign_error_text(number, (char *) buffer(room), room) < MINISIGN_ERROR_TEXT_BYTES);
@@ -175,6 +249,7 @@ int main(void)
         feeding();
         asking();
         signing();
+        installations();
         texts();
     }
     printf("%u passed, %u failed\n", passed, failed);

@@ -34,9 +34,9 @@ SECONDS = 300
 STRICT = ["-Wall", "-Wextra", "-Wpedantic", "-Werror"]
 
 # What is installed beside the shared library, whose name has its version.
-FILES = ["bin/minisign", "bin/minisign-sign", "bin/minisign-verify", "include/minisign.h", "lib/libminisign.a", "lib/libminisign.so",
-         "lib/pkgconfig/minisign.pc", "share/man/man1/minisign.1", "share/man/man1/minisign-sign.1", "share/man/man1/minisign-verify.1",
-         "share/man/man3/minisign.3"]
+FILES = ["bin/minisign", "bin/minisign-install", "bin/minisign-sign", "bin/minisign-verify", "include/minisign.h", "lib/libminisign.a",
+         "lib/libminisign.so", "lib/pkgconfig/minisign.pc", "share/man/man1/minisign.1", "share/man/man1/minisign-install.1",
+         "share/man/man1/minisign-sign.1", "share/man/man1/minisign-verify.1", "share/man/man3/minisign.3"]
 
 # A result that is dropped.
 DROPPED = "#include <minisign.h>\nint main(void) { minisign_state s; minisign_init(&s); minisign_update(&s, 0, 0); return 0; }\n"
@@ -259,6 +259,13 @@ def run_programs(checks, root, room, minisign):
     for program in (os.path.join(root, "bin", "minisign-verify"), minisign):
         status, said, why = run([program, "-V", "-Q", "-p", key, "-m", data, "-x", sig])
         checks.check(status == 0 and said == COMMENT + "\n", f"{program}: {said!r}, {why!r}")
+    place = os.path.join(room, "place")
+    run([minisign, "-S", "-s", "key.key", "-m", data, "-x", sig, "-t", "version:7\tfile:place"], room)
+    install = os.path.join(root, "bin", "minisign-install")
+    for words, wanted in (([], 7), (["--first"], 0), ([], 0)):
+        status, said, why = run([install, *words, "--numbering", "version", key, data, sig, place])
+        checks.check(status == wanted and not said and bool(why) == bool(wanted), f"minisign-install {words}: status {status}, {why!r}")
+    checks.check(read(place) == read(data) and read(os.path.join(room, ".place.number")) == b"7", "minisign-install: what was installed")
 
 
 def main():

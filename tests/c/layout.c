@@ -38,3 +38,5 @@ IS_LAID_OUT(minisign_sealing, 48, 8);
 IS_AT(minisign_sealing, salt, 0, 32);
 IS_AT(minisign_sealing, operations_limit, 32, 8);
 IS_AT(minisign_sealing, memory_limit, 40, 8);
+
+IS_LAID_OUT(minisign_installation, 640, 8);

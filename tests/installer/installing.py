@@ -1,8 +1,9 @@
 #!/usr/bin/env python3
 """Runs the built program `minisign_installer` on real files: updates that are good, bad and older, with each option and with
 words that ask for nothing, over what cannot be used, while it is killed at each of its calls of the system and with each of
-them failing, four at once with a reader beside them, on links, on files with access control lists, in a folder that may not
-be written, on a full disk, and on a disk that crashes. What stands at the place is always the old or a new update, whole.
+them failing, four at once with a reader beside them, while data, stage, place and lock file are changed by others, on links,
+on files with access control lists, in a folder that may not be written, on a full disk, and on a disk that crashes. What
+stands at the place is always the old or a new update, whole. `real_installing.py` runs the other program through these cases.
 
     tests/installer/installing.py [PROGRAM ..]
 
@@ -28,14 +29,14 @@ import time
 HERE = os.path.dirname(os.path.realpath(__file__))
 sys.path += [os.path.join(HERE, "..", it) for it in ("shared", "tool")]
 
-import toy
 from real_runs import count_over
 from crashing import Disk, check_image, crash, make_image
+from installers import LOCK, PLACE, RECORD, ToyInstaller
 from running import NOBODY, SECONDS, Failure, Skip, build_preload, set_list
 from surviving import MEMORY, MOST_CALLS, SmallDisk, content
 
 PROGRAM = os.path.join(HERE, "..", "..", "crates", "minisign_installer", "out", "minisign_installer")
-PLACE, RECORD, LOCK, STAGE = "place", ".place.number", ".place.lock", ".place.stage-"
+STAGE = ".place.stage-"
 PK = "key.pub"
 OLD, NEW = b"old" * 1000, b"new" * 50000
 LATER = b"later" * 40000
@@ -48,30 +49,12 @@ def comment_of(number, names=PLACE, label="timestamp"):
     return f"{label}:{number}\tfile:{names}\tprehashed".encode()
 
 
-# The calls of an installation by root over a file of another owner, in the order of docs/INSTALLING.md, as
-# `trace_calls.c` tells them; repeated ones stand once. S is the stage of the update, N that of its number.
-CALLS = f"""make {LOCK} new 600
-lock {LOCK}
-owner {LOCK}
-open .
-open {RECORD}
-make S new 600
-write S
-read-back S
-owner S
-rights S 711
-sync S
-make N new 600
-write N
-owner N
-sync N
-rename N {RECORD}
-open .
-sync .
-rename S {PLACE}
-open .
-sync .
-"""
+# Calls that fail: by which name, which of them, which stages are removed then, and how the run ends.
+FAILING = [
+    ("write", 1, "S", FAILED), ("read-back", 1, "S", FAILED), ("rights", 1, "S", FAILED), ("sync", 1, "S", FAILED),
+    ("write", 2, "NS", FAILED), ("sync", 2, "NS", FAILED), ("rename", 1, "NS", FAILED), ("sync", 3, "NS", FAILED),
+    ("rename", 2, "S", FAILED), ("sync", 4, "S", NOT_ON_DISK),
+]
 
 # What is taken away by `trace_calls.c`.
 STEPS = ("sync", "folder", "new", "mode", "rights", "owner", "lock", "rename", "digit")
@@ -80,9 +63,10 @@ STEPS = ("sync", "folder", "new", "mode", "rights", "owner", "lock", "rename", "
 class Folder:
     """A folder with a place, at which an update of the number 5 stands, or nothing."""
 
-    def __init__(self, path, is_installed=True):
+    def __init__(self, path, kind, is_installed=True):
         self.path = path
-        self.put(PK, toy.public_text())
+        self.kind = kind
+        self.put(PK, kind.public_text())
         if is_installed:
             self.put(PLACE, OLD)
             os.chmod(os.path.join(path, PLACE), 0o751)
@@ -92,20 +76,21 @@ class Folder:
         return stat.S_IMODE(os.stat(os.path.join(self.path, name)).st_mode)
 
     @classmethod
-    def there(cls, path):
+    def there(cls, path, kind):
         """A folder as it is."""
         folder = cls.__new__(cls)
         folder.path = path
+        folder.kind = kind
         return folder
 
     def put(self, name, data):
         with open(os.path.join(self.path, name), "wb") as file:
             file.write(data)
 
-    def offer(self, name, data, number, signed=None, **how):
+    def offer(self, name, data, number, signed=None, legacy=False, **how):
         """The data of an update and its signature, which is over `signed` where that is given."""
         self.put(name, data)
-        self.put(name + ".sig", toy.signature_text(data if signed is None else signed, trusted=comment_of(number, **how)))
+        self.put(name + ".sig", self.kind.signature_text(data if signed is None else signed, comment_of(number, **how), legacy))
 
     def arguments(self, name, *options):
         return [*options, PK, name, name + ".sig", PLACE]
@@ -127,7 +112,10 @@ class Folder:
 
 
 class Installing:
-    def __init__(self, program, room):
+    """Runs a program in fresh folders, in memory where that can be had; `kind` is one of `installers.py`."""
+
+    def __init__(self, program, kind, room):
+        self.kind = kind
         self.program = os.path.join(room, "program")
         shutil.copy(program, self.program)
         os.chmod(room, 0o711)
@@ -154,7 +142,7 @@ class Installing:
     def installs(self):
         """A newer update, one of the same number, and what is kept of the file that was there."""
         with self.folder() as path:
-            folder = Folder(path)
+            folder = Folder(path, self.kind)
             folder.offer("new", NEW, 6)
             self.check(folder, "new", 0)
             folder.expect(NEW, b"6")
@@ -169,7 +157,7 @@ class Installing:
 
     def installs_first(self):
         with self.folder() as path:
-            folder = Folder(path, is_installed=False)
+            folder = Folder(path, self.kind, is_installed=False)
             folder.offer("new", NEW, 6)
             self.check(folder, "new", UNRECORDED, said=b"error: place: no number is kept beside the place\n")
             folder.expect(None, None)
@@ -187,24 +175,22 @@ class Installing:
 
     def refuses(self, said, data=NEW, number=6, status=REFUSED, **how):
         with self.folder() as path:
-            folder = Folder(path)
+            folder = Folder(path, self.kind)
             folder.offer("bad", data, number, **how)
             self.check(folder, "bad", status, said=said)
             folder.expect(OLD, b"5")
 
     def refuses_legacy(self):
         with self.folder() as path:
-            folder = Folder(path)
-            folder.put("bad", NEW)
-            record = toy.signature_record(NEW, algorithm=b"Ed")
-            folder.put("bad.sig", toy.signature_text(NEW, record=record, trusted=comment_of(6)))
+            folder = Folder(path, self.kind)
+            folder.offer("bad", NEW, 6, legacy=True)
             self.check(folder, "bad", REFUSED, said=b"error: bad.sig: Legacy signatures are not accepted\n")
             folder.expect(OLD, b"5")
 
     def removes_leftovers(self):
         """Stages of killed runs go, and files that only look alike stay."""
         with self.folder() as path:
-            folder = Folder(path)
+            folder = Folder(path, self.kind)
             folder.offer("new", NEW, 6)
             left = [STAGE + "0" * 32, STAGE + "0123456789abcdef" * 2]
             alike = [STAGE + "0" * 31, STAGE + "A" * 32, ".other.stage-" + "0" * 32, STAGE + "0" * 33]
@@ -220,7 +206,7 @@ class Installing:
     def passes_over(self, make, name):
         """What is no leftover, or cannot be removed, stays, and stops no update."""
         with self.folder() as path:
-            folder = Folder(path)
+            folder = Folder(path, self.kind)
             folder.offer("new", NEW, 6)
             make(os.path.join(os.fsencode(path), name))
             self.check(folder, "new", 0)
@@ -229,7 +215,7 @@ class Installing:
 
     def refuses_record(self, record, status, said):
         with self.folder() as path:
-            folder = Folder(path)
+            folder = Folder(path, self.kind)
             folder.put(RECORD, record)
             folder.offer("new", NEW, 6)
             self.check(folder, "new", status, said=said)
@@ -237,7 +223,7 @@ class Installing:
 
     def takes_record(self, record):
         with self.folder() as path:
-            folder = Folder(path)
+            folder = Folder(path, self.kind)
             folder.put(RECORD, record)
             folder.offer("old", LATER, 4)
             self.check(folder, "old", OLDER)
@@ -249,7 +235,7 @@ class Installing:
     def refuses_beside(self, name, make, said):
         """A record or a lock file that is a link, or no regular file, is refused, left alone, and not waited for."""
         with self.folder() as path:
-            folder = Folder(path)
+            folder = Folder(path, self.kind)
             folder.offer("new", NEW, 6)
             folder.put("behind", b"4")
             at = os.path.join(path, name)
@@ -270,7 +256,7 @@ class Installing:
         if os.geteuid() != 0:
             raise Skip("only root may become nobody")
         with self.folder() as path:
-            folder = Folder(path)
+            folder = Folder(path, self.kind)
             os.chown(path, NOBODY, NOBODY)
             os.chown(os.path.join(path, PLACE), NOBODY, NOBODY)
             folder.offer("new", NEW, 6)
@@ -287,40 +273,185 @@ class Installing:
                 raise Failure(f"its owner's run ended with status {status}, and said {said}")
             folder.expect(LATER, b"7")
 
+    def leaves_linked(self):
+        """A run by root gives no file away that has the lock's name beside another."""
+        if os.geteuid() != 0:
+            raise Skip("only root may become nobody")
+        with self.folder() as path:
+            folder = Folder(path, self.kind)
+            os.chown(path, NOBODY, NOBODY)
+            os.chown(os.path.join(path, PLACE), NOBODY, NOBODY)
+            folder.put("secret", b"secret")
+            os.link(os.path.join(path, "secret"), os.path.join(path, LOCK))
+            folder.offer("new", NEW, 6)
+            self.check(folder, "new", 0)
+            if os.stat(os.path.join(path, "secret")).st_uid != 0 or folder.holds("secret") != b"secret":
+                raise Failure("the file has another owner now")
+
+    # == Meanwhile ==
+
+    def while_staged(self, folder, meanwhile, where="."):
+        """A run over the place in a folder of that folder, whose data comes through a pipe: once it has staged some of it
+        something is done, and then the rest comes. Its status, and what it said."""
+        folder.offer("slow", NEW, 6)
+        os.remove(os.path.join(folder.path, "slow"))
+        os.mkfifo(os.path.join(folder.path, "slow"))
+        process = subprocess.Popen([self.program, PK, "slow", "slow.sig", os.path.join(where, PLACE)], cwd=folder.path, env={},
+                                   stdin=subprocess.DEVNULL, stderr=subprocess.PIPE)
+        with open(os.path.join(folder.path, "slow"), "wb", buffering=0) as pipe:
+            pipe.write(NEW[:1000])
+            at = Folder.there(os.path.join(folder.path, where), self.kind)
+            for _ in range(1000):
+                if any(at.holds(name) for name in at.stages()):
+                    break
+                time.sleep(0.01)
+            else:
+                raise Failure("it staged nothing")
+            meanwhile(at)
+            try:
+                pipe.write(NEW[1000:])
+            except BrokenPipeError:
+                pass
+        said = process.communicate(timeout=SECONDS)[1]
+        return process.returncode, said
+
     def loses_lock(self):
         """A run whose lock file is removed changes nothing once another one went past it."""
         with self.folder() as path:
-            folder = Folder(path)
-            folder.offer("slow", NEW, 6)
-            os.remove(os.path.join(path, "slow"))
-            os.mkfifo(os.path.join(path, "slow"))
+            folder = Folder(path, self.kind)
             folder.offer("later", LATER, 7)
-            process = subprocess.Popen([self.program, *folder.arguments("slow")], cwd=path, env={}, stdin=subprocess.DEVNULL, stderr=subprocess.PIPE)
-            with open(os.path.join(path, "slow"), "wb", buffering=0) as pipe:
-                pipe.write(NEW[:1000])
-                for _ in range(1000):
-                    if folder.stages():
-                        break
-                    time.sleep(0.01)
-                else:
-                    raise Failure("it made no stage")
+
+            def overtake(at):
                 os.remove(os.path.join(path, LOCK))
                 self.check(folder, "later", 0)
-                try:
-                    pipe.write(NEW[1000:])
-                except BrokenPipeError:
-                    pass
-            said = process.communicate(timeout=SECONDS)[1]
-            if process.returncode != FAILED or b".place.lock: it was removed or replaced while it was locked" not in said or folder.holds() != LATER or folder.holds(RECORD) != b"7":
-                raise Failure(f"the slow run ended with status {process.returncode}, said {said}, and the record holds {folder.holds(RECORD)}")
+
+            status, said = self.while_staged(folder, overtake)
+            if status != FAILED or b".place.lock: it was removed or replaced while it was locked" not in said or folder.holds() != LATER or folder.holds(RECORD) != b"7":
+                raise Failure(f"the slow run ended with status {status}, said {said}, and the record holds {folder.holds(RECORD)}")
+
+    def changed_stage(self):
+        """What is judged is what the stage holds, whatever came through the pipe."""
+        with self.folder() as path:
+            folder = Folder(path, self.kind)
+
+            def change(at):
+                with open(os.path.join(path, at.stages()[0]), "r+b") as stage:
+                    stage.write(b"x")
+
+            status, said = self.while_staged(folder, change)
+            if status != REFUSED or not said.endswith(b"error: slow: Signature verification failed\n"):
+                raise Failure(f"it ended with status {status}, and said {said}")
+            folder.expect(OLD, b"5")
+
+    def moved_folder(self):
+        """A folder that is moved meanwhile gets the update, and not the one that then stands under its path."""
+        with self.folder() as path:
+            sub, moved = os.path.join(path, "sub"), os.path.join(path, "moved")
+            folder = Folder(path, self.kind)
+            os.mkdir(sub)
+            Folder(sub, self.kind)
+
+            def move(at):
+                os.rename(sub, moved)
+                os.mkdir(sub)
+                Folder(sub, self.kind)
+
+            status, said = self.while_staged(folder, move, "sub")
+            if status != 0:
+                raise Failure(f"it ended with status {status}, and said {said}")
+            Folder.there(moved, self.kind).expect(NEW, b"6")
+            Folder.there(sub, self.kind).expect(OLD, b"5")
+            if set(os.listdir(sub)) != {PK, PLACE, RECORD}:
+                raise Failure(f"the other folder has {os.listdir(sub)}")
+
+    def with_swapping(self, folder, swap, judge, rounds=40):
+        """Runs while something is swapped again and again, each of whose calls waits first for a short while."""
+        stop, broken = threading.Event(), []
+
+        def swap_on():
+            number = 0
+            try:
+                while not stop.is_set():
+                    swap(number)
+                    number += 1
+                    time.sleep(0.0005)
+            except Exception as why:
+                broken.append(why)
+
+        thread = threading.Thread(target=swap_on)
+        thread.start()
+        try:
+            for _ in range(rounds):
+                judge(*self.run(folder, folder.arguments("new"), {"LD_PRELOAD": self.trace, "SLOW": "2000"}))
+                if folder.stages():
+                    raise Failure(f"it left {folder.stages()}")
+        finally:
+            stop.set()
+            thread.join()
+        if broken:
+            raise Failure(f"the swapping ended: {broken[0]}")
+
+    def swapped_data(self):
+        """The data is written over and replaced while it is copied: the place holds the old update or the new one, whole."""
+        with self.folder() as path:
+            folder = Folder(path, self.kind)
+            folder.offer("new", NEW, 6)
+            at = os.path.join(path, "new")
+
+            def swap(number):
+                data = [NEW, LATER[:len(NEW)], NEW, NEW[:-1]][number % 4]
+                if number % 3 == 0:
+                    folder.put("other", data)
+                    os.rename(os.path.join(path, "other"), at)
+                else:
+                    with open(at, "r+b") as file:
+                        file.write(data)
+                        file.truncate()
+
+            def judge(status, said):
+                if status not in (0, REFUSED):
+                    raise Failure(f"it ended with status {status}, and said {said}")
+                state = (folder.holds(), folder.holds(RECORD))
+                if state != (NEW, b"6") and (status == 0 or state != (OLD, b"5")):
+                    raise Failure(f"after status {status} the place holds {str(state[0])[:40]}, and the record {state[1]}")
+
+            self.with_swapping(folder, swap, judge)
+
+    def swapped_place(self):
+        """Links, folders, pipes and files come to the place and go: none is followed, waited for or written into."""
+        with self.folder() as path:
+            folder = Folder(path, self.kind)
+            folder.offer("new", NEW, 6)
+            folder.put("behind", b"behind")
+            at = os.path.join(path, PLACE)
+            makes = [lambda: folder.put("made", OLD), lambda: os.symlink("behind", os.path.join(path, "made")),
+                     lambda: os.mkfifo(os.path.join(path, "made")), lambda: os.mkdir(os.path.join(path, "made"))]
+
+            def swap(number):
+                if os.path.isdir(at) and not os.path.islink(at):
+                    os.rmdir(at)
+                makes[number % 4]()
+                if number % 4 == 3 and os.path.lexists(at):
+                    os.remove(at)
+                os.rename(os.path.join(path, "made"), at)
+
+            def judge(status, said):
+                if status not in (0, FAILED):
+                    raise Failure(f"it ended with status {status}, and said {said}")
+                if folder.holds("behind") != b"behind" or folder.holds(RECORD) not in (b"5", b"6"):
+                    raise Failure(f"what a link leads to is {folder.holds('behind')}, and the record {folder.holds(RECORD)}")
+
+            self.with_swapping(folder, swap, judge)
 
     # == Hurt ==
 
-    def break_each(self, judge, **how):
+    def break_each(self, judge, prepare=None, **how):
         for number in range(1, MOST_CALLS):
             with self.folder() as path:
-                folder = Folder(path)
+                folder = Folder(path, self.kind)
                 folder.offer("new", NEW, 6)
+                if prepare:
+                    prepare(folder)
                 told, says = os.pipe()
                 environment = {"LD_PRELOAD": self.preload, "BREAK_SAYS": str(says), "BREAK_AT": str(number), **how}
                 try:
@@ -360,12 +491,18 @@ class Installing:
     def failing(self, calls, number=errno.EIO):
         """Each of these calls fails in turn."""
 
+        def is_told(status, said):
+            return status == 0 or said.startswith(self.kind.warning) and len(said) > len(self.kind.warning)
+
         def judge(folder, status, said, came):
             state = (folder.holds(), folder.holds(RECORD))
+            if calls == "getrandom" and status == -signal.SIGABRT and state == (OLD, b"5") and folder.holds(LOCK) is None:
+                # (libsodium ends a program that it can draw nothing for, before anything was touched)
+                return
             wanted = [(NEW, b"6")] if status == 0 else [(OLD, b"5"), (OLD, b"6")]
             if status == NOT_ON_DISK and b"error: place: installed, but" in said:
                 wanted = [(NEW, b"6")]
-            if status not in (0, FAILED, NOT_ON_DISK) or state not in wanted or said.count(b"\n") < 2 and status:
+            if status not in (0, FAILED, NOT_ON_DISK) or state not in wanted or not is_told(status, said):
                 raise Failure(f"it ended with status {status}, said {said}, and the place or the record is wrong")
             if folder.stages():
                 raise Failure(f"it left {folder.stages()}")
@@ -374,19 +511,53 @@ class Installing:
             raise Failure("it made no such call")
 
     def interrupted(self, calls):
-        """Each of these calls is interrupted in turn, and made again."""
+        """Each of these calls is interrupted in turn, and made again, where a killed run left a stage, and the place is, if
+        root runs this, of another owner."""
+        owner = NOBODY if os.geteuid() == 0 else os.geteuid()
+
+        def prepare(folder):
+            folder.put(STAGE + "0" * 32, b"left")
+            os.chown(os.path.join(folder.path, PLACE), owner, -1)
 
         def judge(folder, status, said, came):
             if status != 0:
                 raise Failure(f"it ended with status {status}, and said {said}")
             folder.expect(NEW, b"6")
+            for name in (PLACE, RECORD, LOCK):
+                if os.stat(os.path.join(folder.path, name)).st_uid != owner:
+                    raise Failure(f"{name} is of another owner")
 
-        if not self.break_each(judge, BREAK_CALLS=calls, BREAK_ERRNO=str(errno.EINTR)):
+        if calls == "fchown" and owner != NOBODY:
+            raise Skip("only root may give files another owner")
+        if not self.break_each(judge, prepare, BREAK_CALLS=calls, BREAK_ERRNO=str(errno.EINTR)):
             raise Failure("it made no such call")
+
+    def refused_memory(self):
+        """Each request for memory is refused in turn: nothing is installed, and nothing left."""
+        preload = build_preload(self.room, "refuse_memory")
+        for number in range(1, MOST_CALLS):
+            with self.folder() as path:
+                folder = Folder(path, self.kind)
+                folder.offer("new", NEW, 6)
+                told, says = os.pipe()
+                try:
+                    status, said = self.run(folder, folder.arguments("new"), {"LD_PRELOAD": preload, "REFUSE_AT": str(number), "REFUSE_SAYS": str(says)}, [says])
+                finally:
+                    os.close(says)
+                with os.fdopen(told, "rb") as pipe:
+                    if pipe.read(1) == b"":
+                        if number == 1:
+                            raise Failure("it asked for no memory")
+                        folder.expect(NEW, b"6")
+                        return
+                if status != FAILED or b"memory" not in said:
+                    raise Failure(f"at request {number} it ended with status {status}, and said {said}")
+                folder.expect(OLD, b"5")
+        raise Failure("it asks for memory without end")
 
     def on_full_disk(self):
         with self.folder() as path, SmallDisk(path):
-            folder = Folder(path)
+            folder = Folder(path, self.kind)
             folder.offer("new", b"n" * 20000, 6)
             with open(os.path.join(path, "fill"), "wb", buffering=0) as fill:
                 try:
@@ -403,7 +574,7 @@ class Installing:
         if os.geteuid() != 0:
             raise Skip("only root may become nobody")
         with self.folder() as path:
-            folder = Folder(path)
+            folder = Folder(path, self.kind)
             folder.offer("new", NEW, 6)
             os.chmod(path, 0o755)
             status, said = self.run(folder, folder.arguments("new"), user=NOBODY, group=NOBODY, extra_groups=[])
@@ -414,7 +585,7 @@ class Installing:
     def on_other(self, make, said):
         """A link at the place is refused, and so is what is no file."""
         with self.folder() as path:
-            folder = Folder(path)
+            folder = Folder(path, self.kind)
             folder.offer("new", NEW, 6)
             at = os.path.join(path, PLACE)
             os.rename(at, os.path.join(path, "behind"))
@@ -429,7 +600,7 @@ class Installing:
     def says(self, words, status, said, shown=b""):
         """Words that ask for no installation, or for one that fails: a line says why, and no file is made."""
         with self.folder() as path:
-            folder = Folder(path)
+            folder = Folder(path, self.kind)
             folder.offer("new", NEW, 6)
             before = os.listdir(path)
             ran = subprocess.run([self.program, *words], cwd=path, env={}, stdin=subprocess.DEVNULL, stdout=subprocess.PIPE,
@@ -442,13 +613,13 @@ class Installing:
     def takes(self, words, name=PLACE, mode=0o711, number=b"6", **how):
         """An installation with these words."""
         with self.folder() as path:
-            folder = Folder(path)
+            folder = Folder(path, self.kind)
             folder.offer("new", NEW, int(number), **how)
             if name != PLACE:
                 os.rename(os.path.join(path, PLACE), os.path.join(path, name))
                 os.rename(os.path.join(path, RECORD), os.path.join(path, f".{name}.number"))
             status, said = self.run(folder, words)
-            if status or said.count(b"\n") != 1:
+            if status or said != self.kind.warning:
                 raise Failure(f"it ended with status {status}, and said {said}")
             if folder.holds(name) != NEW or folder.holds(f".{name}.number") != number or folder.mode(name) != mode:
                 raise Failure(f"the place holds {str(folder.holds(name))[:40]}, with the mode {folder.mode(name):o}")
@@ -456,7 +627,7 @@ class Installing:
     def first_mode(self):
         """A first installation with the rights that were asked for, whatever the mask."""
         with self.folder() as path:
-            folder = Folder(path, is_installed=False)
+            folder = Folder(path, self.kind, is_installed=False)
             folder.offer("new", NEW, 6)
             self.check(folder, "new", 0, "--first", "--mode", "0775")
             folder.expect(NEW, b"6")
@@ -466,7 +637,7 @@ class Installing:
     def bounded(self):
         """Data of as many bytes as are allowed is taken; one more is refused, and data without end too."""
         with self.folder() as path:
-            folder = Folder(path)
+            folder = Folder(path, self.kind)
             folder.offer("new", NEW, 6)
             self.check(folder, "new", REFUSED, "--most", str(len(NEW) - 1), said=b"error: new: it is longer than it may be\n")
             folder.expect(OLD, b"5")
@@ -484,7 +655,7 @@ class Installing:
         """Where the error stream is a terminal, it shows how far it is."""
         data = b"large" * 1000000
         with self.folder() as path:
-            folder = Folder(path)
+            folder = Folder(path, self.kind)
             folder.offer("new", data, 6)
             ours, theirs = pty.openpty()
             with open(ours, "rb", buffering=0) as screen:
@@ -505,7 +676,7 @@ class Installing:
     def without_errors(self):
         """No file gets the number of a closed error stream."""
         with self.folder() as path:
-            folder = Folder(path)
+            folder = Folder(path, self.kind)
             folder.offer("bad", NEW, 6, signed=LATER)
             folder.offer("new", NEW, 6)
             for name, status in (("bad", REFUSED), ("new", 0)):
@@ -520,7 +691,7 @@ class Installing:
     def keeps_rights(self, before, after, entries=None):
         """An update over a file of this mode, with these entries of an access control list."""
         with self.folder() as path:
-            folder = Folder(path)
+            folder = Folder(path, self.kind)
             at = os.path.join(path, PLACE)
             os.chmod(at, before)
             if entries:
@@ -533,24 +704,24 @@ class Installing:
 
     # == In order ==
 
-    def traced(self, away=None):
+    def traced(self, away=None, status=0, data=NEW, **how):
         """The calls that an installation made, with a step taken away or none; and what it left."""
         with self.folder() as path:
-            folder = Folder(path)
+            folder = Folder(path, self.kind)
             os.chown(os.path.join(path, PLACE), NOBODY, NOBODY)
-            folder.offer("new", NEW, 16)
+            folder.offer("new", data, 16)
             told, says = os.pipe()
-            environment = {"LD_PRELOAD": self.trace, "TRACE_TO": str(says)}
+            environment = {"LD_PRELOAD": f"{self.trace}:{self.preload}", "TRACE_TO": str(says), **how}
             if away is not None:
                 environment["TAKE_AWAY"] = away
             try:
-                status, said = self.run(folder, folder.arguments("new"), environment, [says])
+                ended, said = self.run(folder, folder.arguments("new"), environment, [says])
             finally:
                 os.close(says)
             with os.fdopen(told) as pipe:
                 calls = pipe.read().splitlines()
-            if status != 0:
-                raise Failure(f"it ended with status {status}, and said {said}")
+            if ended != status:
+                raise Failure(f"it ended with status {ended}, and said {said}")
             return self.named(calls), (folder.holds(), folder.holds(RECORD))
 
     def named(self, calls):
@@ -570,7 +741,20 @@ class Installing:
         if os.geteuid() != 0:
             raise Skip("only root may give files another owner")
         calls, left = self.traced()
-        if calls != CALLS or left != (NEW, b"16"):
+        if calls != self.kind.calls or left != (NEW, b"16"):
+            raise Failure(f"its calls were\n{calls}")
+
+    def in_order_after(self, call, number, removed, status):
+        """What comes after a call that failed, in the order of the machine: the stages are removed that are the run's own."""
+        if os.geteuid() != 0:
+            raise Skip("only root may give files another owner")
+        # (of data that is written by one call)
+        calls, _ = self.traced(status=status, data=NEW[:1000], BREAK_CALLS=self.kind.called[call], BREAK_AT=str(number), BREAK_ERRNO=str(errno.EIO))
+        lines = self.kind.calls.splitlines(True)
+        at = [place for place, line in enumerate(lines) if line.startswith(call + " ")][number - 1]
+        # (some calls are told where they begin, and some where they have succeeded)
+        wanted = lines[:at if call in ("write", "rename") else at + 1] + [f"remove {stage}\n" for stage in removed]
+        if calls != "".join(wanted):
             raise Failure(f"its calls were\n{calls}")
 
     def notices(self, away):
@@ -578,7 +762,7 @@ class Installing:
         if os.geteuid() != 0:
             raise Skip("only root may give files another owner")
         calls, left = self.traced(away)
-        if calls == CALLS and left == (NEW, b"16"):
+        if calls == self.kind.calls and left == (NEW, b"16"):
             raise Failure("nothing tells it")
 
     # == Crashes ==
@@ -604,12 +788,12 @@ class Installing:
             fresh, image, crashed = (os.path.join(room, name) for name in ("fresh", "image", "crashed"))
             make_image(fresh)
             with Disk(fresh) as path:
-                Folder(path).offer("new", NEW, 6)
+                Folder(path, self.kind).offer("new", NEW, 6)
             seen = set()
             for number in range(1, MOST_CALLS):
                 shutil.copyfile(fresh, image)
                 with Disk(image) as path:
-                    process, came = self.stopped(Folder.there(path), number)
+                    process, came = self.stopped(Folder.there(path, self.kind), number)
                     try:
                         if not came and process.wait(timeout=SECONDS) != 0:
                             raise Failure(f"it ended with status {process.returncode}")
@@ -629,7 +813,7 @@ class Installing:
     def after_crash(self, crashed, may_be_old):
         """What a machine finds that crashed; the next run finishes on it."""
         with Disk(crashed) as path:
-            folder = Folder.there(path)
+            folder = Folder.there(path, self.kind)
             state = (folder.holds(), folder.holds(RECORD))
             if state not in ([(OLD, b"5"), (OLD, b"6"), (NEW, b"6")] if may_be_old else [(NEW, b"6")]):
                 raise Failure(f"the place holds {str(state[0])[:40]}, and the record {state[1]}")
@@ -644,7 +828,7 @@ class Installing:
             image, crashed = (os.path.join(room, name) for name in ("image", "crashed"))
             make_image(image)
             with Disk(image) as path:
-                folder = Folder(path)
+                folder = Folder(path, self.kind)
                 folder.offer("new", NEW, 6)
                 os.sync()
                 status, said = self.run(folder, folder.arguments("new"), {"LD_PRELOAD": self.trace, "TAKE_AWAY": away})
@@ -665,7 +849,7 @@ class Installing:
         waits first for up to so many microseconds."""
         environment = {} if slow is None else {"LD_PRELOAD": self.trace, "SLOW": str(slow)}
         with self.folder() as path:
-            folder = Folder(path)
+            folder = Folder(path, self.kind)
             updates = {OLD: 5}
             stop, wrong = threading.Event(), []
 
@@ -709,7 +893,7 @@ class Installing:
     def while_locked(self):
         import fcntl
         with self.folder() as path:
-            folder = Folder(path)
+            folder = Folder(path, self.kind)
             folder.offer("new", NEW, 6)
             with open(os.path.join(path, LOCK), "wb") as lock:
                 fcntl.flock(lock, fcntl.LOCK_EX)
@@ -760,16 +944,26 @@ def cases(it):
     yield "a list with a group that may write", lambda: it.keeps_rights(0o600, 0o600, "g:65534:rwx")
     yield "a list that keeps a group from what all others may", lambda: it.keeps_rights(0o604, 0o644, "g::---,g:65534:rwx")
     yield "the owner after root", it.belongs_to_owner
+    yield "a lock file with a second name", it.leaves_linked
+    if it.kind.is_in_c:
+        yield "memory that is refused", it.refused_memory
     yield "a lock file that is removed", it.loses_lock
+    yield "a stage that is changed", it.changed_stage
+    if it.kind.is_in_c:
+        yield "a folder that is moved", it.moved_folder
+    yield "data that is swapped", it.swapped_data
+    yield "a place that is swapped", it.swapped_place
     yield "killed at each call", it.killed
-    for call in ("open", "openat", "write", "fsync", "rename", "read", "pread", "flock", "getdents64", "fchmod", "statx", "close"):
+    for call in it.kind.failing:
         yield f"{call} fails", lambda call=call: it.failing(call)
-    for call in ("open", "openat", "read", "write", "fsync", "pread", "flock", "fchmod"):
+    for call in it.kind.interrupted:
         yield f"{call} is interrupted", lambda call=call: it.interrupted(call)
     yield "write fails for want of room", lambda: it.failing("write", errno.ENOSPC)
     yield "a full disk", it.on_full_disk
     yield "a folder that may not be written", it.in_locked_folder
     yield "the calls in their order", it.in_order
+    for case in FAILING:
+        yield f"the calls after {case[0]} {case[1]} failed", lambda case=case: it.in_order_after(*case)
     for away in STEPS:
         yield f"{away} is taken away", lambda away=away: it.notices(away)
     yield "a disk that crashes before each call", it.crashes
@@ -783,7 +977,8 @@ def cases(it):
 def word_cases(it):
     """Words that ask for nothing, and words that ask for an installation in another way."""
     paths = [PK, "new", "new.sig", PLACE]
-    usage = b"usage: minisign_installer [OPTION ..] PK DATA SIG PLACE\n"
+    name = it.kind.name.encode()
+    usage = b"usage: " + name + b" [OPTION ..] PK DATA SIG PLACE\n"
     misuses = [
         ("no words", [], b"error: there are fewer than four paths\n" + usage),
         ("three paths", paths[:3], b"error: there are fewer than four paths\n" + usage),
@@ -809,8 +1004,8 @@ def word_cases(it):
         ("the folder itself as place", [*paths[:3], "."], b"error: .: it does not end with the name of a file\n"),
         ("bytes that are not UTF-8", [*paths[:3], b"pl\xe4ce"], b"error: an argument is not UTF-8\n" + usage),
     ]
-    for name, words, said in misuses:
-        yield name, lambda words=words, said=said: it.says(words, MISUSED, said)
+    for what, words, said in misuses:
+        yield what, lambda words=words, said=said: it.says(words, MISUSED, said)
     failures = [
         ("no key", ["none.pub", *paths[1:]], FAILED, b"error: none.pub: No such file or directory (os error 2)\n"),
         ("no data", [PK, "none", *paths[2:]], FAILED, b"error: none: No such file or directory (os error 2)\n"),
@@ -820,10 +1015,10 @@ def word_cases(it):
         ("a key that is no text", ["new.sig", *paths[1:]], REFUSED, b"error: new.sig: "),
         ("a signature that is none", [PK, "new", PK, PLACE], REFUSED, b"error: key.pub: "),
     ]
-    for name, words, status, said in failures:
-        yield name, lambda words=words, status=status, said=said: it.says(words, status, said)
+    for what, words, status, said in failures:
+        yield what, lambda words=words, status=status, said=said: it.says(words, status, said)
     yield "help", lambda: it.says(["--help"], 0, b"", shown=usage)
-    yield "the version", lambda: it.says(["--version"], 0, b"", shown=b"minisign_installer 0.1.0\n")
+    yield "the version", lambda: it.says(["--version"], 0, b"", shown=name + b" 0.1.0\n")
     orders = [
         ("options behind the paths", [*paths, "--first", "--mode", "0640"], 0o640),
         ("options between the paths", [PK, "--mode", "640", "new", "--most", "1000000", "new.sig", "--first", PLACE], 0o640),
@@ -831,17 +1026,17 @@ def word_cases(it):
         ("the end of options first", ["--", *paths], 0o711),
         ("the end of options between", [PK, "--first", "new", "--", "new.sig", PLACE], 0o711),
     ]
-    for name, words, mode in orders:
-        yield name, lambda words=words, mode=mode: it.takes(words, mode=mode)
+    for what, words, mode in orders:
+        yield what, lambda words=words, mode=mode: it.takes(words, mode=mode)
     yield "a name that begins with a dash", lambda: it.takes(["--", *paths[:3], "--first"], name="--first", names="--first")
     yield "another name than the signed one", lambda: it.takes([*paths[:3], "app", "--name", "app-1.2"], name="app", names="app-1.2")
 
 
-def run_all(program):
+def run_all(program, kind):
     """Runs all cases, prints those that failed or were skipped, and answers how many passed and how many failed."""
     passed = failed = 0
     with tempfile.TemporaryDirectory(prefix="installing-") as room:
-        for name, case in cases(Installing(program, room)):
+        for name, case in cases(Installing(program, kind, room)):
             try:
                 case()
                 passed += 1
@@ -854,4 +1049,4 @@ def run_all(program):
 
 
 if __name__ == "__main__":
-    sys.exit(count_over(sys.argv[1:] or [PROGRAM], run_all))
+    sys.exit(count_over(sys.argv[1:] or [PROGRAM], lambda program: run_all(program, ToyInstaller())))

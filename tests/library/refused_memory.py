@@ -5,7 +5,7 @@ that promise to take little memory within a bound on it.
     tests/library/refused_memory.py [TESTS [WORD]]
 
 TESTS is a program of tests as `rt test` and `rt ci` leave it; where none is named, it is that of each crate whose
-sources have the word WORD, `crates/NAME/out/NAME_tests`. The tests whose names hold WORD are run, `wanting_memory`
+sources have the word WORD, `crates/NAME/out/NAME_tests`. The tests whose names hold WORD are run, `refused_allocations`
 where none is named. Each of these tests passes where its call is right or is refused with `out of memory`. It
 prints a line for each test; the last line is `N passed, M failed`. A test or a program that is not there has failed.
 
@@ -26,7 +26,7 @@ import needs
 from running import Skip, build_preload
 
 CRATES = os.path.join(HERE, "..", "..", "crates")
-WORD = "wanting_memory"
+WORD = "refused_allocations"
 
 # Tests, by the names of their functions, that pass within so many MiB for all of the program, and that fail within so
 # many: a key with the usual limits opens with all its rows of 32 MiB, and those once, one with the limits of

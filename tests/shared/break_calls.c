@@ -1,8 +1,8 @@
 /* Preloaded into a program, breaks its call of the system number BREAK_AT among those that are named in BREAK_CALLS
    (all below, where nothing is named): it is killed before the call, or gets the signal BREAK_SIGNAL, or, where
    BREAK_ERRNO is set, the call fails so. With BREAK_SHORT a write takes half of its bytes first. Calls of `write` count
-   where they go to a regular file that the program has opened itself. Says so by one byte on the descriptor
-   BREAK_SAYS. */
+   where they go to a regular file that the program has opened itself; those that only look, and getrandom, where they
+   are named. Says so by one byte on the descriptor BREAK_SAYS. */
 #define _GNU_SOURCE
 #include <dirent.h>
 #include <dlfcn.h>
@@ -13,6 +13,7 @@
 #include <stdlib.h>
 #include <string.h>
 #include <sys/file.h>
+#include <sys/random.h>
 #include <sys/stat.h>
 #include <unistd.h>
 
@@ -57,9 +58,16 @@ static int is_broken(const char *name)
 
 static int is_opened_file(int fd)
 {
+    int (*look)(int, struct stat *) = (int (*)(int, struct stat *))dlsym(RTLD_NEXT, "fstat");
     struct stat found;
 
-    return fd > 2 && fstat(fd, &found) == 0 && S_ISREG(found.st_mode);
+    return fd > 2 && look(fd, &found) == 0 && S_ISREG(found.st_mode);
+}
+
+/* Whether this call is to fail, which is to be named. */
+static int is_broken_if_named(const char *name)
+{
+    return getenv("BREAK_CALLS") && is_broken(name);
 }
 
 /* The rights of a file that may be made: only then is there a third argument. */
@@ -134,16 +142,28 @@ int getentropy(void *bytes, size_t length)
     return 0;
 }
 
-#define BREAKS(answer, name, parameters, arguments)                                       \
+struct dirent *readdir(DIR *entries)
+{
+    struct dirent *(*real)(DIR *) = (struct dirent * (*)(DIR *))dlsym(RTLD_NEXT, "readdir");
+
+    return is_broken_if_named("readdir") ? NULL : real(entries);
+}
+
+#define BREAKS_WHERE(broken, answer, name, parameters, arguments)                         \
     answer name parameters                                                                \
     {                                                                                     \
         answer (*real) parameters = (answer (*) parameters)dlsym(RTLD_NEXT, #name);       \
-        return is_broken(#name) ? (answer)-1 : real arguments;                            \
+        return broken(#name) ? (answer)-1 : real arguments;                               \
     }
+
+#define BREAKS(answer, name, parameters, arguments) BREAKS_WHERE(is_broken, answer, name, parameters, arguments)
+#define BREAKS_IF_NAMED(answer, name, parameters, arguments) BREAKS_WHERE(is_broken_if_named, answer, name, parameters, arguments)
 
 BREAKS(int, rename, (const char *from, const char *to), (from, to))
 BREAKS(int, renameat2, (int from_folder, const char *from, int to_folder, const char *to, unsigned flags), (from_folder, from, to_folder, to, flags))
+BREAKS(int, renameat, (int from_folder, const char *from, int to_folder, const char *to), (from_folder, from, to_folder, to))
 BREAKS(int, unlink, (const char *path), (path))
+BREAKS(int, unlinkat, (int folder, const char *path, int flags), (folder, path, flags))
 BREAKS(int, fsync, (int fd), (fd))
 BREAKS(int, fchmod, (int fd, mode_t mode), (fd, mode))
 BREAKS(int, fchown, (int fd, uid_t uid, gid_t gid), (fd, uid, gid))
@@ -153,3 +173,6 @@ BREAKS(int, flock, (int fd, int operation), (fd, operation))
 BREAKS(ssize_t, getdents64, (int fd, void *bytes, size_t length), (fd, bytes, length))
 BREAKS(ssize_t, readlink, (const char *path, char *bytes, size_t length), (path, bytes, length))
 BREAKS(int, statx, (int fd, const char *path, int flags, unsigned mask, struct statx *found), (fd, path, flags, mask, found))
+BREAKS_IF_NAMED(int, fstat, (int fd, struct stat *found), (fd, found))
+BREAKS_IF_NAMED(int, fstatat, (int folder, const char *path, struct stat *found, int flags), (folder, path, found, flags))
+BREAKS_IF_NAMED(ssize_t, getrandom, (void *bytes, size_t length, unsigned flags), (bytes, length, flags))

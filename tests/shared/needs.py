@@ -92,6 +92,11 @@ def cpp_compiler():
     return need(lambda: shutil.which("g++") or shutil.which("c++") or shutil.which("clang++"), "a C++ compiler", "g++")
 
 
+def rust_compiler():
+    """The path of a Rust compiler: the one that the environment names RUSTC, or rustc."""
+    return os.environ.get("RUSTC") or program("rustc", "rustc")
+
+
 def libsodium():
     """The path of a C compiler that finds libsodium's header and links with `-lsodium`."""
     c_compiler()

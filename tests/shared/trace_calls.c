@@ -155,17 +155,28 @@ int fsync(int fd)
     return real(fd);
 }
 
+/* What a renaming answered, which is told where it was done. */
+static int say_rename(int answer, const char *from, const char *to)
+{
+    if (answer == 0)
+        say("rename", last_part(from), last_part(to));
+    return answer;
+}
+
 int rename(const char *from, const char *to)
 {
     int (*real)(const char *, const char *) = (int (*)(const char *, const char *))dlsym(RTLD_NEXT, "rename");
-    int answer;
 
     wait_first();
-    answer = is_taken("rename") ? 0 : real(from, to);
+    return is_taken("rename") ? 0 : say_rename(real(from, to), from, to);
+}
 
-    if (answer == 0 && !is_taken("rename"))
-        say("rename", last_part(from), last_part(to));
-    return answer;
+int renameat(int from_folder, const char *from, int to_folder, const char *to)
+{
+    int (*real)(int, const char *, int, const char *) = (int (*)(int, const char *, int, const char *))dlsym(RTLD_NEXT, "renameat");
+
+    wait_first();
+    return is_taken("rename") ? 0 : say_rename(real(from_folder, from, to_folder, to), from, to);
 }
 
 int unlink(const char *path)
@@ -174,6 +185,14 @@ int unlink(const char *path)
 
     say("remove", last_part(path), "");
     return real(path);
+}
+
+int unlinkat(int folder, const char *path, int flags)
+{
+    int (*real)(int, const char *, int) = (int (*)(int, const char *, int))dlsym(RTLD_NEXT, "unlinkat");
+
+    say("remove", last_part(path), "");
+    return real(folder, path, flags);
 }
 
 int flock(int fd, int operation)

@@ -416,7 +416,7 @@ def stream_cases():
 
 
 def memory_cases():
-    """Want of memory at each request: what is wanted for the texts of a pair that was made is told as a failed
+    """Each request for memory is refused: where it is for the texts of a pair that was made, that is reported as a failed
     write. No file is touched."""
     older = {PK: b"older public", SK: b"older secret"}
     lines = OneOf(([WARNING, OUT_OF_MEMORY], [WARNING, WRITING_FAILED]))

@@ -298,7 +298,7 @@ def stream_cases():
 
 
 def memory_cases():
-    """Want of memory at each request: what is wanted for the text that was made is told as a failed write. No
+    """Each request for memory is refused: where it is for the text that was made, that is reported as a failed write. No
     file is touched."""
     older = {SIG: b"older"}
     lines = OneOf(([WARNING, OUT_OF_MEMORY], [WARNING, WRITING_FAILED]))

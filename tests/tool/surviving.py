@@ -1,5 +1,5 @@
 #!/usr/bin/env python3
-"""Runs the built program `minisign_tool` while it is hurt: killed at each of its calls of the system, with each call
+"""Runs the built program `minisign_tool` while it is disturbed: killed at each of its calls of the system, with each call
 failing in turn, on a full disk, under a limit on the size of files, and with data that could fill the memory. After
 each run every older file is the old or the new one, whole, and but for a kill nothing is left beside it.
 

@@ -213,7 +213,7 @@ def stream_cases():
 
 
 def memory_cases():
-    """Want of memory at each request, first while the arguments are read."""
+    """Each request for memory is refused, first while the arguments are read."""
     good = verify_raw("", 1, WARNING, OUT_OF_MEMORY)
     other = verify_raw("", 1, WARNING, OUT_OF_MEMORY, stdin=b"abd")
     arguments = Case("", [], 1, [WARNING, OUT_OF_MEMORY])

@@ -326,7 +326,7 @@ def changed_cases():
 
 
 def memory_cases(command):
-    """Want of memory at each request. Of a copy it is told behind the status."""
+    """Each request for memory is refused. Of a copy that is reported behind the status."""
     lines = OneOf(([WARNING, OUT_OF_MEMORY], [WARNING, VERIFIED, OUT_OF_MEMORY]) if command is cat else ([WARNING, OUT_OF_MEMORY],))
     rows = [("a good signature", {}), ("other data", {FILE: b"abd"}), ("an empty key", {PK: b""})]
     return [

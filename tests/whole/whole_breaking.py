@@ -168,7 +168,7 @@ class Breaking:
         if not self.break_each(task, judge, BREAK_ERRNO=number, BREAK_CALLS="write", **how):
             raise Failure("it writes nothing")
 
-    def wanting_memory(self, task):
+    def refused_allocations(self, task):
         """A run with each of its requests for memory refused in turn ends with 2 and no new file, or does all that it has to."""
         count = len(task.judges)
         for number in range(1, MOST_CALLS):
@@ -295,7 +295,7 @@ def cases(breaking, keys):
         for number in (errno.ENOSPC, errno.EDQUOT):
             yield f"{task.name}, and a write fails by {errno.errorcode[number]}", lambda it=task, n=number: breaking.failing_writes(it, n)
         yield f"{task.name}, and a write fails half way", lambda it=task: breaking.failing_writes(it, errno.ENOSPC, BREAK_SHORT=1)
-        yield f"{task.name}, and memory is refused", lambda it=task: breaking.wanting_memory(it)
+        yield f"{task.name}, and memory is refused", lambda it=task: breaking.refused_allocations(it)
         yield f"{task.name}, on a full disk", lambda it=task: breaking.on_full_disk(it)
         yield f"{task.name}, with a bound on files", lambda it=task: breaking.within_file_size(it)
         yield f"{task.name}, through links", lambda it=task: breaking.through_links(it)

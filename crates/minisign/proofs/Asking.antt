@@ -1,63 +1,43 @@
 -- How opening ends, whether a password is asked for or handed in.
-use Rattle.std.proofs.Common.{◌≡◌, ◌⊎◌, ℕ, List, Option, None, Some, Result, Ok, Err, IfOk, IfErr, MatchResult, inl, inr}
-use Rattle.minisign_base.specs.Passages.{PromptPassage}
+use Rattle.std.proofs.Common.{◌≡◌, ◌⊎◌, ℕ, List, Option, None, Some, Result, Ok, Err, IfOk, IfErr, inl, inr}
+use Rattle.minisign_base.specs.DeviceCalls.{PromptCall}
 use Rattle.minisign_base.specs.Fault.{Fault, Named}
-use Rattle.minisign_base.specs.Prompts.{HasHeld, HasStopped, password_of}
+use Rattle.minisign_base.specs.Prompts.{ConversationEnds}
+use Rattle.minisign_base.specs.Passwords.{password_of}
 use Rattle.minisign_base.specs.declared.faults.NamedFault.TheVariants.{OutOfMemory}
 use Rattle.minisign.specs.Records.{SecretKeyRecord}
 use Rattle.minisign.specs.Sealing.{kdf_refusal, password_refusal, work_refusal, xored_key}
 use Rattle.minisign.specs.SecretKeyText.{SecretKeyText, secret_key_refusal}
-use Rattle.minisign.specs.Opening.{IsOpened, IsOpenedAsking, IsOpening, RefusesAsking, RefusesKey, opening}
+use Rattle.minisign.specs.Opening.{IsOpening, opening}
 use Rattle.minisign.specs.Texts.{IsRefused}
 use Rattle.minisign.proofs.Openings.{any_password, kdf_held, key_opens, opening_outcome}
-
--- what opening with a password that is asked for says of the text
-pub asking_opened : {R W : Type 0} (p : PromptPassage R W)
-    (text : List ℕ) (bound : Option ℕ) (k : SecretKeyRecord) (r : Result SecretKeyRecord Fault) → SecretKeyText text k → kdf_refusal k ≡ None
-    → IfOk r (λ v. (bytes : List ℕ) × (password : List ℕ) × (password_of bytes ≡ Ok password) × (v ≡ xored_key k password) × (password_refusal k password bound ≡ None)
-    × HasHeld p (opening k bound bytes))
-    → IfOk r (λ v. IsOpenedAsking p text bound v)
-asking_opened p text bound k (Ok v) read kdf (bytes, password, typed, is, none, held) =
-    let opened : IsOpened text password bound v = record { sealed = k; read = read; opens = key_opens k password bound kdf none; key = is } in
-    record { bytes = bytes; password = password; typed = typed; opens = opened; held = held }
-asking_opened p text bound k (Err e) read kdf h = tt
-
-pub asking_refused : {R W : Type 0} (p : PromptPassage R W)
-    (text : List ℕ) (bound : Option ℕ) (k : SecretKeyRecord) (r : Result SecretKeyRecord Fault) → SecretKeyText text k → kdf_refusal k ≡ None
-    → IfErr r (λ e. (bytes : List ℕ) × HasStopped p (opening k bound bytes) e)
-    → IfErr r (λ e. RefusesAsking p text bound e)
-asking_refused p text bound k (Ok v) read kdf h = tt
-asking_refused p text bound k (Err e) read kdf (bytes, stopped) = inr (k, bytes, read, kdf_held k kdf, stopped)
-
--- both sides of an answer
-match_of : {T E : Type 0} (r : Result T E) (P : T → Type 0) (Q : E → Type 0) → IfOk r P → IfErr r Q → MatchResult r P Q
-match_of (Ok v) P Q ok err = ok
-match_of (Err e) P Q ok err = err
+use Rattle.minisign.specs.OpenedTexts.{RefusesKey}
 
 -- a text that no password opens is refused with the prompt as it was, whether a password is handed in or not
-pub closed_opening : {R W : Type 0} (p : PromptPassage R W) (given : Option (List ℕ)) (text : List ℕ) (bound : Option ℕ) (e : Fault)
+pub closed_opening : {R W : Type 0} (p : PromptCall R W) (given : Option (List ℕ)) (text : List ℕ) (bound : Option ℕ) (e : Fault)
     → p.new ≡ p.old → (e ≡ Named OutOfMemory) ⊎ RefusesKey text kdf_refusal e → IsOpening p given text bound (Err e)
 closed_opening p (Some password) text bound e same refused = (same, any_password text password bound e refused)
 closed_opening p None text bound e same refused = inl (refused, same)
 
 -- so is one that reads as no key
-pub unread_opening : {R W : Type 0} (p : PromptPassage R W) (given : Option (List ℕ)) (text : List ℕ) (bound : Option ℕ) (e : Fault)
+pub unread_opening : {R W : Type 0} (p : PromptCall R W) (given : Option (List ℕ)) (text : List ℕ) (bound : Option ℕ) (e : Fault)
     → p.new ≡ p.old → (e ≡ Named OutOfMemory) ⊎ IsRefused (SecretKeyText text) (secret_key_refusal text) e → IsOpening p given text bound (Err e)
 unread_opening p given text bound e same (inl memory) = closed_opening p given text bound e same (inl memory)
 unread_opening p given text bound e same (inr unread) = closed_opening p given text bound e same (inr (inl unread))
 
 -- a key that is read, opened with a password that was asked for
-pub asked_opening : {R W : Type 0} (p : PromptPassage R W) (text : List ℕ) (bound : Option ℕ) (k : SecretKeyRecord) (r : Result SecretKeyRecord Fault)
+pub asked_opening : {R W : Type 0} (p : PromptCall R W) (text : List ℕ) (bound : Option ℕ) (k : SecretKeyRecord) (r : Result SecretKeyRecord Fault)
     → SecretKeyText text k → kdf_refusal k ≡ None
     → IfOk r (λ v. (bytes : List ℕ) × (password : List ℕ) × (password_of bytes ≡ Ok password) × (v ≡ xored_key k password) × (password_refusal k password bound ≡ None)
-    × HasHeld p (opening k bound bytes))
-    → IfErr r (λ e. (bytes : List ℕ) × HasStopped p (opening k bound bytes) e)
+    × ConversationEnds p (opening k bound bytes) (Ok tt))
+    → IfErr r (λ e. (bytes : List ℕ) × ConversationEnds p (opening k bound bytes) (Err e))
     → IsOpening p None text bound r
-asked_opening p text bound k r read kdf opened refused =
-    match_of r _ _ (asking_opened p text bound k r read kdf opened) (asking_refused p text bound k r read kdf refused)
+asked_opening p text bound k (Ok v) read kdf (bytes, password, typed, is, none, held) refused =
+    (bytes, password, typed, record { sealed = k; read = read; opens = key_opens k password bound kdf none; key = is }, held)
+asked_opening p text bound k (Err e) read kdf opened (bytes, stopped) = inr (k, bytes, read, kdf_held k kdf, stopped)
 
 -- and with one that was handed in
-pub given_opening : {R W : Type 0} (p : PromptPassage R W) (password text : List ℕ) (bound : Option ℕ) (k : SecretKeyRecord) (r : Result SecretKeyRecord Fault)
+pub given_opening : {R W : Type 0} (p : PromptCall R W) (password text : List ℕ) (bound : Option ℕ) (k : SecretKeyRecord) (r : Result SecretKeyRecord Fault)
     → p.new ≡ p.old → SecretKeyText text k → kdf_refusal k ≡ None
     → IfOk r (λ v. (v ≡ xored_key k password) × (password_refusal k password bound ≡ None))
     → IfErr r (λ e. ((e ≡ Named OutOfMemory) × (work_refusal k bound ≡ None)) ⊎ (password_refusal k password bound ≡ Some e))

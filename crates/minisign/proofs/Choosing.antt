@@ -2,7 +2,7 @@
 use Rattle.std.proofs.Common.{◌≡◌, ℕ, List, None, Some, Bool, true, false, not, bytes_eq, refl}
 use Rattle.minisign_base.specs.Fault.{Fault, Named}
 use Rattle.minisign_base.specs.declared.faults.NamedFault.TheVariants.{PasswordsDiffer}
-use Rattle.minisign_base.specs.Prompts.{typed}
+use Rattle.minisign_base.specs.Passwords.{typed}
 use Rattle.minisign.specs.NewPassword.{difference}
 
 -- what a test that is turned round says

@@ -2,19 +2,20 @@
 use Rattle.std.proofs.Common.{◌≡◌, ◌≢◌, ◌⊎◌, ℕ, Bool, List, ap, inl, inr, ⊎_elim, subst, sym, true, false, ◌∙◌, refl, [], Option, None, Some, IfOk, IfErr, IfSome, OnOk}
 use Rattle.std.proofs.lemmas.Bool.{true≢false}
 use Rattle.std.proofs.lemmas.Slice.Eq.{bytes_eq-Decides}
-use Rattle.std.specs.Prelude.{◌&&◌, ⊤, IsSome}
+use Rattle.std.specs.Prelude.{⊤, IsSome}
 use Rattle.std.specs.declared.result.Result.{Result}
 use Rattle.std.specs.declared.result.Result.TheVariants.{Ok, Err}
 use Rattle.minisign_base.specs.Fault.{Fault, Named}
 use Rattle.minisign_base.specs.declared.faults.NamedFault.TheVariants.{OutOfMemory}
-use Rattle.minisign_base.specs.Passages.{RereaderPassage, SinkPassage}
+use Rattle.minisign_base.specs.DeviceCalls.{RereaderCall, SinkCall}
 use Rattle.minisign.specs.Acceptance.{Flags, Refuses, Verifier, Vouches}
 use Rattle.minisign.specs.Calls.{CopyIsVouchedWith, CopyVerifiedFails, IsCommentOf, IsCommentVerdict, IsFileVerdict, TextsVouchWith}
 use Rattle.minisign.specs.Headline.{IsVerdict, TextsRefuse, TextsVouchFor}
 use Rattle.minisign.specs.Reading.{IsAhead, ReadingFails}
 use Rattle.minisign.specs.Records.{PublicKeyRecord, SignatureBoxRecord, is_prehashed, prehashed_algorithm}
-use Rattle.minisign.specs.Verifying.{MarkFails, OutputRefused}
+use Rattle.minisign.specs.VerifyingLaws.{fails_without_status}
 use Rattle.minisign.specs.VerifyingTexts.{ReadTexts, TextsFail, VerifyingTextsFails, VerifyingTextsSucceeds}
+use Rattle.minisign.proofs.Passes.{IsReason, why_it_fails}
 use Rattle.minisign.proofs.PublicKeyTexts.{one_public_key_text}
 use Rattle.minisign.proofs.SignatureTexts.{one_signature_text}
 use Rattle.minisign.proofs.VouchedTexts.{text_verdict}
@@ -23,7 +24,7 @@ abbrev is_memory : Fault → Bool
 is_memory (Named OutOfMemory) = true
 is_memory _ = false
 
--- a fault is want of memory or another
+-- a fault is that memory ran out, or another
 pub memory_or_other : (e : Fault) → (e ≡ Named OutOfMemory) ⊎ (e ≢ Named OutOfMemory)
 memory_or_other (Named OutOfMemory) = inl refl
 memory_or_other _ = inr (λ same. true≢false (sym (ap is_memory same)))
@@ -67,44 +68,11 @@ some_ahead : (known : Option (List ℕ)) → (message : List ℕ) × IsAhead kno
 some_ahead None = ([], tt)
 some_ahead (Some xs) = (xs, refl)
 
-both_wanted : (a b : Bool) → (a && b) ≡ true → a ≡ true
-both_wanted true b h = refl
-both_wanted false b h = absurd (true≢false (sym h))
-
--- why nothing was copied where nothing is said
-abbrev StopsBefore : {R O : Type 0} → Verifier → List ℕ → List ℕ → Bool → RereaderPassage R → SinkPassage O → Fault → Type 0
-StopsBefore accepts pk sig output reader out e =
-    (out.new ≡ out.old)
-    × ((e ≡ Named OutOfMemory) ⊎ ((output ≡ true) × MarkFails true reader e) ⊎ ReadingFails reader.source reader.old reader.new e
-    ⊎ ((message : List ℕ) × IsAhead (reader.source.ahead reader.old) message × TextsRefuse accepts pk sig message false e))
-
 abbrev silently : Bool → Flags
 silently output = record { quiet = true; output = output; legacy = false }
 
--- verifying that says nothing fails before the copying, or at it
-pub silent_failure : {R W O : Type 0} (accepts : Verifier) (pk sig : List ℕ) (output : Bool) (reader : RereaderPassage R) (status : SinkPassage W) (out : SinkPassage O) (e : Fault)
-    → VerifyingTextsFails accepts pk sig (silently output) reader status out e
-    → StopsBefore accepts pk sig output reader out e
-    ⊎ ((key : PublicKeyRecord) × (box : SignatureBoxRecord) × ReadTexts pk sig key box × OutputRefused accepts key box (silently output) reader status out e)
-silent_failure accepts pk sig output reader status out e (inl stops) =
-    let (message, ahead) = some_ahead (reader.source.ahead reader.old) in
-    inl (stops.uncopied, ⊎_elim inl (λ refused. inr (inr (inr (message, ahead, refused)))) (text_refusal accepts pk sig message false e stops.why))
-silent_failure accepts pk sig output reader status out e (inr (key, box, read, inr copying)) = inr (key, box, read, copying)
-silent_failure accepts pk sig output reader status out e (inr (key, box, read, inl (uncopied, gives, inl broken))) =
-    inl (
-      uncopied,
-      ⊎_elim
-          (λ mark. inr (inl (both_wanted output _ mark.wanted, record { wanted = refl; fault = mark.fault; rose = mark.rose; unmarked = mark.unmarked; unread = mark.unread })))
-          (λ fails. ⊎_elim inl (λ failed. inr (inr (inl failed))) fails)
-          broken.failed,
-    )
-silent_failure accepts pk sig output reader status out e (inr (key, box, read, inl (uncopied, gives, inr (message, pass, inl down)))) =
-    inl (uncopied, inr (inr (inr (message, pass.given, box_refusal accepts pk sig message false key box e read down.refuses))))
-silent_failure accepts pk sig output reader status out e (inr (key, box, read, inl (uncopied, gives, inr (message, pass, inr unsaid)))) =
-    absurd (true≢false unsaid.wanted)
-
 -- what was ahead is vouched for, with the comment
-pub ahead_vouched : {T R W O : Type 0} (bytes : T → List ℕ) (accepts : Verifier) (pk sig : List ℕ) (reader : RereaderPassage R) (status : SinkPassage W) (out : SinkPassage O) (r : Result T Fault)
+pub ahead_vouched : {T R W O : Type 0} (bytes : T → List ℕ) (accepts : Verifier) (pk sig : List ℕ) (reader : RereaderCall R) (status : SinkCall W) (out : SinkCall O) (r : Result T Fault)
     → OnOk r (VerifyingTextsSucceeds accepts pk sig (silently false) reader status out) → IfOk r (λ t. IsCommentOf sig (bytes t))
     → IfOk r (λ t. (message : List ℕ) × IsAhead (reader.source.ahead reader.old) message × TextsVouchWith accepts pk sig message false (bytes t))
 ahead_vouched bytes accepts pk sig reader status out (Ok t) ok said = (
@@ -115,22 +83,34 @@ ahead_vouched bytes accepts pk sig reader status out (Ok t) ok said = (
 )
 ahead_vouched bytes accepts pk sig reader status out (Err e) ok said = tt
 
+-- where nothing is said or copied, three reasons are left
+ahead_reason : {R W O : Type 0} (accepts : Verifier) (pk sig : List ℕ) (reader : RereaderCall R) (status : SinkCall W) (out : SinkCall O)
+    (key : PublicKeyRecord) (box : SignatureBoxRecord) (e : Fault) → ReadTexts pk sig key box → IsReason accepts key box true false false reader status out e
+    → (e ≡ Named OutOfMemory) ⊎ ReadingFails reader.source reader.old reader.new e
+    ⊎ ((message : List ℕ) × IsAhead (reader.source.ahead reader.old) message × TextsRefuse accepts pk sig message false e)
+ahead_reason accepts pk sig reader status out key box e read (inl memory) = inl memory
+ahead_reason accepts pk sig reader status out key box e read (inr (inl (wanted, rose))) = absurd (true≢false (sym wanted))
+ahead_reason accepts pk sig reader status out key box e read (inr (inr (inl failed))) = inr (inl failed)
+ahead_reason accepts pk sig reader status out key box e read (inr (inr (inr (inl (message, given, down))))) =
+    inr (inr (message, given, box_refusal accepts pk sig message false key box e read down))
+ahead_reason accepts pk sig reader status out key box e read (inr (inr (inr (inr (inl (loud, rose)))))) = absurd (true≢false loud)
+ahead_reason accepts pk sig reader status out key box e read (inr (inr (inr (inr (inr (inl (wanted, rose))))))) = absurd (true≢false (sym wanted))
+ahead_reason accepts pk sig reader status out key box e read (inr (inr (inr (inr (inr (inr (wanted, other))))))) = absurd (true≢false (sym wanted))
+
 -- why it is refused
-pub ahead_refused : {T R W O : Type 0} (accepts : Verifier) (pk sig : List ℕ) (reader : RereaderPassage R) (status : SinkPassage W) (out : SinkPassage O) (r : Result T Fault)
+pub ahead_refused : {T R W O : Type 0} (accepts : Verifier) (pk sig : List ℕ) (reader : RereaderCall R) (status : SinkCall W) (out : SinkCall O) (r : Result T Fault)
     → IfErr r (VerifyingTextsFails accepts pk sig (silently false) reader status out)
     → IfErr r (λ e. (e ≡ Named OutOfMemory) ⊎ ReadingFails reader.source reader.old reader.new e
     ⊎ ((message : List ℕ) × IsAhead (reader.source.ahead reader.old) message × TextsRefuse accepts pk sig message false e))
 ahead_refused accepts pk sig reader status out (Ok t) err = tt
-ahead_refused accepts pk sig reader status out (Err e) err =
-    ⊎_elim
-    (λ (same, why). ⊎_elim inl
-    (λ more. inr (⊎_elim (λ (wanted, mark). absurd (true≢false (sym wanted)))
-    (λ rest. rest) more)) why)
-    (λ (key, box, read, copying). absurd (true≢false (sym copying.wanted)))
-    (silent_failure accepts pk sig false reader status out e err)
+ahead_refused accepts pk sig reader status out (Err e) (inl stops) =
+    let (message, ahead) = some_ahead (reader.source.ahead reader.old) in
+    ⊎_elim inl (λ refused. inr (inr (message, ahead, refused))) (text_refusal accepts pk sig message false e stops.why)
+ahead_refused accepts pk sig reader status out (Err e) (inr (key, box, read, h)) =
+    ahead_reason accepts pk sig reader status out key box e read (why_it_fails accepts key box true false false reader status out e h)
 
 -- the verdict on a file's data
-pub file_verdict : {T R : Type 0} (bytes : T → List ℕ) (accepts : Verifier) (pk sig : List ℕ) (reader : RereaderPassage R) (r : Result T Fault)
+pub file_verdict : {T R : Type 0} (bytes : T → List ℕ) (accepts : Verifier) (pk sig : List ℕ) (reader : RereaderCall R) (r : Result T Fault)
     → IfOk r (λ t. (message : List ℕ) × IsAhead (reader.source.ahead reader.old) message × TextsVouchWith accepts pk sig message false (bytes t))
     → IfErr r (λ e. (e ≡ Named OutOfMemory) ⊎ ReadingFails reader.source reader.old reader.new e
     ⊎ ((message : List ℕ) × IsAhead (reader.source.ahead reader.old) message × TextsRefuse accepts pk sig message false e))
@@ -150,7 +130,7 @@ prehashed accepts key box message vouches =
     ⊎_elim (bytes_eq-Decides box.signature.algorithm prehashed_algorithm).1 (λ legacy. absurd (true≢false (sym legacy))) vouches.allowed
 
 -- what was copied is vouched for, with the comment
-pub copied_with : {T R W O : Type 0} (bytes : T → List ℕ) (accepts : Verifier) (pk sig : List ℕ) (reader : RereaderPassage R) (status : SinkPassage W) (out : SinkPassage O) (r : Result T Fault)
+pub copied_with : {T R W O : Type 0} (bytes : T → List ℕ) (accepts : Verifier) (pk sig : List ℕ) (reader : RereaderCall R) (status : SinkCall W) (out : SinkCall O) (r : Result T Fault)
     → OnOk r (VerifyingTextsSucceeds accepts pk sig (silently true) reader status out) → IfOk r (λ t. IsCommentOf sig (bytes t))
     → IfOk r (λ t. CopyIsVouchedWith accepts pk sig reader out (bytes t))
 copied_with bytes accepts pk sig reader status out (Ok t) ok said =
@@ -168,17 +148,10 @@ copied_with bytes accepts pk sig reader status out (Ok t) ok said =
 copied_with bytes accepts pk sig reader status out (Err e) ok said = tt
 
 -- why nothing, or not all, was copied
-pub copy_refused : {T R W O : Type 0} (accepts : Verifier) (pk sig : List ℕ) (reader : RereaderPassage R) (status : SinkPassage W) (out : SinkPassage O) (r : Result T Fault)
+pub copy_refused : {T R W O : Type 0} (accepts : Verifier) (pk sig : List ℕ) (reader : RereaderCall R) (status : SinkCall W) (out : SinkCall O) (r : Result T Fault)
     → IfErr r (VerifyingTextsFails accepts pk sig (silently true) reader status out)
     → IfErr r (CopyVerifiedFails accepts pk sig reader out)
 copy_refused accepts pk sig reader status out (Ok t) err = tt
-copy_refused accepts pk sig reader status out (Err e) err =
-    ⊎_elim
-    (λ (same, why). inl (record { uncopied = same; why = ⊎_elim inl (λ more. inr (⊎_elim (λ (wanted, mark). inl mark) inr more)) why }))
-    (λ (key, box, read, copying). inr (record {
-      message = copying.message;
-      given = copying.given;
-      vouched = record { key = key; box = box; key_read = read.key_read; box_read = read.box_read; vouches = copying.vouches };
-      again = copying.again (prehashed accepts key box copying.message copying.vouches);
-    }))
-    (silent_failure accepts pk sig true reader status out e err)
+copy_refused accepts pk sig reader status out (Err e) (inl stops) = inl (stops.why, stops.unread, stops.uncopied)
+copy_refused accepts pk sig reader status out (Err e) (inr (key, box, read, h)) =
+    inr (key, box, read, fails_without_status accepts key box true false reader status out e h)

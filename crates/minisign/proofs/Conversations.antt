@@ -6,9 +6,10 @@ use lib.Utf8.{encode}
 use Rattle.minisign_base.specs.Fault.{Named}
 use Rattle.minisign_base.specs.declared.faults.NamedFault.TheVariants.{PasswordsDiffer}
 use Rattle.minisign_base.specs.PromptLaws.{written}
-use Rattle.minisign_base.specs.Prompts.{accepted_line, first_line, password_of, typed}
-use Rattle.minisign.specs.NewPassword.{choosing, difference, purpose_line, sealing, sealing_text, second_question}
-use Rattle.minisign.specs.Opening.{asking_text, deriving_text, done_text, opening}
+use Rattle.minisign_base.specs.Passwords.{accepted_line, first_line, password_of, typed}
+use Rattle.minisign.specs.NewPassword.{choosing, difference, sealing}
+use Rattle.minisign.specs.PromptTexts.{asking_text, deriving_text, done_text, purpose_line, sealing_text, second_question}
+use Rattle.minisign.specs.Opening.{opening}
 use Rattle.minisign.specs.Records.{SecretKeyRecord}
 
 -- a line and its line feed

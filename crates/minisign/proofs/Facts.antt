@@ -2,7 +2,7 @@
 -- read as their fields, and the signature is accepted for its message and refused for another. The bytes
 -- were computed by another program, over Python's Blake2b.
 use Rattle.std.proofs.Common.{◌≡◌, ℕ, false, List, [], ◌∷◌, ◌++◌, None, Some, codes, replicate, refl}
-use Rattle.minisign_hash.specs.Blake2b.{blake2b_digest, block, compress, first_state, iv, last_state, mix, mixed_words, round, rounds, sigma, state_after, work_vector}
+use Rattle.minisign_hash.specs.Blake2b.{blake2b_digest, padded_block, compress, first_state, iv, last_state, mix, mixed_words, round, rounds, sigma, state_after, work_vector}
 use Rattle.minisign_hash.specs.Words.{bytes_of_words64, word_at, words64_of}
 use Rattle.minisign_base.specs.Fault.{Named}
 use Rattle.minisign_base.specs.declared.faults.NamedFault.TheVariants.{SignatureRefused}
@@ -35,9 +35,9 @@ pub reads_signature : ReadsSignature (codes "ED" ++ identifier ++ replicate 32 0
 reads_signature = record { algorithm_length = refl; keynum_length = refl; signature_length = refl; front = ([], refl) }
 
 pub accepted : first_refusal toy_accepts key box (codes "abc") false ≡ None
-unfolding blake2b_digest last_state state_after block first_state compress work_vector rounds round mix mixed_words iv sigma words64_of word_at bytes_of_words64 fold_of
+unfolding blake2b_digest last_state state_after padded_block first_state compress work_vector rounds round mix mixed_words iv sigma words64_of word_at bytes_of_words64 fold_of
 accepted = refl
 
 pub refused : first_refusal toy_accepts key box [] false ≡ Some (Named SignatureRefused)
-unfolding blake2b_digest last_state state_after block first_state compress work_vector rounds round mix mixed_words iv sigma words64_of word_at bytes_of_words64 fold_of
+unfolding blake2b_digest last_state state_after padded_block first_state compress work_vector rounds round mix mixed_words iv sigma words64_of word_at bytes_of_words64 fold_of
 refused = refl

@@ -4,7 +4,7 @@ use Rattle.std.specs.Int.{w64, to_le_bytes}
 use Rattle.std.specs.Str.{bytes_eq}
 use Rattle.std.proofs.lemmas.Slice.Eq.{bytes_eq-Decides}
 use Rattle.minisign_base.specs.Fault.{Fault, Named}
-use Rattle.minisign_base.specs.Passages.{RandomPassage}
+use Rattle.minisign_base.specs.DeviceCalls.{RandomCall}
 use Rattle.minisign_base.specs.declared.faults.NamedFault.TheVariants.{OutOfMemory}
 use Rattle.minisign_kdf.specs.Params.{Numbers}
 use Rattle.minisign_base.specs.Limits.{cost_log2, limits}
@@ -50,7 +50,7 @@ default_work : (k : SecretKeyRecord) (bound : Option ℕ) → k.operations_limit
     → IsWithin bound 1 → work_refusal k bound ≡ None
 default_work k bound operations memory one = within_bound k _ bound (default_limits k operations memory) one
 
--- where these limits stand, only memory is wanting
+-- where these limits stand, only memory can run out
 pub only_memory : (k : SecretKeyRecord) (bound : Option ℕ) (e : Fault) → k.operations_limit ≡ to_le_bytes w64 sealing_operations → k.memory_limit ≡ to_le_bytes w64 sealing_memory
     → IsWithin bound 1 → ((e ≡ Named OutOfMemory) × (work_refusal k bound ≡ None)) ⊎ (work_refusal k bound ≡ Some e) → e ≡ Named OutOfMemory
 only_memory k bound e operations memory one (inl (is, allowed)) = is
@@ -109,7 +109,7 @@ opened_text sk password text opens one read = record {
 }
 
 -- a sealed pair opens under its password
-pub sealed_pair : {Z : Type 0} (public_of : List ℕ → List ℕ) (password : List ℕ) (z : RandomPassage Z) (pk : PublicKeyRecord) (sk : SecretKeyRecord)
+pub sealed_pair : {Z : Type 0} (public_of : List ℕ → List ℕ) (password : List ℕ) (z : RandomCall Z) (pk : PublicKeyRecord) (sk : SecretKeyRecord)
     → IsSealedPair public_of password z pk sk → OpensToPair public_of password pk sk
 sealed_pair public_of password z pk sk pair =
     let sealed : IsSealedOf public_of pair.seed pair.keynum pair.salt password pk sk = pair.sealed in

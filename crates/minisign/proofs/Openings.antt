@@ -6,14 +6,15 @@ use Rattle.std.proofs.lemmas.Slice.Eq.{bytes_eq-Decides}
 use Rattle.minisign_base.specs.Fault.{Fault, Named}
 use Rattle.minisign_base.specs.declared.faults.NamedFault.TheVariants.{OutOfMemory, KeyMightBeEncrypted, CorruptedKey, WrongPassword, KeyNotEncrypted, UnsupportedEncryptionAlgorithm, WorkTooHigh}
 use Rattle.minisign_kdf.specs.Params.{Numbers}
-use Rattle.minisign_base.specs.Passages.{PromptPassage}
+use Rattle.minisign_base.specs.DeviceCalls.{PromptCall}
 use Rattle.minisign.specs.Records.{SecretKeyRecord}
 use Rattle.minisign.specs.SecretKeyText.{SecretKeyText}
 use Rattle.minisign.specs.Headline.{OpeningHeadline}
 use Rattle.minisign.specs.Sealing.{IsUnencrypted, IsWithin, Opens, bound_refusal, checksum_of, checksum_refusal, is_encrypted, kdf_refusal, key_limits, key_numbers, no_kdf, scrypt_kdf, opening_refusal, password_refusal, unencrypted_refusal, work_refusal, xored_key}
-use Rattle.minisign.specs.Opening.{RefusesKey, IsOpened, IsOpening, RefusesOpening, IsUnencryptedText, RefusesUnencrypted}
+use Rattle.minisign.specs.Opening.{IsOpening}
 use Rattle.minisign.proofs.SecretKeyTexts.{one_key_text}
 use Rattle.minisign.proofs.SealingLimits.{allowed_numbers, within_bound}
+use Rattle.minisign.specs.OpenedTexts.{RefusesKey, IsOpened, RefusesOpening, IsUnencryptedText, RefusesUnencrypted}
 
 -- two tests of which both hold
 both_none : (a b : Option Fault) → option_or a b ≡ None → (a ≡ None) × (b ≡ None)
@@ -189,7 +190,7 @@ opening_headline text password bound (Err e) (inr refused) k read kdf =
     inr (refused.closed k read, refused_key text password bound e k refused.first read kdf)
 
 -- the same of an opening as a whole
-pub headline_of : {R W : Type 0} (p : PromptPassage R W) (given : Option (List ℕ)) (text : List ℕ) (bound : Option ℕ) (r : Result SecretKeyRecord Fault)
+pub headline_of : {R W : Type 0} (p : PromptCall R W) (given : Option (List ℕ)) (text : List ℕ) (bound : Option ℕ) (r : Result SecretKeyRecord Fault)
     → IsOpening p given text bound r → OpeningHeadline given text bound r
 headline_of p None text bound r h = tt
 headline_of p (Some password) text bound r (same, h) = opening_headline text password bound r h

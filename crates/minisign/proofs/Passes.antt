@@ -1,24 +1,29 @@
--- The passes over data, as a caller of the whole sees them.
-use Rattle.std.proofs.Common.{◌≡◌, ◌≢◌, ◌⊎◌, ℕ, Bool, true, false, List, Option, None, Some, IfSome, IsSome, OnOk, IfErr, IsTrue, inl, inr, ⊎_elim, refl, sym, ap, subst, ◌∙◌}
+-- The steps of verifying, as the calls that take them make them, and what is read off them.
+use Rattle.std.proofs.Common.{◌≡◌, ◌≢◌, ◌⊎◌, ℕ, Bool, true, false, Vec, List, [], ◌∷◌, ◌++◌, Option, None, Some, IfSome, IsSome, OnOk, IsTrue, inl, inr, ⊎_elim, refl, sym, ap, subst, ◌∙◌}
 use Rattle.std.proofs.lemmas.Bool.{true≢false}
 use Rattle.std.proofs.lemmas.Slice.Eq.{bytes_eq-Decides}
-use Rattle.std.specs.Io.KnownBytes.{IsAtEnd}
+use Rattle.std.specs.Prelude.{◌&&◌, ⊤}
+use Rattle.std.specs.Io.KnownBytes.{Appends, IsAtEnd}
 use Rattle.std.specs.declared.result.Result.{Result}
 use Rattle.std.specs.declared.result.Result.TheVariants.{Ok, Err}
 use Rattle.minisign_hash.specs.Blake2b.{blake2b_digest}
 use Rattle.minisign_base.specs.Devices.{Rose, HasGiven}
 use Rattle.minisign_base.specs.Fault.{Fault, Named}
-use Rattle.minisign_base.specs.declared.faults.NamedFault.TheVariants.{GoingBackFailed, OutOfMemory, ReadingFailed}
-use Rattle.minisign_base.specs.Members.{SourceOf}
-use Rattle.minisign_base.specs.Passages.{IsUnflushed, RereaderPassage, SinkIsCalm, SinkPassage, SourceGives, Takes, TakesFront, rereader_passage}
+use Rattle.minisign_base.specs.declared.faults.NamedFault.TheVariants.{GoingBackFailed, OutOfMemory}
+use Rattle.minisign_base.specs.Members.{SinkOf, SourceOf}
+use Rattle.minisign_base.specs.DeviceCalls.{IsFlushed, IsSteady, IsUnflushed, IsWritingFault, Marks, RereaderCall, SinkCall, SinkFails, SinkHasNoNewFault, SourceFails, SourceHasNoNewFault, Takes, TakesFront, rereader_call, sink_call, unused}
+use Rattle.minisign_base.specs.StepLaws.{first_stopped, second_ends}
+use Rattle.minisign_base.specs.Steps.{StepsEnd}
 use Rattle.minisign.specs.declared.signed_data.SignedData.{SignedData}
 use Rattle.minisign.specs.declared.signed_data.SignedData.TheVariants.{Digest, Kept, Unkept}
-use Rattle.minisign.specs.Reading.{IsAhead, IsReturned, IsReadFault}
+use Rattle.minisign.specs.Reading.{IsAhead, IsReadFault, ReadingFails, ReadsWhole}
 use Rattle.minisign.specs.Records.{PublicKeyRecord, SignatureBoxRecord, is_prehashed, prehashed_algorithm}
-use Rattle.minisign.specs.Acceptance.{Flags, Refuses, Verifier, Vouches, signed_bytes}
-use Rattle.minisign.specs.SignedData.{AreSigned, HoldsSigned, held_bytes}
-use Rattle.minisign.specs.Copying.{CopyingFails, CopyingSucceeds, SecondPassFails}
-use Rattle.minisign.specs.Verifying.{FirstPass, MarkFails, SecondPass, VerifyingFails, VerifyingSucceeds, is_reread, wanted_status}
+use Rattle.minisign.specs.Acceptance.{Refuses, Verifier, Vouches, signed_bytes}
+use Rattle.minisign.specs.SignedData.{AreSigned, HoldsSigned, copying_held, held_bytes}
+use Rattle.minisign.specs.Stages.{Devices, StagesEnd, Flush, Judge, Put, Stage, StageEnds, copying, copying_again, is_reread, reading, reporting}
+use Rattle.minisign.specs.Verifying.{ReadsTwice, VerifyingFails, VerifyingSucceeds, wanted_status}
+use Rattle.minisign.specs.VerifyingLaws.{UseNoOutput, UseNoStatus, beside_output, beside_status}
+use Rattle.minisign.proofs.Copies.{all_kept}
 
 -- what is ahead after going back to where this was ahead
 what_was_marked : (first behind returned : Option (List ℕ)) (second : List ℕ) → behind ≡ first → IfSome behind (λ xs. returned ≡ Some xs) → IsAhead returned second
@@ -27,14 +32,6 @@ what_was_marked None behind returned second marked same given = tt
 what_was_marked (Some xs) behind returned second marked same given =
     let back : returned ≡ Some xs = subst (λ known. IfSome known (λ ys. returned ≡ Some ys)) marked same in
     sym (subst (λ known. IsAhead known second) back given)
-
--- what was given since is of what was ahead at first
-given_again : (first behind returned now : Option (List ℕ)) → behind ≡ first → IfSome behind (λ xs. returned ≡ Some xs) → HasGiven returned now → HasGiven first now
-given_again None behind returned None marked same given = tt
-given_again None behind returned (Some ys) marked same given = tt
-given_again (Some xs) behind returned now marked same given =
-    let back : returned ≡ Some xs = subst (λ known. IfSome known (λ ys. returned ≡ Some ys)) marked same in
-    subst (λ known. HasGiven known now) back given
 
 -- where the first bytes are told, and both readings gave these, the second reading gave the message
 both_told : (first : Option (List ℕ)) (message second : List ℕ) → IsSome first → IfSome first (λ xs. second ≡ xs) → IsAhead first message → second ≡ message
@@ -52,29 +49,6 @@ held_signed Unkept x legacy message holds allowed = absurd (true≢false (sym al
 pub judged_signed : (bytes : List ℕ) (signed : SignedData) (x : SignatureBoxRecord) (legacy : Bool) (message : List ℕ) → bytes ≡ held_bytes signed
     → HoldsSigned signed x legacy message → AreSigned bytes x legacy message
 judged_signed bytes signed x legacy message is holds allowed = is ∙ held_signed signed x legacy message holds allowed
-
-abbrev goes_back : Fault → Bool
-goes_back (Named GoingBackFailed) = true
-goes_back _ = false
-
--- a failing mark is not reported as a failing read
-unlike_reading : Named GoingBackFailed ≢ Named ReadingFailed
-unlike_reading same = true≢false (ap goes_back same)
-
--- where a mark fails nothing is reported as a failing read
-pub mark_is_no_read : {R : Type 0} (again other : Bool) (reader : RereaderPassage R) (e : Fault) → MarkFails again reader e
-    → other ≡ true → e ≡ Named ReadingFailed → reader.source.is_marked reader.new ≡ true
-mark_is_no_read again other reader e fails wanted fault = absurd (unlike_reading (sym fails.fault ∙ fault))
-
--- the first pass was made, and then memory ran out or the box is refused
-pub judging_fails : {R W O : Type 0} (accepts : Verifier) (pk : PublicKeyRecord) (x : SignatureBoxRecord) (flags : Flags)
-    (reader : RereaderPassage R) (status : SinkPassage W) (out : SinkPassage O) (message : List ℕ) (e : Fault)
-    → out.new ≡ out.old → status.new ≡ status.old → SourceGives reader → FirstPass (is_reread flags.output x) reader message
-    → ((e ≡ Named OutOfMemory) ⊎ Refuses accepts pk x message flags.legacy e) → VerifyingFails accepts pk x flags reader status out e
-judging_fails accepts pk x flags reader status out message e uncopied unsaid given pass (inl memory) =
-    inl (uncopied, given, inl (record { failed = inr (inl memory); marked = λ again fault. pass.stays_marked again; unsaid = unsaid }))
-judging_fails accepts pk x flags reader status out message e uncopied unsaid given pass (inr refuses) =
-    inl (uncopied, given, inr (message, pass, inl (record { refuses = refuses; unsaid = unsaid })))
 
 -- nothing vouches where a box is neither prehashed nor allowed
 unallowed : (accepts : Verifier) (pk : PublicKeyRecord) (x : SignatureBoxRecord) (message : List ℕ) (legacy : Bool)
@@ -94,111 +68,398 @@ vouches_alike accepts pk x message copy legacy same vouches = record {
   comment_signed = vouches.comment_signed;
 }
 
+-- one of two lists of steps stopped: of the first, or those were done and one of the second did
+stopped_in : {Kind D E : Type 0} (Ends : Kind → D → D → Result ⊤ E → Type 0) (first second : List Kind) (old new : D) (e : E)
+    → StepsEnd Ends (first ++ second) old new (Err e)
+    → StepsEnd Ends first old new (Err e) ⊎ ((between : D) × StepsEnd Ends first old between (Ok tt) × StepsEnd Ends second between new (Err e))
+stopped_in Ends [] second old new e h = inr (old, refl, h)
+stopped_in Ends (step ∷ first) second old new e (inl h) = inl (inl h)
+stopped_in Ends (step ∷ first) second old new e (inr (d, done, h)) =
+    ⊎_elim (λ a. inl (inr (d, done, a))) (λ (between, a, b). inr (between, (d, done, a), b)) (stopped_in Ends first second d new e h)
+
+module _ {R W O : Type 0} (reader : RereaderCall R) (status : SinkCall W) (out : SinkCall O) where
+  -- how a stage ends between two states of the devices
+  abbrev OneEnds : Stage → Devices R W O → Devices R W O → Result ⊤ Fault → Type 0
+  OneEnds stage old new =
+      StageEnds (record reader { old = old.reader; new = new.reader }) (record status { old = old.status; new = new.status })
+      (record out { old = old.out; new = new.out }) stage
+
+  -- the devices at the begin and in the end
+  abbrev begun : Devices R W O
+  begun = record { reader = reader.old; status = status.old; out = out.old }
+
+  abbrev ended : Devices R W O
+  ended = record { reader = reader.new; status = status.new; out = out.new }
+
+  stopped_first : (first second : List Stage) (e : Fault) → StagesEnd reader status out first (Err e) → StagesEnd reader status out (first ++ second) (Err e)
+  stopped_first first second e h = first_stopped OneEnds first second begun ended e h
+
+  second_ended : (d : Devices R W O) (first second : List Stage) (answer : Result ⊤ Fault)
+      → StagesEnd (record reader { new = d.reader }) (record status { new = d.status }) (record out { new = d.out }) first (Ok tt)
+      → StagesEnd (record reader { old = d.reader }) (record status { old = d.status }) (record out { old = d.out }) second answer
+      → StagesEnd reader status out (first ++ second) answer
+  second_ended d first second answer a h = second_ends OneEnds first second begun d ended answer a h
+
+  stopped_in_either : (first second : List Stage) (e : Fault) → StagesEnd reader status out (first ++ second) (Err e)
+      → StagesEnd reader status out first (Err e)
+      ⊎ ((d : Devices R W O)
+      × StagesEnd (record reader { new = d.reader }) (record status { new = d.status }) (record out { new = d.out }) first (Ok tt)
+      × StagesEnd (record reader { old = d.reader }) (record status { old = d.status }) (record out { old = d.out }) second (Err e))
+  stopped_in_either first second e h = stopped_in OneEnds first second begun ended e h
+
+-- reading uses neither sink, and copying not the status
+reading_unsaid : (again : Bool) (message : List ℕ) → UseNoStatus (reading again message)
+reading_unsaid true message = (tt, (tt, tt))
+reading_unsaid false message = (tt, tt)
+
+reading_uncopied : (again : Bool) (message : List ℕ) → UseNoOutput (reading again message)
+reading_uncopied true message = (tt, (tt, tt))
+reading_uncopied false message = (tt, tt)
+
+copying_unsaid : (output : Bool) (signed : SignedData) (second : List ℕ) → UseNoStatus (copying_held output signed second)
+copying_unsaid false signed second = tt
+copying_unsaid true (Digest digest) second = (tt, (tt, (tt, (tt, tt))))
+copying_unsaid true (Kept bytes) second = (tt, (tt, tt))
+copying_unsaid true Unkept second = tt
+
 module _ {R : Type 0} (source : SourceOf R) (steady : R → Type 0) (old mid new : R) where
-  -- a source that was marked at first, and gone back to
-  second_pass : (steady old → source.behind mid ≡ source.ahead old) → (second : List ℕ) → IsReturned source mid new second
-      → SecondPass (rereader_passage source steady old new) second
-  second_pass marked second pass = record {
-    returned = pass.returned;
-    given = pass.given;
-    same = λ held. what_was_marked (source.ahead old) (source.behind mid) (source.ahead pass.returned) second (marked held) pass.same pass.given;
-    left = λ held. given_again (source.ahead old) (source.behind mid) (source.ahead pass.returned) (source.ahead new) (marked held) pass.same pass.left;
-  }
+  -- the place could not be marked
+  mark_stops_here : (again : Bool) (e : Fault)
+      → (again ≡ true) × (e ≡ Named GoingBackFailed) × Marks (rereader_call source steady old new) (Err tt)
+      → (message : List ℕ) × StagesEnd (rereader_call source steady old new) unused unused (reading again message) (Err e)
+  mark_stops_here true e (wanted, is, fails) = ([], inl ((is, fails), refl, refl))
+  mark_stops_here false e (wanted, is, fails) = absurd (true≢false (sym wanted))
 
-  -- a read fault, counted from an earlier time
-  read_fault : (e : Fault) → source.faults mid ≡ source.faults old → IsReadFault source mid new e → IsReadFault source old new e
-  read_fault e calm = ⊎_elim inl (λ failed. inr (record { fault = failed.fault; rose = subst (λ n. Rose n (source.faults new)) calm failed.rose }))
+  -- the data could not be read
+  read_stops_here : (again : Bool) → (again ≡ false → mid ≡ old) → (again ≡ true → Marks (rereader_call source steady old mid) (Ok tt))
+      → (e : Fault) → IsReadFault source mid new e → HasGiven (source.ahead mid) (source.ahead new) → source.is_marked new ≡ source.is_marked mid
+      → (message : List ℕ) × StagesEnd (rereader_call source steady old new) unused unused (reading again message) (Err e)
+  read_stops_here true unmarked marked e fails given same =
+      ([], inr (record { reader = mid; status = tt; out = tt }, (marked refl, refl, refl), inl (((fails, given), same), refl, refl)))
+  read_stops_here false unmarked marked e fails given same = (
+    [],
+    subst (λ r. StagesEnd (rereader_call source steady r new) unused unused (reading false []) (Err e)) (unmarked refl)
+        (inl (((fails, given), same), refl, refl)),
+  )
 
-  -- a second pass that fails, seen from before the first
-  second_pass_fails : {O : Type 0} (Pass Seen : List ℕ → Type 0) (out : SinkPassage O) (digest same : List ℕ) (e : Fault)
-      → ((second : List ℕ) → Pass second → Seen second) → source.faults mid ≡ source.faults old → digest ≡ same
-      → SecondPassFails Pass (rereader_passage source steady mid new) out digest e → SecondPassFails Seen (rereader_passage source steady old new) out same e
-  second_pass_fails Pass Seen out digest same e seen calm equal = ⊎_elim
-      (λ back. inl (record { fault = back.fault; rose = subst (λ n. Rose n (source.faults new)) calm back.rose; unmarked = back.unmarked; uncopied = back.uncopied }))
-      (λ (second, pass, ended). inr (
-        second,
-        seen second pass,
-        ⊎_elim (λ broken. inl (record { front = broken.front; read = broken.read; given = broken.given; read_front = broken.read_front; unflushed = broken.unflushed; failed = ⊎_elim (λ failed. inl (read_fault e calm failed)) inr broken.failed; marked = broken.marked }))
-            (λ copied. inr (⊎_elim
-            (λ other. inl (record { given = other.given; all = other.all; unflushed = other.unflushed; fault = other.fault; changed = subst (λ d. blake2b_digest 64 second ≢ d) equal other.changed }))
-            (λ flushed. inr (record { given = flushed.given; all = flushed.all; unchanged = flushed.unchanged ∙ equal; failed = flushed.failed }))
-            copied))
-            ended,
-      ))
+  -- the data was read
+  read_runs_here : (again : Bool) → (again ≡ false → mid ≡ old) → (again ≡ true → Marks (rereader_call source steady old mid) (Ok tt))
+      → (message : List ℕ) → ReadsWhole source mid new message → source.is_marked new ≡ source.is_marked mid
+      → StagesEnd (rereader_call source steady old new) unused unused (reading again message) (Ok tt)
+  read_runs_here true unmarked marked message whole same = (
+    record { reader = mid; status = tt; out = tt },
+    (marked refl, refl, refl),
+    (record { reader = new; status = tt; out = tt }, ((whole, same), refl, refl), refl),
+  )
+  read_runs_here false unmarked marked message whole same =
+      subst (λ r. StagesEnd (rereader_call source steady r new) unused unused (reading false message) (Ok tt)) (unmarked refl)
+      (record { reader = new; status = tt; out = tt }, ((whole, same), refl, refl), refl)
+
+  module _ (again wanted : Bool) (is : again ≡ wanted) where
+    pub mark_stops : (e : Fault)
+        → (again ≡ true) × (e ≡ Named GoingBackFailed) × Marks (rereader_call source steady old new) (Err tt)
+        → (message : List ℕ) × StagesEnd (rereader_call source steady old new) unused unused (reading wanted message) (Err e)
+    mark_stops e why =
+        subst (λ a. (message : List ℕ) × StagesEnd (rereader_call source steady old new) unused unused (reading a message) (Err e)) is (mark_stops_here again e why)
+
+    module _ (unmarked : again ≡ false → mid ≡ old) (marked : again ≡ true → Marks (rereader_call source steady old mid) (Ok tt)) where
+      pub read_stops : (e : Fault) → IsReadFault source mid new e → HasGiven (source.ahead mid) (source.ahead new) → source.is_marked new ≡ source.is_marked mid
+          → (message : List ℕ) × StagesEnd (rereader_call source steady old new) unused unused (reading wanted message) (Err e)
+      read_stops e fails given same =
+          subst (λ a. (message : List ℕ) × StagesEnd (rereader_call source steady old new) unused unused (reading a message) (Err e)) is
+          (read_stops_here again unmarked marked e fails given same)
+
+      pub read_runs : (message : List ℕ) → ReadsWhole source mid new message → source.is_marked new ≡ source.is_marked mid
+          → StagesEnd (rereader_call source steady old new) unused unused (reading wanted message) (Ok tt)
+      read_runs message whole same =
+          subst (λ a. StagesEnd (rereader_call source steady old new) unused unused (reading a message) (Ok tt)) is
+          (read_runs_here again unmarked marked message whole same)
+
+-- the data was read to its end without a fault, and gave this message; the mark stays, or was set before
+pub record FirstPass {R : Type 0} (again : Bool) (reader : RereaderCall R) (message : List ℕ) : Type 0 where
+  pub given : IsAhead (reader.source.ahead reader.old) message
+  pub end : IsAtEnd (reader.source.ahead reader.new)
+  pub no_new_fault : SourceHasNoNewFault reader
+  pub mark : again ≡ false → reader.source.behind reader.new ≡ reader.source.behind reader.old
+  pub marked : again ≡ true → IsSteady reader → reader.source.behind reader.new ≡ reader.source.ahead reader.old
+
+-- what follows where the data was read
+module _ {R W O : Type 0} (reader : RereaderCall R) (status : SinkCall W) (out : SinkCall O) where
+  pub first_pass : (again : Bool) (message : List ℕ) → StagesEnd reader status out (reading again message) (Ok tt)
+      → FirstPass again reader message × (status.new ≡ status.old) × (out.new ≡ out.old)
+  first_pass true message (d, (marked, s, o), (d2, ((whole, same), s2, o2), is)) = (
+    subst (λ r. FirstPass true (record reader { new = r }) message) (sym (ap (λ d. d.reader) is)) (record {
+      given = subst (λ known. IsAhead known message) marked.bytes whole.given;
+      end = whole.end;
+      no_new_fault = whole.no_new_fault ∙ marked.no_new_fault;
+      mark = λ once. absurd (true≢false once);
+      marked = λ again steady. whole.mark ∙ marked.mark steady;
+    }),
+    ap (λ d. d.status) is ∙ s2 ∙ s,
+    ap (λ d. d.out) is ∙ o2 ∙ o,
+  )
+  first_pass false message (d2, ((whole, same), s2, o2), is) = (
+    subst (λ r. FirstPass false (record reader { new = r }) message) (sym (ap (λ d. d.reader) is)) (record {
+      given = whole.given;
+      end = whole.end;
+      no_new_fault = whole.no_new_fault;
+      mark = λ once. whole.mark;
+      marked = λ again steady. absurd (true≢false (sym again));
+    }),
+    ap (λ d. d.status) is ∙ s2,
+    ap (λ d. d.out) is ∙ o2,
+  )
+
+  -- what was to be said was not
+  say_stops : (quiet : Bool) (x : SignatureBoxRecord) (e : Fault) → reader.new ≡ reader.old → out.new ≡ out.old
+      → (quiet ≡ false) × (((e ≡ Named OutOfMemory) × (status.new ≡ status.old)) ⊎ IsWritingFault status e)
+      → TakesFront status (wanted_status quiet x) → IsUnflushed status → StagesEnd reader status out (reporting quiet x) (Err e)
+  say_stops true x e r o (wanted, why) front unflushed = absurd (true≢false wanted)
+  say_stops false x e r o (wanted, why) front unflushed = inl (⊎_elim inl (λ failed. inr ((failed, front), unflushed)) why, r, o)
+
+  -- it was
+  say_runs : (quiet : Bool) (x : SignatureBoxRecord) → reader.new ≡ reader.old → out.new ≡ out.old
+      → (quiet ≡ true → status.new ≡ status.old) → Takes status (wanted_status quiet x) → SinkHasNoNewFault status → IsUnflushed status
+      → StagesEnd reader status out (reporting quiet x) (Ok tt)
+  say_runs true x r o unsaid said no_new_fault unflushed = λ i. record { reader = r i; status = unsaid refl i; out = o i }
+  say_runs false x r o unsaid said no_new_fault unflushed =
+      (record { reader = reader.new; status = status.new; out = out.new }, (inr ((said, no_new_fault), unflushed), r, o), refl)
+
+-- what is copied of data that was kept
+pub kept_steps : (output : Bool) (signed : SignedData) (bytes : Vec ℕ _) (second : List ℕ) → output ≡ true → signed ≡ Kept bytes
+    → Put bytes.items ∷ Flush ∷ [] ≡ copying_held output signed second
+kept_steps output signed bytes second wanted is =
+    ap (λ s. copying_held true s second) (sym is) ∙ ap (λ o. copying_held o signed second) (sym wanted)
+
+-- what is copied of what is held is what is to be copied
+copying_is : (accepts : Verifier) (pk : PublicKeyRecord) (x : SignatureBoxRecord) (legacy : Bool) (message second : List ℕ) (output : Bool) (signed : SignedData)
+    → HoldsSigned signed x legacy message → Vouches accepts pk x message legacy
+    → copying_held output signed second ≡ copying output (is_prehashed x.signature) message second
+copying_is accepts pk x legacy message second false signed holds vouches = refl
+copying_is accepts pk x legacy message second true (Digest digest) holds vouches =
+    ap (λ d. copying_again d second) holds.1 ∙ ap (λ hashed. copying true hashed message second) (sym holds.0)
+copying_is accepts pk x legacy message second true (Kept bytes) holds vouches =
+    ap (λ (kept : List ℕ). Put kept ∷ Flush ∷ []) holds.1 ∙ ap (λ hashed. copying true hashed message second) (sym holds.0)
+copying_is accepts pk x legacy message second true Unkept holds vouches = absurd (unallowed accepts pk x message legacy holds.0 holds.1 vouches)
+
+module _ {R W O : Type 0} (accepts : Verifier) (pk : PublicKeyRecord) (x : SignatureBoxRecord) (quiet output legacy : Bool)
+    (source : SourceOf R) (steady : R → Type 0) (status_sink : SinkOf W) (out_sink : SinkOf O)
+    (old mid new : R) (said_before said : W) (out_before out : O) (e : Fault) where
+  -- how verifying fails, by the state of the three devices in the end
+  abbrev Fails : R → W → O → Type 0
+  Fails r w o =
+      VerifyingFails accepts pk x (record { quiet = quiet; output = output; legacy = legacy })
+      (rereader_call source steady old r) (sink_call status_sink said_before w) (sink_call out_sink out_before o) e
+
+  -- the reading stopped
+  pub unread : (message : List ℕ) × StagesEnd (rereader_call source steady old new) unused unused (reading (is_reread output x) message) (Err e)
+      → Fails new said_before out_before
+  unread (message, h) = (
+    message,
+    [],
+    stopped_first (rereader_call source steady old new) (sink_call status_sink said_before said_before) (sink_call out_sink out_before out_before)
+        (reading (is_reread output x) message)
+        (Judge accepts pk x legacy message ∷ (reporting quiet x ++ copying output (is_prehashed x.signature) message [])) e
+        (beside_output out_sink out_before (rereader_call source steady old new) (sink_call status_sink said_before said_before) unused
+        (reading (is_reread output x) message) (Err e) (reading_uncopied (is_reread output x) message)
+        (beside_status status_sink said_before (rereader_call source steady old new) unused unused
+        (reading (is_reread output x) message) (Err e) (reading_unsaid (is_reread output x) message) h)),
+  )
+
+  module _ (message : List ℕ) (read : StagesEnd (rereader_call source steady old mid) unused unused (reading (is_reread output x) message) (Ok tt)) where
+    -- reading, beside the sinks
+    was_read : StagesEnd (rereader_call source steady old mid) (sink_call status_sink said_before said_before)
+        (sink_call out_sink out_before out_before) (reading (is_reread output x) message) (Ok tt)
+    was_read =
+        beside_output out_sink out_before (rereader_call source steady old mid) (sink_call status_sink said_before said_before) unused
+        (reading (is_reread output x) message) (Ok tt) (reading_uncopied (is_reread output x) message)
+        (beside_status status_sink said_before (rereader_call source steady old mid) unused unused
+        (reading (is_reread output x) message) (Ok tt) (reading_unsaid (is_reread output x) message) read)
+
+    -- the box is refused, or memory ran out
+    pub unjudged : ((e ≡ Named OutOfMemory) ⊎ Refuses accepts pk x message legacy e) → Fails mid said_before out_before
+    unjudged why = (
+      message,
+      [],
+      second_ended (rereader_call source steady old mid) (sink_call status_sink said_before said_before) (sink_call out_sink out_before out_before)
+          (record { reader = mid; status = said_before; out = out_before }) (reading (is_reread output x) message)
+          (Judge accepts pk x legacy message ∷ (reporting quiet x ++ copying output (is_prehashed x.signature) message [])) (Err e) was_read
+          (inl (why, refl, refl, refl)),
+    )
+
+    module _ (vouches : Vouches accepts pk x message legacy) where
+      -- the status failed
+      pub unsaid : (quiet ≡ false) × (((e ≡ Named OutOfMemory) × (said ≡ said_before)) ⊎ IsWritingFault (sink_call status_sink said_before said) e)
+          → TakesFront (sink_call status_sink said_before said) (wanted_status quiet x) → IsUnflushed (sink_call status_sink said_before said)
+          → Fails mid said out_before
+      unsaid why front unflushed =
+          let d : Devices R W O = record { reader = mid; status = said_before; out = out_before } in (
+            message,
+            [],
+            second_ended (rereader_call source steady old mid) (sink_call status_sink said_before said) (sink_call out_sink out_before out_before)
+                d (reading (is_reread output x) message)
+                (Judge accepts pk x legacy message ∷ (reporting quiet x ++ copying output (is_prehashed x.signature) message [])) (Err e) was_read
+                (inr (
+                  d,
+                  (vouches, refl, refl, refl),
+                  stopped_first (rereader_call source steady mid mid) (sink_call status_sink said_before said)
+                      (sink_call out_sink out_before out_before) (reporting quiet x) (copying output (is_prehashed x.signature) message []) e
+                      (say_stops (rereader_call source steady mid mid) (sink_call status_sink said_before said)
+                      (sink_call out_sink out_before out_before) quiet x e refl refl why front unflushed),
+                )),
+          )
+
+      -- the copying stopped
+      pub uncopied : (signed : SignedData) → HoldsSigned signed x legacy message → (quiet ≡ true → said ≡ said_before)
+          → Takes (sink_call status_sink said_before said) (wanted_status quiet x) → SinkHasNoNewFault (sink_call status_sink said_before said)
+          → IsUnflushed (sink_call status_sink said_before said)
+          → (second : List ℕ) × StagesEnd (rereader_call source steady mid new) unused (sink_call out_sink out_before out) (copying_held output signed second) (Err e)
+          → Fails new said out
+      uncopied signed holds silent says no_new_fault unflushed (second, h) =
+          let d : Devices R W O = record { reader = mid; status = said_before; out = out_before } in
+          let told : Devices R W O = record { reader = mid; status = said; out = out_before } in (
+            message,
+            second,
+            second_ended (rereader_call source steady old new) (sink_call status_sink said_before said) (sink_call out_sink out_before out)
+                d (reading (is_reread output x) message)
+                (Judge accepts pk x legacy message ∷ (reporting quiet x ++ copying output (is_prehashed x.signature) message second)) (Err e) was_read
+                (inr (
+                  d,
+                  (vouches, refl, refl, refl),
+                  second_ended (rereader_call source steady mid new) (sink_call status_sink said_before said)
+                      (sink_call out_sink out_before out) told (reporting quiet x) (copying output (is_prehashed x.signature) message second) (Err e)
+                      (say_runs (rereader_call source steady mid mid) (sink_call status_sink said_before said)
+                      (sink_call out_sink out_before out_before) quiet x refl refl silent says no_new_fault unflushed)
+                      (subst (λ steps. StagesEnd (rereader_call source steady mid new) (sink_call status_sink said said) (sink_call out_sink out_before out) steps (Err e))
+                      (copying_is accepts pk x legacy message second output signed holds vouches)
+                      (beside_status status_sink said (rereader_call source steady mid new) unused (sink_call out_sink out_before out)
+                      (copying_held output signed second) (Err e) (copying_unsaid output signed second) h)),
+                )),
+          )
+
+-- data that was read again was copied and flushed, with this digest
+record CopiedAgain {R O : Type 0} (reader : RereaderCall R) (out : SinkCall O) (digest second : List ℕ) : Type 0 where
+  pub returned : R
+  pub back : IfSome (reader.source.behind reader.old) (λ xs. reader.source.ahead returned ≡ Some xs)
+  pub given : IsAhead (reader.source.ahead returned) second
+  pub end : IsAtEnd (reader.source.ahead reader.new)
+  pub no_new_fault : SourceHasNoNewFault reader
+  pub all : Takes out second
+  pub flushed : IsFlushed out
+  pub out_no_new_fault : SinkHasNoNewFault out
+  pub unchanged : blake2b_digest 64 second ≡ digest
+
+copied_again : {R W O : Type 0} (reader : RereaderCall R) (status : SinkCall W) (out : SinkCall O) (digest second : List ℕ)
+    → StagesEnd reader status out (copying_again digest second) (Ok tt) → CopiedAgain reader out digest second
+copied_again reader status out digest second (d1, (at, s1, o1), (d2, (copied, s2), (d3, (equal, r3, s3, o3), (d4, (flushed, r4, s4), is)))) =
+    let begun : Appends (out.sink.taken out.old) (out.sink.taken d2.out) second =
+    subst (λ o. Appends (out.sink.taken o) (out.sink.taken d2.out) second) o1 copied.all in
+    let there : Appends (out.sink.taken out.old) (out.sink.taken d3.out) second =
+    subst (λ o. Appends (out.sink.taken out.old) (out.sink.taken o) second) (sym o3) begun in
+    subst (λ r. CopiedAgain (record reader { new = r }) out digest second) (sym (ap (λ d. d.reader) is ∙ r4 ∙ r3))
+    (subst (λ o. CopiedAgain (record reader { new = d2.reader }) (record out { new = o }) digest second) (sym (ap (λ d. d.out) is))
+    (record {
+      returned = d1.reader;
+      back = at.bytes;
+      given = copied.read.given;
+      end = copied.read.end;
+      no_new_fault = copied.read.no_new_fault ∙ at.no_new_fault;
+      all = all_kept _ _ _ second there flushed.bytes;
+      flushed = flushed.all;
+      out_no_new_fault = flushed.no_new_fault ∙ ap out.sink.sink_faults o3 ∙ copied.no_new_fault ∙ ap out.sink.sink_faults o1;
+      unchanged = equal;
+    }))
+
+-- data that was kept was copied and flushed
+copied_kept : {R W O : Type 0} (reader : RereaderCall R) (status : SinkCall W) (out : SinkCall O) (bytes : List ℕ)
+    → StagesEnd reader status out (Put bytes ∷ Flush ∷ []) (Ok tt) → (reader.new ≡ reader.old) × Takes out bytes × IsFlushed out × SinkHasNoNewFault out
+copied_kept reader status out bytes (d1, (((all, no_new_fault), unflushed), r1, s1), (d2, (flushed, r2, s2), is)) = (
+  ap (λ d. d.reader) is ∙ r2 ∙ r1,
+  subst (λ o. Takes (record out { new = o }) bytes) (sym (ap (λ d. d.out) is)) (all_kept _ _ _ bytes all flushed.bytes),
+  subst (λ o. IsFlushed (record out { new = o })) (sym (ap (λ d. d.out) is)) flushed.all,
+  ap (λ d. out.sink.sink_faults d.out) is ∙ flushed.no_new_fault ∙ no_new_fault,
+)
 
 module _ {R W O : Type 0} (accepts : Verifier) (pk : PublicKeyRecord) (x : SignatureBoxRecord) (quiet legacy : Bool)
-    (source : SourceOf R) (steady : R → Type 0) (old mid new : R) (status : SinkPassage W) (out : SinkPassage O) (message : List ℕ) where
+    (source : SourceOf R) (steady : R → Type 0) (old mid new : R) (status : SinkCall W) (out : SinkCall O) (message : List ℕ) where
+  -- two readings, one after the other
+  twice : (first second : List ℕ) → StagesEnd (rereader_call source steady old mid) unused unused (reading true first) (Ok tt)
+      → StagesEnd (rereader_call source steady mid new) unused out (copying_again (blake2b_digest 64 first) second) (Ok tt)
+      → ReadsTwice (rereader_call source steady old new) out first second
+  twice first second read again =
+      second_ended (rereader_call source steady old new) unused out (record { reader = mid; status = tt; out = out.old })
+      (reading true first) (copying_again (blake2b_digest 64 first) second) (Ok tt)
+      (beside_output out.sink out.old (rereader_call source steady old mid) unused unused (reading true first) (Ok tt) (reading_uncopied true first) read)
+      again
+
   -- what was to be copied is copied
   copied : (output : Bool) (signed : SignedData) → HoldsSigned signed x legacy message
-      → FirstPass (is_reread output x) (rereader_passage source steady old mid) message
-      → Vouches accepts pk x message legacy → Takes status (wanted_status quiet x) → SinkIsCalm status → IsUnflushed status
-      → source.faults new ≡ source.faults mid → SinkIsCalm out → CopyingSucceeds output signed (rereader_passage source steady mid new) out
-      → VerifyingSucceeds accepts pk x (record { quiet = quiet; output = output; legacy = legacy }) (rereader_passage source steady old new) status out
-  copied false signed holds pass vouches said status_calm status_unflushed calm out_calm done = record {
+      → StagesEnd (rereader_call source steady old mid) unused unused (reading (is_reread output x) message) (Ok tt)
+      → FirstPass (is_reread output x) (rereader_call source steady old mid) message
+      → Vouches accepts pk x message legacy → Takes status (wanted_status quiet x) → SinkHasNoNewFault status → IsUnflushed status
+      → (second : List ℕ) → StagesEnd (rereader_call source steady mid new) unused out (copying_held output signed second) (Ok tt)
+      → VerifyingSucceeds accepts pk x (record { quiet = quiet; output = output; legacy = legacy }) (rereader_call source steady old new) status out
+  copied false signed holds read pass vouches said status_no_new_fault status_unflushed second same = record {
     message = message;
     given = pass.given;
     vouches = vouches;
-    end = subst (λ r. IsAtEnd (source.ahead r)) (sym done.0) pass.end;
-    calm = calm ∙ pass.calm;
-    mark = λ once. ap source.behind done.0 ∙ pass.mark once;
+    end = subst (λ r. IsAtEnd (source.ahead r)) (sym (ap (λ d. d.reader) same)) pass.end;
+    no_new_fault = ap (λ d. source.faults d.reader) same ∙ pass.no_new_fault;
+    mark = λ once. ap (λ d. source.behind d.reader) same ∙ pass.mark once;
     said = said;
-    status_calm = status_calm;
+    status_no_new_fault = status_no_new_fault;
     status_unflushed = status_unflushed;
     copied = λ wanted. absurd (true≢false (sym wanted));
-    uncopied = λ unwanted. done.1;
-    out_calm = out_calm;
+    uncopied = λ unwanted. ap (λ d. d.out) same;
+    out_no_new_fault = ap (λ d. out.sink.sink_faults d.out) same;
   }
-  copied true (Digest digest) holds pass vouches said status_calm status_unflushed calm out_calm done =
-      let second : List ℕ = done.second in
+  copied true (Digest digest) holds read pass vouches said status_no_new_fault status_unflushed second run =
+      let done = copied_again (rereader_call source steady mid new) unused out digest second run in
       let equal : signed_bytes x second ≡ signed_bytes x message = rw holds.0 (done.unchanged ∙ holds.1) in
-      let again = second_pass source steady old mid new (pass.marked holds.0) second done.returned in
       record {
         message = message;
         given = pass.given;
         vouches = vouches;
         end = done.end;
-        calm = calm ∙ pass.calm;
+        no_new_fault = done.no_new_fault ∙ pass.no_new_fault;
         mark = λ once. absurd (true≢false (sym holds.0 ∙ once));
         said = said;
-        status_calm = status_calm;
+        status_no_new_fault = status_no_new_fault;
         status_unflushed = status_unflushed;
         copied = λ wanted. record {
           copy = second;
           all = done.all;
           flushed = done.flushed;
-          read_twice = λ hashed. record {
-            between = mid;
-            first = rw holds.0 at pass;
-            returned = done.returned;
-            given = done.given;
-            end = done.end;
-            marked = done.marked;
-            unchanged = done.unchanged ∙ holds.1;
-          };
+          read_twice = λ hashed. twice message second
+              (subst (λ again. StagesEnd (rereader_call source steady old mid) unused unused (reading again message) (Ok tt)) hashed read)
+              (subst (λ (d : List ℕ). StagesEnd (rereader_call source steady mid new) unused out (copying_again d second) (Ok tt)) holds.1 run);
           vouched = vouches_alike accepts pk x message second legacy equal vouches;
           signed_same = equal;
           legacy_same = λ kept. absurd (true≢false (sym holds.0 ∙ kept));
-          steady_same = λ held told. both_told (source.ahead old) message second told (again.same held) pass.given;
+          steady_same = λ held told. both_told (source.ahead old) message second told
+              (what_was_marked (source.ahead old) (source.behind mid) (source.ahead done.returned) second (pass.marked holds.0 held) done.back done.given)
+              pass.given;
         };
         uncopied = λ unwanted. absurd (true≢false unwanted);
-        out_calm = out_calm;
+        out_no_new_fault = done.out_no_new_fault;
       }
-  copied true (Kept bytes) holds pass vouches said status_calm status_unflushed calm out_calm done =
+  copied true (Kept bytes) holds read pass vouches said status_no_new_fault status_unflushed second run =
+      let (same, all, flushed, out_no_new_fault) = copied_kept (rereader_call source steady mid new) unused out bytes.items run in
       let equal : signed_bytes x bytes.items ≡ signed_bytes x message = ap (signed_bytes x) holds.1 in
       record {
         message = message;
         given = pass.given;
         vouches = vouches;
-        end = subst (λ r. IsAtEnd (source.ahead r)) (sym done.0) pass.end;
-        calm = calm ∙ pass.calm;
-        mark = λ once. ap source.behind done.0 ∙ pass.mark once;
+        end = subst (λ r. IsAtEnd (source.ahead r)) (sym same) pass.end;
+        no_new_fault = ap source.faults same ∙ pass.no_new_fault;
+        mark = λ once. ap source.behind same ∙ pass.mark once;
         said = said;
-        status_calm = status_calm;
+        status_no_new_fault = status_no_new_fault;
         status_unflushed = status_unflushed;
         copied = λ wanted. record {
           copy = bytes.items;
-          all = done.1;
-          flushed = done.2;
+          all = all;
+          flushed = flushed;
           read_twice = λ hashed. absurd (true≢false (sym hashed ∙ holds.0));
           vouched = vouches_alike accepts pk x message bytes.items legacy equal vouches;
           signed_same = equal;
@@ -206,50 +467,131 @@ module _ {R W O : Type 0} (accepts : Verifier) (pk : PublicKeyRecord) (x : Signa
           steady_same = λ held told. holds.1;
         };
         uncopied = λ unwanted. absurd (true≢false unwanted);
-        out_calm = out_calm;
+        out_no_new_fault = out_no_new_fault;
       }
-  copied true Unkept holds pass vouches said status_calm status_unflushed calm out_calm done = absurd (unallowed accepts pk x message legacy holds.0 holds.1 vouches)
-
-  -- what was to be copied is not
-  uncopied : (output : Bool) (signed : SignedData) → HoldsSigned signed x legacy message
-      → FirstPass (is_reread output x) (rereader_passage source steady old mid) message
-      → Vouches accepts pk x message legacy → Takes status (wanted_status quiet x) → (e : Fault)
-      → CopyingFails output signed (rereader_passage source steady mid new) out e
-      → VerifyingFails accepts pk x (record { quiet = quiet; output = output; legacy = legacy }) (rereader_passage source steady old new) status out e
-  uncopied false signed holds pass vouches said e fails = absurd fails
-  uncopied true (Digest digest) holds pass vouches said e fails = inr (record {
-    message = message;
-    given = pass.given;
-    vouches = vouches;
-    wanted = refl;
-    said = said;
-    kept = λ kept. absurd (true≢false (sym holds.0 ∙ kept));
-    kept_end = λ kept. absurd (true≢false (sym holds.0 ∙ kept));
-    again = λ again. second_pass_fails source steady old mid new _ _ out digest _ e
-        (second_pass source steady old mid new (pass.marked holds.0)) pass.calm holds.1 fails;
-  })
-  uncopied true (Kept bytes) holds pass vouches said e fails = inr (record {
-    message = message;
-    given = pass.given;
-    vouches = vouches;
-    wanted = refl;
-    said = said;
-    kept = λ kept. record { front = subst (TakesFront out) holds.1 fails.1.front; failed = fails.1.failed };
-    kept_end = λ kept. subst (λ r. IsAtEnd (source.ahead r)) (sym fails.0) pass.end;
-    again = λ again. absurd (true≢false (sym again ∙ holds.0));
-  })
-  uncopied true Unkept holds pass vouches said e fails = absurd fails
+  copied true Unkept holds read pass vouches said status_no_new_fault status_unflushed second run = absurd (unallowed accepts pk x message legacy holds.0 holds.1 vouches)
 
   module _ (output : Bool) (signed : SignedData) (holds : HoldsSigned signed x legacy message)
-      (pass : FirstPass (is_reread output x) (rereader_passage source steady old mid) message)
+      (read : StagesEnd (rereader_call source steady old mid) unused unused (reading (is_reread output x) message) (Ok tt))
+      (pass : FirstPass (is_reread output x) (rereader_call source steady old mid) message)
       (vouches : Vouches accepts pk x message legacy) (said : Takes status (wanted_status quiet x)) where
-    pub copying_succeeds : {T : Type 0} (r : Result T Fault) → SinkIsCalm status → IsUnflushed status → OnOk r (source.faults new ≡ source.faults mid) → OnOk r (SinkIsCalm out)
-        → OnOk r (CopyingSucceeds output signed (rereader_passage source steady mid new) out)
-        → OnOk r (VerifyingSucceeds accepts pk x (record { quiet = quiet; output = output; legacy = legacy }) (rereader_passage source steady old new) status out)
-    copying_succeeds (Ok v) status_calm status_unflushed calm out_calm done = copied output signed holds pass vouches said status_calm status_unflushed calm out_calm done
-    copying_succeeds (Err e) status_calm status_unflushed calm out_calm done = tt
+    pub copying_succeeds : {T : Type 0} (r : Result T Fault) → SinkHasNoNewFault status → IsUnflushed status
+        → OnOk r ((second : List ℕ) × StagesEnd (rereader_call source steady mid new) unused out (copying_held output signed second) (Ok tt))
+        → OnOk r (VerifyingSucceeds accepts pk x (record { quiet = quiet; output = output; legacy = legacy }) (rereader_call source steady old new) status out)
+    copying_succeeds (Ok v) status_no_new_fault status_unflushed (second, run) = copied output signed holds read pass vouches said status_no_new_fault status_unflushed second run
+    copying_succeeds (Err e) status_no_new_fault status_unflushed run = tt
 
-    pub copying_fails : {T : Type 0} (r : Result T Fault) → IfErr r (CopyingFails output signed (rereader_passage source steady mid new) out)
-        → IfErr r (VerifyingFails accepts pk x (record { quiet = quiet; output = output; legacy = legacy }) (rereader_passage source steady old new) status out)
-    copying_fails (Ok v) fails = tt
-    copying_fails (Err e) fails = uncopied output signed holds pass vouches said e fails
+-- what the second reading gave is what was ahead at first, of a steady source; and it has another digest than the message
+pub record IsOther {R : Type 0} (reader : RereaderCall R) (message : List ℕ) : Type 0 where
+  pub second : List ℕ
+  pub same : IsSteady reader → IfSome (reader.source.ahead reader.old) (λ xs. second ≡ xs)
+  pub changed : blake2b_digest 64 second ≢ blake2b_digest 64 message
+
+-- why verifying fails: memory ran out; the place could not be marked; the data could not be read; the box is refused;
+-- the status failed; or the copying did, for which the source failed, the output did, or the data is another one
+abbrev pub IsReason : {R W O : Type 0} → Verifier → PublicKeyRecord → SignatureBoxRecord → Bool → Bool → Bool → RereaderCall R → SinkCall W → SinkCall O → Fault → Type 0
+IsReason accepts pk x quiet output legacy reader status out e =
+    (e ≡ Named OutOfMemory)
+    ⊎ ((output ≡ true) × SourceFails reader)
+    ⊎ ReadingFails reader.source reader.old reader.new e
+    ⊎ ((message : List ℕ) × IsAhead (reader.source.ahead reader.old) message × Refuses accepts pk x message legacy e)
+    ⊎ ((quiet ≡ false) × SinkFails status)
+    ⊎ ((output ≡ true) × SinkFails out)
+    ⊎ ((output ≡ true) × ((message : List ℕ) × IsAhead (reader.source.ahead reader.old) message × IsOther reader message))
+
+module _ {R W O : Type 0} (accepts : Verifier) (pk : PublicKeyRecord) (x : SignatureBoxRecord) (quiet output legacy : Bool)
+    (reader : RereaderCall R) (status : SinkCall W) (out : SinkCall O) (e : Fault) where
+  abbrev Why : Type 0
+  Why = IsReason accepts pk x quiet output legacy reader status out e
+
+  -- a read failed, of a source that had not failed before
+  read_fault : (r : R) → reader.source.faults r ≡ reader.source.faults reader.old → IsReadFault reader.source r reader.new e → Why
+  read_fault r no_new_fault (inl memory) = inl memory
+  read_fault r no_new_fault (inr failed) =
+      inr (inr (inl (record { fault = failed.fault; rose = subst (λ n. Rose n (reader.source.faults reader.new)) no_new_fault failed.rose })))
+
+  out_fault : output ≡ true → (o : O) → out.sink.sink_faults o ≡ out.sink.sink_faults out.old → IsWritingFault (record out { old = o }) e → Why
+  out_fault wanted o no_new_fault (fault, rose) = inr (inr (inr (inr (inr (inl (wanted, subst (λ n. Rose n (out.sink.sink_faults out.new)) no_new_fault rose))))))
+
+  mark_fault : output ≡ true → (r : R) → reader.source.faults r ≡ reader.source.faults reader.old → Rose (reader.source.faults r) (reader.source.faults reader.new) → Why
+  mark_fault wanted r no_new_fault rose = inr (inl (wanted, subst (λ n. Rose n (reader.source.faults reader.new)) no_new_fault rose))
+
+  why_unread : (again : Bool) (message : List ℕ) → (again ≡ true → output ≡ true) → StagesEnd reader status out (reading again message) (Err e) → Why
+  why_unread true message wanted (inl ((is, fails), s, o)) = mark_fault (wanted refl) reader.old refl fails.fault
+  why_unread true message wanted (inr (d, (marked, s, o), inl (((fails, given), same), s2, o2))) = read_fault d.reader marked.no_new_fault fails
+  why_unread true message wanted (inr (d, done, inr (d2, done2, h))) = absurd h
+  why_unread false message wanted (inl (((fails, given), same), s, o)) = read_fault reader.old refl fails
+  why_unread false message wanted (inr (d, done, h)) = absurd h
+
+  why_unsaid : (wanted : Bool) → wanted ≡ quiet → (d : Devices R W O) → d.status ≡ status.old
+      → StagesEnd (record reader { old = d.reader }) (record status { old = d.status }) (record out { old = d.out }) (reporting wanted x) (Err e) → Why
+  why_unsaid true is d same h = absurd h
+  why_unsaid false is d same (inl (inl memory, r, o)) = inl memory.0
+  why_unsaid false is d same (inl (inr (((fault, rose), front), unflushed), r, o)) =
+      inr (inr (inr (inr (inl (sym is, subst (λ w. Rose (status.sink.sink_faults w) (status.sink.sink_faults status.new)) same rose)))))
+  why_unsaid false is d same (inr (d2, done, h)) = absurd h
+
+  -- what was said leaves the others as they were
+  said_only : (wanted : Bool) (d d2 : Devices R W O)
+      → StagesEnd (record reader { old = d.reader; new = d2.reader }) (record status { old = d.status; new = d2.status }) (record out { old = d.out; new = d2.out }) (reporting wanted x) (Ok tt)
+      → (d2.reader ≡ d.reader) × (d2.out ≡ d.out)
+  said_only true d d2 is = (ap (λ d. d.reader) is, ap (λ d. d.out) is)
+  said_only false d d2 (d3, (said, r, o), is) = (ap (λ d. d.reader) is ∙ r, ap (λ d. d.out) is ∙ o)
+
+  why_uncopied : (copies hashed : Bool) → copies ≡ output → (message second : List ℕ) (d : Devices R W O)
+      → FirstPass (copies && hashed) (record reader { new = d.reader }) message → d.out ≡ out.old
+      → StagesEnd (record reader { old = d.reader }) (record status { old = d.status }) (record out { old = d.out }) (copying copies hashed message second) (Err e) → Why
+  why_uncopied false hashed is message second d pass same h = absurd h
+  why_uncopied true true is message second d pass same (inl ((fault, fails), s, o)) = mark_fault (sym is) d.reader pass.no_new_fault fails.fault
+  why_uncopied true true is message second d pass same (inr (d2, (at, s2, o2), inl (not, s3))) =
+      ⊎_elim (read_fault d2.reader (at.no_new_fault ∙ pass.no_new_fault)) (out_fault (sym is) d2.out (ap out.sink.sink_faults (o2 ∙ same))) not.failed
+  why_uncopied true true is message second d pass same (inr (d2, (at, s2, o2), inr (d3, (put, s3), inl ((changed, unlike), r, s4, o4)))) =
+      inr (inr (inr (inr (inr (inr (
+        sym is,
+        (
+          message,
+          pass.given,
+          record {
+            second = second;
+            same = λ steady. what_was_marked (reader.source.ahead reader.old) (reader.source.behind d.reader) (reader.source.ahead d2.reader) second
+                (pass.marked refl steady) at.bytes put.read.given;
+            changed = unlike;
+          },
+        ),
+      ))))))
+  why_uncopied true true is message second d pass same (inr (d2, (at, s2, o2), inr (d3, (put, s3), inr (d4, (equal, r4, s4, o4), inl ((fault, fails), r, s))))) =
+      out_fault (sym is) d4.out (ap out.sink.sink_faults o4 ∙ put.no_new_fault ∙ ap out.sink.sink_faults (o2 ∙ same)) (fault, fails.fault)
+  why_uncopied true true is message second d pass same (inr (d2, done2, inr (d3, done3, inr (d4, done4, inr (d5, done5, h))))) = absurd h
+  why_uncopied true false is message second d pass same (inl (((fails, front), unflushed), r, s)) = out_fault (sym is) d.out (ap out.sink.sink_faults same) fails
+  why_uncopied true false is message second d pass same (inr (d2, (((all, no_new_fault), unflushed), r2, s2), inl ((fault, fails), r, s))) =
+      out_fault (sym is) d2.out (no_new_fault ∙ ap out.sink.sink_faults same) (fault, fails.fault)
+  why_uncopied true false is message second d pass same (inr (d2, done2, inr (d3, done3, h))) = absurd h
+
+  why_after : (hashed : Bool) (message second : List ℕ) (d : Devices R W O)
+      → FirstPass (output && hashed) (record reader { new = d.reader }) message → (d.status ≡ status.old) → (d.out ≡ out.old)
+      → StagesEnd (record reader { old = d.reader }) (record status { old = d.status }) (record out { old = d.out })
+      (Judge accepts pk x legacy message ∷ (reporting quiet x ++ copying output hashed message second)) (Err e)
+      → Why
+  why_after hashed message second d pass s o (inl (inl memory, r, s2, o2)) = inl memory
+  why_after hashed message second d pass s o (inl (inr refuses, r, s2, o2)) = inr (inr (inr (inl (message, pass.given, refuses))))
+  why_after hashed message second d pass s o (inr (d2, (vouches, r2, s2, o2), h)) =
+      ⊎_elim (why_unsaid quiet refl d2 (s2 ∙ s))
+      (λ (d3, said, h3).
+      let (r3, o3) = said_only quiet d2 d3 said in
+      why_uncopied output hashed refl message second d3
+      (subst (λ r. FirstPass (output && hashed) (record reader { new = r }) message) (sym (r3 ∙ r2)) pass) (o3 ∙ o2 ∙ o) h3)
+      (stopped_in_either (record reader { old = d2.reader }) (record status { old = d2.status }) (record out { old = d2.out })
+      (reporting quiet x) (copying output hashed message second) e h)
+
+  both_wanted : (a b : Bool) → (a && b) ≡ true → a ≡ true
+  both_wanted true b h = refl
+  both_wanted false b h = absurd (true≢false (sym h))
+
+  pub why_it_fails : VerifyingFails accepts pk x (record { quiet = quiet; output = output; legacy = legacy }) reader status out e → Why
+  why_it_fails (message, second, h) =
+      ⊎_elim (why_unread (is_reread output x) message (both_wanted output (is_prehashed x.signature)))
+      (λ (d, read, h2).
+      let (pass, s, o) = first_pass (record reader { new = d.reader }) (record status { new = d.status }) (record out { new = d.out }) (is_reread output x) message read in
+      why_after (is_prehashed x.signature) message second d pass s o h2)
+      (stopped_in_either reader status out (reading (is_reread output x) message)
+      (Judge accepts pk x legacy message ∷ (reporting quiet x ++ copying output (is_prehashed x.signature) message second)) e h)

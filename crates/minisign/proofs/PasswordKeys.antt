@@ -6,12 +6,12 @@ use Rattle.std.specs.Prelude.{IsErrAnd, if◌then◌else◌, slice_index}
 use Rattle.minisign_base.specs.Fault.{Fault, Named}
 use Rattle.minisign_base.specs.declared.faults.NamedFault.TheVariants.{OutOfMemory}
 use Rattle.minisign.specs.Calls.{GivesKeyWith, GivesNoKeyWith}
-use Rattle.minisign.specs.Opening.{IsOpened, IsUnencryptedText, RefusesOpening, RefusesUnencrypted}
 use Rattle.minisign.specs.Records.{SecretKeyRecord}
 use Rattle.minisign.specs.Sealing.{no_kdf, scrypt_kdf, xored_key}
 use Rattle.minisign.specs.SecretKeyText.{SecretKeyText, secret_key_refusal}
 use Rattle.minisign.specs.Texts.{IsRefused}
 use Rattle.minisign.proofs.SecretKeyTexts.{one_key_text}
+use Rattle.minisign.specs.OpenedTexts.{IsOpened, IsUnencryptedText, RefusesOpening, RefusesUnencrypted}
 
 -- what holds of a fault holds of the answer that passes it up
 pub passed_on : {T E : Type 0} (r : Result T E) (e : E) (P : T → Type 0) (Q : E → Type 0) → IsErrAnd r (λ y. y ≡ e) → Q e → MatchResult r P Q

@@ -28,7 +28,7 @@ refused_at reads first e decided fails = record {
 }
 
 module _ {V : Type 0} (reads : List ℕ → V → Type 0) (first : List ℕ → Option Fault) (decided : (t : List ℕ) → IsDecided (reads t) (first t)) where
-  -- what comes beside want of memory is the first case that fails
+  -- what comes where memory did not run out is the first case that fails
   pub refused_for : (s t : List ℕ) (r : Result V Fault) → s ≡ t → IfErr r (λ e. (e ≡ Named OutOfMemory) ⊎ (first s ≡ Some e))
       → IfErr r (λ e. (e ≡ Named OutOfMemory) ⊎ IsRefused (reads t) (first t) e)
   refused_for s t (Ok w) same h = tt

@@ -3,23 +3,21 @@
 use Rattle.std.specs.Prelude.{◌≡◌, ℕ, ◌<◌, ◌≤◌, Bool, true, false, ◌⊎◌, if◌then◌else◌, bytes_eq, List, length, Option, None, Some, IfSome, MatchResult}
 use Rattle.std.specs.declared.result.Result.{Result}
 use Rattle.minisign_base.specs.Fault.{Fault, Named}
-use Rattle.minisign_hash.specs.Blake2b.{blake2b_digest}
 use Rattle.minisign_base.specs.declared.faults.NamedFault.TheVariants.{EncryptedKeyRefused, OutOfMemory, PasswordTooLong, ReadingFailed}
-use Rattle.minisign_base.specs.Passages.{IsFlushed, IsSteady, RandomPassage, RereaderPassage, SinkFails, SinkPassage, SourceFails, SourcePassage, Takes}
-use Rattle.minisign.specs.Records.{CommentsRecord, SecretKeyRecord, SignatureBoxRecord}
-use Rattle.minisign.specs.Acceptance.{Verifier}
-use Rattle.minisign.specs.Copying.{SecondPassFails}
+use Rattle.minisign_base.specs.DeviceCalls.{IsFlushed, IsSteady, RandomCall, RereaderCall, SinkCall, SinkFails, SourceCall, SourceFails, Takes, unused}
+use Rattle.minisign.specs.Records.{CommentsRecord, PublicKeyRecord, SecretKeyRecord, SignatureBoxRecord}
+use Rattle.minisign.specs.Acceptance.{Flags, Verifier}
 use Rattle.minisign.specs.Generation.{AllDrawn}
 use Rattle.minisign.specs.Headline.{TextsRefuse, TextsVouchFor}
-use Rattle.minisign.specs.Opening.{IsOpened, IsUnencryptedText}
-use Rattle.minisign.specs.Reading.{IsAhead, ReadingFails}
 use Rattle.minisign.specs.Sealing.{is_encrypted, no_kdf, opening_refusal, unencrypted_refusal}
 use Rattle.minisign.specs.SecretKeyText.{SecretKeyText, secret_key_refusal}
 use Rattle.minisign.specs.SignatureText.{SignatureText}
 use Rattle.minisign.specs.Signing.{DrawFails, KeyIsSealed, OpenedSigningFails}
 use Rattle.minisign.specs.TextFiles.{IsTextFileFault}
 use Rattle.minisign.specs.Texts.{IsRefused}
-use Rattle.minisign.specs.Verifying.{MarkFails, ReadsTwice, SecondPass}
+use Rattle.minisign.specs.Verifying.{ReadsTwice, VerifyingFails}
+use Rattle.minisign.specs.VerifyingTexts.{ReadTexts, TextsFail}
+use Rattle.minisign.specs.OpenedTexts.{IsOpened, IsUnencryptedText}
 
 -- the text reads as a box whose trusted comment this is
 pub record IsCommentOf (sig_text comment : List ℕ) : Type 0 where
@@ -43,54 +41,47 @@ IsCommentVerdict bytes accepts pk_text sig_text message legacy r =
     MatchResult r (λ t. TextsVouchWith accepts pk_text sig_text message legacy (bytes t))
     (λ e. (e ≡ Named OutOfMemory) ⊎ TextsRefuse accepts pk_text sig_text message legacy e)
 
--- the same of some signature text and some data, or a fault of reading files: std's files tell no bytes, so that
+-- the same of some signature text and some data, or a fault of reading files: no byte of std's files is known, so that
 -- these are those of the named files is not said
 abbrev pub IsFileVerdict : {T : Type 0} → (T → List ℕ) → Verifier → List ℕ → Result T Fault → Type 0
 IsFileVerdict bytes accepts pk_text r =
     MatchResult r (λ t. (sig_text : List ℕ) × (message : List ℕ) × TextsVouchWith accepts pk_text sig_text message false (bytes t))
     (λ e. IsTextFileFault e ⊎ ((sig_text : List ℕ) × (message : List ℕ) × TextsRefuse accepts pk_text sig_text message false e))
 
--- over data that is told, where the source does not fail: the answer is the verdict on the data
-abbrev pub ReadsExactly : {T R : Type 0} → (T → List ℕ) → Verifier → List ℕ → List ℕ → RereaderPassage R → Result T Fault → Type 0
+-- over data that is known, where the source does not fail: the answer is the verdict on the data
+abbrev pub ReadsExactly : {T R : Type 0} → (T → List ℕ) → Verifier → List ℕ → List ℕ → RereaderCall R → Result T Fault → Type 0
 ReadsExactly bytes accepts pk_text sig_text reader answer =
     (message : List ℕ) → reader.source.ahead reader.old ≡ Some message → ¬ (SourceFails reader)
     → IsCommentVerdict bytes accepts pk_text sig_text message false answer
 
--- over data that is told, where no device fails and the source is steady: the answer is the verdict on the data
-abbrev pub CopiesExactly : {T R O : Type 0} → (T → List ℕ) → Verifier → List ℕ → List ℕ → RereaderPassage R → SinkPassage O → Result T Fault → Type 0
+-- over data that is known, where no device fails and the source is steady: the answer is the verdict on the data
+abbrev pub CopiesExactly : {T R O : Type 0} → (T → List ℕ) → Verifier → List ℕ → List ℕ → RereaderCall R → SinkCall O → Result T Fault → Type 0
 CopiesExactly bytes accepts pk_text sig_text reader out answer =
     (message : List ℕ) → reader.source.ahead reader.old ≡ Some message → ¬ (SourceFails reader) → ¬ (SinkFails out) → IsSteady reader
     → IsCommentVerdict bytes accepts pk_text sig_text message false answer
 
 -- what the output took and flushed is vouched for, and this is the comment that was signed with it; a second reading
--- gave it, with the digest of the first; it is what was ahead, of a steady source that tells it
-pub record CopyIsVouchedWith {R O : Type 0} (accepts : Verifier) (pk_text sig_text : List ℕ) (reader : RereaderPassage R) (out : SinkPassage O) (comment : List ℕ) : Type 0 where
+-- gave it, with the digest of the first; it is what was ahead, of a steady source, where that is known
+pub record CopyIsVouchedWith {R O : Type 0} (accepts : Verifier) (pk_text sig_text : List ℕ) (reader : RereaderCall R) (out : SinkCall O) (comment : List ℕ) : Type 0 where
   pub copy : List ℕ
   pub taken : Takes out copy
   pub flushed : IsFlushed out
   pub vouched : TextsVouchWith accepts pk_text sig_text copy false comment
   pub message : List ℕ
-  pub read_twice : ReadsTwice reader message copy
+  pub read_twice : ReadsTwice reader out message copy
   pub same : IsSteady reader → IfSome (reader.source.ahead reader.old) (λ xs. copy ≡ xs)
 
--- nothing was copied: memory ran out, the source failed, or the texts do not vouch for what it gave
-pub record NothingIsCopied {R O : Type 0} (accepts : Verifier) (pk_text sig_text : List ℕ) (reader : RereaderPassage R) (out : SinkPassage O) (e : Fault) : Type 0 where
-  pub uncopied : out.new ≡ out.old
-  pub why : (e ≡ Named OutOfMemory) ⊎ MarkFails true reader e ⊎ ReadingFails reader.source reader.old reader.new e
-      ⊎ ((message : List ℕ) × IsAhead (reader.source.ahead reader.old) message × TextsRefuse accepts pk_text sig_text message false e)
+-- nothing is said, the data is copied, and legacy signatures are refused
+abbrev pub only_copies : Flags
+only_copies = record { quiet = true; output = true; legacy = false }
 
--- the texts vouch for what was read, and the copying failed: going back, memory, the second reading or the output
--- did, or the second reading gave other data
-pub record CopyingBreaksOff {R O : Type 0} (accepts : Verifier) (pk_text sig_text : List ℕ) (reader : RereaderPassage R) (out : SinkPassage O) (e : Fault) : Type 0 where
-  pub message : List ℕ
-  pub given : IsAhead (reader.source.ahead reader.old) message
-  pub vouched : TextsVouchFor accepts pk_text sig_text message false
-  pub again : SecondPassFails (SecondPass reader) reader out (blake2b_digest 64 message) e
-
--- why copying was refused: before anything was copied, or meanwhile
-abbrev pub CopyVerifiedFails : {R O : Type 0} → Verifier → List ℕ → List ℕ → RereaderPassage R → SinkPassage O → Fault → Type 0
+-- why copying was refused: a text was, with nothing read or copied; or it failed at one of the stages of verifying
+-- with the key and the box that the texts read as, of which none uses the status
+abbrev pub CopyVerifiedFails : {R O : Type 0} → Verifier → List ℕ → List ℕ → RereaderCall R → SinkCall O → Fault → Type 0
 CopyVerifiedFails accepts pk_text sig_text reader out e =
-    NothingIsCopied accepts pk_text sig_text reader out e ⊎ CopyingBreaksOff accepts pk_text sig_text reader out e
+    (TextsFail pk_text sig_text e × (reader.new ≡ reader.old) × (out.new ≡ out.old))
+    ⊎ ((key : PublicKeyRecord) × (box : SignatureBoxRecord) × ReadTexts pk_text sig_text key box
+    × VerifyingFails accepts key box only_copies reader unused out e)
 
 -- the text gives this key under the password: the key was never sealed and its checksum matches, whatever the
 -- password; or it is sealed, and this is the key opened
@@ -109,25 +100,25 @@ pub record GivesNoKeyWith (text password : List ℕ) (e : Fault) : Type 0 where
 
 -- signing bytes with a key fails: the key is sealed, with nothing drawn; or it is opened, and memory runs out or
 -- the random source fails
-abbrev pub BytesSigningFails : {Z : Type 0} → SecretKeyRecord → RandomPassage Z → Fault → Type 0
+abbrev pub BytesSigningFails : {Z : Type 0} → SecretKeyRecord → RandomCall Z → Fault → Type 0
 BytesSigningFails sk z e =
     ((e ≡ Named EncryptedKeyRefused) × (is_encrypted sk ≡ true) × (z.new ≡ z.old))
     ⊎ ((is_encrypted sk ≡ false) × ((e ≡ Named OutOfMemory) ⊎ DrawFails z e))
 
 -- signing what a reader has ahead fails: the key is sealed, with nothing read or drawn; or it is opened, and memory
 -- runs out, the reader fails, or all was read and the random source fails
-abbrev pub ReaderSigningFails : {R Z : Type 0} → SecretKeyRecord → SourcePassage R → RandomPassage Z → Fault → Type 0
+abbrev pub ReaderSigningFails : {R Z : Type 0} → SecretKeyRecord → SourceCall R → RandomCall Z → Fault → Type 0
 ReaderSigningFails sk r z e = KeyIsSealed sk r z e ⊎ ((is_encrypted sk ≡ false) × OpenedSigningFails r z e)
 
 -- signing the data of a file fails: as signing bytes does; or the key is opened, and the file could not be opened
 -- or read, with nothing drawn
-abbrev pub PathSigningFails : {Z : Type 0} → SecretKeyRecord → RandomPassage Z → Fault → Type 0
+abbrev pub PathSigningFails : {Z : Type 0} → SecretKeyRecord → RandomCall Z → Fault → Type 0
 PathSigningFails sk z e =
     BytesSigningFails sk z e ⊎ ((is_encrypted sk ≡ false) × (e ≡ Named ReadingFailed) × (z.new ≡ z.old))
 
 -- no pair is made under the password: it has more than 1024 bytes, with nothing drawn; or it does not, and the
 -- random source failed, or all was drawn and memory ran out
-abbrev pub PasswordPairFails : {Z : Type 0} → List ℕ → RandomPassage Z → Fault → Type 0
+abbrev pub PasswordPairFails : {Z : Type 0} → List ℕ → RandomCall Z → Fault → Type 0
 PasswordPairFails password z e =
     ((e ≡ Named PasswordTooLong) × (1024 < length password) × (z.new ≡ z.old))
     ⊎ ((length password ≤ 1024) × (DrawFails z e ⊎ (AllDrawn z × (e ≡ Named OutOfMemory))))

@@ -1,19 +1,17 @@
 -- The pairs of keys that generation makes, from which random bytes, and what the sinks of a pair take.
-use Rattle.std.specs.Prelude.{◌≡◌, ℕ, ◌⊎◌, List, [], ◌++◌, length, replicate, Option, None, codes}
+use Rattle.std.specs.Prelude.{◌≡◌, ℕ, ◌⊎◌, List, [], ◌++◌, length, replicate, Option, None, Ok, Err, codes}
 use Rattle.std.specs.Int.{w64, to_le_bytes}
-use Rattle.std.specs.Io.KnownBytes.{Appends}
-use Rattle.minisign_base.specs.Devices.{AppendsFront, Rose}
-use Rattle.minisign_base.specs.Passages.{IsFlushed, PromptPassage, RandomPassage, SinkPassage}
+use Rattle.minisign_base.specs.DeviceCalls.{FailsAtPart, PromptCall, RandomCall, SinkCall, TakesPart}
 use Rattle.minisign_base.specs.Fault.{Fault, Named}
 use Rattle.minisign_base.specs.declared.faults.NamedFault.TheVariants.{OutOfMemory, WritingFailed}
 use Rattle.minisign_base.specs.Scheme.{IsBytes}
-use Rattle.minisign.specs.NewPassword.{IsPassword, IsSealingFault}
+use Rattle.minisign.specs.NewPassword.{IsSealing}
 use Rattle.minisign.specs.PublicKeyText.{public_key_text}
 use Rattle.minisign.specs.Records.{PublicKeyRecord, SecretKeyRecord, legacy_algorithm, public_key_bytes, secret_key_bytes}
 use Rattle.minisign.specs.Sealing.{IsWithin, Opens, checksum_of, no_kdf, scrypt_kdf, xored_key}
-use Rattle.minisign.specs.Opening.{IsOpened}
 use Rattle.minisign.specs.SecretKeyText.{SecretKeyText, secret_key_text}
 use Rattle.minisign.specs.Signing.{DrawFails, HasDrawn, IsGenuine}
+use Rattle.minisign.specs.OpenedTexts.{IsOpened}
 
 -- the checksum's algorithm: Blake2b
 abbrev pub blake2b_algorithm : List ℕ
@@ -90,7 +88,7 @@ pub record AreSeedAndKeynum (seed keynum : List ℕ) : Type 0 where
   pub keynum_bytes : IsBytes keynum
 
 -- the pair that is not sealed, of random bytes that were drawn
-pub record IsUnsealedPair {Z : Type 0} (public_of : List ℕ → List ℕ) (z : RandomPassage Z) (pk : PublicKeyRecord) (sk : SecretKeyRecord) : Type 0 where
+pub record IsUnsealedPair {Z : Type 0} (public_of : List ℕ → List ℕ) (z : RandomCall Z) (pk : PublicKeyRecord) (sk : SecretKeyRecord) : Type 0 where
   pub seed : List ℕ
   pub keynum : List ℕ
   pub lengths : AreSeedAndKeynum seed keynum
@@ -106,7 +104,7 @@ pub record IsSealedOf (public_of : List ℕ → List ℕ) (seed keynum salt pass
   pub opened : xored_key sk password ≡ opened_key keynum (secret_of public_of seed) salt
 
 -- the sealed pair of random bytes that were drawn: those of the other pair, and then 32 of a salt
-pub record IsSealedPair {Z : Type 0} (public_of : List ℕ → List ℕ) (password : List ℕ) (z : RandomPassage Z) (pk : PublicKeyRecord) (sk : SecretKeyRecord) : Type 0 where
+pub record IsSealedPair {Z : Type 0} (public_of : List ℕ → List ℕ) (password : List ℕ) (z : RandomCall Z) (pk : PublicKeyRecord) (sk : SecretKeyRecord) : Type 0 where
   pub seed : List ℕ
   pub keynum : List ℕ
   pub salt : List ℕ
@@ -127,65 +125,54 @@ pub record OpensToPair (public_of : List ℕ → List ℕ) (password : List ℕ)
   pub pair : IsGenuinePair public_of pk (xored_key sk password)
   pub texts : (text : List ℕ) → SecretKeyText text sk → OpensOnlyTo text password (xored_key sk password)
 
--- a sink took all of a part, and flushed it
-pub record TakesPart {W : Type 0} (w : SinkPassage W) (part : List ℕ) : Type 0 where
-  pub bytes : Appends (w.sink.taken w.old) (w.sink.taken w.new) part
-  pub flushed : IsFlushed w
-  pub calm : w.sink.sink_faults w.new ≡ w.sink.sink_faults w.old
-
--- a sink took a beginning of a part, and failed there or at its flush
-pub record FailsAtPart {W : Type 0} (w : SinkPassage W) (part : List ℕ) : Type 0 where
-  pub front : AppendsFront (w.sink.taken w.old) (w.sink.taken w.new) part
-  pub rose : Rose (w.sink.sink_faults w.old) (w.sink.sink_faults w.new)
-
 -- the two parts could not be written: the public sink failed at the public part, with the secret sink as it
 -- was, or took and flushed it, and the secret sink failed at the secret part
-pub record WritingFails {P K : Type 0} (pk_sink : SinkPassage P) (sk_sink : SinkPassage K) (public secret : List ℕ) (e : Fault) : Type 0 where
+pub record WritingFails {P K : Type 0} (pk_sink : SinkCall P) (sk_sink : SinkCall K) (public secret : List ℕ) (e : Fault) : Type 0 where
   pub fault : e ≡ Named WritingFailed
   pub part : (FailsAtPart pk_sink public × (sk_sink.new ≡ sk_sink.old)) ⊎ (TakesPart pk_sink public × FailsAtPart sk_sink secret)
 
 -- both sinks are as they were
-abbrev pub AreUnwritten : {P K : Type 0} → SinkPassage P → SinkPassage K → Type 0
+abbrev pub AreUnwritten : {P K : Type 0} → SinkCall P → SinkCall K → Type 0
 AreUnwritten pk_sink sk_sink = (pk_sink.new ≡ pk_sink.old) × (sk_sink.new ≡ sk_sink.old)
 
 -- a pair's parts are not written: memory ran out for them, and both sinks are as they were, or a sink
 -- failed
-abbrev pub PartsFail : {P K : Type 0} → SinkPassage P → SinkPassage K → List ℕ → List ℕ → Fault → Type 0
+abbrev pub PartsFail : {P K : Type 0} → SinkCall P → SinkCall K → List ℕ → List ℕ → Fault → Type 0
 PartsFail pk_sink sk_sink public secret e =
     ((e ≡ Named OutOfMemory) × AreUnwritten pk_sink sk_sink) ⊎ WritingFails pk_sink sk_sink public secret e
 
 -- a pair that is not sealed is not written as raw bytes: the random source failed, and both sinks are as they
 -- were, or a pair was made whose parts were not written
-abbrev pub RawPairFails : {Z P K : Type 0} → (List ℕ → List ℕ) → RandomPassage Z → SinkPassage P → SinkPassage K → Fault → Type 0
+abbrev pub RawPairFails : {Z P K : Type 0} → (List ℕ → List ℕ) → RandomCall Z → SinkCall P → SinkCall K → Fault → Type 0
 RawPairFails public_of z pk_sink sk_sink e =
     (DrawFails z e × AreUnwritten pk_sink sk_sink)
     ⊎ ((pk : PublicKeyRecord) × (sk : SecretKeyRecord) × IsUnsealedPair public_of z pk sk
     × PartsFail pk_sink sk_sink (public_key_bytes pk) (secret_key_bytes sk) e)
 
 -- the 72 random bytes of a sealed pair were drawn
-pub record AllDrawn {Z : Type 0} (z : RandomPassage Z) : Type 0 where
+pub record AllDrawn {Z : Type 0} (z : RandomCall Z) : Type 0 where
   pub bytes : List ℕ
   pub count : length bytes ≡ 72
   pub drawn : HasDrawn z bytes
-  pub calm : z.random.random_faults z.new ≡ z.random.random_faults z.old
+  pub no_new_fault : z.random.random_faults z.new ≡ z.random.random_faults z.old
 
 -- a sealed pair is not made: the random source failed, before anything was asked, or else no key was sealed
-abbrev pub SealedPairFails : {Z R W : Type 0} → RandomPassage Z → PromptPassage R W → Option (List ℕ) → Fault → Type 0
+abbrev pub SealedPairFails : {Z R W : Type 0} → RandomCall Z → PromptCall R W → Option (List ℕ) → Fault → Type 0
 SealedPairFails z p password e =
-    (DrawFails z e × (p.new ≡ p.old)) ⊎ (AllDrawn z × IsSealingFault p password e)
+    (DrawFails z e × (p.new ≡ p.old)) ⊎ (AllDrawn z × IsSealing p password (Err e))
 
 -- a sealed pair was made, under the password that was passed in or typed
-pub record HasSealed {Z R W : Type 0} (public_of : List ℕ → List ℕ) (z : RandomPassage Z) (p : PromptPassage R W)
+pub record HasSealed {Z R W : Type 0} (public_of : List ℕ → List ℕ) (z : RandomCall Z) (p : PromptCall R W)
     (given : Option (List ℕ)) (pk : PublicKeyRecord) (sk : SecretKeyRecord) : Type 0 where
   pub password : List ℕ
-  pub prompted : IsPassword p given password
+  pub prompted : IsSealing p given (Ok password)
   pub pair : IsSealedPair public_of password z pk sk
   pub opens : OpensToPair public_of password pk sk
 
 -- a sealed pair is not written as texts: it was not made, and both sinks are as they were, or its parts were
 -- not written
-abbrev pub SealedTextsFail : {Z R W P K : Type 0} → (List ℕ → List ℕ) → RandomPassage Z → PromptPassage R W → Option (List ℕ)
-    → SinkPassage P → SinkPassage K → Option (List ℕ) → Fault → Type 0
+abbrev pub SealedTextsFail : {Z R W P K : Type 0} → (List ℕ → List ℕ) → RandomCall Z → PromptCall R W → Option (List ℕ)
+    → SinkCall P → SinkCall K → Option (List ℕ) → Fault → Type 0
 SealedTextsFail public_of z p password pk_sink sk_sink comment e =
     (SealedPairFails z p password e × AreUnwritten pk_sink sk_sink)
     ⊎ ((pk : PublicKeyRecord) × (sk : SecretKeyRecord) × HasSealed public_of z p password pk sk

@@ -6,7 +6,7 @@ use Rattle.std.specs.Prelude.{◌≡◌, ◌≢◌, ℕ, Bool, true, ◌⊎◌, 
 use Rattle.std.specs.declared.result.Result.{Result}
 use Rattle.minisign_base.specs.Fault.{Fault, Named}
 use Rattle.minisign_base.specs.declared.faults.NamedFault.TheVariants.{OutOfMemory}
-use Rattle.minisign_base.specs.Passages.{IsFlushed, IsSteady, RereaderPassage, SinkFails, SinkPassage, SourceFails, Takes}
+use Rattle.minisign_base.specs.DeviceCalls.{IsFlushed, IsSteady, RereaderCall, SinkFails, SinkCall, SourceFails, Takes}
 use Rattle.minisign.specs.Records.{PublicKeyRecord, SecretKeyRecord, SignatureBoxRecord}
 use Rattle.minisign.specs.Acceptance.{Flags, Verifier, Vouches, VouchesUnderEachKey, first_refusal}
 use Rattle.minisign.specs.Sealing.{Opens, password_refusal, scrypt_kdf, xored_key}
@@ -45,17 +45,17 @@ abbrev pub IsVerdict : {T : Type 0} → Verifier → List ℕ → List ℕ → L
 IsVerdict accepts pk_text sig_text message legacy r =
     MatchResult r (λ _. TextsVouchFor accepts pk_text sig_text message legacy) (TextsRefuse accepts pk_text sig_text message legacy)
 
--- over data that is told, where memory is found and no device fails, and over a steady source where the data is
+-- over data that is known, where memory is found and no device fails, and over a steady source where the data is
 -- copied: the answer is the verdict on the data
 abbrev pub VerifiesExactly : {R W O T : Type 0} → Verifier → List ℕ → List ℕ → Flags
-    → RereaderPassage R → SinkPassage W → SinkPassage O → Result T Fault → Type 0
+    → RereaderCall R → SinkCall W → SinkCall O → Result T Fault → Type 0
 VerifiesExactly accepts pk_text sig_text flags reader status out answer =
     (message : List ℕ) → reader.source.ahead reader.old ≡ Some message → IfErr answer (λ e. e ≢ Named OutOfMemory)
     → ¬ (SourceFails reader) → ¬ (SinkFails status) → ¬ (SinkFails out) → (flags.output ≡ true → IsSteady reader)
     → IsVerdict accepts pk_text sig_text message flags.legacy answer
 
--- what the output took, where it tells this, is itself vouched for by the texts, and was flushed
-pub record CopyIsVouchedFor {O : Type 0} (accepts : Verifier) (pk_text sig_text : List ℕ) (legacy : Bool) (out : SinkPassage O) : Type 0 where
+-- what the output took, where this is known, is itself vouched for by the texts, and was flushed
+pub record CopyIsVouchedFor {O : Type 0} (accepts : Verifier) (pk_text sig_text : List ℕ) (legacy : Bool) (out : SinkCall O) : Type 0 where
   pub copy : List ℕ
   pub taken : Takes out copy
   pub flushed : IsFlushed out

@@ -1,4 +1,4 @@
--- What is told of a signature text that is read where it lies, without memory.
+-- What is known of a signature text that is read where it lies, without memory.
 use Rattle.std.specs.Prelude.{◌≡◌, ℕ, List, if◌then◌else◌, length, take, nat_le, Option, None, Some}
 use Rattle.minisign.specs.Records.{SignatureRecord, SignatureBoxRecord, CommentsRecord}
 

@@ -10,13 +10,16 @@ pub mod InPlace
 pub mod Sealing
 pub mod Signing
 pub mod SignedData
-pub mod Copying
+pub mod Stages
 pub mod Verifying
+pub mod VerifyingLaws
 pub mod Headline
 pub mod VerifyingTexts
 pub mod SecretKeyText
+pub mod PromptTexts
 pub mod Generation
 pub mod NewPassword
+pub mod OpenedTexts
 pub mod Opening
 pub mod SigningTexts
 pub mod Making

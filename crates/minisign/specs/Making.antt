@@ -6,12 +6,12 @@ use Rattle.minisign_base.specs.Fault.{Fault, Named}
 use Rattle.minisign_base.specs.declared.faults.NamedFault.TheVariants.{OutOfMemory}
 use Rattle.minisign_base.specs.Limits.{numbers, sealing_limits}
 use Rattle.minisign.specs.Generation.{key_to_seal, unsealed_key}
-use Rattle.minisign.specs.Opening.{IsOpened, IsUnencryptedText}
 use Rattle.minisign.specs.PublicKeyText.{PublicKeyText, commented_public_key_text}
 use Rattle.minisign.specs.Records.{SecretKeyRecord, legacy_algorithm, own_public_key}
 use Rattle.minisign.specs.Sealing.{IsWithin, is_encrypted, xored_key}
 use Rattle.minisign.specs.SecretKeyText.{SecretKeyText, secret_key_text}
 use Rattle.minisign.specs.declared.making.Sealing.{Sealing}
+use Rattle.minisign.specs.OpenedTexts.{IsOpened, IsUnencryptedText}
 
 -- the secret key of these parts, open
 pub record IsOfParts (keynum secret : List ℕ) (key : SecretKeyRecord) : Type 0 where

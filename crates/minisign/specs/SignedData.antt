@@ -1,10 +1,11 @@
--- What is held of data that was read, for its signature to be judged.
-use Rattle.std.specs.Prelude.{◌≡◌, ℕ, Bool, true, false, ◌||◌, List, []}
+-- What is held of data that was read, for its signature to be judged, and what is copied of it.
+use Rattle.std.specs.Prelude.{◌≡◌, ℕ, Bool, true, false, ◌||◌, List, [], ◌∷◌}
 use Rattle.minisign_hash.specs.Blake2b.{blake2b_digest}
 use Rattle.minisign.specs.declared.signed_data.SignedData.{SignedData}
 use Rattle.minisign.specs.declared.signed_data.SignedData.TheVariants.{Digest, Kept, Unkept}
 use Rattle.minisign.specs.Acceptance.{signed_bytes}
 use Rattle.minisign.specs.Records.{SignatureBoxRecord, is_prehashed}
+use Rattle.minisign.specs.Stages.{Flush, Put, Stage, copying_again}
 
 -- the bytes that are held
 abbrev pub held_bytes : SignedData → List ℕ
@@ -22,3 +23,10 @@ HoldsSigned Unkept x legacy message = (is_prehashed x.signature ≡ false) × (l
 -- these bytes are those that the signature is over, where such a signature is allowed
 abbrev pub AreSigned : List ℕ → SignatureBoxRecord → Bool → List ℕ → Type 0
 AreSigned bytes x legacy message = (is_prehashed x.signature || legacy) ≡ true → bytes ≡ signed_bytes x message
+
+-- what is copied of data that was read
+abbrev pub copying_held : Bool → SignedData → List ℕ → List Stage
+copying_held false signed second = []
+copying_held true (Digest digest) second = copying_again digest second
+copying_held true (Kept bytes) second = Put bytes.items ∷ Flush ∷ []
+copying_held true Unkept second = []

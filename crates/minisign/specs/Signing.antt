@@ -6,7 +6,7 @@ use Rattle.std.specs.Fmt.{decimal}
 use Rattle.std.specs.Io.KnownBytes.{Consumes}
 use Rattle.minisign_hash.specs.Blake2b.{blake2b_digest}
 use Rattle.minisign_base.specs.Devices.{Rose}
-use Rattle.minisign_base.specs.Passages.{RandomPassage, SourcePassage}
+use Rattle.minisign_base.specs.DeviceCalls.{RandomCall, SourceCall}
 use Rattle.minisign_base.specs.Fault.{Fault, Named}
 use Rattle.minisign_base.specs.declared.faults.NamedFault.TheVariants.{OutOfMemory, RandomSourceFailed, EncryptedKeyRefused, RefusedByGivenKey}
 use Rattle.minisign_base.specs.Scheme.{IsBytes, AreRandomBytes}
@@ -15,6 +15,7 @@ use Rattle.minisign.specs.Acceptance.{Verifier, VouchesUnderEachKey, accepts_com
 use Rattle.minisign.specs.Reading.{ReadsWhole, ReadingFails}
 use Rattle.minisign.specs.Sealing.{is_encrypted}
 use Rattle.minisign.specs.SignatureText.{AreReadBack}
+use Rattle.minisign.specs.declared.signing.GivenComments.{GivenComments}
 
 -- what a scheme signs: a message, with a secret key of 64 bytes and 64 random bytes or none
 abbrev pub Signer : Type 0
@@ -41,6 +42,10 @@ comments_or_defaults trusted untrusted moment =
 abbrev pub given_comments : Option (Bor (List ℕ)) → Option (Bor (List ℕ)) → ℕ → ChosenComments
 given_comments trusted untrusted moment = comments_or_defaults (option_copied trusted) (option_copied untrusted) moment
 
+-- the same, of comments that are handed on together
+abbrev pub chosen_of : GivenComments → ChosenComments
+chosen_of comments = given_comments comments.trusted comments.untrusted comments.moment
+
 -- the box that signing makes of the message: a signature of its digest, which has 64 bytes, with the first random
 -- bytes, and a signature of that signature and the trusted comment with the second
 abbrev pub signed_box : Signer → SecretKeyRecord → List ℕ → ChosenComments → List ℕ → List ℕ → SignatureBoxRecord
@@ -51,13 +56,13 @@ signed_box sign sk message chosen z1 z2 =
       comments = Some (record { untrusted = chosen.untrusted; trusted = chosen.trusted; signature = sign (signature ++ chosen.trusted) sk.secret (Some z2) });
     }
 
--- these bytes were drawn, where the random source tells its bytes
-abbrev pub HasDrawn : {Z : Type 0} → RandomPassage Z → List ℕ → Type 0
+-- these bytes were drawn, where they are known
+abbrev pub HasDrawn : {Z : Type 0} → RandomCall Z → List ℕ → Type 0
 HasDrawn z bytes = Consumes (z.random.random_ahead z.old) (z.random.random_ahead z.new) bytes
 
 -- the box is the one that signing makes of the message with random bytes that were drawn: 64 for the
 -- signature and then 64 for the comment signature
-pub record IsSigned {Z : Type 0} (sign : Signer) (sk : SecretKeyRecord) (message : List ℕ) (chosen : ChosenComments) (z : RandomPassage Z) (x : SignatureBoxRecord) : Type 0 where
+pub record IsSigned {Z : Type 0} (sign : Signer) (sk : SecretKeyRecord) (message : List ℕ) (chosen : ChosenComments) (z : RandomCall Z) (x : SignatureBoxRecord) : Type 0 where
   pub first : List ℕ
   pub second : List ℕ
   pub first_random : AreRandomBytes (Some first)
@@ -86,24 +91,24 @@ abbrev pub AreChosenReadBack : ChosenComments → Type 0
 AreChosenReadBack chosen = AreReadBack chosen.untrusted chosen.trusted
 
 -- the key is sealed; nothing was read or drawn
-pub record KeyIsSealed {R Z : Type 0} (sk : SecretKeyRecord) (r : SourcePassage R) (z : RandomPassage Z) (e : Fault) : Type 0 where
+pub record KeyIsSealed {R Z : Type 0} (sk : SecretKeyRecord) (r : SourceCall R) (z : RandomCall Z) (e : Fault) : Type 0 where
   pub fault : e ≡ Named EncryptedKeyRefused
   pub sealed : is_encrypted sk ≡ true
   pub unread : r.new ≡ r.old
   pub undrawn : z.new ≡ z.old
 
 -- the data could not be read; nothing was drawn
-pub record DataFails {R Z : Type 0} (r : SourcePassage R) (z : RandomPassage Z) (e : Fault) : Type 0 where
+pub record DataFails {R Z : Type 0} (r : SourceCall R) (z : RandomCall Z) (e : Fault) : Type 0 where
   pub failed : ReadingFails r.source r.old r.new e
   pub undrawn : z.new ≡ z.old
 
 -- the random source failed
-pub record DrawFails {Z : Type 0} (z : RandomPassage Z) (e : Fault) : Type 0 where
+pub record DrawFails {Z : Type 0} (z : RandomCall Z) (e : Fault) : Type 0 where
   pub fault : e ≡ Named RandomSourceFailed
   pub rose : Rose (z.random.random_faults z.old) (z.random.random_faults z.new)
 
 -- the public key that was given does not accept the comment signature of the box that was made
-pub record GivenKeyRefuses {Z : Type 0} (accepts : Verifier) (sign : Signer) (pk : PublicKeyRecord) (sk : SecretKeyRecord) (message : List ℕ) (chosen : ChosenComments) (z : RandomPassage Z) (e : Fault) : Type 0 where
+pub record GivenKeyRefuses {Z : Type 0} (accepts : Verifier) (sign : Signer) (pk : PublicKeyRecord) (sk : SecretKeyRecord) (message : List ℕ) (chosen : ChosenComments) (z : RandomCall Z) (e : Fault) : Type 0 where
   pub fault : e ≡ Named (RefusedByGivenKey pk.keynum)
   pub made : SignatureBoxRecord
   pub signed : IsSigned sign sk message chosen z made
@@ -111,7 +116,7 @@ pub record GivenKeyRefuses {Z : Type 0} (accepts : Verifier) (sign : Signer) (pk
 
 -- signing with an opened key fails: memory runs out, the data fails, or all of it was read and the random
 -- source fails
-abbrev pub OpenedSigningFails : {R Z : Type 0} → SourcePassage R → RandomPassage Z → Fault → Type 0
+abbrev pub OpenedSigningFails : {R Z : Type 0} → SourceCall R → RandomCall Z → Fault → Type 0
 OpenedSigningFails r z e =
     (e ≡ Named OutOfMemory)
     ⊎ DataFails r z e
@@ -120,7 +125,7 @@ OpenedSigningFails r z e =
 -- signing fails: the key is sealed; or it is opened, and memory runs out, the data fails, or all of it was
 -- read and the random source fails or the given public key refuses
 abbrev pub SigningFails : {R Z : Type 0} → Verifier → Signer → Option PublicKeyRecord → SecretKeyRecord → ChosenComments
-    → SourcePassage R → RandomPassage Z → Fault → Type 0
+    → SourceCall R → RandomCall Z → Fault → Type 0
 SigningFails accepts sign pk sk chosen r z e =
     KeyIsSealed sk r z e
     ⊎ ((is_encrypted sk ≡ false)

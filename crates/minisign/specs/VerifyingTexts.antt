@@ -2,7 +2,7 @@
 use Rattle.std.specs.Prelude.{◌≡◌, ℕ, ◌⊎◌, List}
 use Rattle.minisign_base.specs.Fault.{Fault, Named}
 use Rattle.minisign_base.specs.declared.faults.NamedFault.TheVariants.{OutOfMemory}
-use Rattle.minisign_base.specs.Passages.{RereaderPassage, SinkPassage}
+use Rattle.minisign_base.specs.DeviceCalls.{RereaderCall, SinkCall}
 use Rattle.minisign.specs.Records.{PublicKeyRecord, SignatureBoxRecord}
 use Rattle.minisign.specs.Acceptance.{Flags, Verifier}
 use Rattle.minisign.specs.PublicKeyText.{PublicKeyText, public_key_refusal}
@@ -23,7 +23,7 @@ TextsFail pk_text sig_text e =
     ⊎ (((key : PublicKeyRecord) × PublicKeyText pk_text key) × IsRefused (SignatureText sig_text) (signature_refusal sig_text) e)
 
 -- a text is refused before anything is read, said or copied
-pub record StopsAtTexts {R W O : Type 0} (pk_text sig_text : List ℕ) (reader : RereaderPassage R) (status : SinkPassage W) (out : SinkPassage O) (e : Fault) : Type 0 where
+pub record StopsAtTexts {R W O : Type 0} (pk_text sig_text : List ℕ) (reader : RereaderCall R) (status : SinkCall W) (out : SinkCall O) (e : Fault) : Type 0 where
   pub why : TextsFail pk_text sig_text e
   pub unread : reader.new ≡ reader.old
   pub unsaid : status.new ≡ status.old
@@ -31,7 +31,7 @@ pub record StopsAtTexts {R W O : Type 0} (pk_text sig_text : List ℕ) (reader :
 
 -- the texts read as a key and a box, and verifying succeeds with these
 pub record VerifyingTextsSucceeds {R W O : Type 0} (accepts : Verifier) (pk_text sig_text : List ℕ) (flags : Flags)
-    (reader : RereaderPassage R) (status : SinkPassage W) (out : SinkPassage O) : Type 0 where
+    (reader : RereaderCall R) (status : SinkCall W) (out : SinkCall O) : Type 0 where
   pub key : PublicKeyRecord
   pub box : SignatureBoxRecord
   pub read : ReadTexts pk_text sig_text key box
@@ -39,7 +39,7 @@ pub record VerifyingTextsSucceeds {R W O : Type 0} (accepts : Verifier) (pk_text
 
 -- a text is refused, or verifying fails with the key and the box that the texts read as
 abbrev pub VerifyingTextsFails : {R W O : Type 0} → Verifier → List ℕ → List ℕ → Flags
-    → RereaderPassage R → SinkPassage W → SinkPassage O → Fault → Type 0
+    → RereaderCall R → SinkCall W → SinkCall O → Fault → Type 0
 VerifyingTextsFails accepts pk_text sig_text flags reader status out e =
     StopsAtTexts pk_text sig_text reader status out e
     ⊎ ((key : PublicKeyRecord) × (box : SignatureBoxRecord) × ReadTexts pk_text sig_text key box

@@ -3,7 +3,7 @@
 ghost use Rattle.std.specs.Prelude.{◌≡◌, ◌⊎◌, ℕ, List, true, false, string_bytes, IfOk, IfErr, OnOk};
 ghost use Rattle.minisign_base.specs.Fault.{Named};
 ghost use Rattle.minisign_base.specs.declared.faults.NamedFault.TheVariants.{OutOfMemory};
-ghost use Rattle.minisign_base.specs.Passages.{rereader_passage, sink_passage};
+ghost use Rattle.minisign_base.specs.DeviceCalls.{rereader_call, sink_call};
 ghost use Rattle.minisign.specs.Calls.{CopiesExactly, CopyIsVouchedWith, CopyVerifiedFails, IsCommentOf, IsCommentVerdict, IsFileVerdict, ReadsExactly, TextsVouchWith};
 ghost use Rattle.minisign.specs.Headline.{TextsRefuse, VerifiesExactly};
 ghost use Rattle.minisign.specs.Reading.{IsAhead, ReadingFails};
@@ -43,8 +43,8 @@ pub fn verify_with<S: Scheme, R: Rereader, W: Sink, O: Sink>(
     // Over any devices, by its options: the verdict of `verify_texts`, under the same premises.
     ensures headline { VerifiesExactly (S.accepts scheme.now) pk_text.now sig_text.now
         (record { quiet = options.quiet; output = options.output; legacy = options.allow_legacy })
-        (rereader_passage R.Source R.steady data_reader.old data_reader.new)
-        (sink_passage W.Sink status.old status.new) (sink_passage O.Sink out.old out.new) result }
+        (rereader_call R.Source R.steady data_reader.old data_reader.new)
+        (sink_call W.Sink status.old status.new) (sink_call O.Sink out.old out.new) result }
 
     // What is returned is the comment that the signature text holds.
     ensures comment { IfOk result (λ t. IsCommentOf sig_text.now (string_bytes t)) }
@@ -53,12 +53,12 @@ pub fn verify_with<S: Scheme, R: Rereader, W: Sink, O: Sink>(
     // `verify_texts` say.
     ensures accepted { OnOk result (VerifyingTextsSucceeds (S.accepts scheme.now) pk_text.now sig_text.now
         (record { quiet = options.quiet; output = options.output; legacy = options.allow_legacy })
-        (rereader_passage R.Source R.steady data_reader.old data_reader.new)
-        (sink_passage W.Sink status.old status.new) (sink_passage O.Sink out.old out.new)) }
+        (rereader_call R.Source R.steady data_reader.old data_reader.new)
+        (sink_call W.Sink status.old status.new) (sink_call O.Sink out.old out.new)) }
     ensures refused { IfErr result (VerifyingTextsFails (S.accepts scheme.now) pk_text.now sig_text.now
         (record { quiet = options.quiet; output = options.output; legacy = options.allow_legacy })
-        (rereader_passage R.Source R.steady data_reader.old data_reader.new)
-        (sink_passage W.Sink status.old status.new) (sink_passage O.Sink out.old out.new)) }
+        (rereader_call R.Source R.steady data_reader.old data_reader.new)
+        (sink_call W.Sink status.old status.new) (sink_call O.Sink out.old out.new)) }
 
     // With quiet the status is untouched, and without `output` the output.
     ensures quiet { options.quiet ≡ true → status.new ≡ status.old }
@@ -160,7 +160,7 @@ pub fn verify_file<F: Files, S: Scheme>(
 {
     let sig_text = read_text_file(files, alloc, sig_path)?;
     match fs::open(files, data_path) {
-        Ok(file) => verify_untold(
+        Ok(file) => verify_opened_file(
             alloc,
             scheme,
             pk_text,
@@ -189,12 +189,12 @@ pub fn verify_reader<S: Scheme, R: Rereader>(
     sig_text: &str,
     data_reader: &mut R,
 ) -> Result<String>
-    // Over a source that tells its bytes, if it does not fail: the comment is returned exactly when
+    // Over a source whose bytes are known, if it does not fail: the comment is returned exactly when
     // the texts vouch for the data, and otherwise the first reason, or memory ran out.
     ensures headline { ReadsExactly string_bytes (S.accepts scheme.now) pk_text.now sig_text.now
-        (rereader_passage R.Source R.steady data_reader.old data_reader.new) result }
+        (rereader_call R.Source R.steady data_reader.old data_reader.new) result }
 
-    // Whether the source tells its bytes or not: on success the texts vouch for what was ahead,
+    // Whether its bytes are known or not: on success the texts vouch for what was ahead,
     // with the comment that is returned.
     ensures vouched { IfOk result (λ t. (message : List ℕ) × IsAhead (R.ahead data_reader.old) message
         × TextsVouchWith (S.accepts scheme.now) pk_text.now sig_text.now message false (string_bytes t)) }
@@ -218,8 +218,8 @@ pub fn verify_reader<S: Scheme, R: Rereader>(
     )
 }
 
-// Verifies what a file gives, which tells no bytes.
-fn verify_untold<S: Scheme, R: Rereader>(
+// Verifies what a file gives, of which no byte is known.
+fn verify_opened_file<S: Scheme, R: Rereader>(
     alloc: Global,
     scheme: &S,
     pk_text: &str,
@@ -254,22 +254,23 @@ pub fn copy_verified<S: Scheme, R: Rereader, O: Sink>(
     data_reader: &mut R,
     out: &mut O,
 ) -> Result<String>
-    // Over a steady source that tells its bytes, if no device fails: the comment is returned
+    // Over a steady source whose bytes are known, if no device fails: the comment is returned
     // exactly when the texts vouch for the data, and otherwise the first reason, or memory ran out.
     ensures headline { CopiesExactly string_bytes (S.accepts scheme.now) pk_text.now sig_text.now
-        (rereader_passage R.Source R.steady data_reader.old data_reader.new) (sink_passage O.Sink out.old out.new) result }
+        (rereader_call R.Source R.steady data_reader.old data_reader.new) (sink_call O.Sink out.old out.new) result }
 
     // What the output took and flushed is itself vouched for, with the comment that is returned; a
     // second reading gave it, with the digest of the first; and it is what was ahead of a steady
-    // source that tells it.
+    // source, where that is known.
     ensures copied { IfOk result (λ t. CopyIsVouchedWith (S.accepts scheme.now) pk_text.now sig_text.now
-        (rereader_passage R.Source R.steady data_reader.old data_reader.new) (sink_passage O.Sink out.old out.new) (string_bytes t)) }
+        (rereader_call R.Source R.steady data_reader.old data_reader.new) (sink_call O.Sink out.old out.new) (string_bytes t)) }
 
-    // After a refusal nothing was copied, or the texts vouch for what was read first and the
-    // copying failed: going back, memory, the second reading or the output did, or the second
-    // reading had another digest.
+    // After a refusal a text was refused, with nothing read or copied; or it failed at one of the
+    // stages of `verify`. So nothing was copied, or the texts vouch for what was read first, and
+    // going back, memory, the second reading or the output failed, or the second reading had
+    // another digest.
     ensures refused { IfErr result (CopyVerifiedFails (S.accepts scheme.now) pk_text.now sig_text.now
-        (rereader_passage R.Source R.steady data_reader.old data_reader.new) (sink_passage O.Sink out.old out.new)) }
+        (rereader_call R.Source R.steady data_reader.old data_reader.new) (sink_call O.Sink out.old out.new)) }
 {
     verify_with(
         alloc,

@@ -1,16 +1,17 @@
 //! Copying the data of a box that was accepted: the data that was kept, or a second pass over the
 //! source that has to give the digest of the first.
 
-ghost use Rattle.std.specs.Prelude.{◌≡◌, ℕ, ◌<◌, ◌++◌, ◌⊎◌, List, true, false, length, IfSome, IfOk, IfErr, OnOk, OnErr};
-ghost use Rattle.std.specs.Io.KnownBytes.{Appends, IsAtEnd, Keeps};
+ghost use Rattle.std.specs.Prelude.{◌≡◌, ℕ, ◌<◌, ◌++◌, ◌⊎◌, List, false, length, Ok, Err, IfOk, IfErr, OnOk, OnErr};
+ghost use Rattle.std.specs.Io.KnownBytes.{Appends};
 ghost use Rattle.minisign_hash.specs.Blake2b.{blake2b_digest};
 ghost use Rattle.minisign_hash.specs.Fed.{IsFed, has_finalized, output_length};
-ghost use Rattle.minisign_base.specs.Devices.{AllFlushed, Rose, HasGiven, AppendsFront, BeginsAnew};
+ghost use Rattle.minisign_base.specs.Devices.{HasGiven, AppendsFront, BeginsAnew};
 ghost use Rattle.minisign_base.specs.Fault.{Named};
-ghost use Rattle.minisign_base.specs.declared.faults.NamedFault.TheVariants.{GoingBackFailed};
-ghost use Rattle.minisign_base.specs.Passages.{IsFlushed, rereader_passage, sink_passage};
-ghost use Rattle.minisign.specs.Copying.{CopyingFails, CopyingSucceeds, KeptFails, OutputFails, SecondPassFails, SecondPassSucceeds};
-ghost use Rattle.minisign.specs.Reading.{IsAhead, IsReadFault, IsReturned, ReadsWhole, WereGiven};
+ghost use Rattle.minisign_base.specs.declared.faults.NamedFault.TheVariants.{GoingBackFailed, WritingFailed};
+ghost use Rattle.minisign_base.specs.DeviceCalls.{Flushes, GoesBack, IsWritingFault, rereader_call, sink_call, unused};
+ghost use Rattle.minisign.specs.Reading.{IsAhead, IsReadFault, ReadsWhole, WereGiven};
+ghost use Rattle.minisign.specs.Stages.{StagesEnd, copying_again};
+ghost use Rattle.minisign.specs.SignedData.{copying_held};
 
 use crate::reading::piece_buffer;
 use crate::signed_data::SignedData;
@@ -20,7 +21,8 @@ use minisign_base::{NamedFault, Result};
 use minisign_hash::blake2b::Blake2b;
 use std::alloc::Global;
 
-// Copies the data where that is wanted: what was kept, or else what is read again from the mark on.
+// Copies the data where that is wanted, and flushes: what was kept, or else what is read again from
+// the mark on.
 pub(crate) fn copy_out<R: Rereader, O: Sink>(
     alloc: Global,
     signed: &SignedData,
@@ -28,32 +30,22 @@ pub(crate) fn copy_out<R: Rereader, O: Sink>(
     output: bool,
     out: &mut O,
 ) -> Result<()>
-    ensures copied { OnOk result (CopyingSucceeds output signed.now
-        (rereader_passage R.Source R.steady data_reader.old data_reader.new) (sink_passage O.Sink out.old out.new)) }
-    ensures calm { OnOk result (R.faults data_reader.new ≡ R.faults data_reader.old) }
-    ensures out_calm { OnOk result (O.sink_faults out.new ≡ O.sink_faults out.old) }
-    ensures refused { IfErr result (CopyingFails output signed.now
-        (rereader_passage R.Source R.steady data_reader.old data_reader.new) (sink_passage O.Sink out.old out.new)) }
+    ensures copied { OnOk result ((second : List ℕ) × StagesEnd (rereader_call R.Source R.steady data_reader.old data_reader.new)
+        unused (sink_call O.Sink out.old out.new) (copying_held output signed.now second) (Ok tt)) }
+    ensures refused { IfErr result (λ e. (second : List ℕ) × StagesEnd (rereader_call R.Source R.steady data_reader.old data_reader.new)
+        unused (sink_call O.Sink out.old out.new) (copying_held output signed.now second) (Err e)) }
 {
     if !output {
         return Ok(());
     }
     match signed {
         SignedData::Digest(digest) => copy_again(alloc, digest, data_reader, out),
-        SignedData::Kept(bytes) => put_out(out, bytes),
+        SignedData::Kept(bytes) => {
+            put_bytes(out, bytes)?;
+            flush(out)
+        }
         SignedData::Unkept => Ok(()),
     }
-}
-
-// Writes all of the bytes and flushes.
-fn put_out<O: Sink>(out: &mut O, bytes: &[u8]) -> Result<()>
-    ensures all { OnOk result (Appends (O.taken out.old) (O.taken out.new) bytes.now) }
-    ensures flushed { OnOk result (IsFlushed (sink_passage O.Sink out.old out.new)) }
-    ensures calm { OnOk result (O.sink_faults out.new ≡ O.sink_faults out.old) }
-    ensures refused { IfErr result (KeptFails (sink_passage O.Sink out.old out.new) bytes.now) }
-{
-    put_bytes(out, bytes)?;
-    flush(out)
 }
 
 // Goes back to the mark and copies what is ahead then, and flushes where it has the digest.
@@ -63,12 +55,10 @@ fn copy_again<R: Rereader, O: Sink>(
     data_reader: &mut R,
     out: &mut O,
 ) -> Result<()>
-    ensures copied { OnOk result (SecondPassSucceeds
-        (rereader_passage R.Source R.steady data_reader.old data_reader.new) (sink_passage O.Sink out.old out.new) digest.now) }
-    ensures calm { OnOk result (R.faults data_reader.new ≡ R.faults data_reader.old) }
-    ensures out_calm { OnOk result (O.sink_faults out.new ≡ O.sink_faults out.old) }
-    ensures refused { IfErr result (SecondPassFails (IsReturned R.Source data_reader.old data_reader.new)
-        (rereader_passage R.Source R.steady data_reader.old data_reader.new) (sink_passage O.Sink out.old out.new) digest.now) }
+    ensures copied { OnOk result ((second : List ℕ) × StagesEnd (rereader_call R.Source R.steady data_reader.old data_reader.new)
+        unused (sink_call O.Sink out.old out.new) (copying_again digest.now second) (Ok tt)) }
+    ensures refused { IfErr result (λ e. (second : List ℕ) × StagesEnd (rereader_call R.Source R.steady data_reader.old data_reader.new)
+        unused (sink_call O.Sink out.old out.new) (copying_again digest.now second) (Err e)) }
 {
     go_back(data_reader)?;
     let second = copy_hashed(alloc, data_reader, out)?;
@@ -84,8 +74,8 @@ fn copy_hashed<S: Source, O: Sink>(alloc: Global, source: &mut S, out: &mut O) -
     ensures copied { IfOk result (λ d. (message : List ℕ) × ReadsWhole S.Source source.old source.new message
         × Appends (O.taken out.old) (O.taken out.new) message × (d ≡ blake2b_digest 64 message)
         × WereGiven (S.since source.new) message) }
-    ensures calm { OnOk result (O.sink_faults out.new ≡ O.sink_faults out.old) }
-    ensures refused { IfErr result (λ e. IsReadFault S.Source source.old source.new e ⊎ OutputFails (sink_passage O.Sink out.old out.new) e) }
+    ensures no_new_fault { OnOk result (O.sink_faults out.new ≡ O.sink_faults out.old) }
+    ensures refused { IfErr result (λ e. IsReadFault S.Source source.old source.new e ⊎ IsWritingFault (sink_call O.Sink out.old out.new) e) }
     ensures front { OnErr result ((message : List ℕ) × IsAhead (S.ahead source.old) message
         × AppendsFront (O.taken out.old) (O.taken out.new) message) }
     ensures read_front { OnErr result ((read : List ℕ) × WereGiven (S.since source.new) read
@@ -117,8 +107,8 @@ fn copy_pieces<S: Source, O: Sink>(
         × ((m : List ℕ) → IsFed hasher.old m → IsFed hasher.new (m ++ message))
         × WereGiven (S.since source.new) message) }
     ensures length { output_length hasher.new ≡ output_length hasher.old }
-    ensures calm { OnOk result (O.sink_faults out.new ≡ O.sink_faults out.old) }
-    ensures refused { IfErr result (λ e. IsReadFault S.Source source.old source.new e ⊎ OutputFails (sink_passage O.Sink out.old out.new) e) }
+    ensures no_new_fault { OnOk result (O.sink_faults out.new ≡ O.sink_faults out.old) }
+    ensures refused { IfErr result (λ e. IsReadFault S.Source source.old source.new e ⊎ IsWritingFault (sink_call O.Sink out.old out.new) e) }
     ensures front { OnErr result ((message : List ℕ) × IsAhead (S.ahead source.old) message
         × AppendsFront (O.taken out.old) (O.taken out.new) message) }
     ensures read_front { OnErr result ((read : List ℕ) × WereGiven (S.since source.new) read
@@ -143,12 +133,9 @@ fn copy_pieces<S: Source, O: Sink>(
 
 // Returns to the mark.
 fn go_back<R: Rereader>(data_reader: &mut R) -> Result<()>
-    ensures returned { OnOk result (IfSome (R.behind data_reader.old) (λ xs. R.ahead data_reader.new ≡ Some xs)) }
-    ensures calm { OnOk result (R.faults data_reader.new ≡ R.faults data_reader.old) }
-    ensures marked { OnOk result (R.is_marked data_reader.new ≡ true) }
-    ensures anew { OnOk result (BeginsAnew (R.since data_reader.new)) }
-    ensures refused { IfErr result (λ e. (e ≡ Named GoingBackFailed) × Rose (R.faults data_reader.old) (R.faults data_reader.new)
-        × (R.is_marked data_reader.new ≡ false)) }
+    ensures returned { OnOk result (GoesBack (rereader_call R.Source R.steady data_reader.old data_reader.new) (Ok tt)) }
+    ensures refused { IfErr result (λ e. (e ≡ Named GoingBackFailed)
+        × GoesBack (rereader_call R.Source R.steady data_reader.old data_reader.new) (Err tt)) }
 {
     match data_reader.back() {
         Ok(()) => Ok(()),
@@ -159,8 +146,8 @@ fn go_back<R: Rereader>(data_reader: &mut R) -> Result<()>
 // Writes all of the bytes.
 fn put_bytes<O: Sink>(out: &mut O, bytes: &[u8]) -> Result<()>
     ensures all { OnOk result (Appends (O.taken out.old) (O.taken out.new) bytes.now) }
-    ensures calm { OnOk result (O.sink_faults out.new ≡ O.sink_faults out.old) }
-    ensures refused { IfErr result (OutputFails (sink_passage O.Sink out.old out.new)) }
+    ensures no_new_fault { OnOk result (O.sink_faults out.new ≡ O.sink_faults out.old) }
+    ensures refused { IfErr result (IsWritingFault (sink_call O.Sink out.old out.new)) }
     ensures front { OnErr result (AppendsFront (O.taken out.old) (O.taken out.new) bytes.now) }
     ensures unflushed { O.flushed out.new ≡ O.flushed out.old }
 {
@@ -172,10 +159,8 @@ fn put_bytes<O: Sink>(out: &mut O, bytes: &[u8]) -> Result<()>
 
 // Passes on what was written.
 fn flush<O: Sink>(out: &mut O) -> Result<()>
-    ensures bytes { Keeps (O.taken out.old) (O.taken out.new) }
-    ensures flushed { OnOk result (AllFlushed (O.flushed out.new) (O.taken out.new)) }
-    ensures calm { OnOk result (O.sink_faults out.new ≡ O.sink_faults out.old) }
-    ensures refused { IfErr result (OutputFails (sink_passage O.Sink out.old out.new)) }
+    ensures flushed { OnOk result (Flushes (sink_call O.Sink out.old out.new) (Ok tt)) }
+    ensures refused { IfErr result (λ e. (e ≡ Named WritingFailed) × Flushes (sink_call O.Sink out.old out.new) (Err tt)) }
 {
     match out.flush() {
         Ok(()) => Ok(()),

@@ -2,7 +2,7 @@
 
 ghost use Rattle.std.specs.Prelude.{◌≡◌, IfOk, IfErr, OnOk};
 ghost use Rattle.minisign_base.specs.Devices.{HasGiven};
-ghost use Rattle.minisign_base.specs.Passages.{random_passage};
+ghost use Rattle.minisign_base.specs.DeviceCalls.{random_call};
 ghost use Rattle.minisign.specs.Signing.{DrawFails, HasDrawn};
 
 use minisign_base::devices::random_sources::RandomSource;
@@ -11,10 +11,10 @@ use minisign_base::{NamedFault, Result};
 // The next `N` random bytes.
 pub(crate) fn draw<const N: usize, Z: RandomSource>(random: &mut Z) -> Result<[u8; N]>
     ensures drawn { IfOk result
-        (λ z. HasDrawn (random_passage Z.RandomSource random.old random.new) z) }
-    ensures calm { OnOk result (Z.random_faults random.new ≡ Z.random_faults random.old) }
+        (λ z. HasDrawn (random_call Z.RandomSource random.old random.new) z) }
+    ensures no_new_fault { OnOk result (Z.random_faults random.new ≡ Z.random_faults random.old) }
     ensures refused { IfErr result
-        (DrawFails (random_passage Z.RandomSource random.old random.new)) }
+        (DrawFails (random_call Z.RandomSource random.old random.new)) }
     ensures given { HasGiven (Z.random_ahead random.old) (Z.random_ahead random.new) }
 {
     let mut bytes = [0u8; N];

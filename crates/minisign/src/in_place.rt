@@ -81,8 +81,8 @@ impl<'a> SignatureView<'a> {
     }
 }
 
-/// Reads a public key text: the key that `PublicKey::from_box` reads, and its refusals in their order, less want of
-/// memory. Takes no memory.
+/// Reads a public key text: the key that `PublicKey::from_box` reads, and its refusals in their order.
+/// Takes no memory, and never says that it ran out.
 pub fn read_public_key(text: &str) -> Result<PublicKey>
     // A public key text is read as `PublicKey::from_box` reads it: the same key, the same first
     // reasons, and never out of memory.
@@ -94,7 +94,7 @@ pub fn read_public_key(text: &str) -> Result<PublicKey>
 }
 
 /// Reads the bare base64 of a key, 56 bytes: the key that `PublicKey::from_base64` reads, and its refusals in their
-/// order, less want of memory. Takes no memory.
+/// order. Takes no memory, and never says that it ran out.
 pub fn read_bare_public_key(text: &str) -> Result<PublicKey>
     // The base64 of a key is read as `PublicKey::from_base64` reads it: the same key, the same
     // first reasons, and never out of memory.
@@ -106,10 +106,11 @@ pub fn read_bare_public_key(text: &str) -> Result<PublicKey>
 }
 
 /// Reads a signature text: of the box that `SignatureBox::from_string` reads all but what stands behind the first 64
-/// bytes of the comment signature, and its refusals in their order, less want of memory. Takes no memory.
+/// bytes of the comment signature, and its refusals in their order. Takes no memory, and never
+/// says that it ran out.
 pub fn read_signature(text: &str) -> Result<SignatureView<'_>>
     // A signature text is read as `SignatureBox::from_string` reads it: the same box, of which the
-    // first 64 bytes of the comment signature are told, the same first reasons, and never out of
+    // first 64 bytes of the comment signature are known, the same first reasons, and never out of
     // memory. The trusted comment and the 64 bytes of a signature have no more bytes than the text.
     ensures read { IfOk result (λ v. (x : SignatureBoxRecord) × SignatureText text.now x × IsViewOf v x) }
     ensures size { IfOk result (λ v. 64 + length v.trusted ≤ length text.now) }

@@ -6,22 +6,23 @@ ghost use Rattle.std.specs.Option.{option_map};
 ghost use Rattle.minisign_base.specs.Devices.{HasGiven};
 ghost use Rattle.minisign_base.specs.Fault.{Named};
 ghost use Rattle.minisign_base.specs.declared.faults.NamedFault.TheVariants.{OutOfMemory};
-ghost use Rattle.minisign_base.specs.Passages.{random_passage, source_passage};
+ghost use Rattle.minisign_base.specs.DeviceCalls.{random_call, source_call};
 ghost use Rattle.minisign.specs.Calls.{BytesSigningFails, GivesKeyWith, GivesNoKeyWith, PasswordPairFails, PathSigningFails, ReaderSigningFails};
 ghost use Rattle.minisign.specs.Generation.{IsSealedPair, OpensToPair};
 ghost use Rattle.minisign.specs.Headline.{SigningHeadline};
-ghost use Rattle.minisign.specs.Opening.{IsUnencryptedText, RefusesUnencrypted};
 ghost use Rattle.minisign.specs.Reading.{ReadsWhole};
 ghost use Rattle.minisign.specs.Sealing.{is_encrypted};
 ghost use Rattle.minisign.specs.Records.{SecretKeyRecord};
 ghost use Rattle.minisign.specs.SecretKeyText.{SecretKeyText};
-ghost use Rattle.minisign.specs.Signing.{given_comments};
+ghost use Rattle.minisign.specs.Signing.{chosen_of, given_comments};
 ghost use Rattle.minisign.specs.SigningTexts.{IsSignedText};
+ghost use Rattle.minisign.specs.OpenedTexts.{IsUnencryptedText, RefusesUnencrypted};
 
 use crate::constants::KDF_NONE;
 use crate::keypair::{KeyPair, draw_with_salt, make_sealed_pair};
 use crate::memory::MemorySource;
 use crate::secret_key::SecretKey;
+use crate::signing::GivenComments;
 use crate::signing_texts::sign_opened;
 use minisign_base::devices::random_sources::RandomSource;
 use minisign_base::devices::sources::{ReaderSource, Source};
@@ -91,7 +92,7 @@ impl KeyPair {
         // The pair is the one that the definition makes of random bytes that were drawn, sealed
         // under the password.
         ensures made { IfOk result (λ pair. IsSealedPair (S.public_of scheme.now) password.now
-            (random_passage Z.RandomSource random.old random.new) pair.pk pair.sk) }
+            (random_call Z.RandomSource random.old random.new) pair.pk pair.sk) }
 
         // The secret key opens under the password, and then belongs to the public key; each text
         // that reads as it opens under the password to that key, and to no other.
@@ -100,12 +101,12 @@ impl KeyPair {
 
         // On success the password has 1024 bytes at most, and the random source did not fail.
         ensures typed { OnOk result (length password.now ≤ 1024) }
-        ensures calm { OnOk result (Z.random_faults random.new ≡ Z.random_faults random.old) }
+        ensures no_new_fault { OnOk result (Z.random_faults random.new ≡ Z.random_faults random.old) }
 
         // The refusals: a password of more than 1024 bytes, with nothing drawn; and with any other
         // a failing random source, and out of memory once all was drawn.
         ensures refused { IfErr result
-            (PasswordPairFails password.now (random_passage Z.RandomSource random.old random.new)) }
+            (PasswordPairFails password.now (random_call Z.RandomSource random.old random.new)) }
 
         // Whatever the result, the random source lost at most some bytes at its front.
         ensures given { HasGiven (Z.random_ahead random.old) (Z.random_ahead random.new) }
@@ -147,18 +148,18 @@ pub fn sign_bytes<S: Scheme, Z: RandomSource>(
     // The text is that of the box that signing makes of the data, with an opened key.
     ensures signed { IfOk result (λ t. IsSignedText (S.signature_of scheme.now) sk.now message.now
         (given_comments trusted_comment.entry None moment)
-        (random_passage Z.RandomSource random.old random.new) (string_bytes t)) }
+        (random_call Z.RandomSource random.old random.new) (string_bytes t)) }
     ensures opened { OnOk result (is_encrypted sk.now ≡ false) }
 
     // On success the random source did not fail.
-    ensures random_calm { OnOk result (Z.random_faults random.new ≡ Z.random_faults random.old) }
+    ensures random_no_new_fault { OnOk result (Z.random_faults random.new ≡ Z.random_faults random.old) }
 
     // Whatever the result, the random source lost at most some bytes at its front.
     ensures drawn { HasGiven (Z.random_ahead random.old) (Z.random_ahead random.new) }
 
     // The refusals: a sealed key, with nothing drawn; and with an opened one out of memory and a
     // failing random source.
-    ensures refused { IfErr result (BytesSigningFails sk.now (random_passage Z.RandomSource random.old random.new)) }
+    ensures refused { IfErr result (BytesSigningFails sk.now (random_call Z.RandomSource random.old random.new)) }
 {
     let mut data = MemorySource::new(message);
     sign_reader(
@@ -198,19 +199,19 @@ pub fn sign_reader<S: Scheme, R: Source, Z: RandomSource>(
     ensures signed { IfOk result (λ t. (message : List ℕ) × ReadsWhole R.Source data_reader.old data_reader.new message
         × IsSignedText (S.signature_of scheme.now) sk.now message
         (given_comments trusted_comment.entry None moment)
-        (random_passage Z.RandomSource random.old random.new) (string_bytes t)
+        (random_call Z.RandomSource random.old random.new) (string_bytes t)
         × SigningHeadline (S.accepts scheme.now) (S.public_of scheme.now) sk.now message
         (given_comments trusted_comment.entry None moment) (string_bytes t)) }
     ensures opened { OnOk result (is_encrypted sk.now ≡ false) }
 
     // On success the random source did not fail.
-    ensures random_calm { OnOk result (Z.random_faults random.new ≡ Z.random_faults random.old) }
+    ensures random_no_new_fault { OnOk result (Z.random_faults random.new ≡ Z.random_faults random.old) }
 
     // The refusals: a sealed key, with nothing read or drawn; and with an opened one out of memory,
     // a failing reader, with nothing drawn, and a failing random source, once all was read.
     ensures refused { IfErr result (ReaderSigningFails sk.now
-        (source_passage R.Source data_reader.old data_reader.new)
-        (random_passage Z.RandomSource random.old random.new)) }
+        (source_call R.Source data_reader.old data_reader.new)
+        (random_call Z.RandomSource random.old random.new)) }
 
     // Whatever the result, the reader and the random source lost at most some bytes at their front.
     ensures given { HasGiven (R.ahead data_reader.old) (R.ahead data_reader.new) }
@@ -219,16 +220,12 @@ pub fn sign_reader<S: Scheme, R: Source, Z: RandomSource>(
     if sk.is_encrypted() {
         return Err(NamedFault::EncryptedKeyRefused.into());
     }
-    sign_opened(
-        alloc,
-        scheme,
-        sk,
-        data_reader,
-        trusted_comment,
-        None,
-        random,
+    let comments = GivenComments {
+        trusted: trusted_comment,
+        untrusted: None,
         moment,
-    )
+    };
+    sign_opened(alloc, scheme, sk, data_reader, comments, random)
 }
 
 /// Signs the data in the file at `data_path`, as `sign_bytes` signs data in memory. The path is
@@ -255,22 +252,22 @@ pub fn sign_file<F: Files, S: Scheme, Z: RandomSource>(
 ) -> Result<String>
     // The text is that of the box that signing makes of some data, with an opened key; what a
     // genuine key signed is read back as a box that vouches for this data, if neither comment has a
-    // line feed and the trusted one is trimmed. Std's files tell no bytes: that it is the data of
+    // line feed and the trusted one is trimmed. No byte of std's files is known: that it is the data of
     // the named file, the code and tests show.
     ensures signed { IfOk result (λ t. (message : List ℕ)
         × IsSignedText (S.signature_of scheme.now) sk.now message
         (given_comments trusted_comment.entry None moment)
-        (random_passage Z.RandomSource random.old random.new) (string_bytes t)
+        (random_call Z.RandomSource random.old random.new) (string_bytes t)
         × SigningHeadline (S.accepts scheme.now) (S.public_of scheme.now) sk.now message
         (given_comments trusted_comment.entry None moment) (string_bytes t)) }
     ensures opened { OnOk result (is_encrypted sk.now ≡ false) }
 
     // On success the random source did not fail.
-    ensures random_calm { OnOk result (Z.random_faults random.new ≡ Z.random_faults random.old) }
+    ensures random_no_new_fault { OnOk result (Z.random_faults random.new ≡ Z.random_faults random.old) }
 
     // The refusals: a sealed key, with nothing drawn; and with an opened one out of memory, a file
     // that is not opened or not read, with nothing drawn, and a failing random source.
-    ensures refused { IfErr result (PathSigningFails sk.now (random_passage Z.RandomSource random.old random.new)) }
+    ensures refused { IfErr result (PathSigningFails sk.now (random_call Z.RandomSource random.old random.new)) }
 
     // Whatever the result, the random source lost at most some bytes at its front.
     ensures drawn { HasGiven (Z.random_ahead random.old) (Z.random_ahead random.new) }
@@ -278,48 +275,42 @@ pub fn sign_file<F: Files, S: Scheme, Z: RandomSource>(
     if sk.is_encrypted() {
         return Err(NamedFault::EncryptedKeyRefused.into());
     }
+    let comments = GivenComments {
+        trusted: trusted_comment,
+        untrusted: None,
+        moment,
+    };
     match fs::open(files, data_path) {
-        Ok(file) => sign_untold(
+        Ok(file) => sign_opened_file(
             alloc,
             scheme,
             sk,
             &mut ReaderSource::new(file),
-            trusted_comment,
+            comments,
             random,
-            moment,
         ),
         Err(_) => Err(NamedFault::ReadingFailed.into()),
     }
 }
 
-// Signs what a file gives, which tells no bytes, with an opened key.
-fn sign_untold<S: Scheme, R: Source, Z: RandomSource>(
+// Signs what a file gives, of which no byte is known, with an opened key.
+fn sign_opened_file<S: Scheme, R: Source, Z: RandomSource>(
     alloc: Global,
     scheme: &S,
     sk: &SecretKey,
-    data_reader: &mut R,
-    trusted_comment: Option<&str>,
+    file: &mut R,
+    comments: GivenComments<'_>,
     random: &mut Z,
-    moment: u64,
 ) -> Result<String>
     requires { is_encrypted sk.now ≡ false }
     ensures signed { IfOk result (λ t. (message : List ℕ)
-        × IsSignedText (S.signature_of scheme.now) sk.now message
-        (given_comments trusted_comment.entry None moment)
-        (random_passage Z.RandomSource random.old random.new) (string_bytes t)
+        × IsSignedText (S.signature_of scheme.now) sk.now message (chosen_of comments.entry)
+        (random_call Z.RandomSource random.old random.new) (string_bytes t)
         × SigningHeadline (S.accepts scheme.now) (S.public_of scheme.now) sk.now message
-        (given_comments trusted_comment.entry None moment) (string_bytes t)) }
-    ensures random_calm { OnOk result (Z.random_faults random.new ≡ Z.random_faults random.old) }
-    ensures refused { IfErr result (PathSigningFails sk.now (random_passage Z.RandomSource random.old random.new)) }
+        (chosen_of comments.entry) (string_bytes t)) }
+    ensures random_no_new_fault { OnOk result (Z.random_faults random.new ≡ Z.random_faults random.old) }
+    ensures refused { IfErr result (PathSigningFails sk.now (random_call Z.RandomSource random.old random.new)) }
     ensures drawn { HasGiven (Z.random_ahead random.old) (Z.random_ahead random.new) }
 {
-    sign_reader(
-        alloc,
-        scheme,
-        sk,
-        data_reader,
-        trusted_comment,
-        random,
-        moment,
-    )
+    sign_opened(alloc, scheme, sk, file, comments, random)
 }

@@ -1,21 +1,22 @@
 //! Pairs of keys, and how they are made.
 
-ghost use Rattle.std.specs.Prelude.{◌≡◌, ℕ, List, ◌++◌, length, string_bytes, None, Ok, IfSome, IfOk, IfErr, OnOk, OnErr};
+ghost use Rattle.std.specs.Prelude.{◌≡◌, ℕ, List, ◌++◌, length, string_bytes, None, Ok, Err, IfSome, IfOk, IfErr, OnOk, OnErr};
 ghost use Rattle.std.specs.Option.{option_copied, option_map};
 ghost use Rattle.std.specs.Str.Iter.{LacksByte};
 ghost use Rattle.minisign_base.specs.Devices.{HasGiven};
-ghost use Rattle.minisign_base.specs.Passages.{prompt_passage, random_passage, sink_passage};
+ghost use Rattle.minisign_base.specs.DeviceCalls.{FailsAtPart, TakesPart, prompt_call, random_call, sink_call};
 ghost use Rattle.minisign_base.specs.Fault.{Named};
 ghost use Rattle.minisign_base.specs.declared.faults.NamedFault.TheVariants.{OutOfMemory, WritingFailed};
 ghost use Rattle.minisign.specs.Records.{public_key_bytes, secret_key_bytes};
 ghost use Rattle.minisign.specs.Sealing.{IsUnencrypted, xored_key};
 ghost use Rattle.minisign.specs.Signing.{DrawFails, HasDrawn};
-ghost use Rattle.minisign_base.specs.Prompts.{HasHeld, HasStopped, password_of};
-ghost use Rattle.minisign.specs.NewPassword.{HasTyped, IsPassword, IsSealingFault, choosing, sealing};
+ghost use Rattle.minisign_base.specs.Prompts.{ConversationEnds};
+ghost use Rattle.minisign_base.specs.Passwords.{password_of};
+ghost use Rattle.minisign.specs.NewPassword.{IsSealing, choosing, sealing};
 ghost use Rattle.minisign.specs.PublicKeyText.{public_key_text};
 ghost use Rattle.minisign.specs.SecretKeyText.{SecretKeyText, secret_key_text};
-ghost use Rattle.minisign.specs.Opening.{IsUnencryptedText};
-ghost use Rattle.minisign.specs.Generation.{AreSeedAndKeynum, FailsAtPart, HasSealed, IsGenuinePair, IsSealedOf, IsUnsealedPair, OpensOnlyTo, OpensToPair, RawPairFails, SealedPairFails, SealedTextsFail, TakesPart, WritingFails, public_key_of, secret_of, unsealed_key};
+ghost use Rattle.minisign.specs.Generation.{AreSeedAndKeynum, HasSealed, IsGenuinePair, IsSealedOf, IsUnsealedPair, OpensOnlyTo, OpensToPair, RawPairFails, SealedPairFails, SealedTextsFail, WritingFails, public_key_of, secret_of, unsealed_key};
+ghost use Rattle.minisign.specs.OpenedTexts.{IsUnencryptedText};
 
 use crate::constants::SIGALG;
 use crate::drawing::draw;
@@ -60,7 +61,7 @@ impl KeyPair {
         // 8 of an identifier, and for a sealed one 32 of a salt.
         ensures made { IfOk result
             (λ pair. IsUnsealedPair (S.public_of scheme.now)
-            (random_passage Z.RandomSource random.old random.new) pair.pk pair.sk) }
+            (random_call Z.RandomSource random.old random.new) pair.pk pair.sk) }
 
         // The two keys belong together: the secret one is genuine, not sealed, and the public one
         // has its public half and its identifier.
@@ -75,12 +76,12 @@ impl KeyPair {
             → IsUnencryptedText text pair.sk) }
 
         // On success the random source did not fail.
-        ensures calm { OnOk result (Z.random_faults random.new ≡ Z.random_faults random.old) }
+        ensures no_new_fault { OnOk result (Z.random_faults random.new ≡ Z.random_faults random.old) }
 
         // An unsealed pair, which takes no memory, fails only if the random source's count of
         // faults rose.
         ensures refused { IfErr result
-            (DrawFails (random_passage Z.RandomSource random.old random.new)) }
+            (DrawFails (random_call Z.RandomSource random.old random.new)) }
 
         // Whatever the result, the random source lost at most some bytes at its front.
         ensures given { HasGiven (Z.random_ahead random.old) (Z.random_ahead random.new) }
@@ -106,21 +107,21 @@ impl KeyPair {
         // The pair is made as `KeyPair::generate_unencrypted_keypair` says.
         ensures made { IfOk result
             (λ pair. IsUnsealedPair (S.public_of scheme.now)
-            (random_passage Z.RandomSource random.old random.new) pair.pk pair.sk) }
+            (random_call Z.RandomSource random.old random.new) pair.pk pair.sk) }
         ensures genuine { IfOk result
             (λ pair. IsGenuinePair (S.public_of scheme.now) pair.pk pair.sk) }
         ensures unencrypted { IfOk result (λ pair. IsUnencrypted pair.sk) }
 
         // The sinks took the raw bytes of both keys, and did not fail.
         ensures public { IfOk result
-            (λ pair. TakesPart (sink_passage P.Sink pk_sink.old pk_sink.new)
+            (λ pair. TakesPart (sink_call P.Sink pk_sink.old pk_sink.new)
             (public_key_bytes pair.pk)) }
         ensures secret { IfOk result
-            (λ pair. TakesPart (sink_passage K.Sink sk_sink.old sk_sink.new)
+            (λ pair. TakesPart (sink_call K.Sink sk_sink.old sk_sink.new)
             (secret_key_bytes pair.sk)) }
 
         // On success the random source did not fail.
-        ensures calm { OnOk result (Z.random_faults random.new ≡ Z.random_faults random.old) }
+        ensures no_new_fault { OnOk result (Z.random_faults random.new ≡ Z.random_faults random.old) }
 
         // If a pair is not made, or memory runs out for its bytes or texts, neither sink is
         // touched; otherwise a sink failed: the public one with the secret one untouched, or the
@@ -128,9 +129,9 @@ impl KeyPair {
         // beginning.
         ensures refused { IfErr result
             (RawPairFails (S.public_of scheme.now)
-            (random_passage Z.RandomSource random.old random.new)
-            (sink_passage P.Sink pk_sink.old pk_sink.new)
-            (sink_passage K.Sink sk_sink.old sk_sink.new)) }
+            (random_call Z.RandomSource random.old random.new)
+            (sink_call P.Sink pk_sink.old pk_sink.new)
+            (sink_call K.Sink sk_sink.old sk_sink.new)) }
 
         // Whatever the result, the random source lost at most some bytes at its front.
         ensures given { HasGiven (Z.random_ahead random.old) (Z.random_ahead random.new) }
@@ -169,19 +170,19 @@ impl KeyPair {
         // and written is what docs/FORMATS.md says (`prompted`).
         ensures made { IfOk result
             (λ pair. HasSealed (S.public_of scheme.now)
-            (random_passage Z.RandomSource random.old random.new)
-            (prompt_passage R.Source W.Sink prompt.old prompt.new)
+            (random_call Z.RandomSource random.old random.new)
+            (prompt_call R.Source W.Sink prompt.old prompt.new)
             (option_map string_bytes password) pair.pk pair.sk) }
 
         // On success the random source did not fail.
-        ensures calm { OnOk result (Z.random_faults random.new ≡ Z.random_faults random.old) }
+        ensures no_new_fault { OnOk result (Z.random_faults random.new ≡ Z.random_faults random.old) }
 
         // A sealed pair fails if the random source did, with nothing asked; otherwise all 72 bytes
         // were drawn, and it ran out of memory, the prompt failed, a line gave no password, or two
         // were typed that differ.
         ensures refused { IfErr result
-            (SealedPairFails (random_passage Z.RandomSource random.old random.new)
-            (prompt_passage R.Source W.Sink prompt.old prompt.new)
+            (SealedPairFails (random_call Z.RandomSource random.old random.new)
+            (prompt_call R.Source W.Sink prompt.old prompt.new)
             (option_map string_bytes password)) }
 
         // Whatever the result, the random source lost at most some bytes at its front.
@@ -219,16 +220,16 @@ impl KeyPair {
         // The pair is made as `KeyPair::generate_encrypted_keypair` says.
         ensures made { IfOk result
             (λ pair. HasSealed (S.public_of scheme.now)
-            (random_passage Z.RandomSource random.old random.new)
-            (prompt_passage R.Source W.Sink prompt.old prompt.new)
+            (random_call Z.RandomSource random.old random.new)
+            (prompt_call R.Source W.Sink prompt.old prompt.new)
             (option_map string_bytes password) pair.pk pair.sk) }
 
         // The sinks took the texts of both keys, and did not fail.
         ensures public { IfOk result
-            (λ pair. TakesPart (sink_passage P.Sink pk_sink.old pk_sink.new)
+            (λ pair. TakesPart (sink_call P.Sink pk_sink.old pk_sink.new)
             (public_key_text pair.pk)) }
         ensures secret { IfOk result
-            (λ pair. TakesPart (sink_passage K.Sink sk_sink.old sk_sink.new)
+            (λ pair. TakesPart (sink_call K.Sink sk_sink.old sk_sink.new)
             (secret_key_text (option_copied comment.entry) pair.sk)) }
 
         // The secret key's text opens under the password, to the key of the public one, if the
@@ -240,7 +241,7 @@ impl KeyPair {
             (xored_key pair.sk typed)) }
 
         // On success the random source did not fail.
-        ensures calm { OnOk result (Z.random_faults random.new ≡ Z.random_faults random.old) }
+        ensures no_new_fault { OnOk result (Z.random_faults random.new ≡ Z.random_faults random.old) }
 
         // If a pair is not made, or memory runs out for its bytes or texts, neither sink is
         // touched; otherwise a sink failed: the public one with the secret one untouched, or the
@@ -248,11 +249,11 @@ impl KeyPair {
         // beginning.
         ensures refused { IfErr result
             (SealedTextsFail (S.public_of scheme.now)
-            (random_passage Z.RandomSource random.old random.new)
-            (prompt_passage R.Source W.Sink prompt.old prompt.new)
+            (random_call Z.RandomSource random.old random.new)
+            (prompt_call R.Source W.Sink prompt.old prompt.new)
             (option_map string_bytes password)
-            (sink_passage P.Sink pk_sink.old pk_sink.new)
-            (sink_passage K.Sink sk_sink.old sk_sink.new)
+            (sink_call P.Sink pk_sink.old pk_sink.new)
+            (sink_call K.Sink sk_sink.old sk_sink.new)
             (option_copied comment.entry)) }
 
         // Whatever the result, the random source lost at most some bytes at its front.
@@ -275,12 +276,12 @@ fn seal_pair<S: Scheme, R: Source, W: Sink>(
     prompt: &mut Prompt<R, W>,
 ) -> Result<KeyPair>
     ensures sealed { IfOk result (λ pair. (typed : List ℕ)
-        × IsPassword (prompt_passage R.Source W.Sink prompt.old prompt.new)
-        (option_map string_bytes password) typed
+        × IsSealing (prompt_call R.Source W.Sink prompt.old prompt.new)
+        (option_map string_bytes password) (Ok typed)
         × IsSealedOf (S.public_of scheme.now) drawn.now.seed drawn.now.keynum drawn.now.salt typed pair.pk pair.sk) }
     ensures refused { IfErr result
-        (IsSealingFault (prompt_passage R.Source W.Sink prompt.old prompt.new)
-        (option_map string_bytes password)) }
+        (λ e. IsSealing (prompt_call R.Source W.Sink prompt.old prompt.new)
+        (option_map string_bytes password) (Err e)) }
 {
     match password {
         Some(password) => make_sealed_pair(alloc, scheme, drawn, password.as_bytes()),
@@ -297,25 +298,25 @@ fn ask_and_seal<S: Scheme, R: Source, W: Sink>(
 ) -> Result<KeyPair>
     ensures typed { IfOk result
         (λ pair. (password : List ℕ)
-        × HasTyped (prompt_passage R.Source W.Sink prompt.old prompt.new) password
+        × IsSealing (prompt_call R.Source W.Sink prompt.old prompt.new) None (Ok password)
         × IsSealedOf (S.public_of scheme.now) drawn.now.seed drawn.now.keynum drawn.now.salt password pair.pk pair.sk) }
     ensures refused { IfErr result
-        (IsSealingFault (prompt_passage R.Source W.Sink prompt.old prompt.new) None) }
+        (λ e. IsSealing (prompt_call R.Source W.Sink prompt.old prompt.new) None (Err e)) }
 {
     let password = choose_password(alloc, prompt)?;
     seal_aloud(alloc, scheme, drawn, password.as_bytes(), prompt)
 }
 
 // Says what a password is for, and asks for it twice.
-#[tactic(auto, unfolding(crate::specs::NewPassword::purpose_line, crate::specs::Opening::asking_text, crate::specs::NewPassword::second_question))]
+#[tactic(auto, unfolding(crate::specs::PromptTexts::purpose_line, crate::specs::PromptTexts::asking_text, crate::specs::PromptTexts::second_question))]
 fn choose_password<R: Source, W: Sink>(alloc: Global, prompt: &mut Prompt<R, W>) -> Result<String>
     ensures chosen { IfOk result (λ password. (first : List ℕ) × (second : List ℕ)
         × (password_of first ≡ Ok (string_bytes password))
         × (password_of second ≡ Ok (string_bytes password))
-        × HasHeld (prompt_passage R.Source W.Sink prompt.old prompt.new) (choosing first second)) }
+        × ConversationEnds (prompt_call R.Source W.Sink prompt.old prompt.new) (choosing first second) (Ok tt)) }
     ensures refused { IfErr result (λ e. (first : List ℕ) × (second : List ℕ)
-        × HasStopped (prompt_passage R.Source W.Sink prompt.old prompt.new)
-        (choosing first second) e) }
+        × ConversationEnds (prompt_call R.Source W.Sink prompt.old prompt.new)
+        (choosing first second) (Err e)) }
 {
     prompt.say("Please enter a password to protect the secret key.\n")?;
     let password = get_password(alloc, prompt, "Password: ")?;
@@ -327,7 +328,7 @@ fn choose_password<R: Source, W: Sink>(alloc: Global, prompt: &mut Prompt<R, W>)
 }
 
 // Seals a pair under a password, and tells of it.
-#[tactic(auto, unfolding(crate::specs::NewPassword::sealing_text, crate::specs::Opening::done_text))]
+#[tactic(auto, unfolding(crate::specs::PromptTexts::sealing_text, crate::specs::PromptTexts::done_text))]
 fn seal_aloud<S: Scheme, R: Source, W: Sink>(
     alloc: Global,
     scheme: &S,
@@ -336,11 +337,11 @@ fn seal_aloud<S: Scheme, R: Source, W: Sink>(
     prompt: &mut Prompt<R, W>,
 ) -> Result<KeyPair>
     ensures told { OnOk result
-        (HasHeld (prompt_passage R.Source W.Sink prompt.old prompt.new) sealing) }
+        (ConversationEnds (prompt_call R.Source W.Sink prompt.old prompt.new) sealing (Ok tt)) }
     ensures sealed { IfOk result
         (λ pair. IsSealedOf (S.public_of scheme.now) drawn.now.seed drawn.now.keynum drawn.now.salt password.now pair.pk pair.sk) }
     ensures refused { IfErr result
-        (HasStopped (prompt_passage R.Source W.Sink prompt.old prompt.new) sealing) }
+        (λ e. ConversationEnds (prompt_call R.Source W.Sink prompt.old prompt.new) sealing (Err e)) }
 {
     prompt.say("Deriving a key from the password in order to encrypt the secret key... ")?;
     let pair = make_sealed_pair(alloc, scheme, drawn, password)?;
@@ -356,11 +357,11 @@ fn write_parts<P: Sink, K: Sink>(
     secret: &[u8],
 ) -> Result<()>
     ensures public { OnOk result
-        (TakesPart (sink_passage P.Sink pk_sink.old pk_sink.new) public.now) }
+        (TakesPart (sink_call P.Sink pk_sink.old pk_sink.new) public.now) }
     ensures secret { OnOk result
-        (TakesPart (sink_passage K.Sink sk_sink.old sk_sink.new) secret.now) }
-    ensures refused { IfErr result (WritingFails (sink_passage P.Sink pk_sink.old pk_sink.new)
-        (sink_passage K.Sink sk_sink.old sk_sink.new) public.now secret.now) }
+        (TakesPart (sink_call K.Sink sk_sink.old sk_sink.new) secret.now) }
+    ensures refused { IfErr result (WritingFails (sink_call P.Sink pk_sink.old pk_sink.new)
+        (sink_call K.Sink sk_sink.old sk_sink.new) public.now secret.now) }
 {
     write_part(pk_sink, public)?;
     write_part(sk_sink, secret)
@@ -368,8 +369,8 @@ fn write_parts<P: Sink, K: Sink>(
 
 // Writes a part and passes it on.
 fn write_part<W: Sink>(sink: &mut W, part: &[u8]) -> Result<()>
-    ensures taken { OnOk result (TakesPart (sink_passage W.Sink sink.old sink.new) part.now) }
-    ensures failed { OnErr result (FailsAtPart (sink_passage W.Sink sink.old sink.new) part.now) }
+    ensures taken { OnOk result (TakesPart (sink_call W.Sink sink.old sink.new) part.now) }
+    ensures failed { OnErr result (FailsAtPart (sink_call W.Sink sink.old sink.new) part.now) }
     ensures refused { IfErr result (λ e. e ≡ Named WritingFailed) }
 {
     put_and_flush(sink, part).map_err(|_| NamedFault::WritingFailed.into())
@@ -394,13 +395,13 @@ pub(crate) fn make_sealed_pair<S: Scheme>(
 // The random bytes of a sealed pair: a seed, an identifier, and a salt.
 pub(crate) fn draw_with_salt<Z: RandomSource>(random: &mut Z) -> Result<Drawn>
     ensures drawn { IfOk result
-        (λ z. HasDrawn (random_passage Z.RandomSource random.old random.new)
+        (λ z. HasDrawn (random_call Z.RandomSource random.old random.new)
         (z.seed ++ z.keynum ++ z.salt)) }
     ensures lengths { IfOk result (λ z. AreSeedAndKeynum z.seed z.keynum) }
     ensures salt { IfOk result (λ z. length z.salt ≡ 32) }
-    ensures calm { OnOk result (Z.random_faults random.new ≡ Z.random_faults random.old) }
+    ensures no_new_fault { OnOk result (Z.random_faults random.new ≡ Z.random_faults random.old) }
     ensures refused { IfErr result
-        (DrawFails (random_passage Z.RandomSource random.old random.new)) }
+        (DrawFails (random_call Z.RandomSource random.old random.new)) }
     ensures given { HasGiven (Z.random_ahead random.old) (Z.random_ahead random.new) }
 {
     let (seed, keynum) = draw_seed_and_keynum(random)?;
@@ -411,11 +412,11 @@ pub(crate) fn draw_with_salt<Z: RandomSource>(random: &mut Z) -> Result<Drawn>
 // Draws 32 bytes of a seed, and then 8 of an identifier.
 fn draw_seed_and_keynum<Z: RandomSource>(random: &mut Z) -> Result<([u8; 32], [u8; 8])>
     ensures drawn { IfOk result
-        (λ z. HasDrawn (random_passage Z.RandomSource random.old random.new) (z.0 ++ z.1)) }
+        (λ z. HasDrawn (random_call Z.RandomSource random.old random.new) (z.0 ++ z.1)) }
     ensures lengths { IfOk result (λ z. AreSeedAndKeynum z.0 z.1) }
-    ensures calm { OnOk result (Z.random_faults random.new ≡ Z.random_faults random.old) }
+    ensures no_new_fault { OnOk result (Z.random_faults random.new ≡ Z.random_faults random.old) }
     ensures refused { IfErr result
-        (DrawFails (random_passage Z.RandomSource random.old random.new)) }
+        (DrawFails (random_call Z.RandomSource random.old random.new)) }
     ensures given { HasGiven (Z.random_ahead random.old) (Z.random_ahead random.new) }
 {
     let seed = draw(random)?;

@@ -7,7 +7,7 @@ ghost use Rattle.minisign_base.specs.Fault.{Named};
 ghost use Rattle.minisign_base.specs.declared.faults.NamedFault.TheVariants.{OutOfMemory};
 ghost use Rattle.minisign_base.specs.Limits.{sealing_limits};
 ghost use Rattle.minisign.specs.Generation.{key_to_seal, unsealed_key};
-ghost use Rattle.minisign.specs.Making.{IsMadePublicText, IsMadeText, IsMakingFault};
+ghost use Rattle.minisign.specs.Making.{IsMadePublicText, IsMadeText, IsMakingFault, made_key};
 ghost use Rattle.minisign.specs.Sealing.{xored_key};
 
 use crate::constants::{CHK_ALG, KDF_NONE, SIGALG};
@@ -60,26 +60,16 @@ impl SecretKey {
 
     // Seals a key that is not sealed, with every k-th row of scrypt kept. Limits that are not
     // allowed are refused before anything is derived.
-    fn seal_by(
-        self,
-        alloc: Global,
-        password: &[u8],
-        salt: [u8; 32],
-        opslimit: u64,
-        memlimit: u64,
-        k: u64,
-    ) -> Result<SecretKey>
+    fn seal_by(self, alloc: Global, password: &[u8], sealing: Sealing, k: u64) -> Result<SecretKey>
         requires { 1 ≤ k }
         ensures sealed { (keynum secret : List ℕ) → self ≡ unsealed_key keynum secret
-            → IfOk result (λ sk. sk ≡ xored_key (key_to_seal keynum secret salt opslimit memlimit) password.now) }
+            → IfOk result (λ sk. sk ≡ made_key keynum secret (Some password.now) sealing) }
         ensures opened { (keynum secret : List ℕ) → self ≡ unsealed_key keynum secret
-            → IfOk result (λ sk. xored_key sk password.now ≡ key_to_seal keynum secret salt opslimit memlimit) }
-        ensures allowed { OnOk result (IsOk (sealing_limits memlimit opslimit)) }
-        ensures refused { IfErr result (λ e.
-            ((e ≡ Named OutOfMemory) × IsOk (sealing_limits memlimit opslimit))
-            ⊎ (sealing_limits memlimit opslimit ≡ Err e)) }
+            → IfOk result (λ sk. xored_key sk password.now ≡ key_to_seal keynum secret sealing.salt sealing.operations_limit sealing.memory_limit) }
+        ensures allowed { OnOk result (IsOk (sealing_limits sealing.memory_limit sealing.operations_limit)) }
+        ensures refused { IfErr result (IsMakingFault (Some password.now) sealing) }
     {
-        let mut sk = self.with_limits(salt, opslimit, memlimit);
+        let mut sk = self.with_limits(sealing.salt, sealing.operations_limit, sealing.memory_limit);
         sk.apply_stream(alloc, password, None, k)?;
         Ok(sk)
     }
@@ -143,14 +133,7 @@ fn make_sealed(
         → IfOk result (IsMadeText keynum secret (Some password.now) sealing comment.now) }
     ensures refused { IfErr result (IsMakingFault (Some password.now) sealing) }
 {
-    let sealed = sk.seal_by(
-        alloc,
-        password,
-        sealing.salt,
-        sealing.operations_limit,
-        sealing.memory_limit,
-        k,
-    )?;
+    let sealed = sk.seal_by(alloc, password, sealing, k)?;
     sealed.to_box(alloc, Some(comment))
 }
 

@@ -8,9 +8,12 @@ ghost use Rattle.minisign.specs.Records.{SecretKeyRecord};
 ghost use Rattle.minisign.specs.SecretKeyText.{SecretKeyText};
 ghost use Rattle.minisign.specs.Headline.{OpeningHeadline};
 ghost use Rattle.minisign.specs.Sealing.{checksum_refusal, is_encrypted, kdf_refusal, password_refusal, unencrypted_refusal, work_refusal, xored_key};
-ghost use Rattle.minisign.specs.Opening.{IsFileOpening, IsOpening, IsUnencryptedText, RefusesKey, RefusesUnencrypted, asking_text, deriving_text, done_text, ending, opening, telling};
-ghost use Rattle.minisign_base.specs.Passages.{prompt_passage};
-ghost use Rattle.minisign_base.specs.Prompts.{HasHeld, HasNotSaid, HasSaid, HasStopped, asking, password_of};
+ghost use Rattle.minisign.specs.Opening.{IsFileOpening, IsOpening, ending, opening, telling};
+ghost use Rattle.minisign.specs.PromptTexts.{asking_text, deriving_text, done_text};
+ghost use Rattle.minisign_base.specs.DeviceCalls.{prompt_call};
+ghost use Rattle.minisign_base.specs.Prompts.{ConversationEnds, Say, StepEnds, asking};
+ghost use Rattle.minisign_base.specs.Passwords.{password_of};
+ghost use Rattle.minisign.specs.OpenedTexts.{IsUnencryptedText, RefusesKey, RefusesUnencrypted};
 
 use crate::constants::{KDF_ALG, KDF_NONE};
 use crate::reading::read_text_file;
@@ -34,7 +37,7 @@ impl SecretKeyBox {
     ) -> Result<SecretKey>
         // Of the text that it holds: as `SecretKey::from_box_within` says, with no bound on the
         // work.
-        ensures opens { IsOpening (prompt_passage R.Source W.Sink prompt.old prompt.new)
+        ensures opens { IsOpening (prompt_call R.Source W.Sink prompt.old prompt.new)
             (option_map string_bytes password) self None result }
         ensures headline { OpeningHeadline
             (option_map string_bytes password) self None result }
@@ -60,7 +63,7 @@ impl SecretKey {
     ///
     /// These are refused, in this order: a file that cannot be opened or read, `reading_failed`;
     /// one that is not UTF-8, `not_utf8`; and what `from_box` refuses. It may run out of memory at
-    /// any time. Until the file is read the prompt is left alone. Std's files tell no bytes, so of
+    /// any time. Until the file is read the prompt is left alone. No byte of std's files is known, so of
     /// the text it is only said that there is one.
     pub fn from_file<F: Files, R: Source, W: Sink>(
         files: &F,
@@ -74,7 +77,7 @@ impl SecretKey {
         // refuses a text.
         //
         // Until the file was read the prompt is left alone.
-        ensures opens { IsFileOpening (prompt_passage R.Source W.Sink prompt.old prompt.new)
+        ensures opens { IsFileOpening (prompt_call R.Source W.Sink prompt.old prompt.new)
             (option_map string_bytes password) None result }
     {
         let text = read_text_file(files, alloc, path)?;
@@ -90,7 +93,7 @@ impl SecretKey {
         prompt: &mut Prompt<R, W>,
     ) -> Result<SecretKey>
         // As `SecretKey::from_box_within` says, with no bound on the work.
-        ensures opens { IsOpening (prompt_passage R.Source W.Sink prompt.old prompt.new)
+        ensures opens { IsOpening (prompt_call R.Source W.Sink prompt.old prompt.new)
             (option_map string_bytes password) sk_box None result }
         ensures headline { OpeningHeadline
             (option_map string_bytes password) sk_box None result }
@@ -114,7 +117,7 @@ impl SecretKey {
 
         // With every k-th row of scrypt kept, for every k from 1 on: as
         // `SecretKey::from_box_within` says, with no bound on the work.
-        ensures opens { IsOpening (prompt_passage R.Source W.Sink prompt.old prompt.new)
+        ensures opens { IsOpening (prompt_call R.Source W.Sink prompt.old prompt.new)
             (option_map string_bytes password) sk_box None result }
         ensures headline { OpeningHeadline
             (option_map string_bytes password) sk_box None result }
@@ -153,9 +156,8 @@ impl SecretKey {
         // With a password that is asked for: what was typed opens the key so, and the prompt wrote
         // what docs/FORMATS.md says; a text that no password opens, and running out of
         // memory for it, leave the prompt untouched; then come the prompt's faults, and what
-        // refuses the key with the password, each with what was written by then (`IsOpenedAsking`,
-        // `RefusesAsking`).
-        ensures opens { IsOpening (prompt_passage R.Source W.Sink prompt.old prompt.new)
+        // refuses the key with the password, each with what was written by then (`StepEnds`).
+        ensures opens { IsOpening (prompt_call R.Source W.Sink prompt.old prompt.new)
             (option_map string_bytes password) sk_box (Some max_p) result }
 
         // In one piece, for a key that the text reads as and that is sealed by scrypt: it opens
@@ -185,7 +187,7 @@ impl SecretKey {
 
         // With every k-th row of scrypt kept, for every k from 1 on: as
         // `SecretKey::from_box_within` says.
-        ensures opens { IsOpening (prompt_passage R.Source W.Sink prompt.old prompt.new)
+        ensures opens { IsOpening (prompt_call R.Source W.Sink prompt.old prompt.new)
             (option_map string_bytes password) sk_box (Some max_p) result }
         ensures headline { OpeningHeadline (option_map string_bytes password) sk_box
             (Some max_p) result }
@@ -223,7 +225,7 @@ impl SecretKey {
         k: u64,
     ) -> Result<SecretKey>
         requires kept { 1 ≤ k }
-        ensures opens { IsOpening (prompt_passage R.Source W.Sink prompt.old prompt.new)
+        ensures opens { IsOpening (prompt_call R.Source W.Sink prompt.old prompt.new)
             (option_map string_bytes password) sk_box bound result }
         ensures headline { OpeningHeadline
             (option_map string_bytes password) sk_box bound result }
@@ -243,7 +245,7 @@ impl SecretKey {
     ) -> Result<SecretKey>
         requires { 1 ≤ k }
         ensures opens { (text : List ℕ) → SecretKeyText text self →
-            IsOpening (prompt_passage R.Source W.Sink prompt.old prompt.new)
+            IsOpening (prompt_call R.Source W.Sink prompt.old prompt.new)
             (option_map string_bytes password) text bound result }
         ensures opened { IfOk result (λ v. is_encrypted v ≡ false) }
     {
@@ -308,11 +310,11 @@ impl SecretKey {
         ensures opened { IfOk result (λ v. (bytes : List ℕ) × (password : List ℕ)
             × (password_of bytes ≡ Ok password) × (v ≡ xored_key self password)
             × (password_refusal self password bound ≡ None)
-            × HasHeld (prompt_passage R.Source W.Sink prompt.old prompt.new)
-            (opening self bound bytes)) }
+            × ConversationEnds (prompt_call R.Source W.Sink prompt.old prompt.new)
+            (opening self bound bytes) (Ok tt)) }
         ensures refused { IfErr result (λ e. (bytes : List ℕ)
-            × HasStopped (prompt_passage R.Source W.Sink prompt.old prompt.new)
-            (opening self bound bytes) e) }
+            × ConversationEnds (prompt_call R.Source W.Sink prompt.old prompt.new)
+            (opening self bound bytes) (Err e)) }
     {
         let password = ask_password(alloc, prompt)?;
         self.open_telling(alloc, password.as_bytes(), prompt, bound, k)
@@ -331,11 +333,11 @@ impl SecretKey {
         ensures opened { IfOk result
             (λ v. (v ≡ xored_key self password.now)
             × (password_refusal self password.now bound ≡ None)
-            × HasHeld (prompt_passage R.Source W.Sink prompt.old prompt.new)
-            (telling self password.now bound)) }
+            × ConversationEnds (prompt_call R.Source W.Sink prompt.old prompt.new)
+            (telling self password.now bound) (Ok tt)) }
         ensures refused { IfErr result
-            (HasStopped (prompt_passage R.Source W.Sink prompt.old prompt.new)
-            (telling self password.now bound)) }
+            (λ e. ConversationEnds (prompt_call R.Source W.Sink prompt.old prompt.new)
+            (telling self password.now bound) (Err e)) }
     {
         say_deriving(prompt)?;
         let mut sk = self;
@@ -347,10 +349,10 @@ impl SecretKey {
     // Says that the key was derived, and only then tests that opening restored the checksum.
     fn finish_telling<R: Source, W: Sink>(&self, prompt: &mut Prompt<R, W>) -> Result<()>
         ensures held { OnOk result
-            (HasHeld (prompt_passage R.Source W.Sink prompt.old prompt.new) (ending self.now)) }
+            (ConversationEnds (prompt_call R.Source W.Sink prompt.old prompt.new) (ending self.now) (Ok tt)) }
         ensures restored { OnOk result (checksum_refusal self.now (Named WrongPassword) ≡ None) }
         ensures refused { IfErr result
-            (HasStopped (prompt_passage R.Source W.Sink prompt.old prompt.new) (ending self.now)) }
+            (λ e. ConversationEnds (prompt_call R.Source W.Sink prompt.old prompt.new) (ending self.now) (Err e)) }
     {
         say_done(prompt)?;
         self.check_restored()
@@ -391,39 +393,33 @@ impl SecretKey {
 }
 
 // Asks for the password.
-#[tactic(auto, unfolding(crate::specs::Opening::asking_text))]
+#[tactic(auto, unfolding(crate::specs::PromptTexts::asking_text))]
 fn ask_password<R: Source, W: Sink>(alloc: Global, prompt: &mut Prompt<R, W>) -> Result<String>
     ensures asked { IfOk result (λ password. (bytes : List ℕ)
         × (password_of bytes ≡ Ok (string_bytes password))
-        × HasHeld (prompt_passage R.Source W.Sink prompt.old prompt.new)
-        (asking asking_text bytes)) }
+        × ConversationEnds (prompt_call R.Source W.Sink prompt.old prompt.new)
+        (asking asking_text bytes) (Ok tt)) }
     ensures refused { IfErr result (λ e. (bytes : List ℕ)
-        × HasStopped (prompt_passage R.Source W.Sink prompt.old prompt.new)
-        (asking asking_text bytes) e) }
+        × ConversationEnds (prompt_call R.Source W.Sink prompt.old prompt.new)
+        (asking asking_text bytes) (Err e)) }
 {
     get_password(alloc, prompt, "Password: ")
 }
 
 // Says that the key is being derived.
-#[tactic(auto, unfolding(crate::specs::Opening::deriving_text))]
+#[tactic(auto, unfolding(crate::specs::PromptTexts::deriving_text))]
 fn say_deriving<R: Source, W: Sink>(prompt: &mut Prompt<R, W>) -> Result<()>
-    ensures said { OnOk result
-        (HasSaid (prompt_passage R.Source W.Sink prompt.old prompt.new) deriving_text) }
-    ensures refused { IfErr result
-        (λ e. (e ≡ Named WritingFailed)
-        × HasNotSaid (prompt_passage R.Source W.Sink prompt.old prompt.new) deriving_text) }
+    ensures ended { StepEnds (prompt_call R.Source W.Sink prompt.old prompt.new)
+        (Say deriving_text) result }
 {
     prompt.say("Deriving a key from the password and decrypting the secret key... ")
 }
 
 // Says that the key was derived.
-#[tactic(auto, unfolding(crate::specs::Opening::done_text))]
+#[tactic(auto, unfolding(crate::specs::PromptTexts::done_text))]
 fn say_done<R: Source, W: Sink>(prompt: &mut Prompt<R, W>) -> Result<()>
-    ensures said { OnOk result
-        (HasSaid (prompt_passage R.Source W.Sink prompt.old prompt.new) done_text) }
-    ensures refused { IfErr result
-        (λ e. (e ≡ Named WritingFailed)
-        × HasNotSaid (prompt_passage R.Source W.Sink prompt.old prompt.new) done_text) }
+    ensures ended { StepEnds (prompt_call R.Source W.Sink prompt.old prompt.new)
+        (Say done_text) result }
 {
     prompt.say("done\n")
 }

@@ -116,11 +116,11 @@ impl SignatureBox {
     ///
     /// These are refused, in this order: a file that cannot be opened or read, `reading_failed`;
     /// one that is not UTF-8, `not_utf8`; and what `from_string` refuses. It may run out of memory
-    /// at any time. Std's files tell no bytes, so of the text it is only said that there is one.
+    /// at any time. No byte of std's files is known, so of the text it is only said that there is one.
     pub fn from_file<F: Files>(files: &F, alloc: Global, path: &str) -> Result<SignatureBox>
         // What is returned is read from some text, as the calls over texts read it; otherwise it
         // ran out of memory, the file could not be opened or read, it is not UTF-8, or these calls
-        // refuse a text. Std's files tell no byte, so that it is the text of this file no contract
+        // refuse a text. No byte of std's files is known, so that it is the text of this file no contract
         // says.
         ensures read { IfOk result (λ x. (text : List ℕ) × SignatureText text x) }
         ensures refused { IfErr result (λ e. IsTextFileFault e

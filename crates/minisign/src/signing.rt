@@ -4,7 +4,7 @@ ghost use Rattle.std.specs.Prelude.{◌≡◌, ℕ, true, false, List, ◌++◌,
 ghost use Rattle.std.specs.Option.{option_copied, unwrap_or};
 ghost use Rattle.minisign_hash.specs.Blake2b.{blake2b_digest};
 ghost use Rattle.minisign_base.specs.Devices.{HasGiven};
-ghost use Rattle.minisign_base.specs.Passages.{random_passage, source_passage};
+ghost use Rattle.minisign_base.specs.DeviceCalls.{random_call, source_call};
 ghost use Rattle.minisign_base.specs.Scheme.{AreRandomBytes};
 ghost use Rattle.minisign_base.specs.Fault.{Named};
 ghost use Rattle.minisign_base.specs.declared.faults.NamedFault.TheVariants.{OutOfMemory};
@@ -26,6 +26,17 @@ use minisign_base::devices::sources::Source;
 use minisign_base::scheme::Scheme;
 use minisign_base::{NamedFault, Result};
 use std::alloc::Global;
+
+/// The comments of a signature as a caller gives them, and the moment that stands for a trusted one.
+#[derive(Clone, Copy, Debug)]
+pub(crate) struct GivenComments<'a> {
+    /// The comment that is signed. Without one it is `timestamp:` and the moment.
+    pub(crate) trusted: Option<&'a str>,
+    /// The comment that nothing vouches for. Without one it is `signature from rsign secret key`.
+    pub(crate) untrusted: Option<&'a str>,
+    /// In seconds since 1970.
+    pub(crate) moment: u64,
+}
 
 /// Signs all the data ahead of `data_reader` with `sk`, and returns a box with both comments.
 ///
@@ -56,7 +67,7 @@ pub fn sign<S: Scheme, R: Source, Z: RandomSource>(
         (λ x. (message : List ℕ) × ReadsWhole R.Source data_reader.old data_reader.new message
         × IsSigned (S.signature_of scheme.now) sk.now message
         (given_comments trusted_comment.entry untrusted_comment.entry moment)
-        (random_passage Z.RandomSource random.old random.new) x
+        (random_call Z.RandomSource random.old random.new) x
         × VouchesWhereGenuine (S.accepts scheme.now) (S.public_of scheme.now) sk.now message x) }
 
     // On success the key is not sealed.
@@ -68,7 +79,7 @@ pub fn sign<S: Scheme, R: Source, Z: RandomSource>(
         (λ x. IfSome pk.entry (λ p. accepts_comments (S.accepts scheme.now) p.now x ≡ true)) }
 
     // On success the random source did not fail.
-    ensures random_calm { OnOk result (Z.random_faults random.new ≡ Z.random_faults random.old) }
+    ensures random_no_new_fault { OnOk result (Z.random_faults random.new ≡ Z.random_faults random.old) }
 
     // A key is refused as sealed exactly when it is sealed, with nothing read or drawn
     // (`KeyIsSealed`). `reading failed` comes only if the source's count of faults rose, with
@@ -79,8 +90,8 @@ pub fn sign<S: Scheme, R: Source, Z: RandomSource>(
         (SigningFails (S.accepts scheme.now) (S.signature_of scheme.now)
         (option_copied pk.entry) sk.now
         (given_comments trusted_comment.entry untrusted_comment.entry moment)
-        (source_passage R.Source data_reader.old data_reader.new)
-        (random_passage Z.RandomSource random.old random.new)) }
+        (source_call R.Source data_reader.old data_reader.new)
+        (random_call Z.RandomSource random.old random.new)) }
 
     // Whatever the result, the source and the random source lost at most some bytes at their front.
     ensures given { HasGiven (R.ahead data_reader.old) (R.ahead data_reader.new) }
@@ -124,12 +135,12 @@ fn make_box<S: Scheme, Z: RandomSource>(
 ) -> Result<SignatureBox>
     ensures signed { IfOk result (λ x. (message : List ℕ) → digest.now ≡ blake2b_digest 64 message →
         IsSigned (S.signature_of scheme.now) sk.now message (record { trusted = string_bytes trusted_comment; untrusted = string_bytes untrusted_comment })
-        (random_passage Z.RandomSource random.old random.new) x
+        (random_call Z.RandomSource random.old random.new) x
         × VouchesWhereGenuine (S.accepts scheme.now) (S.public_of scheme.now) sk.now message x) }
-    ensures calm { OnOk result (Z.random_faults random.new ≡ Z.random_faults random.old) }
+    ensures no_new_fault { OnOk result (Z.random_faults random.new ≡ Z.random_faults random.old) }
     ensures refused { IfErr result
         (λ e. (e ≡ Named OutOfMemory)
-        ⊎ DrawFails (random_passage Z.RandomSource random.old random.new) e) }
+        ⊎ DrawFails (random_call Z.RandomSource random.old random.new) e) }
     ensures given { HasGiven (Z.random_ahead random.old) (Z.random_ahead random.new) }
 {
     let secret = sk.keynum_sk.sk;
@@ -157,12 +168,12 @@ fn make_box<S: Scheme, Z: RandomSource>(
 // Twice 64 random bytes.
 fn draw_twice<Z: RandomSource>(random: &mut Z) -> Result<([u8; 64], [u8; 64])>
     ensures drawn { IfOk result
-        (λ z. HasDrawn (random_passage Z.RandomSource random.old random.new) (z.0 ++ z.1)) }
-    ensures calm { OnOk result (Z.random_faults random.new ≡ Z.random_faults random.old) }
+        (λ z. HasDrawn (random_call Z.RandomSource random.old random.new) (z.0 ++ z.1)) }
+    ensures no_new_fault { OnOk result (Z.random_faults random.new ≡ Z.random_faults random.old) }
     ensures first { IfOk result (λ z. AreRandomBytes (Some z.0)) }
     ensures second { IfOk result (λ z. AreRandomBytes (Some z.1)) }
     ensures refused { IfErr result
-        (DrawFails (random_passage Z.RandomSource random.old random.new)) }
+        (DrawFails (random_call Z.RandomSource random.old random.new)) }
     ensures given { HasGiven (Z.random_ahead random.old) (Z.random_ahead random.new) }
 {
     let first = draw(random)?;

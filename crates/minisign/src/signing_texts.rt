@@ -1,20 +1,20 @@
 //! Signing with the text of a secret key.
 
-ghost use Rattle.std.specs.Prelude.{◌≡◌, ℕ, false, List, None, string_bytes, IfOk, IfErr, OnOk, IfSome};
+ghost use Rattle.std.specs.Prelude.{◌≡◌, ℕ, false, List, None, Ok, string_bytes, IfOk, IfErr, OnOk, IfSome};
 ghost use Rattle.std.specs.Option.{option_map};
 ghost use Rattle.minisign_base.specs.Devices.{HasGiven};
-ghost use Rattle.minisign_base.specs.Passages.{prompt_passage, random_passage, source_passage};
+ghost use Rattle.minisign_base.specs.DeviceCalls.{prompt_call, random_call, source_call};
 ghost use Rattle.minisign.specs.Records.{SecretKeyRecord};
 ghost use Rattle.minisign.specs.Reading.{IsAhead, ReadsWhole};
 ghost use Rattle.minisign.specs.Sealing.{is_encrypted};
-ghost use Rattle.minisign.specs.Signing.{OpenedSigningFails, given_comments};
+ghost use Rattle.minisign.specs.Signing.{OpenedSigningFails, chosen_of, given_comments};
 ghost use Rattle.minisign.specs.Headline.{SigningHeadline};
 ghost use Rattle.minisign.specs.SecretKeyText.{SecretKeyText};
-ghost use Rattle.minisign.specs.SigningTexts.{GivesKey, IsGiving, IsKeyOf, IsSignedText, TextSigningFails};
+ghost use Rattle.minisign.specs.SigningTexts.{GivesKey, IsKeyOf, IsSignedText, TextSigningFails};
 
 use crate::constants::KDF_NONE;
 use crate::secret_key::SecretKey;
-use crate::signing::sign;
+use crate::signing::{GivenComments, sign};
 use minisign_base::Result;
 use minisign_base::devices::random_sources::RandomSource;
 use minisign_base::devices::sinks::Sink;
@@ -37,7 +37,6 @@ use std::alloc::Global;
 /// run out of memory at any time. A comment with a line feed, or a trusted one with white space at
 /// its ends, is written as it stands: the text need not verify then, or may read with another
 /// comment.
-#[tactic(auto, using(crate::proofs::GivenKeys::key_of_given))]
 pub fn sign_texts<S: Scheme, P: Source, Q: Sink, R: Source, Z: RandomSource>(
     alloc: Global,
     scheme: &S,
@@ -67,25 +66,25 @@ pub fn sign_texts<S: Scheme, P: Source, Q: Sink, R: Source, Z: RandomSource>(
     // with the prompt untouched, or a sealed one that opened; and the result is the text of the box
     // that signing makes with this key from all the data.
     ensures signed { IfOk result (λ t. (sk : SecretKeyRecord) × (message : List ℕ)
-        × GivesKey (prompt_passage P.Source Q.Sink prompt.old prompt.new)
-        (option_map string_bytes password) sk_text.now sk
+        × GivesKey (prompt_call P.Source Q.Sink prompt.old prompt.new)
+        (option_map string_bytes password) sk_text.now (Ok sk)
         × ReadsWhole R.Source data_reader.old data_reader.new message
         × IsSignedText (S.signature_of scheme.now) sk message
         (given_comments trusted_comment.entry untrusted_comment.entry moment)
-        (random_passage Z.RandomSource random.old random.new) (string_bytes t)) }
+        (random_call Z.RandomSource random.old random.new) (string_bytes t)) }
 
     // On success the random source did not fail.
-    ensures random_calm { OnOk result (Z.random_faults random.new ≡ Z.random_faults random.old) }
+    ensures random_no_new_fault { OnOk result (Z.random_faults random.new ≡ Z.random_faults random.old) }
 
     // A text that gives no key is refused with nothing read or drawn, by the first reason;
     // otherwise out of memory, a failing source with nothing drawn, or a failing random source once
-    // everything was read. The fault of a sealed key never comes (`GivesNoKey`,
+    // everything was read. The fault of a sealed key never comes (`GivesKey`,
     // `OpenedSigningFails`).
     ensures refused { IfErr result
-        (TextSigningFails (prompt_passage P.Source Q.Sink prompt.old prompt.new)
+        (TextSigningFails (prompt_call P.Source Q.Sink prompt.old prompt.new)
         (option_map string_bytes password) sk_text.now
-        (source_passage R.Source data_reader.old data_reader.new)
-        (random_passage Z.RandomSource random.old random.new)) }
+        (source_call R.Source data_reader.old data_reader.new)
+        (random_call Z.RandomSource random.old random.new)) }
 
     // A password that is passed in leaves the prompt untouched.
     ensures untouched { IfSome password (λ _. prompt.new ≡ prompt.old) }
@@ -95,16 +94,12 @@ pub fn sign_texts<S: Scheme, P: Source, Q: Sink, R: Source, Z: RandomSource>(
     ensures drawn { HasGiven (Z.random_ahead random.old) (Z.random_ahead random.new) }
 {
     let sk = key_of_text(alloc, sk_text, password, prompt)?;
-    sign_opened(
-        alloc,
-        scheme,
-        &sk,
-        data_reader,
-        trusted_comment,
-        untrusted_comment,
-        random,
+    let comments = GivenComments {
+        trusted: trusted_comment,
+        untrusted: untrusted_comment,
         moment,
-    )
+    };
+    sign_opened(alloc, scheme, &sk, data_reader, comments, random)
 }
 
 // Signs with an opened key, and writes the box.
@@ -113,23 +108,20 @@ pub(crate) fn sign_opened<S: Scheme, R: Source, Z: RandomSource>(
     scheme: &S,
     sk: &SecretKey,
     data_reader: &mut R,
-    trusted_comment: Option<&str>,
-    untrusted_comment: Option<&str>,
+    comments: GivenComments<'_>,
     random: &mut Z,
-    moment: u64,
 ) -> Result<String>
     requires { is_encrypted sk.now ≡ false }
     ensures signed { IfOk result
         (λ t. (message : List ℕ) × ReadsWhole R.Source data_reader.old data_reader.new message
-        × IsSignedText (S.signature_of scheme.now) sk.now message
-        (given_comments trusted_comment.entry untrusted_comment.entry moment)
-        (random_passage Z.RandomSource random.old random.new) (string_bytes t)
+        × IsSignedText (S.signature_of scheme.now) sk.now message (chosen_of comments.entry)
+        (random_call Z.RandomSource random.old random.new) (string_bytes t)
         × SigningHeadline (S.accepts scheme.now) (S.public_of scheme.now) sk.now message
-        (given_comments trusted_comment.entry untrusted_comment.entry moment) (string_bytes t)) }
-    ensures random_calm { OnOk result (Z.random_faults random.new ≡ Z.random_faults random.old) }
+        (chosen_of comments.entry) (string_bytes t)) }
+    ensures random_no_new_fault { OnOk result (Z.random_faults random.new ≡ Z.random_faults random.old) }
     ensures refused { IfErr result
-        (OpenedSigningFails (source_passage R.Source data_reader.old data_reader.new)
-        (random_passage Z.RandomSource random.old random.new)) }
+        (OpenedSigningFails (source_call R.Source data_reader.old data_reader.new)
+        (random_call Z.RandomSource random.old random.new)) }
     ensures given { HasGiven (R.ahead data_reader.old) (R.ahead data_reader.new) }
     ensures drawn { HasGiven (Z.random_ahead random.old) (Z.random_ahead random.new) }
 {
@@ -139,10 +131,10 @@ pub(crate) fn sign_opened<S: Scheme, R: Source, Z: RandomSource>(
         None,
         sk,
         data_reader,
-        trusted_comment,
-        untrusted_comment,
+        comments.trusted,
+        comments.untrusted,
         random,
-        moment,
+        comments.moment,
     )?;
     signature_box.to_string(alloc)
 }
@@ -155,7 +147,7 @@ fn key_of_text<P: Source, Q: Sink>(
     prompt: &mut Prompt<P, Q>,
 ) -> Result<SecretKey>
     ensures opened { IfOk result (λ v. is_encrypted v ≡ false) }
-    ensures gives { IsGiving (prompt_passage P.Source Q.Sink prompt.old prompt.new)
+    ensures gives { GivesKey (prompt_call P.Source Q.Sink prompt.old prompt.new)
         (option_map string_bytes password) text.now result }
     ensures untouched { IfSome password (λ _. prompt.new ≡ prompt.old) }
 {

@@ -1,15 +1,15 @@
 //! Whether a signature box vouches for data under a public key.
 
-ghost use Rattle.std.specs.Prelude.{◌≡◌, ℕ, Bool, List, true, false, ◌⊎◌, IfOk, IfErr, OnOk, OnErr};
-ghost use Rattle.minisign_base.specs.Devices.{Rose, HasGiven};
+ghost use Rattle.std.specs.Prelude.{◌≡◌, ℕ, Bool, List, true, false, ◌⊎◌, Ok, Err, IfOk, IfErr, OnOk, OnErr};
+ghost use Rattle.minisign_base.specs.Devices.{HasGiven};
 ghost use Rattle.minisign_base.specs.Fault.{Named};
-ghost use Rattle.minisign_base.specs.declared.faults.NamedFault.TheVariants.{OutOfMemory, ReadingFailed, WritingFailed};
-ghost use Rattle.minisign_base.specs.Passages.{Takes, TakesFront, rereader_passage, sink_passage};
-ghost use Rattle.minisign.specs.Reading.{IsReadFault};
+ghost use Rattle.minisign_base.specs.declared.faults.NamedFault.TheVariants.{GoingBackFailed, OutOfMemory};
+ghost use Rattle.minisign_base.specs.DeviceCalls.{IsWritingFault, Marks, Takes, TakesFront, rereader_call, sink_call, unused};
 ghost use Rattle.minisign.specs.Records.{PublicKeyRecord, SignatureBoxRecord};
 ghost use Rattle.minisign.specs.Acceptance.{Verifier, Vouches, Refuses, SameWhereVouched, first_refusal, status_lines};
 ghost use Rattle.minisign.specs.SignedData.{AreSigned, HoldsSigned};
-ghost use Rattle.minisign.specs.Verifying.{FirstPass, MarkFails, VerifyingFails, VerifyingSucceeds, is_reread, wanted_status};
+ghost use Rattle.minisign.specs.Stages.{StagesEnd, is_reread, reading};
+ghost use Rattle.minisign.specs.Verifying.{VerifyingFails, VerifyingSucceeds, wanted_status};
 
 use crate::comment_signature::accepts_comments;
 use crate::copying::copy_out;
@@ -57,67 +57,71 @@ pub fn verify<S: Scheme, R: Rereader, W: Sink, O: Sink>(
     // box is prehashed or legacy ones are allowed; the scheme accepts the signature for the Blake2b
     // digest (or the data of a legacy box); and the comment signature, if there is one, has at
     // least 64 bytes, of which the first 64 are accepted for the signature and the trusted comment.
-    // All the data was then read without a fault (`given`, `end`, `calm`); the mark stays, except
+    // All the data was then read without a fault (`given`, `end`, `no_new_fault`); the mark stays, except
     // for a prehashed box with `output`, whose data is marked (`mark`).
     //
     // On success the status got exactly its lines, or nothing with quiet, and was not flushed;
-    // neither the status nor the output failed (`said`, `status_calm`, `status_unflushed`,
-    // `out_calm`).
+    // neither the status nor the output failed (`said`, `status_no_new_fault`, `status_unflushed`,
+    // `out_no_new_fault`).
     //
     // On success with `output` the box vouches for what the output took, whatever a second reading
     // gave; the output took a list with the data's digest, or for a legacy box the data; and it is
-    // the data itself over a steady source that tells its bytes (`copied`: `HasCopy`, fields `all`,
+    // the data itself over a steady source whose bytes are known (`copied`: `HasCopy`, fields `all`,
     // `vouched`, `signed_same`, `legacy_same`, `steady_same`).
     //
     // On success with `output` for a prehashed box, the source was gone back to its mark and read
     // to its end again; what that gave is the copy, and it has the digest of the first reading. So
     // data that changed is refused exactly where the second digest is another one (`read_twice` of
-    // `HasCopy`, `changed` of `DataChanged`).
+    // `HasCopy`, `Compare` of `StageEnds`).
     //
-    // The copy is flushed on success, and on no refusal before the digests are compared: not where
-    // the second reading breaks off, and not where it gave other data (`flushed` of `HasCopy`;
-    // `unflushed` of `CopyBreaksOff` and `DataChanged`; `unchanged` of `FlushFails`).
+    // The copy is flushed on success, and on no refusal before the digests are compared (`flushed`
+    // of `HasCopy`; `unflushed` of `Copies`).
     ensures accepted { OnOk result (VerifyingSucceeds (S.accepts scheme.now) pk.now signature_box.now
         (record { quiet = quiet; output = output; legacy = allow_legacy })
-        (rereader_passage R.Source R.steady data_reader.old data_reader.new)
-        (sink_passage W.Sink status.old status.new) (sink_passage O.Sink out.old out.new)) }
+        (rereader_call R.Source R.steady data_reader.old data_reader.new)
+        (sink_call W.Sink status.old status.new) (sink_call O.Sink out.old out.new)) }
 
+    // Otherwise it failed at one of these stages, of which each one before was passed, and none
+    // behind it was begun (`StagesEnd`): the place is marked, for a prehashed box with `output`;
+    // the data is read to its end; the box is judged; its lines are reported, unless `quiet`; and
+    // with `output` the mark is gone back to, what is ahead then is copied, its digest is compared
+    // with that of the data, and the output is flushed; or for a legacy box the data is put out and
+    // flushed (`verifying`). A stage changes no device but its own (`StageEnds`).
+    //
     // A refusal of the box is the first condition that fails, and the box then does not vouch for
-    // the data; it comes only after all the data was read without a fault, and status and output
-    // are untouched (`RefusesBox`, `FirstPass`).
+    // the data, all of which was read without a fault; status and output are untouched (`Judge`).
     //
-    // `going back failed` at the mark comes only for a prehashed box with `output`, whose place
-    // could not be marked, so that none is; with nothing read, said or copied (`failed` of
-    // `BreaksOff`: `MarkFails`).
+    // `going back failed` comes only at the mark, with nothing read, or at the return, with nothing
+    // copied; the source's count of faults rose, and no place is marked (`Mark`, `Return`).
     //
-    // `reading failed` in the first reading comes only if the source's count of faults rose, and of
-    // data that is to be read again only with its place marked; with this fault and with out of
-    // memory, status and output are untouched; nothing is said of what going back would bring then
-    // (`failed`, `marked`, `unsaid` of `BreaksOff`).
+    // `reading failed` comes only if the source's count of faults rose at a read, which leaves the
+    // mark (`Read`, `Copy`). Nothing is said of what going back would bring then.
     //
     // `writing failed` of the status comes only if its count of faults rose, only for a box that
     // vouches, and never with quiet; the status then took a beginning of its lines, and the output
-    // is untouched (`StatusFails`).
+    // is untouched (`Report`).
     //
-    // The copying fails only for a box that vouches, once the status took its lines. For a legacy
-    // box: the output failed, and took a beginning of the data (`kept` of `OutputRefused`:
-    // `KeptFails`). For another: going back failed, so that no place is marked, with nothing copied
-    // (`ReturnFails`); or memory ran out, or the source failed at a read, which leaves its place
-    // marked, or the output failed, with a beginning copied of what the second reading gave
-    // (`CopyBreaksOff`); or all that it gave was copied and has a different digest from the data,
-    // `Data changed between verification and output` (`DataChanged`); or all of it was copied and
-    // the flush failed (`FlushFails`). What it gave is what the source tells of it.
+    // `writing failed` of the output comes only if its count of faults rose, once the status took
+    // its lines: with a beginning taken of what the second reading gave, or of the data of a legacy
+    // box; or at the flush, with all of it taken (`Copy`, `Put`, `Flush`).
     //
-    // With `output` of a prehashed box the source lost at most some bytes at its front until it
-    // goes back to the mark, and after that if it is steady (`left` of `SecondPass`, `kept_end` of
-    // `OutputRefused`).
+    // `Data changed between verification and output` comes only where all that the second reading
+    // gave was copied, and has a different digest from the data (`Compare`).
+    //
+    // Out of memory comes in the first reading, in judging or before the status took anything, with
+    // status and output untouched; or in the second reading, with a beginning copied of what that
+    // gave. What it gave is what is known of it.
+    //
+    // A reading takes at most some bytes off the front of what the source has ahead; going back
+    // puts those ahead that the mark keeps, which are what was ahead at first if it is steady
+    // (`Read`, `Copy`, `Return`, `Mark`).
     ensures refused { IfErr result (VerifyingFails (S.accepts scheme.now) pk.now signature_box.now
         (record { quiet = quiet; output = output; legacy = allow_legacy })
-        (rereader_passage R.Source R.steady data_reader.old data_reader.new)
-        (sink_passage W.Sink status.old status.new) (sink_passage O.Sink out.old out.new)) }
+        (rereader_call R.Source R.steady data_reader.old data_reader.new)
+        (sink_call W.Sink status.old status.new) (sink_call O.Sink out.old out.new)) }
 
     // After a refusal the status took a beginning of the lines of the box.
-    ensures said_front { OnErr result (TakesFront (sink_passage W.Sink status.old status.new) (wanted_status quiet signature_box.now)) }
+    ensures said_front { OnErr result (TakesFront (sink_call W.Sink status.old status.new) (wanted_status quiet signature_box.now)) }
 
     // Whatever the result, but for `output` of a prehashed box, the source lost at most some bytes
     // at its front.
@@ -162,25 +166,31 @@ fn read_data<R: Rereader>(
     allow_legacy: bool,
 ) -> Result<SignedData>
     ensures held { IfOk result (λ d. (message : List ℕ) × HoldsSigned d signature_box.now allow_legacy message
-        × FirstPass (is_reread output signature_box.now) (rereader_passage R.Source R.steady data_reader.old data_reader.new) message) }
-    ensures refused { IfErr result (λ e.
-        MarkFails (is_reread output signature_box.now) (rereader_passage R.Source R.steady data_reader.old data_reader.new) e
-        ⊎ IsReadFault R.Source data_reader.old data_reader.new e) }
-    ensures read_marked { IfErr result (λ e. is_reread output signature_box.now ≡ true → e ≡ Named ReadingFailed → R.is_marked data_reader.new ≡ true) }
+        × StagesEnd (rereader_call R.Source R.steady data_reader.old data_reader.new) unused unused
+        (reading (is_reread output signature_box.now) message) (Ok tt)) }
+    ensures refused { IfErr result (λ e. (message : List ℕ)
+        × StagesEnd (rereader_call R.Source R.steady data_reader.old data_reader.new) unused unused
+        (reading (is_reread output signature_box.now) message) (Err e)) }
     ensures given { HasGiven (R.ahead data_reader.old) (R.ahead data_reader.new) }
 {
-    mark_place(data_reader, output && signature_box.is_prehashed())?;
+    mark_place(data_reader, reads_again(signature_box, output))?;
     read_signed_data(alloc, signature_box, data_reader, allow_legacy)
+}
+
+// Whether the data will be read again: where it is copied out, and only its digest is held.
+fn reads_again(signature_box: &SignatureBox, output: bool) -> bool
+    ensures { result ≡ is_reread output signature_box.now }
+{
+    output && signature_box.is_prehashed()
 }
 
 // Remembers the place where that is wanted.
 fn mark_place<R: Rereader>(data_reader: &mut R, again: bool) -> Result<()>
     ensures ahead { OnOk result (R.ahead data_reader.new ≡ R.ahead data_reader.old) }
-    ensures calm { OnOk result (R.faults data_reader.new ≡ R.faults data_reader.old) }
     ensures unmarked { again ≡ false → data_reader.new ≡ data_reader.old }
-    ensures marked { again ≡ true → R.steady data_reader.old → OnOk result (R.behind data_reader.new ≡ R.ahead data_reader.old) }
-    ensures is_marked { again ≡ true → OnOk result (R.is_marked data_reader.new ≡ true) }
-    ensures refused { IfErr result (MarkFails again (rereader_passage R.Source R.steady data_reader.old data_reader.new)) }
+    ensures marked { again ≡ true → OnOk result (Marks (rereader_call R.Source R.steady data_reader.old data_reader.new) (Ok tt)) }
+    ensures refused { IfErr result (λ e. (again ≡ true) × (e ≡ Named GoingBackFailed)
+        × Marks (rereader_call R.Source R.steady data_reader.old data_reader.new) (Err tt)) }
 {
     if !again {
         return Ok(());
@@ -234,13 +244,13 @@ fn say<W: Sink>(
     signature_box: &SignatureBox,
     quiet: bool,
 ) -> Result<()>
-    ensures said { OnOk result (Takes (sink_passage W.Sink status.old status.new) (wanted_status quiet signature_box.now)) }
-    ensures calm { OnOk result (W.sink_faults status.new ≡ W.sink_faults status.old) }
+    ensures said { OnOk result (Takes (sink_call W.Sink status.old status.new) (wanted_status quiet signature_box.now)) }
+    ensures no_new_fault { OnOk result (W.sink_faults status.new ≡ W.sink_faults status.old) }
     ensures quiet { quiet ≡ true → status.new ≡ status.old }
-    ensures refused { IfErr result (λ e. ((e ≡ Named OutOfMemory) × (status.new ≡ status.old))
-        ⊎ ((e ≡ Named WritingFailed) × (quiet ≡ false) × Rose (W.sink_faults status.old) (W.sink_faults status.new))) }
+    ensures refused { IfErr result (λ e. (quiet ≡ false) × (((e ≡ Named OutOfMemory) × (status.new ≡ status.old))
+        ⊎ IsWritingFault (sink_call W.Sink status.old status.new) e)) }
     ensures unflushed { W.flushed status.new ≡ W.flushed status.old }
-    ensures front { OnErr result (TakesFront (sink_passage W.Sink status.old status.new) (wanted_status quiet signature_box.now)) }
+    ensures front { OnErr result (TakesFront (sink_call W.Sink status.old status.new) (wanted_status quiet signature_box.now)) }
 {
     if quiet {
         return Ok(());
@@ -251,12 +261,12 @@ fn say<W: Sink>(
 // Writes what is said of a box that was accepted, in one write.
 #[tactic(auto, unfolding(crate::specs::Acceptance::verified_text, crate::specs::Acceptance::trusted_comment_text))]
 fn say_lines<W: Sink>(alloc: Global, status: &mut W, signature_box: &SignatureBox) -> Result<()>
-    ensures said { OnOk result (Takes (sink_passage W.Sink status.old status.new) (status_lines signature_box.now)) }
-    ensures calm { OnOk result (W.sink_faults status.new ≡ W.sink_faults status.old) }
+    ensures said { OnOk result (Takes (sink_call W.Sink status.old status.new) (status_lines signature_box.now)) }
+    ensures no_new_fault { OnOk result (W.sink_faults status.new ≡ W.sink_faults status.old) }
     ensures refused { IfErr result (λ e. ((e ≡ Named OutOfMemory) × (status.new ≡ status.old))
-        ⊎ ((e ≡ Named WritingFailed) × Rose (W.sink_faults status.old) (W.sink_faults status.new))) }
+        ⊎ IsWritingFault (sink_call W.Sink status.old status.new) e) }
     ensures unflushed { W.flushed status.new ≡ W.flushed status.old }
-    ensures front { OnErr result (TakesFront (sink_passage W.Sink status.old status.new) (status_lines signature_box.now)) }
+    ensures front { OnErr result (TakesFront (sink_call W.Sink status.old status.new) (status_lines signature_box.now)) }
 {
     match &signature_box.comments {
         Some(comments) => put_line(

@@ -2,7 +2,7 @@
 
 ghost use Rattle.std.specs.Prelude.{◌≡◌, ◌⊎◌, true, false, IfOk, IfErr, OnOk, OnErr};
 ghost use Rattle.minisign_base.specs.Devices.{HasGiven};
-ghost use Rattle.minisign_base.specs.Passages.{TakesFront, rereader_passage, sink_passage};
+ghost use Rattle.minisign_base.specs.DeviceCalls.{TakesFront, rereader_call, sink_call};
 ghost use Rattle.minisign.specs.Records.{PublicKeyRecord, SignatureBoxRecord};
 ghost use Rattle.minisign.specs.Verifying.{wanted_status};
 ghost use Rattle.minisign.specs.VerifyingTexts.{ReadTexts, TextsFail, VerifyingTextsFails, VerifyingTextsSucceeds};
@@ -37,25 +37,25 @@ pub fn verify_texts<S: Scheme, R: Rereader, W: Sink, O: Sink>(
     status: &mut W,
     out: &mut O,
 ) -> Result<()>
-    // The headline's first part: over data that is told, where memory is found and no device fails,
+    // The headline's first part: over data that is known, where memory is found and no device fails,
     // and over a steady source where the data is copied, success exactly where the texts vouch for
     // the data, and otherwise the first failing case.
     ensures headline { VerifiesExactly (S.accepts scheme.now) pk_text.now sig_text.now
         (record { quiet = quiet; output = output; legacy = allow_legacy })
-        (rereader_passage R.Source R.steady data_reader.old data_reader.new)
-        (sink_passage W.Sink status.old status.new) (sink_passage O.Sink out.old out.new) result }
+        (rereader_call R.Source R.steady data_reader.old data_reader.new)
+        (sink_call W.Sink status.old status.new) (sink_call O.Sink out.old out.new) result }
 
     // On success both texts were read by the grammar, as a key and a box for which everything holds
     // that `verify` promises on success.
     ensures accepted { OnOk result (VerifyingTextsSucceeds (S.accepts scheme.now) pk_text.now sig_text.now
         (record { quiet = quiet; output = output; legacy = allow_legacy })
-        (rereader_passage R.Source R.steady data_reader.old data_reader.new)
-        (sink_passage W.Sink status.old status.new) (sink_passage O.Sink out.old out.new)) }
+        (rereader_call R.Source R.steady data_reader.old data_reader.new)
+        (sink_call W.Sink status.old status.new) (sink_call O.Sink out.old out.new)) }
 
     // On success with `output` the two texts vouch for what the output took, whatever a second
     // reading gave.
     ensures vouched { output ≡ true → OnOk result (CopyIsVouchedFor (S.accepts scheme.now) pk_text.now sig_text.now allow_legacy
-        (sink_passage O.Sink out.old out.new)) }
+        (sink_call O.Sink out.old out.new)) }
 
     // A refusal of the public key text comes before one of the signature text, and both come before
     // anything is read, said or copied; so does running out of memory for them (`StopsAtTexts`).
@@ -64,13 +64,13 @@ pub fn verify_texts<S: Scheme, R: Rereader, W: Sink, O: Sink>(
     // (`VerifyingFails`).
     ensures refused { IfErr result (VerifyingTextsFails (S.accepts scheme.now) pk_text.now sig_text.now
         (record { quiet = quiet; output = output; legacy = allow_legacy })
-        (rereader_passage R.Source R.steady data_reader.old data_reader.new)
-        (sink_passage W.Sink status.old status.new) (sink_passage O.Sink out.old out.new)) }
+        (rereader_call R.Source R.steady data_reader.old data_reader.new)
+        (sink_call W.Sink status.old status.new) (sink_call O.Sink out.old out.new)) }
 
     // After a refusal the status is untouched, or took a beginning of the lines of the box.
     ensures said_front { OnErr result ((status.new ≡ status.old) ⊎ ((key : PublicKeyRecord) × (box : SignatureBoxRecord)
         × ReadTexts pk_text.now sig_text.now key box
-        × TakesFront (sink_passage W.Sink status.old status.new) (wanted_status quiet box))) }
+        × TakesFront (sink_call W.Sink status.old status.new) (wanted_status quiet box))) }
 
     // Without `output` the source lost at most some bytes at its front.
     ensures given { output ≡ false → HasGiven (R.ahead data_reader.old) (R.ahead data_reader.new) }

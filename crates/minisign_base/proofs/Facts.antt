@@ -7,7 +7,7 @@ use Rattle.minisign_base.specs.Identifiers.{identifier_text}
 use Rattle.minisign_base.specs.Fault.{Named}
 use Rattle.minisign_base.specs.declared.faults.NamedFault.TheVariants.{EndOfInput, InvalidParameters, NotUtf8, ParametersTooHigh, PasswordTooLong}
 use Rattle.minisign_base.specs.Limits.{cost_log2, limits, sealing_limits}
-use Rattle.minisign_base.specs.Prompts.{accepted_line, first_line, password_of, read_count}
+use Rattle.minisign_base.specs.Passwords.{accepted_line, first_line, password_of, read_count}
 
 -- the identifier of the bytes 1 to 8
 pub identifier_of_counted_bytes : identifier_text (1 ∷ 2 ∷ 3 ∷ 4 ∷ 5 ∷ 6 ∷ 7 ∷ 8 ∷ []) ≡ codes "0807060504030201"

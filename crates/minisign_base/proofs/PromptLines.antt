@@ -9,10 +9,11 @@ use Rattle.std.specs.Str.{is_utf8}
 use Rattle.std.specs.Str.Lines.{strip_carriage_return}
 use Rattle.minisign_base.specs.Fault.{Named}
 use Rattle.minisign_base.specs.declared.faults.NamedFault.TheVariants.{EndOfInput, NotUtf8, PasswordTooLong}
-use Rattle.minisign_base.specs.Passages.{SourcePassage}
-use Rattle.minisign_base.specs.Prompts.{HasReadLine, accepted_line, first_line, line_length, password_of, read_count}
+use Rattle.minisign_base.specs.DeviceCalls.{SourceCall}
+use Rattle.minisign_base.specs.Prompts.{HasReadLine}
+use Rattle.minisign_base.specs.Passwords.{accepted_line, first_line, line_length, password_of, read_count}
 
--- what a reader that tells its bytes had is what was read and what is left
+-- what a reader whose bytes are known had is what was read and what is left
 pub told : (a b : Option (List ℕ)) (done : List ℕ) → Consumes a b done
     → (rest : List ℕ) × IfSome a (λ xs. xs ≡ done ++ rest) × IfSome a (λ _. b ≡ Some rest)
 told None b done c = ([], tt, tt)
@@ -67,27 +68,27 @@ password_of-long done rest e long =
     rw (ne_eqb (length bytes) 0 (λ z. omega (arith, whole)), lt-ltb 1025 (line_length bytes) (omega (arith, line))) refl
 
 -- what was read is all that is read for a line
-pub read_front : {R : Type 0} (r : SourcePassage R) (done rest : List ℕ)
+pub read_front : {R : Type 0} (r : SourceCall R) (done rest : List ℕ)
     → IfSome (r.source.ahead r.old) (λ xs. xs ≡ done ++ rest) → IfSome (r.source.ahead r.old) (λ _. r.source.ahead r.new ≡ Some rest)
     → length done ≡ read_count (done ++ rest) → r.source.left r.new + length done ≡ r.source.left r.old → r.source.faults r.new ≡ r.source.faults r.old
     → HasReadLine r (done ++ rest)
-read_front r done rest ahead unread count left calm = record {
+read_front r done rest ahead unread count left no_new_fault = record {
   ahead = ahead;
   unread = subst (λ (l : List ℕ). IfSome (r.source.ahead r.old) (λ _. r.source.ahead r.new ≡ Some l)) (sym (drop_at done rest (read_count (done ++ rest)) count)) unread;
   left = ap (λ (l : List ℕ). r.source.left r.new + length l) (take_at done rest (read_count (done ++ rest)) count) ∙ left;
-  calm = calm;
+  no_new_fault = no_new_fault;
 }
 
 -- the end came before
-pub read_whole : {R : Type 0} (r : SourcePassage R) (done : List ℕ)
+pub read_whole : {R : Type 0} (r : SourceCall R) (done : List ℕ)
     → IfSome (r.source.ahead r.old) (λ xs. xs ≡ done) → IfSome (r.source.ahead r.old) (λ _. r.source.ahead r.new ≡ Some [])
     → length done ≤ read_count done → r.source.left r.new + length done ≡ r.source.left r.old → r.source.faults r.new ≡ r.source.faults r.old
     → HasReadLine r done
-read_whole r done ahead unread count left calm = record {
+read_whole r done ahead unread count left no_new_fault = record {
   ahead = ahead;
   unread = subst (λ (l : List ℕ). IfSome (r.source.ahead r.old) (λ _. r.source.ahead r.new ≡ Some l)) (sym (drop_all (read_count done) done count)) unread;
   left = ap (λ (l : List ℕ). r.source.left r.new + length l) (take_all (read_count done) done count) ∙ left;
-  calm = calm;
+  no_new_fault = no_new_fault;
 }
 
 pub password_of-nothing : password_of [] ≡ Err (Named EndOfInput)

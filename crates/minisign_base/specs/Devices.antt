@@ -1,4 +1,4 @@
--- What calls on a device do to the bytes that it tells and to its count of faults. Each kind of call has a
+-- What calls on a device do to what is known of its bytes and to its count of faults. Each kind of call has a
 -- record over the members of the device's trait, the device at the call (old) and at the return (new), and
 -- the answer.
 use Rattle.std.specs.Prelude.{◌≡◌, ℕ, ◌+◌, ◌-◌, ◌^◌, ◌<◌, ◌≤◌, min, Bool, true, false, List, [], ◌++◌, length, take, Option, Some, IfSome, Result, IsErr, IfOk, OnOk, OnErr}
@@ -12,15 +12,15 @@ most_faults = 2 ^ 64 - 1
 abbrev pub Rose : ℕ → ℕ → Type 0
 Rose old new = min (old + 1) most_faults ≤ new
 
--- the list stays, or is told no more
+-- the list stays, or is known no more
 abbrev pub StaysOrHides : Option (List ℕ) → Option (List ℕ) → Type 0
 StaysOrHides old new = IfSome new (λ ys. old ≡ Some ys)
 
--- what is told began anew: nothing
+-- what is known began anew: nothing
 abbrev pub BeginsAnew : Option (List ℕ) → Type 0
 BeginsAnew new = IfSome new (λ ys. ys ≡ [])
 
--- what is still told lost some bytes at its front
+-- what is still known lost some bytes at its front
 abbrev pub HasGiven : Option (List ℕ) → Option (List ℕ) → Type 0
 HasGiven old new = IfSome new (λ ys. IfSome old (λ xs. (front : List ℕ) × (xs ≡ front ++ ys)))
 
@@ -28,7 +28,7 @@ HasGiven old new = IfSome new (λ ys. IfSome old (λ xs. (front : List ℕ) × (
 abbrev pub AppendsFront : Option (List ℕ) → Option (List ℕ) → List ℕ → Type 0
 AppendsFront old new bs = (n : ℕ) × IfSome old (λ xs. new ≡ Some (xs ++ take n bs))
 
--- all that was taken was flushed; of a sink that does not tell what was flushed, nothing is said
+-- all that was taken was flushed; where it is not known what was flushed, nothing is said
 abbrev pub AllFlushed : Option (List ℕ) → Option (List ℕ) → Type 0
 AllFlushed flushed taken = IfSome flushed (λ xs. taken ≡ Some xs)
 
@@ -40,7 +40,7 @@ pub record HasRead {S E : Type 0} (ahead_of behind_of since_of : S → Option (L
   pub bytes : IfOk answer (λ n. Consumes (ahead_of old) (ahead_of new) (take n buffer))
   pub end : IfOk answer (λ n. n ≡ 0 → 0 < length buffer → IsAtEnd (ahead_of new))
   pub left : IfOk answer (λ n. left_of new + n ≡ left_of old)
-  pub calm : OnOk answer (faults_of new ≡ faults_of old)
+  pub no_new_fault : OnOk answer (faults_of new ≡ faults_of old)
   pub mark : OnOk answer (behind_of new ≡ behind_of old)
   pub fault : OnErr answer (Rose (faults_of old) (faults_of new))
   pub kept : OnErr answer (StaysOrHides (ahead_of old) (ahead_of new))
@@ -55,7 +55,7 @@ pub record HasMarked {S A E : Type 0} (steady_of : S → Type 0) (ahead_of behin
     (old new : S) (answer : Result A E) : Type 0 where
   pub bytes : OnOk answer (ahead_of new ≡ ahead_of old)
   pub mark : steady_of old → OnOk answer (behind_of new ≡ ahead_of old)
-  pub calm : OnOk answer (faults_of new ≡ faults_of old)
+  pub no_new_fault : OnOk answer (faults_of new ≡ faults_of old)
   pub fault : OnErr answer (Rose (faults_of old) (faults_of new))
   pub kept : OnErr answer (StaysOrHides (ahead_of old) (ahead_of new))
   pub marked : OnOk answer (is_marked_of new ≡ true)
@@ -69,7 +69,7 @@ pub record HasGoneBack {S A E : Type 0} (ahead_of behind_of since_of : S → Opt
   pub needs_mark : is_marked_of old ≡ false → IsErr answer
   pub bytes : OnOk answer (IfSome (behind_of old) (λ xs. ahead_of new ≡ Some xs))
   pub mark : OnOk answer (behind_of new ≡ behind_of old)
-  pub calm : OnOk answer (faults_of new ≡ faults_of old)
+  pub no_new_fault : OnOk answer (faults_of new ≡ faults_of old)
   pub fault : OnErr answer (Rose (faults_of old) (faults_of new))
   pub marked : OnOk answer (is_marked_of new ≡ true)
   pub unmarked : OnErr answer (is_marked_of new ≡ false)
@@ -79,7 +79,7 @@ pub record HasGoneBack {S A E : Type 0} (ahead_of behind_of since_of : S → Opt
 pub record HasFilled {S A E : Type 0} (ahead_of : S → Option (List ℕ)) (faults_of : S → ℕ)
     (old new : S) (buffer : List ℕ) (answer : Result A E) : Type 0 where
   pub bytes : OnOk answer (Consumes (ahead_of old) (ahead_of new) buffer)
-  pub calm : OnOk answer (faults_of new ≡ faults_of old)
+  pub no_new_fault : OnOk answer (faults_of new ≡ faults_of old)
   pub fault : OnErr answer (Rose (faults_of old) (faults_of new))
   pub given : OnErr answer (HasGiven (ahead_of old) (ahead_of new))
 
@@ -89,16 +89,16 @@ pub record HasWritten {S E : Type 0} (taken_of flushed_of : S → Option (List �
   pub bound : IfOk answer (λ n. n ≤ length due)
   pub some : IfOk answer (λ n. 0 < length due → 0 < n)
   pub bytes : IfOk answer (λ n. Appends (taken_of old) (taken_of new) (take n due))
-  pub calm : OnOk answer (faults_of new ≡ faults_of old)
+  pub no_new_fault : OnOk answer (faults_of new ≡ faults_of old)
   pub fault : OnErr answer (Rose (faults_of old) (faults_of new))
   pub kept : OnErr answer (Keeps (taken_of old) (taken_of new))
   pub unflushed : flushed_of new ≡ flushed_of old
 
--- nothing was taken, and all that was taken before was flushed; at a fault what was flushed stays, or is told no more
+-- nothing was taken, and all that was taken before was flushed; at a fault what was flushed stays, or is known no more
 pub record HasFlushed {S A E : Type 0} (taken_of flushed_of : S → Option (List ℕ)) (faults_of : S → ℕ)
     (old new : S) (answer : Result A E) : Type 0 where
   pub bytes : Keeps (taken_of old) (taken_of new)
   pub all : OnOk answer (AllFlushed (flushed_of new) (taken_of new))
   pub err_flushed : OnErr answer (StaysOrHides (flushed_of old) (flushed_of new))
-  pub calm : OnOk answer (faults_of new ≡ faults_of old)
+  pub no_new_fault : OnOk answer (faults_of new ≡ faults_of old)
   pub fault : OnErr answer (Rose (faults_of old) (faults_of new))

@@ -1,12 +1,13 @@
 pub mod Decoding
 pub mod Derivation
+pub mod DeviceCalls
 pub mod Devices
 pub mod Fault
 pub mod Faults
 pub mod Identifiers
 pub mod Limits
 pub mod Members
-pub mod Passages
+pub mod Passwords
 pub mod PromptLaws
 pub mod Prompts
 pub mod Scheme

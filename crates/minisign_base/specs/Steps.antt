@@ -1,14 +1,25 @@
--- How far a call came that does one thing after another. What its steps are is up to the call: Done says of a step
--- what became of the devices (old at its begin, new at its end) where it was done, and Stops where it was not.
-use Rattle.std.specs.Prelude.{◌≡◌, ◌⊎◌, List, [], ◌∷◌}
+-- How far a call came that does one thing after another, and how it ended. What its steps are is up to the call: Ends
+-- says of a step what became of the devices (old at its begin, new at its end) and how it ended, with Ok where it was
+-- done, and otherwise with the fault for which the call ended.
+use Rattle.std.specs.Prelude.{◌≡◌, ◌⊎◌, ⊤, List, [], ◌∷◌, Result, Ok, Err, MatchResult}
+use Rattle.minisign_base.specs.Fault.{Fault, Named}
+use Rattle.minisign_base.specs.declared.faults.NamedFault.{NamedFault}
 
--- all steps were done, one after another
-abbrev pub AllDone : {Step D : Type 0} → (Step → D → D → Type 0) → List Step → D → D → Type 0
-AllDone Done [] old new = new ≡ old
-AllDone {D = D} Done (step ∷ later) old new = (between : D) × Done step old between × AllDone Done later between new
+-- how these steps end: all were done, one after another; or one was not, where each before it was done, and none behind
+-- it was begun
+abbrev pub StepsEnd : {Step D E : Type 0} → (Step → D → D → Result ⊤ E → Type 0) → List Step → D → D → Result ⊤ E → Type 0
+StepsEnd Ends [] old new (Ok _) = new ≡ old
+StepsEnd Ends [] old new (Err e) = ⊥
+StepsEnd {D = D} Ends (step ∷ later) old new (Ok _) =
+    (between : D) × Ends step old between (Ok tt) × StepsEnd Ends later between new (Ok tt)
+StepsEnd {D = D} Ends (step ∷ later) old new (Err e) =
+    Ends step old new (Err e) ⊎ ((between : D) × Ends step old between (Ok tt) × StepsEnd Ends later between new (Err e))
 
--- the call stopped at one of its steps: each step before it was done, and what comes later was not begun
-abbrev pub StopsAtOne : {Step D : Type 0} → (Step → D → D → Type 0) → (Step → D → D → Type 0) → List Step → D → D → Type 0
-StopsAtOne Done Stops [] old new = ⊥
-StopsAtOne {D = D} Done Stops (step ∷ later) old new =
-    Stops step old new ⊎ ((between : D) × Done step old between × StopsAtOne Done Stops later between new)
+-- an end that has one fault: what is so where all went well, that fault, and what is so with it
+abbrev pub EndsWith : Type 0 → NamedFault → Type 0 → Result ⊤ Fault → Type 0
+EndsWith Done fault Failed answer = MatchResult answer (λ _. Done) (λ e. (e ≡ Named fault) × Failed)
+
+-- how a call ended, without what it made
+abbrev pub without_value : {T E : Type 0} → Result T E → Result ⊤ E
+without_value (Ok _) = Ok tt
+without_value (Err e) = Err e

@@ -1,5 +1,5 @@
-//! The devices that bytes come from and go to. A contract sees of each the bytes, where it tells
-//! them, and a count of its faults, which stays at its greatest value once it is there.
+//! The devices that bytes come from and go to. A contract sees of each the bytes, where they are
+//! known, and a count of its faults, which stays at its greatest value once it is there.
 
 pub mod random_sources;
 pub mod sinks;

@@ -7,8 +7,9 @@ ghost use Rattle.std.specs.Time.{system_time_nanos};
 ghost use Rattle.minisign_base.specs.Fault.{Named};
 ghost use Rattle.minisign_base.specs.declared.faults.NamedFault.TheVariants.{ClockIncorrect, OutOfMemory};
 ghost use Rattle.minisign_base.specs.Limits.{IsCostLog2, cost_log2, greatest_cost, limits, numbers, parallelization};
-ghost use Rattle.minisign_base.specs.Passages.{prompt_passage};
-ghost use Rattle.minisign_base.specs.Prompts.{HasHeld, HasStopped, asking, password_of};
+ghost use Rattle.minisign_base.specs.DeviceCalls.{prompt_call};
+ghost use Rattle.minisign_base.specs.Prompts.{ConversationEnds, asking};
+ghost use Rattle.minisign_base.specs.Passwords.{password_of};
 
 use crate::devices::sinks::Sink;
 use crate::devices::sources::Source;
@@ -86,19 +87,20 @@ pub fn get_password<R: Source, W: Sink>(
     text: &str,
 ) -> Result<String>
     // The password is the one in the first line of the bytes ahead, by its definition
-    // (`specs/Prompts`); the text was written and then, if the password is empty, the mark of an
+    // (`specs/Passwords`); the text was written and then, if the password is empty, the mark of an
     // empty one, and all of it was flushed; no more than the line was read, and no fault came.
     ensures asked { IfOk result (λ password. (bytes : List ℕ)
         × (password_of bytes ≡ Ok (string_bytes password))
-        × HasHeld (prompt_passage R.Source W.Sink prompt.old prompt.new) (asking text.now bytes)) }
+        × ConversationEnds (prompt_call R.Source W.Sink prompt.old prompt.new)
+        (asking text.now bytes) (Ok tt)) }
 
     // Otherwise it stopped at the first of these steps that was not done: memory ran out, with
     // nothing written or read; or the writer failed before anything was read; or the reader failed
     // inside the line, once the text was flushed; or these bytes hold no password, with the fault
     // of the line; or the writer failed at the mark.
     ensures refused { IfErr result (λ e. (bytes : List ℕ)
-        × HasStopped (prompt_passage R.Source W.Sink prompt.old prompt.new)
-        (asking text.now bytes) e) }
+        × ConversationEnds (prompt_call R.Source W.Sink prompt.old prompt.new)
+        (asking text.now bytes) (Err e)) }
 {
     let line = line_buffer(alloc)?;
     prompt.say(text)?;

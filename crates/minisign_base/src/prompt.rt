@@ -4,10 +4,11 @@ ghost use Rattle.std.specs.Prelude.{◌≡◌, ◌⊎◌, ℕ, ◌+◌, ◌≤�
 ghost use Rattle.std.specs.Io.KnownBytes.{Consumes, IsAtEnd};
 ghost use Rattle.std.specs.Str.Lines.{strip_carriage_return};
 ghost use Rattle.minisign_base.specs.Devices.{Rose, StaysOrHides};
-ghost use Rattle.minisign_base.specs.Passages.{prompt_passage, source_passage};
+ghost use Rattle.minisign_base.specs.DeviceCalls.{FailsAtPart, TakesPart, prompt_call, sink_call, source_call};
 ghost use Rattle.minisign_base.specs.Fault.{Named};
 ghost use Rattle.minisign_base.specs.declared.faults.NamedFault.TheVariants.{EndOfInput, ReadingFailed, WritingFailed};
-ghost use Rattle.minisign_base.specs.Prompts.{HasFailedInLine, HasHeld, HasNotSaid, HasReadLine, HasSaid, HasStopped, IsReadingLine, accepted_line, marking, password_of};
+ghost use Rattle.minisign_base.specs.Prompts.{ConversationEnds, HasFailedInLine, HasReadLine, Say, StepEnds, marking};
+ghost use Rattle.minisign_base.specs.Passwords.{accepted_line, password_of};
 
 use crate::devices::sinks::{NoSink, Sink, put_and_flush};
 use crate::devices::sources::{NoSource, Source};
@@ -50,26 +51,20 @@ impl<R: Source, W: Sink> Prompt<R, W> {
     /// Writes a text and flushes it. After a fault the writer took a beginning of the text. Takes
     /// no memory, and leaves the reader alone.
     pub fn say(&mut self, text: &str) -> Result<()>
-        // The text is written and flushed, and the reader left alone.
-        ensures said { OnOk result
-            (HasSaid (prompt_passage R.Source W.Sink self.old self.new) text.now) }
-
-        // Otherwise a beginning of the text is written, and the only fault is `writing failed`; the
-        // reader is left alone.
-        ensures refused { IfErr result (λ e. (e ≡ Named WritingFailed)
-            × HasNotSaid (prompt_passage R.Source W.Sink self.old self.new) text.now) }
+        // The text is written and flushed, or a beginning of it is written, and the only fault is
+        // `writing failed`; the reader is left alone (`StepEnds`).
+        ensures ended { StepEnds (prompt_call R.Source W.Sink self.old self.new) (Say text.now) result }
     {
-        put_and_flush(&mut self.writer, text.as_bytes()).map_err(
-            |_| NamedFault::WritingFailed.into(),
-        )
+        match put_text(&mut self.writer, text) {
+            Ok(()) => Ok(()),
+            Err(fault) => Err(fault),
+        }
     }
 
     // Where the password is empty, shows that.
     pub(crate) fn mark_empty(&mut self, password: &str) -> Result<()>
-        ensures marked { OnOk result (HasHeld (prompt_passage R.Source W.Sink self.old self.new)
-            (marking password.now)) }
-        ensures refused { IfErr result
-            (HasStopped (prompt_passage R.Source W.Sink self.old self.new) (marking password.now)) }
+        ensures ended { ConversationEnds (prompt_call R.Source W.Sink self.old self.new)
+            (marking password.now) result }
     {
         if !password.is_empty() {
             return Ok(());
@@ -82,13 +77,13 @@ impl<R: Source, W: Sink> Prompt<R, W> {
         requires { length line.items ≡ 1026 }
         ensures writer { self.new.writer ≡ self.old.writer }
         ensures password { IfOk result (λ password. (bytes : List ℕ)
-            × HasReadLine (source_passage R.Source self.old.reader self.new.reader) bytes
+            × HasReadLine (source_call R.Source self.old.reader self.new.reader) bytes
             × (password_of bytes ≡ Ok (string_bytes password))) }
         ensures refused { IfErr result (λ e.
             ((e ≡ Named ReadingFailed)
-            × HasFailedInLine (source_passage R.Source self.old.reader self.new.reader))
+            × HasFailedInLine (source_call R.Source self.old.reader self.new.reader))
             ⊎ ((bytes : List ℕ)
-            × HasReadLine (source_passage R.Source self.old.reader self.new.reader) bytes
+            × HasReadLine (source_call R.Source self.old.reader self.new.reader) bytes
             × (password_of bytes ≡ Err e))) }
     {
         let mut line = line;
@@ -105,18 +100,35 @@ impl Prompt<NoSource, NoSink> {
         // No line that a silent prompt reads is a password: its input ends at once, and that is the
         // fault.
         ensures { (old new : Prompt NoSource NoSink) (bytes : List ℕ)
-            → HasReadLine (source_passage ⟦<NoSource as Source>⟧ old.reader new.reader) bytes
+            → HasReadLine (source_call ⟦<NoSource as Source>⟧ old.reader new.reader) bytes
             → password_of bytes ≡ Err (Named EndOfInput) }
     {
         Prompt::new(NoSource, NoSink)
     }
 }
 
+// Writes a text and flushes it.
+fn put_text<W: Sink>(writer: &mut W, text: &str) -> Result<()>
+    ensures taken { OnOk result (TakesPart (sink_call W.Sink writer.old writer.new) text.now) }
+    ensures failed { IfErr result (λ e. (e ≡ Named WritingFailed)
+        × FailsAtPart (sink_call W.Sink writer.old writer.new) text.now) }
+{
+    put_and_flush(writer, text.as_bytes()).map_err(|_| NamedFault::WritingFailed.into())
+}
+
 // Moves a line into the buffer and returns how long it is: the line feed and one carriage return
 // before it are no part of it. No more than 1026 bytes are read, one at a time.
 fn read_line<R: Source>(source: &mut R, line: &mut [u8]) -> Result<usize>
     requires { length line.old ≡ 1026 }
-    ensures outcome { IsReadingLine (source_passage R.Source source.old source.new) line.new result }
+    ensures outcome { MatchResult result
+        (λ n. (bytes : List ℕ)
+        × HasReadLine (source_call R.Source source.old source.new) bytes
+        × (n ≤ length line.new) × (password_of bytes ≡ accepted_line (take n line.new)))
+        (λ e. ((e ≡ Named ReadingFailed)
+        × HasFailedInLine (source_call R.Source source.old source.new))
+        ⊎ ((bytes : List ℕ)
+        × HasReadLine (source_call R.Source source.old source.new) bytes
+        × (password_of bytes ≡ Err e))) }
 {
     let mut used = 0;
     'bytes: while used < line.len() {
@@ -138,7 +150,7 @@ fn next_byte<R: Source>(source: &mut R) -> Result<Option<u8>>
         × (R.left source.new ≡ R.left source.old))
         (λ b. Consumes (R.ahead source.old) (R.ahead source.new) (b ∷ [])
         × (R.left source.new + 1 ≡ R.left source.old))) }
-    ensures calm { OnOk result (R.faults source.new ≡ R.faults source.old) }
+    ensures no_new_fault { OnOk result (R.faults source.new ≡ R.faults source.old) }
     ensures refused { IfErr result
         (λ e. (e ≡ Named ReadingFailed) × Rose (R.faults source.old) (R.faults source.new)) }
     ensures kept { OnErr result (StaysOrHides (R.ahead source.old) (R.ahead source.new)) }
@@ -164,7 +176,7 @@ fn without_carriage_return(line: &[u8]) -> usize
 }
 
 // A line as a password, if it is UTF-8 of at most 1024 bytes.
-#[tactic(auto, unfolding(crate::specs::Prompts::accepted_line))]
+#[tactic(auto, unfolding(crate::specs::Passwords::accepted_line))]
 fn accepted_line(line: Vec<u8>) -> Result<String>
     ensures outcome { MatchResult result
         (λ password. accepted_line line.items ≡ Ok (string_bytes password))

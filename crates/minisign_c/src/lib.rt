@@ -3,36 +3,48 @@
 
 #![tactic(auto)]
 
-ghost use Rattle.std.specs.Prelude.{◌≡◌, ◌==◌, ◌⊎◌, ◌<◌, ◌≤◌, ◌+◌, ◌++◌, ℕ, Bool, List, [], length, take};
+ghost use Rattle.std.specs.Prelude.{◌≡◌, ◌==◌, ◌⊎◌, ◌<◌, ◌≤◌, ◌+◌, ◌++◌, ℕ, Bool, List, [], Some, None, false, MatchOption, length, take};
+ghost use Rattle.std.specs.Fmt.{decimal};
 ghost use Rattle.std.specs.Option.{option_map};
 ghost use Rattle.std.specs.Str.{IsUtf8};
 ghost use Rattle.minisign_hash.specs.Blake2b.{blake2b_digest};
 ghost use Rattle.minisign.specs.Records.{PublicKeyRecord, SecretKeyRecord, SignatureBoxRecord, CommentsRecord};
 ghost use Rattle.minisign.specs.Acceptance.{Verifier};
 ghost use Rattle.minisign_external.specs.Questions.{AnswersTexts, AreOpen};
-ghost use Rattle.minisign_external.specs.Numbers.{IsAnswer, IsMeaning, WritesCut, answer_yes, misuse_number};
+ghost use Rattle.minisign_external.specs.Numbers.{IsAnswer, WritesCut, answer_yes, misuse_number};
 ghost use Rattle.minisign_external.specs.PublicKeys.{IsKeyNumber, TellsPublicKey, bare, two_lines};
 ghost use Rattle.minisign_external.specs.Making.{HoldsPublicKey, HoldsSecretKey, IsMakingNumber, IsPublicKeyNumber};
 ghost use Rattle.minisign_external.specs.Signing.{AreReadByMinisign, GivesSecretKey, HoldsText, IsSigningNumber, IsWritingNumber, TellsKey, comments_of, passed_in};
-ghost use Rattle.minisign_external.specs.declared.state.Misuse.TheVariants.{NoRoom};
-ghost use Rattle.minisign_external.specs.States.{AreQuestions, GivesNumber, HasAsked, HasEnded, HasToldKey, IsAskingNumber, IsFed, IsMarkedFed, IsVerdictNumber, TellsIdentifiers, feeding_misuse};
+ghost use Rattle.minisign_external.specs.declared.state.Misuse.TheVariants.{BadFirstFlag, NoRoom, NotDue};
+ghost use Rattle.minisign_install.specs.Comments.{Says};
+ghost use Rattle.minisign_install.specs.HostNumbers.{IsHostMeaning, numbering_number};
+ghost use Rattle.minisign_install.specs.Hosted.{CannotBeFed, CannotFail, CannotGo, GivesUpdateNumber, CallHasFailed, HasGone, HasReadRecord, HasReadBack, IsAnswerNumber, IsAskNumber, IsAsking, IsCommentNumber, IsDue, due_number, due_of, record_text, wanted_by};
+ghost use Rattle.minisign_install.specs.Installing.{Terms};
+ghost use Rattle.minisign_install.specs.declared.order.Due.TheVariants.{Answer, Lock, ReadBack, ReadRecord, TakeRights, WriteRecord};
+ghost use Rattle.minisign_install.specs.declared.order.Due.TheVariants as ended;
+ghost use Rattle.minisign_install.specs.declared.order.Outcome.TheVariants.{Done, More};
+ghost use Rattle.minisign_external.specs.States.{AreQuestions, GivesNumber, HasAsked, HasEnded, HasToldKey, IsAskingNumber, IsFedState, IsMarkedFed, IsVerdictNumber, TellsIdentifiers, feeding_misuse};
 
 use minisign::Sealing;
 use minisign_external::making::{write_public_key, write_secret_key};
-use minisign_external::numbers::{ANSWER_YES, is_answer, write_error_text};
+use minisign_external::numbers::{ANSWER_YES, is_answer};
 use minisign_external::public_keys::{tell_bare_public_key, tell_public_key};
 use minisign_external::secrets::SigningQuestions;
 use minisign_external::signed_texts::{write_comment_message, write_signed_text};
 use minisign_external::state::{Misuse, Questions, Refusal, State};
+use minisign_install::Numbering;
+use minisign_install::host_numbers::write_error_text;
+use minisign_install::hosted::Installation;
+use minisign_install::hosted_judging::judge_comment;
 use std::alloc::Global;
 
 /// Writes what an error number means: the text, cut where there is no room for more, and a 0.
 /// Returns the length of the whole text.
 #[unsafe(no_mangle)]
 pub extern "C" fn minisign_error_text(error: u32, text: &mut [u8]) -> usize
-    // The text of a number is that of the wrong use, or what the fault of this number says without its identifiers; it
-    // has less than 128 bytes, is cut to its room and ended by a 0.
-    ensures written { (meaning : List ℕ) × IsMeaning error meaning × (result ≡ length meaning) × WritesCut meaning text.old text.new }
+    // The text of a number is that of the wrong use, that of the fault of installing, or what the fault of the library
+    // says without its identifiers; it has less than 128 bytes, is cut to its room and ended by a 0.
+    ensures written { (meaning : List ℕ) × IsHostMeaning error meaning × (result ≡ length meaning) × WritesCut meaning text.old text.new }
     ensures room { result < 128 }
 {
     write_error_text(error, text)
@@ -42,7 +54,7 @@ pub extern "C" fn minisign_error_text(error: u32, text: &mut [u8]) -> usize
 #[unsafe(no_mangle)]
 pub extern "C" fn minisign_init(state: &mut State)
     // A new state was fed nothing.
-    ensures { IsFed state.new [] }
+    ensures { IsFedState state.new [] }
 {
     *state = State::new();
 }
@@ -52,7 +64,7 @@ pub extern "C" fn minisign_init(state: &mut State)
 pub extern "C" fn minisign_update(state: &mut State, piece: &[u8]) -> u32
     // Each update appends to what the state was fed. A state that is not being fed takes no data: the wrong use has its
     // number, and the state stays as it was.
-    ensures fed { (m : List ℕ) → IsFed state.old m → (result ≡ 0) × IsFed state.new (m ++ piece.now) }
+    ensures fed { (m : List ℕ) → IsFedState state.old m → (result ≡ 0) × IsFedState state.new (m ++ piece.now) }
     ensures begun { result ≡ 0 → IsMarkedFed state.old }
     ensures refused { 0 < result → (result ≡ misuse_number (feeding_misuse state.old)) × (state.new ≡ state.old) }
 {
@@ -116,14 +128,14 @@ pub extern "C" fn minisign_ask(
     ensures asked { result ≡ 0 → (pk : PublicKeyRecord) × (x : SignatureBoxRecord) × (c : CommentsRecord)
         × AreOpen pk_text.now sig_text.now (allow_legacy == 1) pk x c
         × AreQuestions questions.new message.new pk x c }
-    ensures digest { result ≡ 0 → (m : List ℕ) → IsFed state.old m → questions.new.digest ≡ blake2b_digest 64 m }
+    ensures digest { result ≡ 0 → (m : List ℕ) → IsFedState state.old m → questions.new.digest ≡ blake2b_digest 64 m }
     ensures asking { result ≡ 0 → HasAsked state.new pk_text.now sig_text.now (allow_legacy == 1) }
 
     // They are asked of a state that is being fed alone.
     ensures begun { result ≡ 0 → IsMarkedFed state.old }
 
-    // The identifiers are told as `State::ask` says.
-    ensures identifiers { allow_legacy < 2 → (m : List ℕ) → IsFed state.old m → IsUtf8 pk_text.now → IsUtf8 sig_text.now
+    // The identifiers are answered as `State::ask` says.
+    ensures identifiers { allow_legacy < 2 → (m : List ℕ) → IsFedState state.old m → IsUtf8 pk_text.now → IsUtf8 sig_text.now
         → TellsIdentifiers pk_text.now sig_text.now questions.new }
 
     // A number that is neither 0 nor 1 is refused first, and then the number is that of the first reason of
@@ -182,7 +194,7 @@ pub extern "C" fn minisign_ask_signing(
     // everything the state was fed; the state then keeps the identifier, and is fed and asked no more.
     ensures asked { result ≡ 0 → (key : SecretKeyRecord)
         × GivesSecretKey sk_text.now (passed_in with_password password.now) greatest_work key × TellsKey questions.new key }
-    ensures digest { result ≡ 0 → (m : List ℕ) → IsFed state.old m → questions.new.digest ≡ blake2b_digest 64 m }
+    ensures digest { result ≡ 0 → (m : List ℕ) → IsFedState state.old m → questions.new.digest ≡ blake2b_digest 64 m }
     ensures begun { result ≡ 0 → IsMarkedFed state.old }
     ensures told { result ≡ 0 → HasToldKey state.new questions.new.key_id }
     ensures number { result ≡ 0 → with_password < 2 }
@@ -344,5 +356,239 @@ pub extern "C" fn minisign_signed_text(
             0
         }
         Err(refusal) => refusal.number(),
+    }
+}
+
+/// Begins an installation: the lock is due.
+#[unsafe(no_mangle)]
+pub extern "C" fn minisign_install_init(installation: &mut Installation, is_first: u32) -> u32
+    // The lock is due, nothing was read back, and whether this is the first installation is kept. A number that is
+    // neither 0 nor 1 is refused, and nothing is written.
+    ensures due { result ≡ 0 → IsDue installation.new Lock × IsFedState installation.new.state [] }
+    ensures first { result ≡ 0 → (is_first < 2) × ((installation.new.is_first == 1) ≡ (is_first == 1)) }
+    ensures refused { 0 < result → (result ≡ misuse_number BadFirstFlag) × (1 < is_first) × (installation.new ≡ installation.old) }
+{
+    if is_first > 1 {
+        return Misuse::BadFirstFlag.number();
+    }
+    *installation = Installation::new(is_first == 1);
+    0
+}
+
+/// The number of the call that is due.
+#[unsafe(no_mangle)]
+pub extern "C" fn minisign_install_due(installation: &Installation) -> u32
+    // The number is that of the call that is due, and 0 where none is.
+    ensures { MatchOption (due_of installation.now) (result ≡ 0) (λ due. result ≡ due_number due) }
+{
+    installation.due_number()
+}
+
+/// The call that was due was done.
+#[unsafe(no_mangle)]
+pub extern "C" fn minisign_install_done(installation: &mut Installation) -> u32
+    // What is due next is what the table says, where the call that was due can be done and is not reading back. Otherwise
+    // it is not due, and nothing changes.
+    ensures gone { result ≡ 0 → HasGone Done installation.old installation.new × ((kept : ℕ) → ¬ (IsDue installation.old (ReadBack kept))) }
+    ensures refused { 0 < result → (result ≡ misuse_number NotDue) × (installation.new ≡ installation.old) × CannotGo Done installation.old }
+{
+    match installation.done() {
+        Ok(()) => 0,
+        Err(not_due) => not_due.number(),
+    }
+}
+
+/// A piece was copied, and there may be more.
+#[unsafe(no_mangle)]
+pub extern "C" fn minisign_install_more(installation: &mut Installation) -> u32
+    // The same where a piece was copied and there may be more. Otherwise
+    // it is not due, and nothing changes.
+    ensures gone { result ≡ 0 → HasGone More installation.old installation.new × ((kept : ℕ) → ¬ (IsDue installation.old (ReadBack kept))) }
+    ensures refused { 0 < result → (result ≡ misuse_number NotDue) × (installation.new ≡ installation.old) × CannotGo More installation.old }
+{
+    match installation.more() {
+        Ok(()) => 0,
+        Err(not_due) => not_due.number(),
+    }
+}
+
+/// The call that was due failed for the fault of this number.
+#[unsafe(no_mangle)]
+pub extern "C" fn minisign_install_failed(installation: &mut Installation, why: u32) -> u32
+    // What is due next is what the table says, where the call that was due can fail so. Otherwise it is not due, and
+    // nothing changes.
+    ensures failed { result ≡ 0 → CallHasFailed why installation.old installation.new }
+    ensures refused { 0 < result → (result ≡ misuse_number NotDue) × (installation.new ≡ installation.old) × CannotFail why installation.old }
+{
+    match installation.failed(why) {
+        Ok(()) => 0,
+        Err(not_due) => not_due.number(),
+    }
+}
+
+/// The record holds these bytes.
+#[unsafe(no_mangle)]
+pub extern "C" fn minisign_install_record(installation: &mut Installation, bytes: &[u8]) -> u32
+    // The number that the record holds is kept, or the run is refused where it holds none and this is not the first
+    // installation. Where the record is not to be read, nothing changes.
+    ensures read { result ≡ 0 → HasReadRecord (Some (record_text bytes.now)) installation.old installation.new }
+    ensures refused { 0 < result → (result ≡ misuse_number NotDue) × (installation.new ≡ installation.old) × ¬ (IsDue installation.old ReadRecord) }
+{
+    match installation.record(bytes) {
+        Ok(()) => 0,
+        Err(not_due) => not_due.number(),
+    }
+}
+
+/// There is no record.
+#[unsafe(no_mangle)]
+pub extern "C" fn minisign_install_no_record(installation: &mut Installation) -> u32
+    // The same where there is no record.
+    ensures read { result ≡ 0 → HasReadRecord None installation.old installation.new }
+    ensures refused { 0 < result → (result ≡ misuse_number NotDue) × (installation.new ≡ installation.old) × ¬ (IsDue installation.old ReadRecord) }
+{
+    match installation.no_record() {
+        Ok(()) => 0,
+        Err(not_due) => not_due.number(),
+    }
+}
+
+/// The next bytes of what the stage holds were read back; none at its end.
+#[unsafe(no_mangle)]
+pub extern "C" fn minisign_install_piece(installation: &mut Installation, piece: &[u8]) -> u32
+    // Each piece appends to what was read back, and at the end the answers are due. Where no stage is read back, the
+    // wrong use has its number, and nothing changes.
+    ensures fed { result ≡ 0 → (m : List ℕ) → IsFedState installation.old.state m → IsFedState installation.new.state (m ++ piece.now) }
+    ensures read { result ≡ 0 → HasReadBack piece.now installation.old installation.new }
+    ensures refused { 0 < result → (installation.new ≡ installation.old) × (m : Misuse) × (result ≡ misuse_number m) × CannotBeFed installation.old m }
+{
+    match installation.piece(piece) {
+        Ok(()) => 0,
+        Err(not_due) => not_due.number(),
+    }
+}
+
+/// Asks what Ed25519 has to answer before it is known whether the two texts vouch for what was read
+/// back, and judges the signed comment.
+#[unsafe(no_mangle)]
+pub extern "C" fn minisign_install_ask(
+    installation: &mut Installation,
+    pk_text: &[u8],
+    sig_text: &[u8],
+    file: &[u8],
+    numbering: u32,
+    questions: &mut Questions,
+    message: &mut [u8],
+) -> u32
+    // The questions are those of what the texts read as, as `Installation::ask` says; they are then asked, and the
+    // comment of the second text is judged, against the number that was kept.
+    ensures asked { result ≡ 0 → (pk : PublicKeyRecord) × (x : SignatureBoxRecord) × (c : CommentsRecord)
+        × AreOpen pk_text.now sig_text.now false pk x c
+        × AreQuestions questions.new message.new pk x c }
+    ensures digest { result ≡ 0 → (m : List ℕ) → IsFedState installation.old.state m → questions.new.digest ≡ blake2b_digest 64 m }
+    ensures asking { result ≡ 0 → (k : Numbering) × (numbering ≡ numbering_number k) × (kept : ℕ) × IsDue installation.old (Answer kept)
+        × IsAsking installation.new (wanted_by pk_text.now sig_text.now file.now k) kept }
+
+    // The identifiers are answered as `Installation::ask` says.
+    ensures identifiers { numbering < 2 → (kept : ℕ) → IsDue installation.old (Answer kept) → (m : List ℕ) → IsFedState installation.old.state m
+        → IsUtf8 file.now → IsUtf8 pk_text.now → IsUtf8 sig_text.now
+        → TellsIdentifiers pk_text.now sig_text.now questions.new }
+
+    // A number that is no numbering is refused first, and then the number is that of the first reason of
+    // `Installation::ask`: a wrong use changes nothing, and for any other reason the stage is to be removed. The message
+    // buffer is as it was.
+    ensures refused { 0 < result → IsAskNumber installation.old installation.new pk_text.now sig_text.now file.now numbering message.old result }
+    ensures kept { 0 < result → message.new ≡ message.old }
+{
+    let Some(numbering) = Numbering::of_number(numbering) else {
+        return Misuse::BadNumbering.number();
+    };
+    match installation.ask(pk_text, sig_text, file, numbering, questions, message) {
+        Ok(()) => 0,
+        Err(refusal) => refusal.number(),
+    }
+}
+
+/// Ed25519 answered so, `ANSWER_YES` or `ANSWER_NO` to each of the two questions.
+#[unsafe(no_mangle)]
+pub extern "C" fn minisign_install_answer(
+    installation: &mut Installation,
+    first: u32,
+    second: u32,
+) -> u32
+    // **For every relation that answers the two questions so, and every message: 0, and the rights are due, for the
+    // number n, exactly where the texts vouch for the message, not by a signature over the data itself, and the comment
+    // that was signed with it names the file and has the number n, which is not below the kept one. Otherwise the stage
+    // is to be removed, for the first reason, whose number is answered.**
+    ensures answer { (terms : Terms) (kept : ℕ) (message : List ℕ) (accepts : Verifier)
+        → IsAsking installation.old terms kept → IsAnswer first → IsAnswer second
+        → AnswersTexts accepts terms.pk_text terms.sig_text message (first == answer_yes) (second == answer_yes)
+        → GivesUpdateNumber accepts terms kept message installation.new result }
+
+    // An answer is 7955827 for yes or 28271 for no, and no other number is taken; the rights are due only where the
+    // answers were, and a wrong use has its number and changes nothing.
+    ensures due { result ≡ 0 → ((kept : ℕ) × IsDue installation.old (Answer kept)) × ((n : ℕ) × IsDue installation.new (TakeRights n))
+        × HasEnded installation.old.state installation.new.state × IsAnswer first × IsAnswer second }
+    ensures refused { 0 < result → IsAnswerNumber installation.old installation.new first second result }
+{
+    if !(is_answer(first) && is_answer(second)) {
+        return Misuse::BadAnswer.number();
+    }
+    match installation.answer(first == ANSWER_YES, second == ANSWER_YES) {
+        Ok(()) => 0,
+        Err(refusal) => refusal.number(),
+    }
+}
+
+/// Writes the number as it is to be written into the record, and returns how many digits that are.
+#[unsafe(no_mangle)]
+pub extern "C" fn minisign_install_number_text(
+    installation: &Installation,
+    text: &mut [u8],
+) -> usize
+    // The digits of the number stand at the front of the buffer where they are to be written and have room, and
+    // otherwise nothing is written.
+    ensures written { 0 < result → (n : ℕ) × IsDue installation.now (WriteRecord n) × (result ≤ length text.new) × (take result text.new ≡ decimal n) }
+    ensures unwritten { result ≡ 0 → (text.new ≡ text.old) × ((n : ℕ) → IsDue installation.now (WriteRecord n) → length text.old < length (decimal n)) }
+{
+    installation.write_number(text)
+}
+
+/// The number of the fault that the run was refused for.
+#[unsafe(no_mangle)]
+pub extern "C" fn minisign_install_error(installation: &Installation) -> u32
+    // The number is that of the fault that the run was refused for, and otherwise 0.
+    ensures refused { (e : ℕ) → IsDue installation.now (ended.Refused e) → result ≡ e }
+    ensures none { ((e : ℕ) → ¬ (IsDue installation.now (ended.Refused e))) → result ≡ 0 }
+{
+    installation.refused_for()
+}
+
+/// Judges a signed comment by itself: tells its number.
+#[unsafe(no_mangle)]
+pub extern "C" fn minisign_judge_comment(
+    comment: &[u8],
+    file: &[u8],
+    numbering: u32,
+    kept: u64,
+    number: &mut u64,
+) -> u32
+    // The number of the comment is told exactly where the comment and the name are UTF-8, the comment names the file and
+    // has this number, and it is not below the kept one; otherwise the number is that of the first reason, and nothing is
+    // written.
+    ensures says { result ≡ 0 → (k : Numbering) × (numbering ≡ numbering_number k) × IsUtf8 comment.now × IsUtf8 file.now
+        × Says comment.now file.now k number.new × (kept ≤ number.new) }
+    ensures refused { 0 < result → IsCommentNumber comment.now file.now numbering kept result }
+    ensures kept { 0 < result → number.new ≡ number.old }
+{
+    let Some(numbering) = Numbering::of_number(numbering) else {
+        return Misuse::BadNumbering.number();
+    };
+    match judge_comment(comment, file, numbering, kept) {
+        Ok(told) => {
+            *number = told;
+            0
+        }
+        Err(fault) => fault.number(),
     }
 }

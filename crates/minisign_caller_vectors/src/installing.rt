@@ -3,30 +3,23 @@
 //!
 //! The texts are of the toy scheme, under its key of 32 zeros; `tests/shared/toy.py` makes such texts.
 
-ghost use Rattle.std.specs.Prelude.{OnOk};
-ghost use Rattle.minisign_install.specs.Folders.{HasLocked, Run};
-ghost use Rattle.minisign_install.specs.Installing.{HasInstalled, InstallsOnlyUpdates, terms_of};
-ghost use Rattle.minisign_install.specs.Memory.{run_of};
-ghost use Rattle.minisign_install.specs.Runs.{OwnsNoMore};
-
 use minisign::{ErrorKind, NamedFault};
-use minisign_base::devices::random_sources::{FixedRandom, RandomSource};
-use minisign_base::devices::sources::{SliceSource, Source};
-use minisign_base::scheme::Scheme;
+use minisign_base::devices::random_sources::FixedRandom;
+use minisign_base::devices::sources::SliceSource;
 use minisign_base::toy::ToyScheme;
-use minisign_install::memory::MemoryFolder;
-use minisign_install::{InstallFault, Name, Numbering, Wanted, install_update};
+use minisign_install::memory::{MemoryFolder, install_in_memory};
+use minisign_install::{InstallFault, Name, Numbering, Wanted};
 use std::alloc::Global;
 
-const KEY_TEXT: &str =
+pub(crate) const KEY_TEXT: &str =
     "untrusted comment: minisign public key: 0807060504030201\nRWQBAgMEBQYHCFpaWlpaWlpaWlpaWlpaWlpaWlpaWlpaWlpaWlpaWlpa\n";
 
 // Over `first`, with the comment `file:app`, a tab and `timestamp:5`.
-const FIRST: &str =
+pub(crate) const FIRST: &str =
     "untrusted comment: c\nRUQBAgMEBQYHCAAAAAAAAAAAAAAAAAAAAAAAAAAAAAAAAAAAAAAAAAAAMcIQHGXWJcA1g6g1LigQoA2eMt1IZlP3H6y1Xyf22iA=\ntrusted comment: file:app\ttimestamp:5\nAAAAAAAAAAAAAAAAAAAAAAAAAAAAAAAAAAAAAAAAAAAN8SYjBe0P6matmwIRAT6bOrRSshI8Ca1F9u8FfayAeg==\n";
 
 // Over `second`, with the comment `file:app`, a tab and `timestamp:6`.
-const SECOND: &str =
+pub(crate) const SECOND: &str =
     "untrusted comment: c\nRUQBAgMEBQYHCAAAAAAAAAAAAAAAAAAAAAAAAAAAAAAAAAAAAAAAAAAA/4bmf7Gc8IMqobS6xZ4S2sjS+HmqkH3Styw7qQa1i8M=\ntrusted comment: file:app\ttimestamp:6\nAAAAAAAAAAAAAAAAAAAAAAAAAAAAAAAAAAAAAAAAAADDtdBA0afaqXmPh436tzzh//iYFfDKJ4jtdmHzXO/RmQ==\n";
 
 // What is drawn for the names of two stages.
@@ -44,7 +37,7 @@ fn install(
     sig_text: &str,
     is_first: bool,
 ) -> Result<(), InstallFault> {
-    install_told(
+    install_in_memory(
         alloc,
         &ToyScheme::new(),
         &mut FixedRandom::new(drawn),
@@ -58,23 +51,6 @@ fn install(
         &mut SliceSource::new(data),
         folder,
     )
-}
-
-// What is promised of installing holds without the premise that the folder tells its run.
-fn install_told<S: Scheme, Z: RandomSource, R: Source>(
-    alloc: Global,
-    scheme: &S,
-    random: &mut Z,
-    wanted: Wanted<'_>,
-    is_first: bool,
-    update: &mut R,
-    folder: &mut MemoryFolder,
-) -> Result<(), InstallFault>
-    ensures headline { InstallsOnlyUpdates (S.accepts scheme.now) (terms_of wanted.entry) is_first (run_of folder.old) (run_of folder.new) }
-    ensures installed { OnOk result ((locked : Run) × HasLocked (run_of folder.old) locked × HasInstalled (S.accepts scheme.now) (terms_of wanted.entry) is_first (R.ahead update.old) locked (run_of folder.new)) }
-    ensures lets_go { OwnsNoMore (run_of folder.old) (run_of folder.new) }
-{
-    install_update(alloc, scheme, random, wanted, is_first, update, folder)
 }
 
 // What the library calls the refusal, where it is one of the library's.

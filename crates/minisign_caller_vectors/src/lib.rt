@@ -12,6 +12,8 @@ mod callers;
 #[cfg(test)]
 mod folders;
 #[cfg(test)]
+mod hosted;
+#[cfg(test)]
 mod installing;
 #[cfg(test)]
 mod made_keys;

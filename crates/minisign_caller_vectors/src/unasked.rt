@@ -79,7 +79,7 @@ fn pair_under(alloc: Global, password: &str) -> Result<KeyPair> {
 }
 
 // Whether the refusals of signing a file come so, and in this order: a sealed key, a file that is
-// not there, random bytes that are wanting.
+// not there, random bytes that do not come.
 fn refuses_files(rt: &HostRuntime, there: &str, missing: &str) -> Result<bool> {
     let opened = key_of(rt.alloc(), SECRET_TEXT)?;
     let pair = pair_under(rt.alloc(), "")?;

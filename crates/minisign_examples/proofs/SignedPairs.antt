@@ -3,7 +3,7 @@ use Rattle.std.specs.Prelude.{ℕ, List, false, Result, Ok, Err, IfErr, IfOk, Ma
 use Rattle.std.proofs.Common.{inl, inr, sym, ◌∙◌}
 use Rattle.std.proofs.lemmas.Bool.{true≢false}
 use Rattle.minisign_base.specs.Fault.{Fault}
-use Rattle.minisign_base.specs.Passages.{RandomPassage}
+use Rattle.minisign_base.specs.DeviceCalls.{RandomCall}
 use Rattle.minisign.specs.Acceptance.{Verifier, Vouches}
 use Rattle.minisign.specs.Calls.{BytesSigningFails}
 use Rattle.minisign.specs.Generation.{IsGenuinePair}
@@ -13,9 +13,9 @@ use Rattle.minisign.specs.SignatureText.{SignatureText}
 use Rattle.minisign.specs.Signing.{AreChosenReadBack, ChosenComments}
 use Rattle.minisign_examples.specs.Releasing.{IsMemoryOrRandomFault}
 
--- the text vouches for the message, and only memory or random bytes may be wanting for it
+-- the text vouches for the message, and only memory may run out for it, or no random bytes come
 pub signed_by_pair : {T Z : Type 0} (bytes : T → List ℕ) (r : Result T Fault) (accepts : Verifier) (public_of : List ℕ → List ℕ) (pk : PublicKeyRecord) (sk : SecretKeyRecord)
-    (message : List ℕ) (chosen : ChosenComments) (z : RandomPassage Z) → IsGenuinePair public_of pk sk → AreChosenReadBack chosen
+    (message : List ℕ) (chosen : ChosenComments) (z : RandomCall Z) → IsGenuinePair public_of pk sk → AreChosenReadBack chosen
     → IfOk r (λ t. SigningHeadline accepts public_of sk message chosen (bytes t)) → IfErr r (BytesSigningFails sk z)
     → MatchResult r (λ t. (x : SignatureBoxRecord) × SignatureText (bytes t) x × Vouches accepts pk x message false) IsMemoryOrRandomFault
 signed_by_pair bytes (Ok t) accepts public_of pk sk message chosen z pair kept signed fails =

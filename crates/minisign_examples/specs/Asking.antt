@@ -2,7 +2,7 @@
 use Rattle.std.specs.Prelude.{◌≢◌, ◌⊎◌, ℕ, zero, suc, List, None, Result, Err}
 use Rattle.minisign_base.specs.Fault.{Fault, Named}
 use Rattle.minisign_base.specs.Members.{SinkOf, SourceOf}
-use Rattle.minisign_base.specs.Passages.{prompt_passage}
+use Rattle.minisign_base.specs.DeviceCalls.{prompt_call}
 use Rattle.minisign_base.specs.declared.faults.NamedFault.TheVariants.{WrongPassword}
 use Rattle.minisign_base.specs.declared.prompt.Prompt.{Prompt}
 use Rattle.minisign.specs.Opening.{IsOpening}
@@ -10,8 +10,8 @@ use Rattle.minisign.specs.Records.{SecretKeyRecord}
 
 -- the prompt was asked once, and again, up to so many times more, only where the password was wrong
 abbrev pub IsOpeningAgain : {R W : Type 0} → SourceOf R → SinkOf W → ℕ → Prompt R W → Prompt R W → List ℕ → Result SecretKeyRecord Fault → Type 0
-IsOpeningAgain source sink zero old new text answer = IsOpening (prompt_passage source sink old new) None text None answer
+IsOpeningAgain source sink zero old new text answer = IsOpening (prompt_call source sink old new) None text None answer
 IsOpeningAgain {R = R} {W = W} source sink (suc more) old new text answer =
-    (IsOpening (prompt_passage source sink old new) None text None answer × (answer ≢ Err (Named WrongPassword)))
-    ⊎ ((asked : Prompt R W) × IsOpening (prompt_passage source sink old asked) None text None (Err (Named WrongPassword))
+    (IsOpening (prompt_call source sink old new) None text None answer × (answer ≢ Err (Named WrongPassword)))
+    ⊎ ((asked : Prompt R W) × IsOpening (prompt_call source sink old asked) None text None (Err (Named WrongPassword))
     × IsOpeningAgain source sink more asked new text answer)

@@ -3,7 +3,7 @@
 ghost use Rattle.std.specs.Prelude.{◌≡◌, ◌⊎◌, ℕ, List, None, false, string_bytes, IfOk, IfErr};
 ghost use Rattle.minisign_base.specs.Fault.{Named};
 ghost use Rattle.minisign_base.specs.declared.faults.NamedFault.TheVariants.{OutOfMemory, RandomSourceFailed};
-ghost use Rattle.minisign_base.specs.Passages.{random_passage};
+ghost use Rattle.minisign_base.specs.DeviceCalls.{random_call};
 ghost use Rattle.minisign.specs.Headline.{TextsVouchFor};
 ghost use Rattle.minisign.specs.PublicKeyText.{public_key_text};
 ghost use Rattle.minisign.specs.Signing.{IsGenuine, comments_or_defaults};
@@ -32,7 +32,7 @@ pub fn sign_and_verify<S: Scheme, Z: RandomSource>(
 ) -> Result<String>
     // The text is that of the box that signing makes of the message.
     ensures signed { IfOk result (λ t. IsSignedText (S.signature_of scheme.now) secret_key.now message.now (comments_or_defaults None None moment)
-        (random_passage Z.RandomSource random.old random.new) (string_bytes t)) }
+        (random_call Z.RandomSource random.old random.new) (string_bytes t)) }
 
     // It vouches for the message under the public key.
     ensures accepted { IfOk result (λ t. TextsVouchFor (S.accepts scheme.now) (public_key_text public_key.now) (string_bytes t) message.now false) }

@@ -3,7 +3,7 @@
 ghost use Rattle.std.specs.Prelude.{◌≡◌, ◌⊎◌, None, MatchResult};
 ghost use Rattle.minisign_base.specs.Fault.{Named};
 ghost use Rattle.minisign_base.specs.declared.faults.NamedFault.TheVariants.{OutOfMemory};
-ghost use Rattle.minisign.specs.Opening.{IsOpened, RefusesOpening};
+ghost use Rattle.minisign.specs.OpenedTexts.{IsOpened, RefusesOpening};
 
 use minisign::{Result, SecretKey, SecretKeyBox};
 use minisign_base::prompt::Prompt;

@@ -53,8 +53,8 @@ abbrev pub IsWritable : List ℕ → ℕ → List ℕ → Type 0
 IsWritable comment more bytes = IsKeyComment comment × (length comment + more ≤ length bytes)
 
 -- the comment and the password are UTF-8
-abbrev pub AreTexts : List ℕ → Option (List ℕ) → Type 0
-AreTexts comment password = IsUtf8 comment × IfSome password IsUtf8
+abbrev pub AreUtf8KeyTexts : List ℕ → Option (List ℕ) → Type 0
+AreUtf8KeyTexts comment password = IsUtf8 comment × IfSome password IsUtf8
 
 -- the text of a secret key, of a comment and a password that are texts, was not written: a wrong use; then limits that are
 -- refused, or out of memory
@@ -65,8 +65,8 @@ IsMadeRefusal password s comment bytes (Refused e) = IsWritable comment 233 byte
 -- the text of a secret key was not written: a comment or a password that is not UTF-8, or else as above
 abbrev pub IsMakingRefusal : Option (List ℕ) → Sealing → List ℕ → List ℕ → Refusal → Type 0
 IsMakingRefusal password s comment bytes r =
-    ((r ≡ Refused (Named NotUtf8)) × ¬ (AreTexts comment password))
-    ⊎ (AreTexts comment password × IsMadeRefusal password s comment bytes r)
+    ((r ≡ Refused (Named NotUtf8)) × ¬ (AreUtf8KeyTexts comment password))
+    ⊎ (AreUtf8KeyTexts comment password × IsMadeRefusal password s comment bytes r)
 
 -- the text of a public key was not written, in the same order
 abbrev pub IsPublicKeyRefusal : List ℕ → List ℕ → Refusal → Type 0

@@ -5,7 +5,7 @@ use Rattle.minisign_base.specs.Fault.{Fault, Named, Worded}
 use Rattle.minisign_base.specs.Faults.{fault_row}
 use Rattle.minisign_base.specs.declared.faults.NamedFault.{NamedFault}
 use Rattle.minisign_external.specs.declared.state.Misuse.{Misuse}
-use Rattle.minisign_external.specs.declared.state.Misuse.TheVariants.{NotBegun, AlreadyAsked, NotAsked, BadAnswer, NoRoom, BadLegacyFlag, BadComment, BadPasswordFlag, UnreadableComment}
+use Rattle.minisign_external.specs.declared.state.Misuse.TheVariants.{NotBegun, AlreadyAsked, NotAsked, BadAnswer, NoRoom, BadLegacyFlag, BadComment, BadPasswordFlag, UnreadableComment, NotDue, BadFirstFlag, BadNumbering}
 use Rattle.minisign_external.specs.declared.state.Refusal.{Refusal}
 use Rattle.minisign_external.specs.declared.state.Refusal.TheVariants.{WrongUse, Refused}
 
@@ -19,6 +19,9 @@ misuse_number BadLegacyFlag = 6
 misuse_number BadComment = 9
 misuse_number BadPasswordFlag = 10
 misuse_number UnreadableComment = 11
+misuse_number NotDue = 12
+misuse_number BadFirstFlag = 13
+misuse_number BadNumbering = 14
 
 abbrev pub misuse_text : Misuse → List ℕ
 misuse_text NotBegun = codes "the state was never begun"
@@ -30,6 +33,9 @@ misuse_text BadLegacyFlag = codes "allow_legacy is neither 0 nor 1"
 misuse_text BadComment = codes "a comment has a line break, or the trusted one white space at an end"
 misuse_text BadPasswordFlag = codes "with_password is neither 0 nor 1"
 misuse_text UnreadableComment = codes "a comment is too long for minisign, or has a zero byte or a carriage return"
+misuse_text NotDue = codes "the call is not due, or cannot go so"
+misuse_text BadFirstFlag = codes "is_first is neither 0 nor 1"
+misuse_text BadNumbering = codes "numbering is neither MINISIGN_NUMBERING_TIMESTAMP nor MINISIGN_NUMBERING_VERSION"
 
 -- the numbers of the two answers of a signature scheme: the letters "yes" and "no", each letter a byte. They are neither 0 nor 1, nor the
 -- number of an error, so that no such number is taken for an answer

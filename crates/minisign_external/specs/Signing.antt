@@ -8,7 +8,6 @@ use Rattle.minisign_base.specs.declared.faults.NamedFault.TheVariants.{OutOfMemo
 use Rattle.minisign.specs.Records.{CommentsRecord, SecretKeyRecord, SignatureRecord, SignatureBoxRecord, prehashed_algorithm}
 use Rattle.minisign.specs.Acceptance.{Verifier, VouchesUnderEachKey}
 use Rattle.minisign.specs.Headline.{SigningHeadline}
-use Rattle.minisign.specs.Opening.{IsOpened, RefusesOpening, RefusesUnencrypted}
 use Rattle.minisign.specs.Sealing.{IsUnencrypted, no_kdf}
 use Rattle.minisign.specs.SecretKeyText.{SecretKeyText}
 use Rattle.minisign.specs.Signing.{AreChosenReadBack, ChosenComments, IsGenuine, Signer, signed_box}
@@ -21,6 +20,7 @@ use Rattle.minisign_external.specs.declared.state.Misuse.TheVariants.{BadComment
 use Rattle.minisign_external.specs.declared.state.Refusal.{Refusal}
 use Rattle.minisign_external.specs.declared.state.Refusal.TheVariants.{WrongUse, Refused}
 use Rattle.minisign_external.specs.declared.secrets.SigningQuestions.{SigningQuestions}
+use Rattle.minisign.specs.OpenedTexts.{IsOpened, RefusesOpening, RefusesUnencrypted}
 
 -- a key that was never sealed, with 32 zeros in place of its checksum, as Minisign writes it
 pub record LacksChecksum (k : SecretKeyRecord) : Type 0 where

@@ -1,5 +1,5 @@
 -- What a state that a program in another language holds tells: what it was fed, and what was asked of it.
-use Rattle.std.specs.Prelude.{◌≡◌, ◌==◌, ◌⊎◌, ◌<◌, ◌≤◌, ◌||◌, ℕ, Bool, if◌then◌else◌, List, ◌+◌, length, MatchResult, Result}
+use Rattle.std.specs.Prelude.{◌≡◌, ◌==◌, ◌⊎◌, ◌<◌, ◌≤◌, ◌||◌, ℕ, Bool, if◌then◌else◌, List, ◌+◌, length, replicate, MatchResult, Result}
 use Rattle.std.specs.Str.{IsUtf8}
 use Rattle.minisign_hash.specs.Stored.{WasFed}
 use Rattle.minisign_base.specs.Fault.{Fault, Named}
@@ -30,7 +30,7 @@ abbrev pub told_mark : ℕ
 told_mark = 7451613997988473197
 
 -- the state was begun and was fed the message, and nothing was asked yet
-pub record IsFed (s : State) (m : List ℕ) : Type 0 where
+pub record IsFedState (s : State) (m : List ℕ) : Type 0 where
   pub mark : s.mark ≡ fed_mark
   pub fed : WasFed s.hash m
 
@@ -47,6 +47,20 @@ pub record HasAsked (s : State) (pk_text sig_text : List ℕ) (legacy : Bool) : 
 pub record HasToldKey (s : State) (key_id : List ℕ) : Type 0 where
   pub mark : s.mark ≡ told_mark
   pub identifier : s.key_id ≡ key_id
+
+-- no questions yet
+abbrev pub no_questions : Questions
+no_questions = record {
+  public_key = replicate 32 0;
+  digest = replicate 64 0;
+  signature = replicate 64 0;
+  comment_signature = replicate 64 0;
+  message_len = 0;
+  public_key_id = replicate 8 0;
+  signature_key_id = replicate 8 0;
+  legacy = 0;
+  reserved = 0;
+}
 
 -- the questions of the key and the box, of which the message of the second stands in these bytes
 pub record AreQuestions (q : Questions) (bytes : List ℕ) (pk : PublicKeyRecord) (x : SignatureBoxRecord) (c : CommentsRecord) : Type 0 where
@@ -65,7 +79,7 @@ feeding_misuse s = if (s.mark == asked_mark) || (s.mark == told_mark) then Alrea
 
 -- the state was fed nothing, not even no bytes, and this is why
 abbrev pub IsNotFed : State → Misuse → Type 0
-IsNotFed s e = (e ≡ feeding_misuse s) × ((m : List ℕ) → ¬ (IsFed s m))
+IsNotFed s e = (e ≡ feeding_misuse s) × ((m : List ℕ) → ¬ (IsFedState s m))
 
 -- why a state that ought to have asked has not: it is still fed or was asked for signatures, or was never begun
 abbrev pub verdict_misuse : State → Misuse

@@ -11,7 +11,7 @@ ghost use Rattle.minisign_base.specs.Fault.{Named};
 ghost use Rattle.minisign_base.specs.declared.faults.NamedFault.TheVariants.{NotUtf8};
 ghost use Rattle.std.specs.Str.{IsUtf8};
 ghost use Rattle.minisign_external.specs.Questions.{AnswersTexts, AreOpen, AreTexts, IsRefusedUnasked, has_whole_signature};
-ghost use Rattle.minisign_external.specs.States.{AreQuestions, GivesVerdict, HasAsked, HasEnded, IsMarkedFed, IsAskingRefusal, IsFed, IsVerdictRefusal, TellsIdentifiers};
+ghost use Rattle.minisign_external.specs.States.{AreQuestions, GivesVerdict, HasAsked, HasEnded, IsMarkedFed, IsAskingRefusal, IsFedState, IsVerdictRefusal, TellsIdentifiers};
 ghost use Rattle.minisign_external.specs.declared.state.Misuse.TheVariants.{NoRoom};
 
 use crate::state::{ASKED, FED, Misuse, Questions, Refusal, State, TOLD};
@@ -41,7 +41,7 @@ impl State {
         ensures asked { OnOk result ((pk : PublicKeyRecord) × (x : SignatureBoxRecord) × (c : CommentsRecord)
             × AreOpen pk_text.now sig_text.now allow_legacy pk x c
             × AreQuestions questions.new message.new pk x c) }
-        ensures digest { OnOk result ((m : List ℕ) → IsFed self.old m → questions.new.digest ≡ blake2b_digest 64 m) }
+        ensures digest { OnOk result ((m : List ℕ) → IsFedState self.old m → questions.new.digest ≡ blake2b_digest 64 m) }
 
         // The state has then asked the questions of these texts. They are asked of a state that is being fed alone, and
         // of texts that are UTF-8.
@@ -51,7 +51,7 @@ impl State {
 
         // Of a state that is being fed, texts that are UTF-8 and that both read tell their identifiers, each in its
         // field, whether the questions are asked or refused.
-        ensures identifiers { (m : List ℕ) → IsFed self.old m → IsUtf8 pk_text.now → IsUtf8 sig_text.now
+        ensures identifiers { (m : List ℕ) → IsFedState self.old m → IsUtf8 pk_text.now → IsUtf8 sig_text.now
             → TellsIdentifiers pk_text.now sig_text.now questions.new }
 
         // The refusals come in one order, and asking takes no memory: a wrong use of the state; a text that is not

@@ -39,8 +39,9 @@ impl Refusal {
     }
 }
 
-// The number of a fault.
-fn number_of(fault: &PError) -> u32
+/// The number of a fault of the library: 255 where it has no name, which no call answers.
+pub fn number_of(fault: &PError) -> u32
+    // The number of a fault is that of its name, by a table.
     ensures { result ≡ fault_number fault.now }
 {
     match fault.named() {
@@ -51,7 +52,7 @@ fn number_of(fault: &PError) -> u32
 
 impl Misuse {
     /// All wrong uses.
-    pub const ALL: [Misuse; 9] = [
+    pub const ALL: [Misuse; 12] = [
         Misuse::NotBegun,
         Misuse::AlreadyAsked,
         Misuse::NotAsked,
@@ -61,9 +62,12 @@ impl Misuse {
         Misuse::BadComment,
         Misuse::BadPasswordFlag,
         Misuse::UnreadableComment,
+        Misuse::NotDue,
+        Misuse::BadFirstFlag,
+        Misuse::BadNumbering,
     ];
 
-    /// The number of the wrong use, from 1 to 11.
+    /// The number of the wrong use, from 1 to 14.
     pub fn number(&self) -> u32
         ensures { result ≡ misuse_number self.now }
     {
@@ -77,6 +81,9 @@ impl Misuse {
             Misuse::BadComment => 9,
             Misuse::BadPasswordFlag => 10,
             Misuse::UnreadableComment => 11,
+            Misuse::NotDue => 12,
+            Misuse::BadFirstFlag => 13,
+            Misuse::BadNumbering => 14,
         }
     }
 
@@ -100,6 +107,11 @@ impl Misuse {
             Misuse::UnreadableComment => {
                 "a comment is too long for minisign, or has a zero byte or a carriage return"
             }
+            Misuse::NotDue => "the call is not due, or cannot go so",
+            Misuse::BadFirstFlag => "is_first is neither 0 nor 1",
+            Misuse::BadNumbering => {
+                "numbering is neither MINISIGN_NUMBERING_TIMESTAMP nor MINISIGN_NUMBERING_VERSION"
+            }
         }
     }
 }
@@ -116,8 +128,9 @@ pub fn write_error_text(number: u32, to: &mut [u8]) -> usize
     write_cut(error_text(number), to)
 }
 
-// Writes a text, cut where there is no room for more, and a 0.
-fn write_cut(text: &str, to: &mut [u8]) -> usize
+/// Writes a text, cut where there is no room for more, and a 0. Returns the length of the text.
+pub fn write_cut(text: &str, to: &mut [u8]) -> usize
+    // The text stands at the front of the buffer, cut where there is no room for more, and a 0 behind it.
     ensures length { result ≡ length text.now }
     ensures cut { WritesCut text.now to.old to.new }
 {

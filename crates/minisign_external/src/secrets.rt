@@ -8,7 +8,7 @@ ghost use Rattle.minisign_base.specs.Fault.{Named};
 ghost use Rattle.minisign_base.specs.declared.faults.NamedFault.TheVariants.{OutOfMemory};
 ghost use Rattle.minisign.specs.Records.{SecretKeyRecord};
 ghost use Rattle.minisign_external.specs.Signing.{GivesSecretKey, IsOpeningFault, IsSigningRefusal, RefusesSecretKey, TellsKey};
-ghost use Rattle.minisign_external.specs.States.{HasToldKey, IsFed, IsMarkedFed};
+ghost use Rattle.minisign_external.specs.States.{HasToldKey, IsFedState, IsMarkedFed};
 
 use crate::secret_texts::open_unsealed;
 use crate::state::{Refusal, State, TOLD};
@@ -54,7 +54,7 @@ impl State {
         // is kept; the digest is that of everything the state was fed, which was being fed.
         ensures asked { OnOk result ((key : SecretKeyRecord)
             × GivesSecretKey sk_text.now (option_map (λ p. p.now) password.entry) greatest_work key × TellsKey questions.new key) }
-        ensures digest { OnOk result ((m : List ℕ) → IsFed self.old m → questions.new.digest ≡ blake2b_digest 64 m) }
+        ensures digest { OnOk result ((m : List ℕ) → IsFedState self.old m → questions.new.digest ≡ blake2b_digest 64 m) }
         ensures begun { OnOk result (IsMarkedFed self.old) }
 
         // The state then keeps the identifier, and is fed and asked no more.

@@ -3,8 +3,8 @@
 
 ghost use Rattle.std.specs.Prelude.{◌≡◌, ◌++◌, ℕ, List, [], false, Ok, OnOk, IfOk, IfErr, MatchResult, length};
 ghost use Rattle.minisign_hash.specs.Blake2b.{blake2b_digest};
-ghost use Rattle.minisign_hash.specs.Fed.{IsFed as IsFedHash, has_finalized, output_length};
-ghost use Rattle.minisign_external.specs.States.{HasToldKey, IsFed, IsMarkedFed, IsNotFed, IsNotTold, fed_mark};
+ghost use Rattle.minisign_hash.specs.Fed.{IsFed, has_finalized, output_length};
+ghost use Rattle.minisign_external.specs.States.{HasToldKey, IsFedState, IsMarkedFed, IsNotFed, IsNotTold, fed_mark, no_questions};
 ghost use Rattle.minisign_external.specs.declared.state.Refusal.TheVariants.{Refused, WrongUse};
 
 use minisign_base::PError;
@@ -79,6 +79,12 @@ pub enum Misuse {
     /// A comment of a signature is one that Minisign would not read back: too long, or with a zero
     /// byte or a carriage return.
     UnreadableComment,
+    /// A call of installing is not due, or cannot go so.
+    NotDue,
+    /// `is_first` is neither 0 nor 1.
+    BadFirstFlag,
+    /// A numbering is neither `MINISIGN_NUMBERING_TIMESTAMP` nor `MINISIGN_NUMBERING_VERSION`.
+    BadNumbering,
 }
 
 /// Why nothing was asked or signed.
@@ -108,10 +114,30 @@ impl From<Misuse> for Refusal {
     }
 }
 
+impl Questions {
+    /// No questions yet: zeros, for asking to write over. Takes no memory.
+    pub fn none() -> Questions
+        // Before anything was asked, each number is 0.
+        ensures { result ≡ no_questions }
+    {
+        Questions {
+            public_key: [0; 32],
+            digest: [0; 64],
+            signature: [0; 64],
+            comment_signature: [0; 64],
+            message_len: 0,
+            public_key_id: [0; 8],
+            signature_key_id: [0; 8],
+            legacy: 0,
+            reserved: 0,
+        }
+    }
+}
+
 impl State {
     /// A state that was fed nothing. Takes no memory.
     pub fn new() -> State
-        ensures { IsFed result [] }
+        ensures { IsFedState result [] }
     {
         State {
             mark: FED,
@@ -127,7 +153,7 @@ impl State {
     pub fn update(&mut self, piece: &[u8]) -> Result<(), Misuse>
         // Each update appends to what the state was fed. A state that is not being fed takes no data, and stays as it
         // was.
-        ensures fed { (m : List ℕ) → IsFed self.old m → MatchResult result (λ _. IsFed self.new (m ++ piece.now)) (λ _. ⊥) }
+        ensures fed { (m : List ℕ) → IsFedState self.old m → MatchResult result (λ _. IsFedState self.new (m ++ piece.now)) (λ _. ⊥) }
         ensures begun { OnOk result (IsMarkedFed self.old) }
         ensures refused { IfErr result (λ e. IsNotFed self.old e × (self.new ≡ self.old)) }
     {
@@ -140,7 +166,7 @@ impl State {
     /// The digest of what the state was fed, 64 bytes. Refused as `update`.
     pub fn digest(&self) -> Result<[u8; 64], Misuse>
         // The digest of everything the state was fed; a state that is not being fed gives none.
-        ensures digest { (m : List ℕ) → IsFed self.now m → result ≡ Ok (blake2b_digest 64 m) }
+        ensures digest { (m : List ℕ) → IsFedState self.now m → result ≡ Ok (blake2b_digest 64 m) }
         ensures begun { OnOk result (IsMarkedFed self.now) }
         ensures refused { IfErr result (IsNotFed self.now) }
     {
@@ -168,7 +194,7 @@ impl State {
 
     // The hash of what the state was fed.
     fn hasher(&self) -> Result<Blake2b, Misuse>
-        ensures fed { (m : List ℕ) → IsFed self.now m → MatchResult result (λ b. IsFedHash b m) (λ _. ⊥) }
+        ensures fed { (m : List ℕ) → IsFedState self.now m → MatchResult result (λ b. IsFed b m) (λ _. ⊥) }
         ensures length { IfOk result (λ b. output_length b ≡ 64) }
         ensures finalized { IfOk result (λ b. has_finalized b ≡ false) }
         ensures mark { OnOk result (self.now.mark ≡ fed_mark) }

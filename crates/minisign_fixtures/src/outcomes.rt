@@ -43,7 +43,7 @@ pub fn holds(answer: &Result<bool>) -> bool {
 }
 
 /// Whether it was found out and holds, or memory ran out.
-pub fn is_right_or_wanting(answer: &Result<bool>) -> bool {
+pub fn is_right_or_out_of_memory(answer: &Result<bool>) -> bool {
     match answer {
         Ok(right) => *right,
         Err(fault) => fault.named() == Some(NamedFault::OutOfMemory),
@@ -52,7 +52,8 @@ pub fn is_right_or_wanting(answer: &Result<bool>) -> bool {
 
 /// The same, or a sink could not grow, so that writing failed.
 pub fn is_right_or_unwritten(answer: &Result<bool>) -> bool {
-    is_right_or_wanting(answer) || comes_to(answer, Outcome::Refused(NamedFault::WritingFailed))
+    is_right_or_out_of_memory(answer)
+        || comes_to(answer, Outcome::Refused(NamedFault::WritingFailed))
 }
 
 /// Whether these are the bytes of the record.

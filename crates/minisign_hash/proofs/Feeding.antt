@@ -1,13 +1,13 @@
 -- How the state and the buffer follow a message as it grows.
 use Rattle.std.proofs.Common.{◌≡◌, ℕ, zero, suc, ◌+◌, ◌-◌, ◌*◌, ◌/◌, ◌%◌, ◌^◌, ◌<◌, ◌≤◌, true, false, List, [], ◌++◌, length, take, drop, replicate, refl, sym, ap, ◌∙◌, arith, length-append, length-drop}
 use Rattle.std.proofs.lemmas.List.{append-nil, drop-append-le, drop-drop, drop_all, drop_at, length-take-le, take-append-le, take_all}
-use Rattle.minisign_hash.specs.Blake2b.{block, block_count, compress, last_state, state_after}
+use Rattle.minisign_hash.specs.Blake2b.{padded_block, block_count, compress, last_state, state_after}
 use Rattle.minisign_hash.specs.Words.{words64_of}
 use Rattle.minisign_hash.specs.Fed.{HeldAfter}
 
 -- state_after reads only the blocks that it counts
 pub state_after-append : (n : ℕ) (m d : List ℕ) (i : ℕ) → 128 * i ≤ length m → state_after n (m ++ d) i ≡ state_after n m i
-unfolding state_after block
+unfolding state_after padded_block
 state_after-append n m d zero h = refl
 state_after-append n m d (suc i) h =
     let fits : 128 ≤ length (drop (128 * i) m) = omega (arith, length-drop (128 * i) m) in
@@ -16,15 +16,15 @@ state_after-append n m d (suc i) h =
     rw (same, state_after-append n m d i (omega arith)) refl
 
 -- a whole block needs no zeros
-pub block_whole : (m b : List ℕ) (i : ℕ) → b ≡ drop (128 * i) m → length b ≡ 128 → block m i ≡ b
-unfolding block
+pub block_whole : (m b : List ℕ) (i : ℕ) → b ≡ drop (128 * i) m → length b ≡ 128 → padded_block m i ≡ b
+unfolding padded_block
 block_whole m b i e full =
     let part : take 128 (drop (128 * i) m) ≡ b = rw (← e) (take_all 128 b (omega arith)) in
     rw (part, full) (append-nil b)
 
 -- the bytes after the last whole block, and zeros
-pub block_rest : (m b : List ℕ) (i used : ℕ) → b ≡ drop (128 * i) m → length b ≡ used → used ≤ 128 → block m i ≡ b ++ replicate (128 - used) 0
-unfolding block
+pub block_rest : (m b : List ℕ) (i used : ℕ) → b ≡ drop (128 * i) m → length b ≡ used → used ≤ 128 → padded_block m i ≡ b ++ replicate (128 - used) 0
+unfolding padded_block
 block_rest m b i used e len fits =
     let part : take 128 (drop (128 * i) m) ≡ b = rw (← e) (take_all 128 b (omega arith)) in
     rw (part, len) refl
@@ -45,8 +45,8 @@ held_more n h count b c used m d i held e = record {
 
 -- a whole block among those that lie ahead
 pub block_ahead : (m blocks behind : List ℕ) (i k : ℕ) → drop (128 * i) m ≡ blocks ++ behind → 128 * k + 128 ≤ length blocks
-    → block m (i + k) ≡ take 128 (drop (128 * k) blocks)
-unfolding block
+    → padded_block m (i + k) ≡ take 128 (drop (128 * k) blocks)
+unfolding padded_block
 block_ahead m blocks behind i k ahead fits =
     let place : 128 * (i + k) ≡ 128 * i + 128 * k = omega arith in
     let here : drop (128 * (i + k)) m ≡ drop (128 * k) blocks ++ behind =
@@ -89,5 +89,5 @@ last_taken n h m blocks last i k ahead len whole fits some eh ek =
     let place : 128 * j ≡ 128 * i + length blocks = omega (arith, whole) in
     let rest : last ≡ drop (128 * j) m =
     sym (ap (λ (p : ℕ). drop p m) place ∙ sym (drop-drop (length blocks) (128 * i) m) ∙ ap (drop (length blocks)) ahead ∙ drop_at blocks last (length blocks) refl) in
-    let this : block m j ≡ last ++ replicate (128 - length last) 0 = block_rest m last j (length last) rest refl fits in
+    let this : padded_block m j ≡ last ++ replicate (128 - length last) 0 = block_rest m last j (length last) rest refl fits in
     rw (number, this, ek, eh) refl

@@ -5,7 +5,7 @@ use Rattle.std.proofs.lemmas.Slice.Eq.{bytes_eq-Decides}
 use Rattle.std.specs.declared.alloc.Global.{Global}
 use Rattle.std.specs.Prelude.{◌==◌, ◌||◌, bytes_eq}
 use Rattle.minisign_install.specs.Folders.{GivesRights, HasCreated, HasStepped, KeepsOwn, OthersLeave, Moment}
-use Rattle.minisign_install.specs.Memory.{Past, after, beginning, is_file, is_same, past, past_from, count_of, owned_by, past_of, rested, run_of, told_run, with_own}
+use Rattle.minisign_install.specs.Memory.{Past, after, beginning, is_file, is_same, past, past_from, count_of, owned_by, past_of, rested, run_of, known_run, with_own}
 use Rattle.minisign_install.specs.declared.folders.Name.{Name}
 use Rattle.minisign_install.specs.declared.memory.calls.Call.{Call}
 use Rattle.minisign_install.specs.declared.memory.calls.Call.TheVariants.{Created, Written, Settled, Renamed, NamesSettled, Removed, Cleared}
@@ -139,12 +139,12 @@ pub rested_step : (folder new : MemoryFolder) (call : Moment → Moment → Type
 rested_step folder new call is own this =
     let p = past_of folder in
     let owns = owned_by folder.owned in
-    let at : HasStepped (told_run p owns) (told_run (rested 1 p) owns) call × KeepsOwn (told_run p owns) (told_run (rested 1 p) owns) = (
-      record { before = p.now; others = nobody owns p.now; this = this; noted = refl; told = refl; locked = λ l. l },
+    let at : HasStepped (known_run p owns) (known_run (rested 1 p) owns) call × KeepsOwn (known_run p owns) (known_run (rested 1 p) owns) = (
+      record { before = p.now; others = nobody owns p.now; this = this; noted = refl; known = refl; locked = λ l. l },
       record { owns = refl },
     ) in
-    subst (λ o. HasStepped (told_run p owns) (told_run (past_of new) (owned_by o)) call × KeepsOwn (told_run p owns) (told_run (past_of new) (owned_by o))) (sym own)
-    (subst (λ q. HasStepped (told_run p owns) (told_run q owns) call × KeepsOwn (told_run p owns) (told_run q owns)) (sym is) at)
+    subst (λ o. HasStepped (known_run p owns) (known_run (past_of new) (owned_by o)) call × KeepsOwn (known_run p owns) (known_run (past_of new) (owned_by o))) (sym own)
+    (subst (λ q. HasStepped (known_run p owns) (known_run q owns) call × KeepsOwn (known_run p owns) (known_run q owns)) (sym is) at)
 
 -- everyone has all rights
 pub rights_given : (folder : MemoryFolder) (file : ℕ) → GivesRights file (past_of folder).now (past_of folder).now
@@ -158,7 +158,7 @@ rights_given folder file = record {
 }
 
 -- a stage is made under a name that is free
-made_at : (p : Past) (owns : List ℕ → Bool) (v : Vec ℕ Global) → IsBounded p → p.now.stages v.items ≡ None → HasCreated v.items p.made (told_run p owns) (told_run (after p (Created v)) (with_own owns v.items))
+made_at : (p : Past) (owns : List ℕ → Bool) (v : Vec ℕ Global) → IsBounded p → p.now.stages v.items ≡ None → HasCreated v.items p.made (known_run p owns) (known_run (after p (Created v)) (with_own owns v.items))
 made_at p owns v b free = record {
   stepped = record {
     before = p.now;
@@ -179,7 +179,7 @@ made_at p owns v b free = record {
       empty = cond-true (p.made == p.made) [] (p.now.holds p.made) (eq-eqb p.made p.made refl);
     };
     noted = refl;
-    told = refl;
+    known = refl;
     locked = λ l. l;
   };
   own = record {
@@ -189,12 +189,12 @@ made_at p owns v b free = record {
 }
 
 pub created : (folder : MemoryFolder) (q : Past) (owned : List ℕ → Bool) (v : Vec ℕ Global) (name : List ℕ) (file : ℕ) → (past_of folder).now.stages name ≡ None → v.items ≡ name
-    → file ≡ (past_of folder).made → q ≡ after (past_of folder) (Created v) → owned ≡ with_own (owned_by folder.owned) name → HasCreated name file (run_of folder) (told_run q owned)
+    → file ≡ (past_of folder).made → q ≡ after (past_of folder) (Created v) → owned ≡ with_own (owned_by folder.owned) name → HasCreated name file (run_of folder) (known_run q owned)
 created folder q owned v name file free named numbered is own =
     let p = past_of folder in
     let owns = owned_by folder.owned in
     let at = made_at p owns v (bounded folder) (ap (λ s. p.now.stages s) named ∙ free) in
-    subst (λ o. HasCreated name file (told_run p owns) (told_run q o)) (sym own)
-    (subst (λ r. HasCreated name file (told_run p owns) (told_run r (with_own owns name))) (sym is)
-    (subst (λ f. HasCreated name f (told_run p owns) (told_run (after p (Created v)) (with_own owns name))) (sym numbered)
-    (subst (λ s. HasCreated s p.made (told_run p owns) (told_run (after p (Created v)) (with_own owns s))) named at)))
+    subst (λ o. HasCreated name file (known_run p owns) (known_run q o)) (sym own)
+    (subst (λ r. HasCreated name file (known_run p owns) (known_run r (with_own owns name))) (sym is)
+    (subst (λ f. HasCreated name f (known_run p owns) (known_run (after p (Created v)) (with_own owns name))) (sym numbered)
+    (subst (λ s. HasCreated s p.made (known_run p owns) (known_run (after p (Created v)) (with_own owns s))) named at)))

@@ -1,20 +1,18 @@
 -- What the parts of an installation bring together.
-use Rattle.std.proofs.Common.{◌≡◌, ◌≢◌, ◌≤◌, ◌<◌, ◌^◌, inl, inr, ⊎_elim, ℕ, suc, zero, Bool, false, List, Option, Some, None, ap, sym, subst, ◌∙◌, get_or, OnOk, true, arith, lit<}
+use Rattle.std.proofs.Common.{◌≡◌, ◌≢◌, ◌≤◌, ◌<◌, ◌^◌, inl, inr, ⊎_elim, ℕ, suc, zero, Bool, false, List, Option, Some, None, ap, sym, subst, ◌∙◌, get_or, true, arith, lit<}
 use Rattle.std.proofs.lemmas.Fmt.{decimal_digit, decimal_is_IsNumeral, first_decimal, IsAscii-decimal}
 use Rattle.std.proofs.lemmas.Str.{IsUtf8-from_ascii}
 use Rattle.std.proofs.lemmas.Str.Parse.{without_leading_plus_none}
 use Rattle.std.specs.Fmt.{decimal}
 use Rattle.std.specs.Str.{IsUtf8}
 use Rattle.std.specs.Str.Parse.{IsNumeral, digits_value, without_leading_plus}
-use Rattle.std.specs.declared.result.Result.{Result}
-use Rattle.std.specs.declared.result.Result.TheVariants.{Ok, Err}
 use Rattle.minisign.specs.Acceptance.{Verifier}
 use Rattle.minisign.specs.Calls.{TextsVouchWith}
 use Rattle.minisign.specs.Reading.{IsAhead}
 use Rattle.minisign_install.specs.Comments.{IsNumberText, Says}
-use Rattle.minisign_install.specs.Folders.{Clears, HasLocked, HasStepped, IsFound, LeavesRecord, Moment, Reads, Run, Step}
-use Rattle.minisign_install.specs.Installing.{HasInstalled, InstallsLocked, IsBrought, IsInstalled, IsKeptNumber, IsPlaced, IsRecordBrought, IsUpdate, NeverFalls, PlacesBehind, PlacesOnly, Terms}
-use Rattle.minisign_install.specs.Runs.{BringsNothing, BringsOnly, Goes, GoesBeside, HasCleared, HasRecorded, IsKept, IsNumberFrom, IsOnly, IsPublished, Keeps, WorksOn, rights_of}
+use Rattle.minisign_install.specs.Folders.{Clears, HasStepped, IsFound, LeavesRecord, Moment, Finds, Run, RunStep}
+use Rattle.minisign_install.specs.Installing.{InstallsLocked, IsBrought, IsInstalled, IsKeptNumber, IsPlaced, IsRecordBrought, IsUpdate, NeverFalls, PlacesBehind, PlacesOnly, Terms}
+use Rattle.minisign_install.specs.Runs.{BringsNothing, BringsOnly, Goes, GoesBeside, HasRecorded, IsKept, IsNumberFrom, IsOnly, IsPublished, Keeps, rights_of}
 use Rattle.minisign_install.specs.declared.folders.Name.{Name}
 use Rattle.minisign_install.specs.declared.folders.Name.TheVariants.{Place, Record}
 use Rattle.minisign_install.proofs.Moments.{lasting_keeps}
@@ -57,28 +55,12 @@ module _ (accepts : Verifier) (terms : Terms) (kept : ℕ) where
   abbrev P : Name → List ℕ → Type 0
   P = IsBrought accepts terms kept
 
-  -- the number of an update comes to the record
-  pub number_brought : (update : List ℕ) (n : ℕ) (old new : Run) → IsUpdate accepts terms kept update n → BringsOnly (IsOnly Record (decimal n)) old new
-      → BringsOnly (IsBrought accepts terms kept) old new
-  number_brought update n old new is brings =
-      brings_weaken (IsOnly Record (decimal n)) (IsBrought accepts terms kept) old new
-      (λ name b only. subst (λ x. IsBrought accepts terms kept x b) (sym only.0) (n, update, is, only.1)) brings
-
   -- an update comes to the place
   pub update_brought : (update : List ℕ) (n : ℕ) (old new : Run) → IsUpdate accepts terms kept update n → BringsOnly (IsOnly Place update) old new
       → BringsOnly (IsBrought accepts terms kept) old new
   update_brought update n old new is brings =
       brings_weaken (IsOnly Place update) (IsBrought accepts terms kept) old new
       (λ name b only. subst (λ x. IsBrought accepts terms kept x b) (sym only.0) (n, subst (λ u. IsUpdate accepts terms kept u n) (sym only.1) is)) brings
-
-  -- staged, and the number kept: so much was brought, and the stage is still what it was
-  pub staged_and_kept : (name : List ℕ) (file : ℕ) (n : ℕ) (old mid new : Run) → WorksOn name file old mid → IsUpdate accepts terms kept (mid.now.holds file) n
-      → GoesBeside (IsOnly Record (decimal n)) mid new → BringsOnly (IsBrought accepts terms kept) old new × IsKept mid new name file
-  staged_and_kept name file n old mid new works is goes = (
-    brings_trans (IsBrought accepts terms kept) old mid new (brings_nothing (IsBrought accepts terms kept) old mid works.brings)
-        (number_brought (mid.now.holds file) n mid new is goes.brings),
-    goes.kept name file works.stage,
-  )
 
   -- and then published
   pub placed : (name : List ℕ) (file : ℕ) (n : ℕ) (old staged mid new : Run) → BringsOnly (IsBrought accepts terms kept) old mid → IsUpdate accepts terms kept (staged.now.holds file) n
@@ -87,7 +69,7 @@ module _ (accepts : Verifier) (terms : Terms) (kept : ℕ) where
       brings_trans (IsBrought accepts terms kept) old mid new so_far
       (update_brought (mid.now.holds file) n mid new (subst (λ u. IsUpdate accepts terms kept u n) (sym same.holds) is) goes.brings)
 
-  pub installed : (name : List ℕ) (file : ℕ) (n : ℕ) (ahead : Option (List ℕ)) (staged mid : Run) (steps : List Step) → IsAhead ahead (staged.now.holds file) → IsUpdate accepts terms kept (staged.now.holds file) n
+  pub installed : (name : List ℕ) (file : ℕ) (n : ℕ) (ahead : Option (List ℕ)) (staged mid : Run) (steps : List RunStep) → IsAhead ahead (staged.now.holds file) → IsUpdate accepts terms kept (staged.now.holds file) n
       → staged.now.rights file ≡ true → IsKept staged mid name file → HasRecorded (decimal n) mid
       → (p : IsPublished Place (mid.now.holds file) mid.steps steps) × (rights_of p ≡ mid.now.rights file) → IsInstalled accepts terms kept ahead steps
   installed name file n ahead staged mid steps given is rights same recorded (published, has) = record {
@@ -176,7 +158,7 @@ found_cleared : (m m' : Moment) (found : Option (List ℕ)) → Clears m m' → 
 found_cleared m m' None clears none = sym (ap (λ l. l Record) clears.leads) ∙ none
 found_cleared m m' (Some bytes) clears (f, leads, holds) = (f, sym (ap (λ l. l Record) clears.leads) ∙ leads, sym (ap (λ h. h f) clears.holds) ∙ holds)
 
-pub found_first : (found : Option (List ℕ)) (old cleared read : Run) → old.locked ≡ true → HasStepped old cleared Clears → HasStepped cleared read (Reads Record found) → IsFound old.now Record found
+pub found_first : (found : Option (List ℕ)) (old cleared read : Run) → old.locked ≡ true → HasStepped old cleared Clears → HasStepped cleared read (Finds Record found) → IsFound old.now Record found
 found_first found old cleared read locked clear s =
     let read_then : IsFound s.before Record found = s.this.found_there in
     let then : IsFound cleared.now Record found = found_before cleared.now s.before found (s.others.record_left (clear.locked locked)) read_then in
@@ -225,19 +207,3 @@ is_update accepts terms kept bytes comment text n vouched same says newer = reco
   says = says;
   newer = newer;
 }
-
--- what was installed once the record was read
-pub installed_after : (accepts : Verifier) (terms : Terms) (first : Bool) (ahead : Option (List ℕ)) (kept : ℕ) (old read new : Run) {A E : Type 0} (r : Result A E)
-    → (old.told ≡ true → old.locked ≡ true → HasCleared old new × BringsNothing old read × ((found : Option (List ℕ)) × IsFound old.now Record found × IsKeptNumber first found kept))
-    → OnOk r (read.told ≡ true → read.locked ≡ true → IsInstalled accepts terms kept ahead new.steps) → OnOk r (old.told ≡ true → old.locked ≡ true → HasInstalled accepts terms first ahead old new)
-installed_after accepts terms first ahead kept old read new (Ok a) before is = λ told locked.
-    let (cleared, none, (found, there, number)) = before told locked in
-    record { found = found; kept = kept; there = there; number = number; cleared = cleared; installed = is (none.told ∙ told) (none.locked locked) }
-installed_after accepts terms first ahead kept old read new (Err e) before is = tt
-
-pub installed_locked : (accepts : Verifier) (terms : Terms) (first : Bool) (ahead : Option (List ℕ)) (old locked new : Run) {A E : Type 0} (r : Result A E) → (old.told ≡ true → HasLocked old locked)
-    → OnOk r (locked.told ≡ true → locked.locked ≡ true → HasInstalled accepts terms first ahead locked new) → OnOk r (old.told ≡ true → ((l : Run) × HasLocked old l × HasInstalled accepts terms first ahead l new))
-installed_locked accepts terms first ahead old locked new (Ok a) lock is = λ told.
-    let got = lock told in
-    (locked, got, is (got.stepped.told ∙ told) got.held)
-installed_locked accepts terms first ahead old locked new (Err e) lock is = tt

@@ -1,11 +1,16 @@
 mod Bounds
 mod Counts
+mod Driven
+mod Driving
 mod Fields
-mod Found
+mod InMemory
 mod Installs
+mod Judgements
 mod Moments
+mod Orders
 mod Pasts
 mod Pieces
+mod Reasons
 mod Refused
 mod Verdicts
 mod Works

@@ -1,11 +1,11 @@
 -- What one call brings to the lasting names.
 use Rattle.std.proofs.Common.{◌≡◌, ◌≢◌, ◌⊎◌, inl, inr, ⊎_elim, ℕ, List, Option, Some, true, ap, sym, subst, ◌∙◌, refl}
-use Rattle.minisign_install.specs.Folders.{IsApart, KeepsNames, LeavesRecord, MayFind, MayLead, Moment, Renames, Step, TouchesOnly}
+use Rattle.minisign_install.specs.Folders.{IsApart, KeepsNames, LeavesRecord, MayFind, MayLead, Moment, Renames, RunStep, TouchesOnly}
 use Rattle.minisign_install.specs.Runs.{Brings, IsNumberFrom, Keeps, Lasts}
 use Rattle.minisign_install.specs.declared.folders.Name.{Name}
 use Rattle.minisign_install.specs.declared.folders.Name.TheVariants.{Place, Record}
 
-abbrev pub step : Moment → Moment → Step
+abbrev pub step : Moment → Moment → RunStep
 step m m' = record { before = m; after = m' }
 
 pub lead_back : (m m' : Moment) (n : Name) (f : ℕ) → m'.leads ≡ m.leads → m'.left ≡ m.left → MayLead m' n f → MayLead m n f

@@ -1,29 +1,38 @@
--- What pieces make together.
-use Rattle.std.proofs.Common.{refl, Bool, true, false, Some, None, if◌then◌else◌, ◌≡◌, ◌+◌, ◌≤◌, ℕ, List, [], ◌++◌, length, take, drop, ap, sym, ◌∙◌, arith, append_assoc, length-drop, take-append-drop}
+-- Pieces that are written into a file, or read, one after another.
+use Rattle.std.proofs.Common.{◌≡◌, ◌+◌, ℕ, List, [], ◌∷◌, ◌++◌, true, take, drop, ap, sym, subst, ◌∙◌, refl, append_assoc, append-nil, take-append-drop}
 use Rattle.std.proofs.lemmas.List.{drop-drop}
-use Rattle.std.specs.Io.KnownBytes.{Consumes, IsAtEnd}
+use Rattle.std.specs.List.{concat}
+use Rattle.minisign_install.specs.Folders.{Appends, Run}
+use Rattle.minisign_install.specs.Hosts.{Calls, Writes, WritesInPart}
 
--- what grew twice
-pub grown_twice : (old mid new x y : List ℕ) → mid ≡ old ++ x → new ≡ mid ++ y → new ≡ old ++ (x ++ y)
-grown_twice old mid new x y a b = b ∙ ap (λ l. l ++ y) a ∙ append_assoc old x y
+module _ (file : ℕ) where
+  pub writes_both : (a b : List (List ℕ)) (old mid new : Run) → Writes file a old mid → Writes file b mid new → Writes file (a ++ b) old new
+  writes_both [] b old mid new same more = subst (λ r. Writes file b r new) same more
+  writes_both (piece ∷ a) b old mid new (next, call, rest) more = (next, call, writes_both a b next mid new rest more)
+
+  pub writes_one : (piece : List ℕ) (old new : Run) → Calls (Appends file piece) old new → Writes file (piece ∷ []) old new
+  writes_one piece old new call = (new, call, refl)
+
+  pub writes_told : (pieces : List (List ℕ)) (old new : Run) → old.known ≡ true → Writes file pieces old new → new.known ≡ true
+  writes_told [] old new known same = ap (λ r. r.known) same ∙ known
+  writes_told (piece ∷ more) old new known (mid, call, rest) = writes_told more mid new (call.0.known ∙ known) rest
+
+  pub part_after : (pieces : List (List ℕ)) (old mid new : Run) → Writes file pieces old mid → WritesInPart file mid new → WritesInPart file old new
+  part_after pieces old mid new writes (more, then, rest, last) = (pieces ++ more, then, writes_both pieces more old mid then writes rest, last)
+
+pub concat_both : (a b : List (List ℕ)) → concat (a ++ b) ≡ concat a ++ concat b
+concat_both [] b = refl
+concat_both (piece ∷ a) b = ap (λ l. piece ++ l) (concat_both a b) ∙ sym (append_assoc piece (concat a) (concat b))
+
+pub concat_one : (a : List (List ℕ)) (piece : List ℕ) → concat (a ++ piece ∷ []) ≡ concat a ++ piece
+concat_one a piece = concat_both a (piece ∷ []) ∙ ap (λ l. concat a ++ l) (append-nil piece)
 
 -- what is left begins with what is read next
-pub read_next : (at n end : ℕ) (xs front : List ℕ) → end ≡ at + n → front ≡ take n (drop at xs) → drop at xs ≡ front ++ drop end xs
-read_next at n end xs front is same =
-    sym (take-append-drop n (drop at xs)) ∙ ap (λ l. l ++ drop n (drop at xs)) (sym same) ∙ ap (λ l. front ++ l) (drop-drop n at xs) ∙ ap (λ k. front ++ drop k xs) (sym is)
+read_next : (at n : ℕ) (xs front : List ℕ) → front ≡ take n (drop at xs) → drop at xs ≡ front ++ drop (at + n) xs
+read_next at n xs front same =
+    sym (take-append-drop n (drop at xs)) ∙ ap (λ l. l ++ drop n (drop at xs)) (sym same) ∙ ap (λ l. front ++ l) (drop-drop n at xs)
 
-pub left_less : (at n end : ℕ) (xs : List ℕ) → end ≡ at + n → n ≤ length (drop at xs) → length (drop end xs) + n ≡ length (drop at xs)
-left_less at n end xs is within = omega (arith, is, within, length-drop at xs, length-drop end xs)
-
-pub nothing_left : (at n end : ℕ) (xs : List ℕ) → end ≡ at + n → n ≡ 0 → drop at xs ≡ [] → drop end xs ≡ []
-nothing_left at n end xs is none empty = ap (λ k. drop k xs) (omega (arith, is, none)) ∙ empty
-
--- the same of a list that is told or not
-pub read_told : (told : Bool) (at n end : ℕ) (xs front : List ℕ) → end ≡ at + n → (told ≡ true → front ≡ take n (drop at xs))
-    → Consumes (if told then Some (drop at xs) else None) (if told then Some (drop end xs) else None) front
-read_told true at n end xs front is same = read_next at n end xs front is (same refl)
-read_told false at n end xs front is same = tt
-
-pub end_told : (told : Bool) (at n end : ℕ) (xs : List ℕ) → end ≡ at + n → n ≡ 0 → (told ≡ true → drop at xs ≡ []) → IsAtEnd (if told then Some (drop end xs) else None)
-end_told true at n end xs is none empty = nothing_left at n end xs is none (empty refl)
-end_told false at n end xs is none empty = tt
+-- what was read, and what is read next
+pub read_more : (at n : ℕ) (xs done front : List ℕ) → xs ≡ done ++ drop at xs → front ≡ take n (drop at xs) → xs ≡ (done ++ front) ++ drop (at + n) xs
+read_more at n xs done front so_far is =
+    so_far ∙ ap (λ l. done ++ l) (read_next at n xs front is) ∙ sym (append_assoc done front (drop (at + n) xs))

@@ -85,35 +85,35 @@ module _ (accepts : Verifier) (terms : Terms) (first : Bool) where
   some_ahead (Some xs) = (xs, refl)
 
   memory_only : (before after : Counts) (e : InstallFault) (W : Type 0) → e ≢ Library (Named OutOfMemory) → ¬ (HasFailed before after) → IsLibraryFault (IsDeviceFault before after) e → W
-  memory_only before after e W memory calm (fault, is, device) = absurd (memory (is ∙ ap (λ f. Library f) (not_failed before after fault calm device)))
+  memory_only before after e W memory no_new_fault (fault, is, device) = absurd (memory (is ∙ ap (λ f. Library f) (not_failed before after fault no_new_fault device)))
 
   abbrev pub Verdict : Option (List ℕ) → Run → InstallFault → Type 0
   Verdict ahead locked e = (found : Option (List ℕ)) × IsFound locked.now Record found × ((message : List ℕ) × IsAhead ahead message × CannotBeInstalled accepts terms first found message e)
 
   locked_verdict : (ahead : Option (List ℕ)) (before after : Counts) (locked new : Run) (e : InstallFault) → e ≢ Library (Named OutOfMemory) → ¬ (HasFailed before after)
       → IsLockedRefusal accepts terms first ahead before after locked new e → Verdict ahead locked e
-  locked_verdict ahead before after locked new e memory calm (inl (none, device)) = memory_only before after e (Verdict ahead locked e) memory calm device
-  locked_verdict ahead before after locked new e memory calm (inr (inl (cleared, none, (found, there, why)))) =
+  locked_verdict ahead before after locked new e memory no_new_fault (inl (none, device)) = memory_only before after e (Verdict ahead locked e) memory no_new_fault device
+  locked_verdict ahead before after locked new e memory no_new_fault (inr (inl (cleared, none, (found, there, why)))) =
       let (message, given) = some_ahead ahead in
       (found, there, (message, given, record { reason = inl why; not_so = λ (kept, n, number, update). record_unfit first found kept e why number }))
-  locked_verdict ahead before after locked new e memory calm (inr (inr (cleared, (found, kept, there, number, (inl (none, device)))))) = memory_only before after e (Verdict ahead locked e) memory calm device
-  locked_verdict ahead before after locked new e memory calm (inr (inr (cleared, (found, kept, there, number, (inr (inl (none, (message, given, why)))))))) =
+  locked_verdict ahead before after locked new e memory no_new_fault (inr (inr (cleared, (found, kept, there, number, (inl (none, device)))))) = memory_only before after e (Verdict ahead locked e) memory no_new_fault device
+  locked_verdict ahead before after locked new e memory no_new_fault (inr (inr (cleared, (found, kept, there, number, (inr (inl (none, (message, given, why)))))))) =
       (found, there, (message, given, record { reason = inr (kept, number, why); not_so = data_unfit found kept message e number why }))
-  locked_verdict ahead before after locked new e memory calm (inr (inr (cleared, (found, kept, there, number, (inr (inr (inl (brings, device)))))))) = memory_only before after e (Verdict ahead locked e) memory calm device
-  locked_verdict ahead before after locked new e memory calm (inr (inr (cleared, (found, kept, there, number, (inr (inr (inr (inl (brings, writing, rose))))))))) = absurd (calm (inr (inr rose)))
-  locked_verdict ahead before after locked new e memory calm (inr (inr (cleared, (found, kept, there, number, (inr (inr (inr (inr (brings, placed, folder, rose))))))))) = absurd (calm (inr (inr rose)))
+  locked_verdict ahead before after locked new e memory no_new_fault (inr (inr (cleared, (found, kept, there, number, (inr (inr (inl (brings, device)))))))) = memory_only before after e (Verdict ahead locked e) memory no_new_fault device
+  locked_verdict ahead before after locked new e memory no_new_fault (inr (inr (cleared, (found, kept, there, number, (inr (inr (inr (inl (brings, writing, rose))))))))) = absurd (no_new_fault (inr (inr rose)))
+  locked_verdict ahead before after locked new e memory no_new_fault (inr (inr (cleared, (found, kept, there, number, (inr (inr (inr (inr (brings, placed, folder, rose))))))))) = absurd (no_new_fault (inr (inr rose)))
 
   pub refused_exactly : (A : Type 0) (ahead : Option (List ℕ)) (before after : Counts) (old new : Run) (e : InstallFault) → IsRefusal accepts terms first ahead before after old new e
       → InstallsExactly {T = A} accepts terms first ahead before after old new (Err e)
-  refused_exactly A ahead before after old new e (inl (busy, in_use)) = λ memory calm. inl (busy, in_use)
-  refused_exactly A ahead before after old new e (inr (inl (still, device))) = λ memory calm. memory_only before after e _ memory calm device
-  refused_exactly A ahead before after old new e (inr (inr (locked, got, refusal))) = λ memory calm. inr (locked, got, locked_verdict ahead before after locked new e memory calm refusal)
+  refused_exactly A ahead before after old new e (inl (busy, in_use)) = λ memory no_new_fault. inl (busy, in_use)
+  refused_exactly A ahead before after old new e (inr (inl (still, device))) = λ memory no_new_fault. memory_only before after e _ memory no_new_fault device
+  refused_exactly A ahead before after old new e (inr (inr (locked, got, refusal))) = λ memory no_new_fault. inr (locked, got, locked_verdict ahead before after locked new e memory no_new_fault refusal)
 
   -- what is said of success and of refusals makes it exact
   pub exactly : (ahead : Option (List ℕ)) (before after : Counts) (old new : Run) (A : Type 0) (r : Result A InstallFault)
-      → OnOk r (old.told ≡ true → ((locked : Run) × HasLocked old locked × HasInstalled accepts terms first ahead locked new))
-      → IfErr r (λ e. old.told ≡ true → IsRefusal accepts terms first ahead before after old new e) → old.told ≡ true → InstallsExactly accepts terms first ahead before after old new r
-  exactly ahead before after old new A (Ok a) installed refused = λ told memory calm.
-      let (locked, got, is) = installed told in
+      → OnOk r (old.known ≡ true → ((locked : Run) × HasLocked old locked × HasInstalled accepts terms first ahead locked new))
+      → IfErr r (λ e. old.known ≡ true → IsRefusal accepts terms first ahead before after old new e) → old.known ≡ true → InstallsExactly accepts terms first ahead before after old new r
+  exactly ahead before after old new A (Ok a) installed refused = λ known memory no_new_fault.
+      let (locked, got, is) = installed known in
       inr (locked, got, (is.found, is.there, (is.installed.bytes, is.installed.read, (is.kept, is.installed.n, is.number, is.installed.update))))
-  exactly ahead before after old new A (Err e) installed refused = λ told. refused_exactly A ahead before after old new e (refused told)
+  exactly ahead before after old new A (Err e) installed refused = λ known. refused_exactly A ahead before after old new e (refused known)

@@ -1,11 +1,11 @@
 -- Calls one after another.
 use Rattle.std.proofs.lemmas.Bool.{true≢false}
-use Rattle.std.proofs.Common.{Bool, false, ◌≡◌, ◌≢◌, ◌⊎◌, inl, inr, ⊎_elim, ℕ, List, [], ◌∷◌, ◌++◌, Some, None, true, ap, sym, subst, ◌∙◌, refl, append_assoc, MatchResult, OnOk, IsErrAnd}
+use Rattle.std.proofs.Common.{◌≡◌, ◌≢◌, ◌⊎◌, inl, inr, ⊎_elim, ℕ, List, [], ◌∷◌, ◌++◌, Some, None, true, ap, sym, subst, ◌∙◌, refl, append_assoc, MatchResult, OnOk}
 use Rattle.std.proofs.lemmas.List.Elements.{All-cons, All-nil, All-append}
 use Rattle.std.specs.declared.result.Result.{Result}
 use Rattle.std.specs.declared.result.Result.TheVariants.{Ok, Err}
-use Rattle.minisign_install.specs.Folders.{Appends, Clears, ClearsAll, Creates, GivesRights, HasCreated, HasLocked, HasRemoved, HasStepped, HasTried, IsApart, IsAsked, IsStill, KeepsNames, KeepsOwn, MayLead, Moment, OthersLeave, OwnsLess, OwnsMore, Perhaps, Removes, Renames, Run, Settles, SettlesNames, Spoils, Stands}
-use Rattle.minisign_install.specs.Runs.{Brings, HasCleared, HasLetGo, KeepsAt, Lasts, BringsNothing, BringsOnly, Goes, GoesBeside, HasRecorded, HasStage, IsKept, IsOnly, KeepsOthers, KeepsStages, OwnsNoMore, WorksOn, IsPublished, rights_of}
+use Rattle.minisign_install.specs.Folders.{Appends, Clears, ClearsAll, Creates, GivesRights, HasCreated, HasStepped, HasTried, IsApart, IsStill, KeepsNames, KeepsOwn, MayLead, Moment, OthersLeave, OwnsLess, OwnsMore, Perhaps, Removes, Renames, Run, Settles, SettlesNames, Spoils, Stands}
+use Rattle.minisign_install.specs.Runs.{Brings, HasCleared, HasLetGo, KeepsAt, Lasts, BringsNothing, BringsOnly, Goes, GoesBeside, HasStage, IsKept, IsOnly, KeepsOthers, KeepsStages, OwnsNoMore, WorksOn, IsPublished, rights_of}
 use Rattle.minisign_install.specs.declared.folders.Name.{Name}
 use Rattle.minisign_install.specs.declared.folders.Name.TheVariants.{Record}
 use Rattle.minisign_install.proofs.Moments.{call_keeps, lead_back, leaving, others_keep, place_or_record, renaming, resting, settling_names, some_inj, step, touching}
@@ -16,7 +16,7 @@ module _ (P : Name → List ℕ → Type 0) where
     since = [];
     noted = refl;
     each = All-nil (Brings P);
-    told = refl;
+    known = refl;
     locked = λ l. l;
     numbers = λ l k floor keeps. (All-nil (KeepsAt k), keeps);
   }
@@ -26,7 +26,7 @@ module _ (P : Name → List ℕ → Type 0) where
     since = step s.before new.now ∷ so_far.since;
     noted = s.noted ∙ ap (λ l. step s.before new.now ∷ l) so_far.noted;
     each = All-cons (Brings P) (step s.before new.now) so_far.since this so_far.each;
-    told = s.told ∙ so_far.told;
+    known = s.known ∙ so_far.known;
     locked = λ l. s.locked (so_far.locked l);
     numbers = λ l k floor keeps.
         let (each, last) = so_far.numbers l k floor keeps in
@@ -40,7 +40,7 @@ module _ (P : Name → List ℕ → Type 0) where
     since = b.since ++ a.since;
     noted = b.noted ∙ ap (λ l. b.since ++ l) a.noted ∙ sym (append_assoc b.since a.since old.steps);
     each = All-append (Brings P) b.since a.since b.each a.each;
-    told = b.told ∙ a.told;
+    known = b.known ∙ a.known;
     locked = λ l. b.locked (a.locked l);
     numbers = λ l k floor keeps.
         let (first, then) = a.numbers l k floor keeps in
@@ -56,7 +56,7 @@ module _ (P : Name → List ℕ → Type 0) where
       finds = λ n bytes found. ⊎_elim inl (λ no. absurd no) ((none.each k d l).finds n bytes found);
       stays = (none.each k d l).stays;
     };
-    told = none.told;
+    known = none.known;
     locked = none.locked;
     numbers = λ l k floor keeps. none.numbers l k (λ bytes no. absurd no) keeps;
   }
@@ -105,7 +105,7 @@ spoiling name file old new stage s own =
     let m = s.before in
     let at : (t : List ℕ) (f : ℕ) → HasStage old t f → Before old m t f = λ t f. before_call old m t f s.others in
     let after : (t : List ℕ) (f : ℕ) → HasStage old t f → HasStage new t f = λ t f held. record {
-      told = s.told ∙ held.told;
+      known = s.known ∙ held.known;
       locked = s.locked held.locked;
       owned = ap (λ o. o t) own.owns ∙ held.owned;
       leads = ap (λ o. o t) s.this.stages ∙ (at t f held).leads;
@@ -127,7 +127,7 @@ pub resting_keeps : (old new : Run) → HasStepped old new IsStill → KeepsOwn 
 resting_keeps old new s own t f held =
     let at = before_call old s.before t f s.others held in record {
       stage = record {
-        told = s.told ∙ held.told;
+        known = s.known ∙ held.known;
         locked = s.locked held.locked;
         owned = ap (λ o. o t) own.owns ∙ held.owned;
         leads = ap (λ m. m.stages t) s.this ∙ at.leads;
@@ -141,19 +141,11 @@ resting_keeps old new s own t f held =
 pub resting_brings : (old new : Run) → HasStepped old new IsStill → BringsNothing old new
 resting_brings old new s = brings_more (λ _ _. ⊥) old old new IsStill (brings_none (λ _ _. ⊥) old) s (resting (λ _ _. ⊥) s.before new.now s.this)
 
-pub resting_works : (name : List ℕ) (file : ℕ) (old new : Run) → HasStage old name file → HasStepped old new IsStill → KeepsOwn old new → WorksOn name file old new
-resting_works name file old new stage s own = record {
-  brings = resting_brings old new s;
-  stage = (resting_keeps old new s own name file stage).stage;
-  kept = λ t f held other. resting_keeps old new s own t f held;
-  own = own;
-}
-
 -- what is written stands behind what the stage held
 pub appending : (name : List ℕ) (file : ℕ) (bytes : List ℕ) (old new : Run) → HasStage old name file → HasStepped old new (Appends file bytes) → KeepsOwn old new
     → WorksOn name file old new × (new.now.holds file ≡ old.now.holds file ++ bytes)
 appending name file bytes old new stage s own = (
-  spoiling name file old new stage (record { before = s.before; others = s.others; this = s.this.spoils; noted = s.noted; told = s.told; locked = s.locked }) own,
+  spoiling name file old new stage (record { before = s.before; others = s.others; this = s.this.spoils; noted = s.noted; known = s.known; locked = s.locked }) own,
   s.this.grown ∙ ap (λ h. h ++ bytes) (s.others.holds name file stage.owned stage.leads),
 )
 
@@ -161,7 +153,7 @@ appending name file bytes old new stage s own = (
 pub settling : (name : List ℕ) (file : ℕ) (old new : Run) → HasStage old name file → HasStepped old new (Settles file) → KeepsOwn old new
     → WorksOn name file old new × (new.now.holds file ≡ old.now.holds file) × (new.now.on_disk file ≡ true) × (new.now.rights file ≡ old.now.rights file)
 settling name file old new stage s own = (
-  spoiling name file old new stage (record { before = s.before; others = s.others; this = s.this.spoils; noted = s.noted; told = s.told; locked = s.locked }) own,
+  spoiling name file old new stage (record { before = s.before; others = s.others; this = s.this.spoils; noted = s.noted; known = s.known; locked = s.locked }) own,
   s.this.same ∙ s.others.holds name file stage.owned stage.leads,
   s.this.on_disk,
   s.this.rights ∙ s.others.rights name file stage.owned stage.leads,
@@ -171,15 +163,15 @@ settling name file old new stage s own = (
 pub giving : (name : List ℕ) (file : ℕ) (old new : Run) → HasStage old name file → HasStepped old new (GivesRights file) → KeepsOwn old new
     → WorksOn name file old new × (new.now.holds file ≡ old.now.holds file) × (new.now.rights file ≡ true)
 giving name file old new stage s own = (
-  spoiling name file old new stage (record { before = s.before; others = s.others; this = s.this.spoils; noted = s.noted; told = s.told; locked = s.locked }) own,
+  spoiling name file old new stage (record { before = s.before; others = s.others; this = s.this.spoils; noted = s.noted; known = s.known; locked = s.locked }) own,
   s.this.same ∙ s.others.holds name file stage.owned stage.leads,
   s.this.given,
 )
 
-pub kept_from : (old new : Run) (m : Moment) (s : List ℕ) (f : ℕ) → Before old m s f → new.told ≡ true → new.locked ≡ true → new.owns s ≡ true → new.now.stages s ≡ m.stages s → IsApart new.now f
+pub kept_from : (old new : Run) (m : Moment) (s : List ℕ) (f : ℕ) → Before old m s f → new.known ≡ true → new.locked ≡ true → new.owns s ≡ true → new.now.stages s ≡ m.stages s → IsApart new.now f
     → new.now.holds f ≡ m.holds f → new.now.on_disk f ≡ m.on_disk f → new.now.rights f ≡ m.rights f → IsKept old new s f
-kept_from old new m s f at told locked owned stages apart holds on_disk rights = record {
-  stage = record { told = told; locked = locked; owned = owned; leads = stages ∙ at.leads; apart = apart };
+kept_from old new m s f at known locked owned stages apart holds on_disk rights = record {
+  stage = record { known = known; locked = locked; owned = owned; leads = stages ∙ at.leads; apart = apart };
   holds = holds ∙ at.holds;
   on_disk = on_disk ∙ at.on_disk;
   rights = rights ∙ at.rights;
@@ -187,9 +179,9 @@ kept_from old new m s f at told locked owned stages apart holds on_disk rights =
 
 -- == A stage is made ==
 
-pub created_stage : (name : List ℕ) (g : ℕ) (old new : Run) → old.told ≡ true → old.locked ≡ true → HasCreated name g old new → HasStage new name g
-created_stage name g old new told locked c = record {
-  told = c.stepped.told ∙ told;
+pub created_stage : (name : List ℕ) (g : ℕ) (old new : Run) → old.known ≡ true → old.locked ≡ true → HasCreated name g old new → HasStage new name g
+created_stage name g old new known locked c = record {
+  known = c.stepped.known ∙ known;
   locked = c.stepped.locked locked;
   owned = c.own.more;
   leads = c.stepped.this.made;
@@ -211,7 +203,7 @@ created_keeps name g old new c s f held =
     let file_differs : f ≢ g = λ e. this.fresh s (at.leads ∙ ap (λ x. Some x) e) in (
       name_differs,
       file_differs,
-      kept_from old new m s f at (c.stepped.told ∙ held.told) (c.stepped.locked held.locked) (c.own.others s name_differs ∙ held.owned) (this.others s name_differs)
+      kept_from old new m s f at (c.stepped.known ∙ held.known) (c.stepped.locked held.locked) (c.own.others s name_differs ∙ held.owned) (this.others s name_differs)
           (λ n lead. at.apart n (lead_back m new.now n f this.only.leads this.only.left lead)) (this.only.holds f file_differs) (this.only.on_disk f file_differs) (this.only.rights f file_differs),
     )
 
@@ -233,7 +225,7 @@ module _ (name : List ℕ) (to : Name) (g : ℕ) (old new : Run) (stage : HasSta
       let m = s.before in
       let mine = before_call old m name g s.others stage in
       let at = before_call old m t f s.others held in
-      kept_from old new m t f at (s.told ∙ held.told) (s.locked held.locked) (owns t name_differs ∙ held.owned) (s.this.stages t name_differs)
+      kept_from old new m t f at (s.known ∙ held.known) (s.locked held.locked) (owns t name_differs ∙ held.owned) (s.this.stages t name_differs)
       (renamed_apart name to g f m new.now s.this mine.leads file_differs at.apart) (ap (λ h. h f) s.this.holds) (ap (λ d. d f) s.this.on_disk) (ap (λ r. r f) s.this.rights)
 
   pub renamed_brings : old.now.on_disk g ≡ true → (s : HasStepped old new (Renames name to)) → BringsOnly (IsOnly to (old.now.holds g)) old new
@@ -259,7 +251,7 @@ pub names_keep : (old new : Run) → HasStepped old new KeepsNames → KeepsOwn 
 names_keep old new s own t f held =
     let m = s.before in
     let at = before_call old m t f s.others held in
-    kept_from old new m t f at (s.told ∙ held.told) (s.locked held.locked) (ap (λ o. o t) own.owns ∙ held.owned) (ap (λ o. o t) s.this.stages)
+    kept_from old new m t f at (s.known ∙ held.known) (s.locked held.locked) (ap (λ o. o t) own.owns ∙ held.owned) (ap (λ o. o t) s.this.stages)
     (λ n lead. at.apart n (⊎_elim (λ e. inl (sym (ap (λ l. l n) s.this.leads) ∙ e)) (λ e. s.this.left n f e) lead))
     (ap (λ h. h f) s.this.holds) (ap (λ d. d f) s.this.on_disk) (ap (λ r. r f) s.this.rights)
 
@@ -267,14 +259,7 @@ pub names_bring : (P : Name → List ℕ → Type 0) (old new : Run) → HasStep
 names_bring P old new s = brings_more P old old new KeepsNames (brings_none P old) s (settling_names P s.before new.now s.this)
 
 pub names_settled : (old new : Run) → HasStepped old new SettlesNames → HasStepped old new KeepsNames
-names_settled old new s = record { before = s.before; others = s.others; this = s.this.same; noted = s.noted; told = s.told; locked = s.locked }
-
-pub removed_keeps : (name : List ℕ) (old new : Run) → HasStepped old new (Removes name) → ((t : List ℕ) → t ≢ name → new.owns t ≡ old.owns t) → (s : List ℕ) (f : ℕ) → HasStage old s f → s ≢ name → IsKept old new s f
-removed_keeps name old new s owns t f held differs =
-    let m = s.before in
-    let at = before_call old m t f s.others held in
-    kept_from old new m t f at (s.told ∙ held.told) (s.locked held.locked) (owns t differs ∙ held.owned) (s.this.stages t differs)
-    (λ n lead. at.apart n (lead_back m new.now n f s.this.leads s.this.left lead)) (ap (λ h. h f) s.this.holds) (ap (λ d. d f) s.this.on_disk) (ap (λ r. r f) s.this.rights)
+names_settled old new s = record { before = s.before; others = s.others; this = s.this.same; noted = s.noted; known = s.known; locked = s.locked }
 
 pub removed_brings : (P : Name → List ℕ → Type 0) (name : List ℕ) (old new : Run) → HasStepped old new (Removes name) → BringsOnly P old new
 removed_brings P name old new s =
@@ -283,7 +268,7 @@ removed_brings P name old new s =
 -- a call that was perhaps made
 pub perhaps : (call : Moment → Moment → Type 0) (old new : Run) → HasStepped old new (Perhaps call) → HasStepped old new IsStill ⊎ HasStepped old new call
 perhaps call old new s =
-    ⊎_elim (λ still. inl (record { before = s.before; others = s.others; this = still; noted = s.noted; told = s.told; locked = s.locked })) (λ done. inr (record { before = s.before; others = s.others; this = done; noted = s.noted; told = s.told; locked = s.locked })) s.this
+    ⊎_elim (λ still. inl (record { before = s.before; others = s.others; this = still; noted = s.noted; known = s.known; locked = s.locked })) (λ done. inr (record { before = s.before; others = s.others; this = done; noted = s.noted; known = s.known; locked = s.locked })) s.this
 
 -- == Calls on one stage, and its name at last ==
 
@@ -326,30 +311,6 @@ perhaps_renamed_goes name to g old new stage on_disk s own =
     ⊎_elim (λ still. still_goes (IsOnly to (old.now.holds g)) name g old new still own)
     (λ done. renamed_goes name to g old new stage on_disk done (λ t differs. ap (λ o. o t) own.owns)) (perhaps (Renames name to) old new s)
 
-pub removed_goes : (P : Name → List ℕ → Type 0) (name : List ℕ) (g : ℕ) (old new : Run) → HasStepped old new (Removes name) → ((t : List ℕ) → t ≢ name → new.owns t ≡ old.owns t) → Goes P name g old new
-removed_goes P name g old new s owns = record {
-  brings = removed_brings P name old new s;
-  others = λ t f held name_differs file_differs. removed_keeps name old new s owns t f held name_differs;
-}
-
--- the name is let go of, and nothing else changed
-let_go_still : (P : Name → List ℕ → Type 0) (name : List ℕ) (g : ℕ) (old new : Run) → HasStepped old new IsStill → ((t : List ℕ) → t ≢ name → new.owns t ≡ old.owns t) → Goes P name g old new
-let_go_still P name g old new s owns = record {
-  brings = brings_nothing P old new (resting_brings old new s);
-  others = λ t f held name_differs file_differs.
-      let at = before_call old s.before t f s.others held in
-      kept_from old new s.before t f at (s.told ∙ held.told) (s.locked held.locked) (owns t name_differs ∙ held.owned) (ap (λ m. m.stages t) s.this)
-      (subst (λ m. IsApart m f) (sym s.this) at.apart) (ap (λ m. m.holds f) s.this) (ap (λ m. m.on_disk f) s.this) (ap (λ m. m.rights f) s.this);
-}
-
--- whether the removal came through or not
-pub perhaps_removed_goes : (P : Name → List ℕ → Type 0) (name : List ℕ) (g : ℕ) (old new : Run) {A E : Type 0} (r : Result A E)
-    → HasRemoved name old new r → Goes P name g old new
-perhaps_removed_goes P name g old new (Ok a) done = removed_goes P name g old new done.stepped done.own.others
-perhaps_removed_goes P name g old new (Err e) done =
-    ⊎_elim (λ still. let_go_still P name g old new still done.own.others)
-    (λ removed. removed_goes P name g old new removed done.own.others) (perhaps (Removes name) old new done.stepped)
-
 -- a stage is made, worked on and published: the stages from before are still there
 pub created_goes : (P : Name → List ℕ → Type 0) (name : List ℕ) (g : ℕ) (old mid new : Run) → HasCreated name g old mid → Goes P name g mid new → GoesBeside P old new
 created_goes P name g old mid new made goes = record {
@@ -359,38 +320,6 @@ created_goes P name g old mid new made goes = record {
       kept_trans old mid new s f first (goes.others s f first.stage name_differs file_differs);
 }
 
-pub goes_none : (P : Name → List ℕ → Type 0) (r : Run) → GoesBeside P r r
-goes_none P r = record { brings = brings_none P r; kept = λ s f held. record { stage = held; holds = refl; on_disk = refl; rights = refl } }
-
-pub goes_still : (P : Name → List ℕ → Type 0) (old new : Run) → HasStepped old new IsStill → KeepsOwn old new → GoesBeside P old new
-goes_still P old new s own = record { brings = brings_nothing P old new (resting_brings old new s); kept = resting_keeps old new s own }
-
-pub names_kept : (old new : Run) {A E : Type 0} (r : Result A E) → MatchResult r (λ _. HasStepped old new SettlesNames) (λ _. HasStepped old new KeepsNames) → HasStepped old new KeepsNames
-names_kept old new (Ok a) done = names_settled old new done
-names_kept old new (Err e) done = done
-
--- a stage was given its rights, or that failed
-pub rights_works : (name : List ℕ) (file : ℕ) (old new : Run) → HasStage old name file → {A E : Type 0} (r : Result A E) → HasTried (GivesRights file) (Spoils file) old new r → WorksOn name file old new
-rights_works name file old new stage (Ok a) done = (giving name file old new stage done.0 done.1).0
-rights_works name file old new stage (Err e) done = spoiling name file old new stage done.0 done.1
-
--- a stage was brought to the disk, or that failed
-pub settle_works : (name : List ℕ) (file : ℕ) (old new : Run) → HasStage old name file → {A E : Type 0} (r : Result A E) → HasTried (Settles file) (Spoils file) old new r → WorksOn name file old new
-settle_works name file old new stage (Ok a) done = (settling name file old new stage done.0 done.1).0
-settle_works name file old new stage (Err e) done = spoiling name file old new stage done.0 done.1
-
--- it was given its rights, and brought to the disk
-pub settled_given : (file : ℕ) (old mid new : Run) {A E : Type 0} (r : Result A E) → (old.told ≡ true → HasStepped old mid (GivesRights file) × KeepsOwn old mid)
-    → (mid.told ≡ true → HasTried (Settles file) (Spoils file) mid new r)
-    → OnOk r ((name : List ℕ) → HasStage old name file → (new.now.holds file ≡ old.now.holds file) × (new.now.on_disk file ≡ true) × (new.now.rights file ≡ true))
-settled_given file old mid new (Ok a) give settle = λ name stage.
-    let given = give stage.told in
-    let (works, held, rights) = giving name file old mid stage given.0 given.1 in
-    let settled = settle works.stage.told in
-    let (more, same, on_disk, kept) = settling name file mid new works.stage settled.0 settled.1 in
-    (same ∙ held, on_disk, kept ∙ rights)
-settled_given file old mid new (Err e) give settle = tt
-
 pub brings_weaken : (P Q : Name → List ℕ → Type 0) (old new : Run) → ((n : Name) (b : List ℕ) → P n b → Q n b) → BringsOnly P old new → BringsOnly Q old new
 brings_weaken P Q old new more b = record {
   since = b.since;
@@ -399,14 +328,14 @@ brings_weaken P Q old new more b = record {
     finds = λ n bytes found. ⊎_elim inl (λ p. inr (more n bytes p)) ((b.each k d l).finds n bytes found);
     stays = (b.each k d l).stays;
   };
-  told = b.told;
+  known = b.known;
   locked = b.locked;
   numbers = λ l k floor keeps. b.numbers l k (λ bytes p. floor bytes (more Record bytes p)) keeps;
 }
 
 -- leftovers were removed, all or some
 pub cleared_step : (old new : Run) {A E : Type 0} (r : Result A E) → HasTried ClearsAll Clears old new r → HasStepped old new Clears
-cleared_step old new (Ok a) done = record { before = done.0.before; others = done.0.others; this = done.0.this.clears; noted = done.0.noted; told = done.0.told; locked = done.0.locked }
+cleared_step old new (Ok a) done = record { before = done.0.before; others = done.0.others; this = done.0.this.clears; noted = done.0.noted; known = done.0.known; locked = done.0.locked }
 cleared_step old new (Err e) done = done.0
 
 -- they were, and more calls came
@@ -425,22 +354,13 @@ clearing old new r done =
     let s = cleared_step old new r done in
     brings_more (λ _ _. ⊥) old old new Clears (brings_none (λ _ _. ⊥) old) s (leaving (λ _ _. ⊥) s.before new.now s.this.leads s.this.left s.this.holds s.this.on_disk)
 
--- the lock was asked for, and got
-pub got_lock : (is : Bool) (old new : Run) → is ≡ true → HasStepped old new (IsAsked is) → (is ≡ true → new.locked ≡ true) → HasLocked old new
-got_lock is old new so s held = record { stepped = subst (λ b. HasStepped old new (IsAsked b)) so s; held = held so }
-
--- or not
-pub asked_still : (is : Bool) (old new : Run) → HasStepped old new (IsAsked is) → HasStepped old new IsStill
-asked_still true old new s = record { before = s.before; others = s.others; this = s.this.0; noted = s.noted; told = s.told; locked = s.locked }
-asked_still false old new s = record { before = s.before; others = s.others; this = s.this.0; noted = s.noted; told = s.told; locked = s.locked }
-
 -- a stage was named, and the names brought to the disk
-pub published : (name : List ℕ) (to : Name) (old mid new : Run) {A E : Type 0} (r : Result A E) → (old.told ≡ true → old.locked ≡ true → HasStepped old mid (Renames name to))
-    → (mid.told ≡ true → MatchResult r (λ _. HasStepped mid new SettlesNames) (λ _. HasStepped mid new KeepsNames))
+pub published : (name : List ℕ) (to : Name) (old mid new : Run) {A E : Type 0} (r : Result A E) → (old.known ≡ true → old.locked ≡ true → HasStepped old mid (Renames name to))
+    → (mid.known ≡ true → MatchResult r (λ _. HasStepped mid new SettlesNames) (λ _. HasStepped mid new KeepsNames))
     → OnOk r ((g : ℕ) → HasStage old name g → old.now.on_disk g ≡ true → (p : IsPublished to (old.now.holds g) old.steps new.steps) × (rights_of p ≡ old.now.rights g))
 published name to old mid new (Ok a) rename settle = λ g stage on_disk.
-    let first = rename stage.told stage.locked in
-    let last = settle (first.told ∙ stage.told) in
+    let first = rename stage.known stage.locked in
+    let last = settle (first.known ∙ stage.known) in
     let mine = before_call old first.before name g first.others stage in (
       record {
         renamed = step first.before mid.now;
@@ -459,12 +379,12 @@ published name to old mid new (Ok a) rename settle = λ g stage on_disk.
 published name to old mid new (Err e) rename settle = tt
 
 -- the record is there for good then, since others leave it alone
-pub lasting : (name : List ℕ) (to : Name) (old mid new : Run) {A E : Type 0} (r : Result A E) → (old.told ≡ true → old.locked ≡ true → HasStepped old mid (Renames name to))
-    → (mid.told ≡ true → MatchResult r (λ _. HasStepped mid new SettlesNames) (λ _. HasStepped mid new KeepsNames))
+pub lasting : (name : List ℕ) (to : Name) (old mid new : Run) {A E : Type 0} (r : Result A E) → (old.known ≡ true → old.locked ≡ true → HasStepped old mid (Renames name to))
+    → (mid.known ≡ true → MatchResult r (λ _. HasStepped mid new SettlesNames) (λ _. HasStepped mid new KeepsNames))
     → OnOk r (to ≡ Record → (g : ℕ) → HasStage old name g → old.now.on_disk g ≡ true → Lasts new.now Record (old.now.holds g))
 lasting name to old mid new (Ok a) rename settle = λ is g stage on_disk.
-    let first = rename stage.told stage.locked in
-    let last = settle (first.told ∙ stage.told) in
+    let first = rename stage.known stage.locked in
+    let last = settle (first.known ∙ stage.known) in
     let stands : Stands mid.now Record (old.now.holds g) = subst (λ n. Stands mid.now n (old.now.holds g)) is (renamed_stands name to g old mid stage on_disk first) in
     let leaves = last.others.record_left (first.locked stage.locked) in
     let same = last.this.same in
@@ -480,17 +400,6 @@ lasting name to old mid new (Ok a) rename settle = λ is g stage on_disk.
       settled = λ h l. last.this.settled Record h l;
     }
 lasting name to old mid new (Err e) rename settle = tt
-
-pub recorded_bytes : (name : List ℕ) (file : ℕ) (bytes : List ℕ) (old mid new : Run) {A E : Type 0} (r : Result A E) → (old.told ≡ true → old.locked ≡ true → HasCreated name file old mid)
-    → OnOk r (HasStage mid name file → mid.now.holds file ≡ [] → HasRecorded bytes new)
-    → OnOk r (old.told ≡ true → old.locked ≡ true → HasRecorded bytes new)
-recorded_bytes name file bytes old mid new (Ok a) made recorded = λ told locked. recorded (created_stage name file old mid told locked (made told locked)) (made told locked).stepped.this.empty
-recorded_bytes name file bytes old mid new (Err e) made recorded = tt
-
-pub installed_so : (name : List ℕ) (file : ℕ) (old mid : Run) (I : Type 0) {A E : Type 0} (r : Result A E) → (old.told ≡ true → old.locked ≡ true → HasCreated name file old mid)
-    → OnOk r (HasStage mid name file → mid.now.holds file ≡ [] → I) → OnOk r (old.told ≡ true → old.locked ≡ true → I)
-installed_so name file old mid I (Ok a) made so = λ told locked. so (created_stage name file old mid told locked (made told locked)) (made told locked).stepped.this.empty
-installed_so name file old mid I (Err e) made so = tt
 
 -- == Which stages are the run's own ==
 
@@ -516,25 +425,6 @@ let_go_after name old mid new a b = record { only = λ s e. ((b.only s e).0, a.o
 pub let_go_more : (name : List ℕ) (old mid new : Run) → HasLetGo name old mid → OwnsNoMore mid new → HasLetGo name old new
 let_go_more name old mid new a b = record { only = λ s e. a.only s (b.only s e) }
 
-pub let_go_no_more : (name : List ℕ) (old new : Run) → HasLetGo name old new → OwnsNoMore old new
-let_go_no_more name old new a = record { only = λ s e. (a.only s e).1 }
-
 -- a stage is made, and let go of at last
 pub made_let_go : (name : List ℕ) (old mid new : Run) → OwnsMore name old mid → HasLetGo name mid new → OwnsNoMore old new
 made_let_go name old mid new more go = record { only = λ s e. sym (more.others s (go.only s e).0) ∙ (go.only s e).1 }
-
--- a stage got its lasting name, whatever comes of bringing that to the disk
-pub named_let_go : (name : List ℕ) (old mid new : Run) {A E : Type 0} (r : Result A E) → HasLetGo name old mid → OwnsNoMore mid new → MatchResult r (λ _. HasLetGo name old new) (λ _. OwnsNoMore old new)
-named_let_go name old mid new (Ok a) go more = let_go_more name old mid new go more
-named_let_go name old mid new (Err e) go more = let_go_no_more name old new (let_go_more name old mid new go more)
-
--- and of more calls before
-pub let_go_or_not : (name : List ℕ) (old mid new : Run) {A E : Type 0} (r : Result A E) → OwnsNoMore old mid → MatchResult r (λ _. HasLetGo name mid new) (λ _. OwnsNoMore mid new)
-    → MatchResult r (λ _. HasLetGo name old new) (λ _. OwnsNoMore old new)
-let_go_or_not name old mid new (Ok a) before go = let_go_after name old mid new before go
-let_go_or_not name old mid new (Err e) before go = no_more_trans old mid new before go
-
--- a fault is passed on
-pub passed_on : (name : List ℕ) (old new : Run) {A E : Type 0} (r : Result A E) (e : E) → IsErrAnd r (λ y. y ≡ e) → OwnsNoMore old new → MatchResult r (λ _. HasLetGo name old new) (λ _. OwnsNoMore old new)
-passed_on name old new (Ok a) e is own = absurd is
-passed_on name old new (Err y) e is own = own

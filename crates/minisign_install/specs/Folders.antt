@@ -27,27 +27,26 @@ pub record Moment : Type 0 where
   pub busy : Bool
 
 -- one call of this run: the moments before and after it
-pub record Step : Type 0 where
+pub record RunStep : Type 0 where
   pub before : Moment
   pub after : Moment
 
 -- a run so far: the moment after its last call, all its calls, the newest first, the stages' names that are its
--- own, whether it holds the lock on the place, and whether its folder tells all this: of one that does not, nothing is
--- said
+-- own, whether it holds the lock on the place, and whether all this is known of its folder: otherwise nothing is said
 pub record Run : Type 0 where
-  pub told : Bool
+  pub known : Bool
   pub now : Moment
-  pub steps : List Step
+  pub steps : List RunStep
   pub owns : List ℕ → Bool
   pub locked : Bool
 
--- where the folder tells what it holds
-abbrev pub Told : Run → Type 0 → Type 0
-Told r fact = r.told ≡ true → fact
+-- where it is known what the folder holds
+abbrev pub Known : Run → Type 0 → Type 0
+Known r fact = r.known ≡ true → fact
 
--- where the folder tells what it holds, and the run holds the lock
+-- where it is known what the folder holds, and the run holds the lock
 abbrev pub Held : Run → Type 0 → Type 0
-Held r fact = r.told ≡ true → r.locked ≡ true → fact
+Held r fact = r.known ≡ true → r.locked ≡ true → fact
 
 -- == What may be found ==
 
@@ -221,7 +220,7 @@ pub record HasStepped (old new : Run) (call : Moment → Moment → Type 0) : Ty
   pub others : OthersLeave old.locked old.owns old.now before
   pub this : call before new.now
   pub noted : new.steps ≡ (record { before = before; after = new.now }) ∷ old.steps
-  pub told : new.told ≡ old.told
+  pub known : new.known ≡ old.known
   pub locked : old.locked ≡ true → new.locked ≡ true
 
 -- what is the run's own stays
@@ -249,7 +248,7 @@ pub record HasLocked (old new : Run) : Type 0 where
 
 -- the call left the count of the folder's faults, or failed, and it rose
 pub record HasCounted {A E : Type 0} (old new : ℕ) (answer : Result A E) : Type 0 where
-  pub calm : OnOk answer (new ≡ old)
+  pub no_new_fault : OnOk answer (new ≡ old)
   pub fault : OnErr answer (Rose old new)
 
 -- a stage was created, whose name and file are the run's own from now on
@@ -285,14 +284,14 @@ IsFound m name None = m.leads name ≡ None
 IsFound m name (Some bytes) = (f : ℕ) × (m.leads name ≡ Some f) × (m.holds f ≡ bytes)
 
 -- nothing changed, and this was found
-pub record Reads (name : Name) (found : Option (List ℕ)) (old new : Moment) : Type 0 where
+pub record Finds (name : Name) (found : Option (List ℕ)) (old new : Moment) : Type 0 where
   pub still : new ≡ old
   pub found_there : IsFound old name found
 
--- the run of a folder that tells nothing
-abbrev pub untold : Run
-untold = record {
-  told = false;
+-- the run of a folder of which nothing is known
+abbrev pub unknown : Run
+unknown = record {
+  known = false;
   now = record { leads = λ _. None; stages = λ _. None; holds = λ _. []; on_disk = λ _. false; left = λ _ _. false; rights = λ _. false; fixed = λ _. false; busy = false };
   steps = [];
   owns = λ _. false;

@@ -6,7 +6,7 @@ use Rattle.minisign.specs.Acceptance.{Verifier}
 use Rattle.minisign.specs.Calls.{TextsVouchWith}
 use Rattle.minisign_install.specs.Comments.{IsNumberText, Says}
 use Rattle.minisign.specs.Reading.{IsAhead}
-use Rattle.minisign_install.specs.Folders.{HasLocked, HasStepped, IsFound, IsStill, Run, Step}
+use Rattle.minisign_install.specs.Folders.{HasLocked, HasStepped, IsFound, IsStill, Run, RunStep}
 use Rattle.minisign_install.specs.Runs.{BringsNothing, BringsOnly, HasCleared, IsPublished, Keeps, KeepsAt, rights_of}
 use Rattle.minisign_install.specs.declared.comments.Numbering.{Numbering}
 use Rattle.minisign_install.specs.declared.folders.Name.{Name}
@@ -65,7 +65,7 @@ pub record PlacesBehind (accepts : Verifier) (terms : Terms) (kept : ℕ) (old n
 -- A number that the record has stays there until a greater one or the same takes its place, at each moment since and
 -- after a crash at any.
 abbrev pub NeverFalls : Run → Run → Type 0
-NeverFalls old new = (k : ℕ) → Keeps k old.now → (since : List Step) × (new.steps ≡ since ++ old.steps) × All (KeepsAt k) since × Keeps k new.now
+NeverFalls old new = (k : ℕ) → Keeps k old.now → (since : List RunStep) × (new.steps ≡ since ++ old.steps) × All (KeepsAt k) since × Keeps k new.now
 
 -- Only what is to be installed was brought, and the number went first.
 pub record PlacesOnly (accepts : Verifier) (terms : Terms) (kept : ℕ) (old new : Run) : Type 0 where
@@ -97,13 +97,13 @@ InstallsOnlyUpdates accepts terms first old new =
 
 -- An update stands at the place, through any crash: the data that was ahead, in a file that was given the rights of the
 -- one before. Its number was brought to the record, to stay there through any crash, before the update got its name.
-pub record IsInstalled (accepts : Verifier) (terms : Terms) (kept : ℕ) (ahead : Option (List ℕ)) (steps : List Step) : Type 0 where
+pub record IsInstalled (accepts : Verifier) (terms : Terms) (kept : ℕ) (ahead : Option (List ℕ)) (steps : List RunStep) : Type 0 where
   pub bytes : List ℕ
   pub n : ℕ
   pub read : IsAhead ahead bytes
   pub update : IsUpdate accepts terms kept bytes n
-  pub earlier : List Step
-  pub recorded : List Step
+  pub earlier : List RunStep
+  pub recorded : List RunStep
   pub number_first : IsPublished Record (decimal n) earlier recorded
   pub published : IsPublished Place bytes recorded steps
   pub rights : rights_of published ≡ true

@@ -1,8 +1,14 @@
 pub mod Comments
+pub mod Driving
 pub mod Faults
 pub mod Folders
+pub mod HostNumbers
+pub mod Hosted
+pub mod Hosts
+pub mod InMemory
 pub mod Installing
 pub mod Memory
 pub mod Names
+pub mod Order
 pub mod Refusals
 pub mod Runs

@@ -1,6 +1,6 @@
--- A folder in memory, told by its calls.
+-- A folder in memory, known by its calls.
 use Rattle.std.specs.Prelude.{ℕ, suc, zero, Bool, true, false, List, [], ◌∷◌, ◌++◌, ◌==◌, ◌||◌, if◌then◌else◌, Option, Some, None, bytes_eq}
-use Rattle.minisign_install.specs.Folders.{Moment, Run, Step}
+use Rattle.minisign_install.specs.Folders.{Moment, Run, RunStep}
 use Rattle.minisign_install.specs.declared.folders.Name.{Name}
 use Rattle.minisign_install.specs.declared.folders.Name.TheVariants.{Place, Record}
 use Rattle.minisign_install.specs.declared.memory.calls.Call.{Call}
@@ -18,7 +18,7 @@ use Rattle.minisign_install.specs.Names.{drawn_bytes}
 -- a run of a folder in memory, and how many files it made: the next one has that number
 pub record Past : Type 0 where
   pub now : Moment
-  pub steps : List Step
+  pub steps : List RunStep
   pub made : ℕ
 
 abbrev pub is_same : Name → Name → Bool
@@ -81,7 +81,7 @@ count_of Nothing = 0
 count_of (More' marker before) = suc (count_of before)
 
 -- so many calls at this moment that changed nothing
-abbrev pub still_steps : ℕ → Moment → List Step → List Step
+abbrev pub still_steps : ℕ → Moment → List RunStep → List RunStep
 still_steps zero m steps = steps
 still_steps (suc n) m steps = record { before = m; after = m } ∷ still_steps n m steps
 
@@ -130,9 +130,9 @@ owned_by NoneMade = λ _. false
 owned_by (MadeMore name marker before) = with_own (owned_by before) (drawn_bytes name.value)
 owned_by (LetGo' name marker before) = without_own (owned_by before) (drawn_bytes name.value)
 
--- The folder tells all its run. Nobody else uses the folder, so its lock is always held.
-abbrev pub told_run : Past → (List ℕ → Bool) → Run
-told_run p owns = record { told = true; now = p.now; steps = p.steps; owns = owns; locked = true }
+-- All the run of the folder is known. Nobody else uses the folder, so its lock is always held.
+abbrev pub known_run : Past → (List ℕ → Bool) → Run
+known_run p owns = record { known = true; now = p.now; steps = p.steps; owns = owns; locked = true }
 
 abbrev pub run_of : MemoryFolder → Run
-run_of folder = told_run (past_of folder) (owned_by folder.owned)
+run_of folder = known_run (past_of folder) (owned_by folder.owned)

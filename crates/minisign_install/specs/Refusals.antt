@@ -11,7 +11,7 @@ use Rattle.minisign.specs.Calls.{TextsVouchWith}
 use Rattle.minisign.specs.Headline.{TextsRefuse}
 use Rattle.minisign.specs.Reading.{IsAhead}
 use Rattle.minisign_install.specs.Comments.{IsNumberText, Says, file_label, value_of}
-use Rattle.minisign_install.specs.Folders.{HasLocked, HasStepped, IsBusy, IsFound, IsStill, Run, Stands, Step}
+use Rattle.minisign_install.specs.Folders.{HasLocked, HasStepped, IsBusy, IsFound, IsStill, Run, Stands, RunStep}
 use Rattle.minisign_install.specs.Installing.{IsBrought, IsKeptNumber, IsRecordBrought, IsUpdate, Terms}
 use Rattle.minisign_install.specs.Runs.{BringsNothing, BringsOnly, HasCleared}
 use Rattle.minisign_install.specs.declared.faults.InstallFault.{InstallFault}
@@ -70,9 +70,9 @@ IsDataRefused accepts terms kept message e =
 
 -- with one of the run's calls since then the name led to a file of these bytes, on the disk
 pub record HasNamed (to : Name) (bytes : List ℕ) (old new : Run) : Type 0 where
-  pub later : List Step
-  pub call : Step
-  pub earlier : List Step
+  pub later : List RunStep
+  pub call : RunStep
+  pub earlier : List RunStep
   pub noted : new.steps ≡ later ++ (call ∷ (earlier ++ old.steps))
   pub stands : Stands call.after to bytes
 
@@ -133,7 +133,7 @@ InstallsExactly accepts terms first ahead before after old new answer =
     × ((message : List ℕ) × IsAhead ahead message
     × MatchResult answer (λ _. CanBeInstalled accepts terms first found message) (CannotBeInstalled accepts terms first found message))))
 
--- == The causes alone, whether the folder tells what it holds or not ==
+-- == The causes alone, whether it is known what the folder holds or not ==
 
 -- why some data is not installed
 abbrev pub IsDataCause : Verifier → Terms → Counts → Counts → InstallFault → Type 0
@@ -141,8 +141,11 @@ IsDataCause accepts terms before after e =
     IsLibraryFault (IsDeviceFault before after) e ⊎ ((message : List ℕ) × (kept : ℕ) × IsDataRefused accepts terms kept message e)
     ⊎ ((e ≡ FolderNotOnDisk) × Rose before.folder after.folder)
 
--- why an installation is refused: the lock is held by another, or the record refused, which it never is at the first
--- installation, or some data is not installed
+-- the record is refused, which it never is at the first installation
+abbrev pub IsRecordFault : Bool → InstallFault → Type 0
+IsRecordFault first e = (first ≡ false) × ((e ≡ NoRecord) ⊎ (e ≡ DamagedRecord))
+
+-- why an installation is refused: the lock is held by another, or the record is refused, or some data is not installed
 abbrev pub IsCause : Verifier → Terms → Bool → Counts → Counts → InstallFault → Type 0
 IsCause accepts terms first before after e =
-    (e ≡ PlaceInUse) ⊎ ((first ≡ false) × ((e ≡ NoRecord) ⊎ (e ≡ DamagedRecord))) ⊎ IsDataCause accepts terms before after e
+    (e ≡ PlaceInUse) ⊎ IsRecordFault first e ⊎ IsDataCause accepts terms before after e

@@ -2,14 +2,14 @@
 use Rattle.std.specs.Prelude.{◌≡◌, ◌≢◌, ◌⊎◌, ℕ, ◌≤◌, Bool, true, List, ◌∷◌, ◌++◌, All, Some}
 use Rattle.std.specs.Str.{IsUtf8}
 use Rattle.minisign_install.specs.Comments.{IsNumberText}
-use Rattle.minisign_install.specs.Folders.{IsApart, IsLeftClear, KeepsOwn, MayFind, Moment, Run, SettlesNames, Stands, Step}
+use Rattle.minisign_install.specs.Folders.{IsApart, IsLeftClear, KeepsOwn, MayFind, Moment, Run, SettlesNames, Stands, RunStep}
 use Rattle.minisign_install.specs.declared.folders.Name.{Name}
 use Rattle.minisign_install.specs.declared.folders.Name.TheVariants.{Record}
 
 -- the run holds the lock, and the name of a stage is its own and leads to this file, and neither lasting name does or
 -- may after a crash
 pub record HasStage (r : Run) (name : List ℕ) (file : ℕ) : Type 0 where
-  pub told : r.told ≡ true
+  pub known : r.known ≡ true
   pub locked : r.locked ≡ true
   pub owned : r.owns name ≡ true
   pub leads : r.now.stages name ≡ Some file
@@ -17,7 +17,7 @@ pub record HasStage (r : Run) (name : List ℕ) (file : ℕ) : Type 0 where
 
 -- What may be found at a lasting name after the call, at once or after a crash, could be found there just before
 -- it, or is as P says. A lasting name that led to a file leads to one.
-pub record Brings (P : Name → List ℕ → Type 0) (s : Step) : Type 0 where
+pub record Brings (P : Name → List ℕ → Type 0) (s : RunStep) : Type 0 where
   pub finds : (n : Name) (bytes : List ℕ) → MayFind s.after n bytes → MayFind s.before n bytes ⊎ P n bytes
   pub stays : (n : Name) (f : ℕ) → s.before.leads n ≡ Some f → (g : ℕ) × (s.after.leads n ≡ Some g)
 
@@ -32,16 +32,16 @@ pub record Keeps (k : ℕ) (m : Moment) : Type 0 where
   pub numbers : (bytes : List ℕ) → MayFind m Record bytes → IsNumberFrom k bytes
 
 -- it does so just before the call and just after it
-abbrev pub KeepsAt : ℕ → Step → Type 0
+abbrev pub KeepsAt : ℕ → RunStep → Type 0
 KeepsAt k s = Keeps k s.before × Keeps k s.after
 
 -- Every call since then brings to the lasting names only what is as P says. With the lock held, a number in the
 -- record that no record falls below that P allows stays there at each moment, whatever others do between the calls.
 pub record BringsOnly (P : Name → List ℕ → Type 0) (old new : Run) : Type 0 where
-  pub since : List Step
+  pub since : List RunStep
   pub noted : new.steps ≡ since ++ old.steps
   pub each : All (Brings P) since
-  pub told : new.told ≡ old.told
+  pub known : new.known ≡ old.known
   pub locked : old.locked ≡ true → new.locked ≡ true
   pub numbers : old.locked ≡ true → (k : ℕ) → ((bytes : List ℕ) → P Record bytes → IsNumberFrom k bytes) → Keeps k old.now
       → All (KeepsAt k) since × Keeps k new.now
@@ -92,9 +92,9 @@ pub record HasLetGo (name : List ℕ) (old new : Run) : Type 0 where
 
 -- with one of the run's calls since then the folder was cleared: no stage was left that could be removed
 pub record HasCleared (old new : Run) : Type 0 where
-  pub later : List Step
-  pub call : Step
-  pub earlier : List Step
+  pub later : List RunStep
+  pub call : RunStep
+  pub earlier : List RunStep
   pub noted : new.steps ≡ later ++ (call ∷ (earlier ++ old.steps))
   pub clear : IsLeftClear call.after
 
@@ -109,19 +109,19 @@ pub record Lasts (m : Moment) (name : Name) (bytes : List ℕ) : Type 0 where
 
 -- With the last but one call the name led to a file of these bytes, on the disk, and with the last one the names came
 -- to the disk too: unless others change it, the name leads there from then on, through any crash.
-pub record IsPublished (to : Name) (bytes : List ℕ) (old : List Step) (new : List Step) : Type 0 where
-  pub renamed : Step
-  pub settled : Step
+pub record IsPublished (to : Name) (bytes : List ℕ) (old : List RunStep) (new : List RunStep) : Type 0 where
+  pub renamed : RunStep
+  pub settled : RunStep
   pub calls : new ≡ settled ∷ renamed ∷ old
   pub stands : Stands renamed.after to bytes
   pub lasts : SettlesNames settled.before settled.after
 
 -- whether the file that got the name had the rights of the file at the place then
-abbrev pub rights_of : {to : Name} {bytes : List ℕ} {old new : List Step} → IsPublished to bytes old new → Bool
+abbrev pub rights_of : {to : Name} {bytes : List ℕ} {old new : List RunStep} → IsPublished to bytes old new → Bool
 rights_of published = published.renamed.after.rights published.stands.file
 
 -- these bytes were published as the record, and are there for good
 pub record HasRecorded (bytes : List ℕ) (new : Run) : Type 0 where
-  pub earlier : List Step
+  pub earlier : List RunStep
   pub published : IsPublished Record bytes earlier new.steps
   pub lasts : Lasts new.now Record bytes

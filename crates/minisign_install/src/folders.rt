@@ -4,7 +4,7 @@
 
 ghost use Rattle.std.specs.Prelude.{◌≡◌, ◌⊎◌, ℕ, Bool, true, OnErr, List, Some, None, MatchOption, MatchResult, IfOk, take, length, option_map, ◌+◌, ◌^◌, ◌<◌, ◌≤◌};
 ghost use Rattle.minisign_base.specs.Devices.{Rose};
-ghost use Rattle.minisign_install.specs.Folders.{Run, Appends, Clears, ClearsAll, GivesRights, HasCounted, HasCreated, HasReadAt, Held, HasRemoved, HasRenamed, HasStepped, HasTried, IsAsked, IsStill, KeepsNames, KeepsOwn, Perhaps, Reads, Renames, Settles, SettlesNames, Spoils, Told};
+ghost use Rattle.minisign_install.specs.Folders.{Run, Appends, Clears, ClearsAll, GivesRights, HasCounted, HasCreated, HasReadAt, Held, HasRemoved, HasRenamed, HasStepped, HasTried, IsAsked, IsStill, KeepsNames, KeepsOwn, Perhaps, Finds, Renames, Settles, SettlesNames, Spoils, Known};
 ghost use Rattle.minisign_install.specs.Names.{drawn_bytes};
 
 use crate::stage_names::StageName;
@@ -32,10 +32,10 @@ pub trait Folder {
     /// An open stage.
     type Handle: Handle + Drop;
 
-    // The run so far, which says whether the folder tells it.
+    // The run so far, which says whether it is known.
     ghost run: { Self → Run };
 
-    // How many faults there were, which each folder counts, also one that does not tell its run.
+    // How many faults there were, which each folder counts, also one whose run is not known.
     ghost folder_faults: { Self → ℕ };
 
     // Whether a call of `read_at` can fail at all.
@@ -44,10 +44,10 @@ pub trait Folder {
     /// Locks the place against other runs, for as long as this lives: `true` where it is locked
     /// now, and `false` where another run holds the lock.
     fn lock(&mut self) -> Result<bool, DeviceFault>
-        ensures asked { Told (run self.old) (MatchResult result
+        ensures asked { Known (run self.old) (MatchResult result
             (λ is. HasStepped (run self.old) (run self.new) (IsAsked is) × KeepsOwn (run self.old) (run self.new))
             (λ _. HasStepped (run self.old) (run self.new) IsStill × KeepsOwn (run self.old) (run self.new))) }
-        ensures held { Told (run self.old) (IfOk result (λ is. is ≡ true → (run self.new).locked ≡ true)) }
+        ensures held { Known (run self.old) (IfOk result (λ is. is ≡ true → (run self.new).locked ≡ true)) }
         ensures counted { HasCounted (folder_faults self.old) (folder_faults self.new) result };
 
     /// Removes the stages that killed runs on this place have left, as far as they can be removed.
@@ -69,7 +69,7 @@ pub trait Folder {
     fn write(&mut self, handle: &Self::Handle, bytes: &[u8]) -> Result<usize, DeviceFault>
         ensures bound { IfOk result (λ n. n ≤ length bytes.now) }
         ensures some { IfOk result (λ n. 0 < length bytes.now → 0 < n) }
-        ensures written { Told (run self.old) (MatchResult result
+        ensures written { Known (run self.old) (MatchResult result
             (λ n. HasStepped (run self.old) (run self.new) (Appends (Self.Handle.file handle.now) (take n bytes.now)) × KeepsOwn (run self.old) (run self.new))
             (λ _. HasStepped (run self.old) (run self.new) (Spoils (Self.Handle.file handle.now)) × KeepsOwn (run self.old) (run self.new))) }
         ensures counted { HasCounted (folder_faults self.old) (folder_faults self.new) result };
@@ -81,7 +81,7 @@ pub trait Folder {
         ensures bound { IfOk result (λ n. n ≤ length buf.new) }
         ensures reach { IfOk result (λ n. 0 < n → at + n < 2 ^ 63) }
         ensures failed { OnErr result (read_fails ≡ true) }
-        ensures read { Told (run self.now) (HasReadAt ((run self.now).now.holds (Self.Handle.file handle.now)) at buf.new result) };
+        ensures read { Known (run self.now) (HasReadAt ((run self.now).now.holds (Self.Handle.file handle.now)) at buf.new result) };
 
     /// Counts a fault of `read_at`, which leaves that to this call.
     fn count_fault(&mut self)
@@ -91,12 +91,12 @@ pub trait Folder {
     /// Gives the stage the rights, and where it may the owner and the group, of the file at the
     /// place, where there is one.
     fn take_rights(&mut self, handle: &Self::Handle) -> Result<(), DeviceFault>
-        ensures given { Told (run self.old) (HasTried (GivesRights (Self.Handle.file handle.now)) (Spoils (Self.Handle.file handle.now)) (run self.old) (run self.new) result) }
+        ensures given { Known (run self.old) (HasTried (GivesRights (Self.Handle.file handle.now)) (Spoils (Self.Handle.file handle.now)) (run self.old) (run self.new) result) }
         ensures counted { HasCounted (folder_faults self.old) (folder_faults self.new) result };
 
     /// Brings to the disk what the stage holds.
     fn settle(&mut self, handle: &Self::Handle) -> Result<(), DeviceFault>
-        ensures settled { Told (run self.old) (HasTried (Settles (Self.Handle.file handle.now)) (Spoils (Self.Handle.file handle.now)) (run self.old) (run self.new) result) }
+        ensures settled { Known (run self.old) (HasTried (Settles (Self.Handle.file handle.now)) (Spoils (Self.Handle.file handle.now)) (run self.old) (run self.new) result) }
         ensures counted { HasCounted (folder_faults self.old) (folder_faults self.new) result };
 
     /// Gives the file of the stage's name the lasting one, in one step. Only who holds the lock may.
@@ -108,7 +108,7 @@ pub trait Folder {
 
     /// Brings the names to the disk.
     fn settle_names(&mut self) -> Result<(), DeviceFault>
-        ensures settled { Told (run self.old) (HasTried SettlesNames KeepsNames (run self.old) (run self.new) result) }
+        ensures settled { Known (run self.old) (HasTried SettlesNames KeepsNames (run self.old) (run self.new) result) }
         ensures counted { HasCounted (folder_faults self.old) (folder_faults self.new) result };
 
     /// Removes a stage's name. Only who holds the lock may. Where that fails, the name is left to
@@ -119,8 +119,8 @@ pub trait Folder {
 
     /// What the record holds, where there is one.
     fn read_record(&mut self, alloc: Global) -> Result<Option<Vec<u8>>, DeviceFault>
-        ensures read { Told (run self.old) (MatchResult result
-            (λ found. HasStepped (run self.old) (run self.new) (Reads Name.Record (option_map (λ v. v.items) found)) × KeepsOwn (run self.old) (run self.new))
+        ensures read { Known (run self.old) (MatchResult result
+            (λ found. HasStepped (run self.old) (run self.new) (Finds Name.Record (option_map (λ v. v.items) found)) × KeepsOwn (run self.old) (run self.new))
             (λ _. HasStepped (run self.old) (run self.new) IsStill × KeepsOwn (run self.old) (run self.new))) }
         ensures counted { HasCounted (folder_faults self.old) (folder_faults self.new) result };
 }

@@ -1,32 +1,165 @@
-//! Whether two texts vouch for what a stage holds.
+//! What a stage holds is read back, and judged: whether it is an update.
 
-ghost use Rattle.std.specs.Prelude.{◌≡◌, ◌⊎◌, ℕ, List, false, string_bytes, IfOk, IfErr};
-ghost use Rattle.minisign_base.specs.Devices.{Rose};
-ghost use Rattle.minisign_base.specs.Fault.{Named};
-ghost use Rattle.minisign_base.specs.declared.faults.NamedFault.TheVariants.{OutOfMemory, ReadingFailed};
-ghost use Rattle.minisign.specs.Calls.{TextsVouchWith};
-ghost use Rattle.minisign.specs.Headline.{TextsRefuse};
-ghost use Rattle.minisign.specs.Reading.{IsAhead};
+ghost use Rattle.std.specs.Prelude.{◌≡◌, ◌⊎◌, ◌<◌, ◌≤◌, ℕ, List, false, true, length, take, IfOk, IfErr, OnOk, OnErr, MatchResult};
+ghost use Rattle.std.specs.Str.{IsUtf8};
+ghost use Rattle.minisign_base.specs.Fault.{Fault, Named};
+ghost use Rattle.minisign_base.specs.declared.faults.NamedFault.TheVariants.{OutOfMemory};
+ghost use Rattle.minisign.specs.Headline.{IsVerdict, TextsRefuse, TextsVouchFor};
+ghost use Rattle.minisign_external.specs.States.{IsFedState};
+ghost use Rattle.minisign_external.specs.declared.state.Refusal.TheVariants.{Refused};
+ghost use Rattle.minisign_install.specs.Folders.{Known};
+ghost use Rattle.minisign_install.specs.Installing.{IsUpdate, terms_of};
+ghost use Rattle.minisign_install.specs.Refusals.{IsDataRefused, IsLibraryFault, IsReadingFault};
 
-use minisign::{Result, verify_reader};
-use minisign_base::devices::sources::Rereader;
+use crate::faults::InstallFault;
+use crate::folders::{Folder, Handle};
+use crate::hosted_judging::judge_text;
+use crate::staging::{PIECE, zeros};
+use crate::wanted::Wanted;
+use minisign::PError;
+use minisign_base::NamedFault;
+use minisign_base::devices::DeviceFault;
 use minisign_base::scheme::Scheme;
+use minisign_external::state::{Questions, Refusal, State};
 use std::alloc::Global;
 
-// Verifies all that is ahead, and returns the comment that was signed with it. A signature over the
-// data itself is refused.
-pub(crate) fn judge<S: Scheme, R: Rereader>(
+// Reads back all that the stage holds, in pieces. A fault of reading it is counted.
+pub(crate) fn read_back<F: Folder>(
+    alloc: Global,
+    folder: &mut F,
+    handle: &F::Handle,
+) -> Result<State, PError>
+    ensures still { F.run folder.new ≡ F.run folder.old }
+    ensures fed { IfOk result (λ s. (m : List ℕ) × IsFedState s m × Known (F.run folder.old) ((F.run folder.old).now.holds (F.Handle.file handle.now) ≡ m)) }
+    ensures refused { IfErr result (IsReadingFault (F.folder_faults folder.old) (F.folder_faults folder.new)) }
+    ensures no_new_fault { OnOk result (F.folder_faults folder.new ≡ F.folder_faults folder.old) }
+{
+    let mut buf = zeros(alloc, PIECE)?;
+    match feed(folder, handle, &mut buf) {
+        Ok(state) => Ok(state),
+        Err(_) => {
+            folder.count_fault();
+            Err(NamedFault::ReadingFailed.into())
+        }
+    }
+}
+
+// Feeds a new state all that the stage holds.
+fn feed<F: Folder>(folder: &F, handle: &F::Handle, buf: &mut [u8]) -> Result<State, DeviceFault>
+    requires { 0 < length buf.old }
+    ensures fed { IfOk result (λ s. (m : List ℕ) × IsFedState s m × Known (F.run folder.now) ((F.run folder.now).now.holds (F.Handle.file handle.now) ≡ m)) }
+    ensures failed { OnErr result (F.read_fails ≡ true) }
+{
+    let mut state = State::new();
+    let mut at = 0;
+    'pieces: loop {
+        let n = folder.read_at(handle, at, buf)?;
+        if n == 0 {
+            return Ok(state);
+        }
+        // A state that is being fed takes each piece.
+        let Ok(()) = state.update(&buf[..n]) else {
+            return Err(DeviceFault);
+        };
+        at += n as u64;
+    }
+}
+
+// Whether what the state was fed is an update: the signature scheme answers the two questions of
+// the texts, and the comment that was signed is judged. Returns the number of the update.
+pub(crate) fn judge<S: Scheme>(
+    alloc: Global,
+    scheme: &S,
+    wanted: Wanted<'_>,
+    kept: u64,
+    state: &mut State,
+) -> Result<u64, InstallFault>
+    ensures judged { (m : List ℕ) → IsFedState state.old m
+        → MatchResult result (IsUpdate (S.accepts scheme.now) (terms_of wanted.entry) kept m)
+        (λ e. IsLibraryFault (λ f. f ≡ Named OutOfMemory) e ⊎ IsDataRefused (S.accepts scheme.now) (terms_of wanted.entry) kept m e) }
+{
+    match vouch(alloc, scheme, wanted.pk_text, wanted.sig_text, state) {
+        Ok(()) => judge_text(
+            wanted.sig_text.as_bytes(),
+            wanted.file,
+            wanted.numbering,
+            kept,
+        ),
+        Err(fault) => Err(InstallFault::Library(fault)),
+    }
+}
+
+// Whether the two texts vouch for what the state was fed, not by a signature over the data itself.
+fn vouch<S: Scheme>(
     alloc: Global,
     scheme: &S,
     pk_text: &str,
     sig_text: &str,
-    staged: &mut R,
-) -> Result<String>
-    ensures vouched { IfOk result (λ t. (message : List ℕ) × IsAhead (R.ahead staged.old) message
-        × TextsVouchWith (S.accepts scheme.now) pk_text.now sig_text.now message false (string_bytes t)) }
-    ensures refused { IfErr result (λ e. (e ≡ Named OutOfMemory) ⊎ ((e ≡ Named ReadingFailed) × Rose (R.faults staged.old) (R.faults staged.new))
-        ⊎ ((message : List ℕ) × IsAhead (R.ahead staged.old) message
-        × TextsRefuse (S.accepts scheme.now) pk_text.now sig_text.now message false e)) }
+    state: &mut State,
+) -> Result<(), PError>
+    ensures { (m : List ℕ) → IsFedState state.old m
+        → MatchResult result (λ _. TextsVouchFor (S.accepts scheme.now) pk_text.now sig_text.now m false)
+        (λ e. (e ≡ Named OutOfMemory) ⊎ TextsRefuse (S.accepts scheme.now) pk_text.now sig_text.now m false e) }
 {
-    verify_reader(alloc, scheme, pk_text, sig_text, staged)
+    let mut message = zeros(alloc, sig_text.len())?;
+    decide(
+        scheme,
+        pk_text.as_bytes(),
+        sig_text.as_bytes(),
+        state,
+        &mut message,
+    )
+}
+
+// Asks the questions of the texts, has the scheme answer them, and gives the verdict. The message of
+// the second question is written to `message`.
+fn decide<S: Scheme>(
+    scheme: &S,
+    pk_text: &[u8],
+    sig_text: &[u8],
+    state: &mut State,
+    message: &mut [u8],
+) -> Result<(), PError>
+    ensures { (m : List ℕ) → IsFedState state.old m → IsUtf8 pk_text.now → IsUtf8 sig_text.now → length sig_text.now ≤ length message.old
+        → IsVerdict (S.accepts scheme.now) pk_text.now sig_text.now m false result }
+{
+    let mut questions = Questions::none();
+    match state.ask(pk_text, sig_text, false, &mut questions, message) {
+        Ok(()) => {
+            let (first, second) = answers(scheme, &questions, message);
+            match state.verdict(first, second) {
+                Ok(()) => Ok(()),
+                Err(refusal) => Err(fault_of(refusal)),
+            }
+        }
+        Err(refusal) => Err(fault_of(refusal)),
+    }
+}
+
+// What the scheme answers to the two questions.
+fn answers<S: Scheme>(scheme: &S, questions: &Questions, message: &[u8]) -> (bool, bool)
+    requires { questions.now.message_len ≤ length message.now }
+    ensures first { result.0 ≡ S.accepts scheme.now questions.now.digest questions.now.public_key questions.now.signature }
+    ensures second { result.1 ≡ S.accepts scheme.now (take questions.now.message_len message.now) questions.now.public_key questions.now.comment_signature }
+{
+    let message = &message[..questions.message_len as usize];
+    (
+        scheme.verify(
+            &questions.digest,
+            &questions.public_key,
+            &questions.signature,
+        ),
+        scheme.verify(message, &questions.public_key, &questions.comment_signature),
+    )
+}
+
+// The fault of a refusal. A wrong use never comes here: the state is fed, and then asked, and there
+// is room for the message.
+fn fault_of(refusal: Refusal) -> PError
+    ensures { (e : Fault) → refusal ≡ Refused e → result ≡ e }
+{
+    match refusal {
+        Refusal::Refused(fault) => fault,
+        Refusal::WrongUse(_) => NamedFault::SignatureRefused.into(),
+    }
 }

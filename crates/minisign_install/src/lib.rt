@@ -2,16 +2,19 @@
 
 #![tactic(auto)]
 
+mod calls;
 pub mod comments;
 pub mod faults;
 pub mod folders;
+pub mod host_numbers;
+pub mod hosted;
+pub mod hosted_judging;
 pub mod installing;
 mod judging;
 pub mod memory;
-mod publishing;
+pub mod order;
 mod recording;
 pub mod stage_names;
-mod stage_reader;
 mod staging;
 pub mod wanted;
 

@@ -1,19 +1,29 @@
-//! A folder in memory, which meets the contracts of a folder and tells all its run: they can be met
-//! together where what happens is told. For tests of what is built on folders.
+//! A folder in memory, which meets the contracts of a folder and of which all is known: they can be met
+//! together where what happens is known. For tests of what is built on folders.
 
 mod calls;
 mod owned;
 mod tally;
 
-ghost use Rattle.std.specs.Prelude.{◌≡◌, ◌+◌, ◌<◌, ◌≤◌, ℕ, true, suc, [], OnOk, OnErr, IfOk, option_map, take, drop, length};
-ghost use Rattle.minisign_install.specs.Folders.{HasCounted, IsFound};
+ghost use Rattle.std.specs.Prelude.{◌≡◌, ◌+◌, ◌<◌, ◌≤◌, ℕ, true, suc, [], OnOk, OnErr, IfOk, IfErr, option_map, take, drop, length};
+ghost use Rattle.minisign_install.specs.Folders.{HasCounted, HasLocked, IsFound, Run};
+ghost use Rattle.minisign_install.specs.InMemory.{InstallsAt, faults_of};
+ghost use Rattle.minisign_install.specs.Installing.{HasInstalled, InstallsOnlyUpdates, terms_of};
 ghost use Rattle.minisign_install.specs.Memory.{after, beginning, count_of, past_of, rested, run_of};
 ghost use Rattle.minisign_install.specs.Names.{drawn_bytes};
+ghost use Rattle.minisign_install.specs.Refusals.{IsRefusal, counts};
+ghost use Rattle.minisign_install.specs.Runs.{OwnsNoMore};
 
+use crate::faults::InstallFault;
 use crate::folders::{Folder, Handle, Name};
+use crate::installing::install_update;
 use crate::stage_names::StageName;
+use crate::wanted::Wanted;
 use calls::{Call, Entry, content, lead, made, note, stage};
 use minisign_base::devices::DeviceFault;
+use minisign_base::devices::random_sources::RandomSource;
+use minisign_base::devices::sources::Source;
+use minisign_base::scheme::Scheme;
 use owned::Owned;
 use std::alloc::Global;
 use tally::Tally;
@@ -88,7 +98,7 @@ impl MemoryFolder {
     // Notes a call that changed nothing.
     fn pass(&mut self)
         ensures noted { past_of self.new ≡ rested 1 (past_of self.old) }
-        ensures calm { self.new.faults ≡ self.old.faults }
+        ensures no_new_fault { self.new.faults ≡ self.old.faults }
         ensures own { self.new.owned ≡ self.old.owned }
     {
         self.stills.raise();
@@ -233,6 +243,34 @@ impl Folder for MemoryFolder {
             Err(_) => Err(self.fail()),
         }
     }
+}
+
+/// Installs the data ahead of `update` in a folder in memory, as `install_update` does in any
+/// folder. Nobody else uses such a folder, so what is promised stands on no premise on the folder.
+pub fn install_in_memory<S: Scheme, Z: RandomSource, R: Source>(
+    alloc: Global,
+    scheme: &S,
+    random: &mut Z,
+    wanted: Wanted<'_>,
+    is_first: bool,
+    update: &mut R,
+    folder: &mut MemoryFolder,
+) -> Result<(), InstallFault>
+    // Where memory is found and no device fails, the update is installed exactly where the record
+    // had a number before the call, or it is the first installation, the two texts vouch for the
+    // data, and the signed comment names the file and has a number that is not below the kept one;
+    // and where it is not installed, the first of these that fails is returned (`CanBeInstalled`,
+    // `CannotBeInstalled`).
+    ensures exactly { InstallsAt (S.accepts scheme.now) (terms_of wanted.entry) is_first (R.ahead update.old) (counts (Z.random_faults random.old) (R.faults update.old) (faults_of folder.old)) (counts (Z.random_faults random.new) (R.faults update.new) (faults_of folder.new)) (past_of folder.old).now result }
+
+    // What `install_update` promises of a folder whose run is known holds of this one with no
+    // premise.
+    ensures headline { InstallsOnlyUpdates (S.accepts scheme.now) (terms_of wanted.entry) is_first (run_of folder.old) (run_of folder.new) }
+    ensures installed { OnOk result ((locked : Run) × HasLocked (run_of folder.old) locked × HasInstalled (S.accepts scheme.now) (terms_of wanted.entry) is_first (R.ahead update.old) locked (run_of folder.new)) }
+    ensures refused { IfErr result (λ e. IsRefusal (S.accepts scheme.now) (terms_of wanted.entry) is_first (R.ahead update.old) (counts (Z.random_faults random.old) (R.faults update.old) (faults_of folder.old)) (counts (Z.random_faults random.new) (R.faults update.new) (faults_of folder.new)) (run_of folder.old) (run_of folder.new) e) }
+    ensures lets_go { OwnsNoMore (run_of folder.old) (run_of folder.new) }
+{
+    install_update(alloc, scheme, random, wanted, is_first, update, folder)
 }
 
 // Copies what is held from an offset on, as far as there is room, and returns how much.

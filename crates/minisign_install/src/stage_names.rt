@@ -22,7 +22,7 @@ impl StageName {
     /// Draws a name. The only refusal is that of the random source.
     pub fn draw<Z: RandomSource>(random: &mut Z) -> Result<StageName, DeviceFault>
         ensures drawn { IfOk result (λ name. Consumes (Z.random_ahead random.old) (Z.random_ahead random.new) (drawn_bytes name)) }
-        ensures calm { IfOk result (λ name. Z.random_faults random.new ≡ Z.random_faults random.old) }
+        ensures no_new_fault { IfOk result (λ name. Z.random_faults random.new ≡ Z.random_faults random.old) }
         ensures refused { OnErr result (Rose (Z.random_faults random.old) (Z.random_faults random.new)) }
     {
         let mut bytes = [0u8; DRAWN];

@@ -1,10 +1,11 @@
 -- How a run ends, and its exit status.
-use Rattle.std.specs.Prelude.{◌≡◌, ◌<◌, ℕ, Bool, List, Option, Some, None, ⊤, option_map}
+use Rattle.std.specs.Prelude.{◌≡◌, ◌≢◌, ◌⊎◌, ◌<◌, ℕ, Bool, false, List, Option, Some, None, ⊤, option_map}
 use Rattle.minisign.specs.Acceptance.{Verifier}
 use Rattle.minisign_install.specs.Installing.{IsVouched, Terms}
-use Rattle.minisign_install.specs.Refusals.{Counts, IsCause}
+use Rattle.minisign_install.specs.Refusals.{IsCause, counts}
 use Rattle.minisign_install.specs.declared.comments.Numbering.{Numbering}
 use Rattle.minisign_install.specs.declared.comments.Numbering.TheVariants.{Timestamp}
+use Rattle.minisign_installer.specs.Files.{IsLastPart}
 use Rattle.minisign_installer.specs.Requests.{IsRequest}
 use Rattle.minisign_installer.specs.declared.requests.Asked.{Asked}
 use Rattle.minisign_installer.specs.declared.requests.Request.{Request}
@@ -48,10 +49,10 @@ ending_of NoNumber = Refused
 ending_of OlderUpdate = Older
 ending_of FolderNotOnDisk = NotOnDisk
 
--- the name that the signed comment has to have: the one that was asked for, or else this one
-abbrev pub wanted_name : Option (List ℕ) → List ℕ → List ℕ
-wanted_name None of_place = of_place
-wanted_name (Some name) of_place = name
+-- the name that the signed comment has to have: the one that was asked for, or else the last part of the place's path
+abbrev pub IsWantedName : Option (List ℕ) → List ℕ → List ℕ → Type 0
+IsWantedName None place name = IsLastPart place name
+IsWantedName (Some asked) place name = name ≡ asked
 
 -- where the signed comment has the number: as was asked for, or else its timestamp
 abbrev pub wanted_numbering : Option Numbering → Numbering
@@ -62,10 +63,10 @@ wanted_numbering (Some numbering) = numbering
 -- that were asked for
 abbrev pub IsAskedUpdate : Verifier → Asked → Type 0
 IsAskedUpdate accepts asked =
-    (pk_text sig_text of_place : List ℕ) × IsVouched accepts (record {
+    (pk_text sig_text name : List ℕ) × IsWantedName (option_map (λ n. n.now) asked.name) asked.place.now name × IsVouched accepts (record {
       pk_text = pk_text;
       sig_text = sig_text;
-      file = wanted_name (option_map (λ name. name.now) asked.name) of_place;
+      file = name;
       numbering = wanted_numbering asked.numbering;
     })
 
@@ -79,10 +80,24 @@ HoldsAfter accepts (request.Install asked) = IsAskedUpdate accepts asked
 abbrev pub ShowsRequest : Verifier → List (List ℕ) → Ending → Type 0
 ShowsRequest accepts words ending = status_of ending ≡ 0 → (request : Request) × IsRequest words request × HoldsAfter accepts request
 
+-- no number is kept beside the place, or what is kept is none
+abbrev pub IsUnrecorded : InstallFault → Type 0
+IsUnrecorded fault = (fault ≡ NoRecord) ⊎ (fault ≡ DamagedRecord)
+
+-- the run does not end for want of a kept number
+abbrev pub IsOtherEnd : Ending → Type 0
+IsOtherEnd ending = status_of ending ≢ 7
+
+-- the run ends with 7 only where the words ask for an installation that is not the first
+abbrev pub NeedsRecord : List (List ℕ) → Ending → Type 0
+NeedsRecord words ending = status_of ending ≡ 7 → (asked : Asked) × IsRequest words (request.Install asked) × (asked.is_first ≡ false)
+
 -- the run does not end with 0
 abbrev pub IsNoSuccess : Ending → Type 0
 IsNoSuccess ending = 0 < status_of ending
 
--- some counts of faults make this the cause of the fault
-abbrev pub HasCause : Verifier → Terms → Bool → InstallFault → Type 0
-HasCause accepts terms first fault = (before after : Counts) × IsCause accepts terms first before after fault
+-- Of a run over new sources of random bytes and of data, which have counted no fault, this is the cause of the fault,
+-- with what the two have counted then and with the folder's counts before and after.
+abbrev pub HasCause : Verifier → Terms → Bool → ℕ → ℕ → InstallFault → Type 0
+HasCause accepts terms first before after fault =
+    (random update : ℕ) × IsCause accepts terms first (counts 0 0 before) (counts random update after) fault

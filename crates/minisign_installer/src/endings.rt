@@ -2,7 +2,7 @@
 
 ghost use Rattle.std.specs.Prelude.{◌≡◌};
 ghost use Rattle.minisign_base.specs.Fault.{name_of};
-ghost use Rattle.minisign_installer.specs.Endings.{IsNoSuccess, ending_of, library_ending, status_of};
+ghost use Rattle.minisign_installer.specs.Endings.{IsNoSuccess, IsOtherEnd, IsUnrecorded, ending_of, library_ending, status_of};
 
 use minisign::{NamedFault, PError};
 use minisign_install::InstallFault;
@@ -14,7 +14,7 @@ pub enum Ending {
     Installed,
     /// What was asked for was shown.
     Shown,
-    /// A file could not be used, or memory or random bytes were wanting.
+    /// A file could not be used, memory ran out, or no random bytes came.
     Failed,
     /// The words ask for nothing.
     Misused,
@@ -53,6 +53,9 @@ pub fn ending_of(fault: &InstallFault) -> Ending
     // Each fault has its ending, by one table, and none is a success.
     ensures ending { result ≡ ending_of fault.now }
     ensures failure { IsNoSuccess result }
+
+    // The status is 7 only of a number that is not kept, or is none.
+    ensures unrecorded { status_of result ≡ 7 → IsUnrecorded fault.now }
 {
     match fault {
         InstallFault::Library(fault) => library_ending(fault),
@@ -69,6 +72,7 @@ pub fn ending_of(fault: &InstallFault) -> Ending
 fn library_ending(fault: &PError) -> Ending
     ensures ending { result ≡ library_ending (name_of fault.now) }
     ensures failure { IsNoSuccess result }
+    ensures other { IsOtherEnd result }
 {
     match fault.named() {
         Some(

@@ -1,10 +1,12 @@
-//! A folder of the file system: each call is one call of the system, or a fixed few. It tells
-//! nothing, since std's files tell nothing.
+//! A folder of the file system: each call is one call of the system, or a fixed few. Nothing
+//! is known of it but how often it failed, since nothing is known of std's files.
 
-ghost use Rattle.std.specs.Prelude.{◌≡◌, ◌+◌, ◌<◌, ◌^◌, ℕ, true};
+ghost use Rattle.std.specs.Prelude.{◌≡◌, ◌+◌, ◌<◌, ◌≤◌, ◌^◌, ℕ, true, IfOk, IfSome, length, min};
 ghost use Rattle.minisign_base.specs.Devices.{most_faults};
-ghost use Rattle.minisign_install.specs.Folders.{untold};
+ghost use Rattle.minisign_install.specs.Folders.{HasCounted, unknown};
+ghost use Rattle.minisign_installer.specs.Files.{IsLastPart, faults_of};
 
+use crate::interruptions::again;
 use crate::progress::{Progress, Work};
 use crate::troubles::{Cause, Part, Trouble};
 use minisign::DeviceFault;
@@ -35,9 +37,6 @@ const MOST_OF_RECORD: usize = 64;
 // How often a lock file is opened that others remove or make meanwhile.
 const MOST_OPENINGS: u32 = 100;
 
-// How often a call is made again that a signal interrupts.
-const MOST_INTERRUPTIONS: u32 = 1_000_000;
-
 // How many hexadecimal digits the name of a stage has.
 const DIGITS: usize = 32;
 
@@ -52,7 +51,7 @@ impl Handle for StageFile {
 }
 
 /// The folder of a place, by the paths that it needs, and the lock file where it holds the lock. It
-/// remembers what it could not use first.
+/// remembers what it could not use first, and counts its faults.
 #[derive(Drop)]
 pub struct FileFolder<'a> {
     rt: &'a HostRuntime,
@@ -62,6 +61,7 @@ pub struct FileFolder<'a> {
     mode: Option<u32>,
     lock: Option<File>,
     trouble: Cell<Option<Trouble>>,
+    faults: u64,
     verified: Progress,
 }
 
@@ -72,12 +72,11 @@ impl<'a> FileFolder<'a> {
         rt: &'a HostRuntime,
         place: &'a str,
         mode: Option<u32>,
-    ) -> Option<FileFolder<'a>> {
-        let (folder, name) = match place.rsplit_once('/') {
-            Some(("", name)) => ("/", name),
-            Some((folder, name)) => (folder, name),
-            None => (".", place),
-        };
+    ) -> Option<FileFolder<'a>>
+        // A folder of files that was just made has counted no fault.
+        ensures no_new_fault { IfSome result (λ f. faults_of f ≡ 0) }
+    {
+        let (folder, name) = parts_of(place);
         match name {
             "" | "." | ".." => None,
             _ => Some(FileFolder {
@@ -88,6 +87,7 @@ impl<'a> FileFolder<'a> {
                 mode,
                 lock: None,
                 trouble: Cell::new(None),
+                faults: 0,
                 verified: Progress::new(rt, Work::Verifying, None),
             }),
         }
@@ -187,7 +187,7 @@ impl<'a> FileFolder<'a> {
 
     // The regular file that the path of a part leads to, where any does. No link is followed.
     fn regular(&self, part: Part, path: &str) -> Result<Option<Metadata>, DeviceFault> {
-        match fs::symlink_metadata(self.rt, path) {
+        match again(|| fs::symlink_metadata(self.rt, path)) {
             Ok(found) if found.is_file() => Ok(Some(found)),
             Ok(found) => Err(self.remember(part, cause_of(&found))),
             Err(error) if error.kind() == ErrorKind::NotFound => Ok(None),
@@ -197,7 +197,7 @@ impl<'a> FileFolder<'a> {
 
     // Whether the path of a part leads to this open file, and through no link.
     fn leads_to(&self, part: Part, path: &str, file: &File) -> Result<bool, DeviceFault> {
-        let opened = self.known(part, file.metadata())?;
+        let opened = self.known(part, again(|| file.metadata()))?;
         Ok(match self.regular(part, path)? {
             Some(found) => is_same_file(&found, &opened),
             None => false,
@@ -245,21 +245,18 @@ impl<'a> FileFolder<'a> {
         }
     }
 
-    // Gives a file the owner and the group of the file at the place, as far as that is allowed.
+    // Gives a file the owner and the group of the file at the place, as far as that is allowed. One
+    // that has a second name is left alone: whoever may write the folder could have given the
+    // lock's name to a file of somebody else.
     fn give_owner(&self, part: Part, file: &File) -> Result<(), DeviceFault> {
         let Some(older) = self.older()? else {
             return Ok(());
         };
-        let made = self.known(part, file.metadata())?;
-        if made.uid() != older.uid() || made.gid() != older.gid() {
-            let _given = fchown(file, Some(older.uid()), Some(older.gid()));
+        let made = self.known(part, again(|| file.metadata()))?;
+        if made.nlink() == 1 && (made.uid() != older.uid() || made.gid() != older.gid()) {
+            let _given = again(|| fchown(file, Some(older.uid()), Some(older.gid())));
         }
         Ok(())
-    }
-
-    // A call was made again and again, and a signal interrupted it each time.
-    fn interrupted(&self, part: Part) -> DeviceFault {
-        self.remember(part, Cause::System(ErrorKind::Interrupted.into()))
     }
 
     // Shows how far what was staged was read back; nothing more comes at its end.
@@ -279,22 +276,188 @@ impl<'a> FileFolder<'a> {
         }
     }
 
+    // One more fault. The count stays at its greatest value.
+    fn raise(&mut self)
+        ensures { self.new.faults ≡ min (self.old.faults + 1) most_faults }
+    {
+        self.faults = self.faults.saturating_add(1);
+    }
+
+    // What a call brought; where it failed, that is counted.
+    fn counted<T>(&mut self, answer: Result<T, DeviceFault>) -> Result<T, DeviceFault>
+        ensures same { result ≡ answer }
+        ensures counted { HasCounted self.old.faults self.new.faults result }
+    {
+        match answer {
+            Ok(value) => Ok(value),
+            Err(fault) => {
+                self.raise();
+                Err(fault)
+            }
+        }
+    }
+
+    // Locks the place: whether this got the lock.
+    fn take_lock(&mut self) -> Result<bool, DeviceFault>
+        ensures uncounted { self.new.faults ≡ self.old.faults }
+    {
+        if self.is_locked()? {
+            return Ok(true);
+        }
+        match self.locked_file()? {
+            Some(file) => {
+                self.lock = Some(file);
+                Ok(true)
+            }
+            None => Ok(false),
+        }
+    }
+
+    // The lock file, locked; none where another run holds the lock.
+    fn locked_file(&self) -> Result<Option<File>, DeviceFault> {
+        let path = self.beside("lock")?;
+        let path = path.as_str();
+        for _ in 0..MOST_OPENINGS {
+            let Some(file) = self.open_lock(path)? else {
+                continue;
+            };
+            if !self.lock_file(&file)? {
+                return Ok(None);
+            }
+            // Who held the lock before may have removed the file.
+            if self.leads_to(Part::Lock, path, &file)? {
+                self.give_owner(Part::Lock, &file)?;
+                return Ok(Some(file));
+            }
+        }
+        Err(self.remember(Part::Lock, Cause::Restless))
+    }
+
+    // Removes the stages that killed runs on this place have left.
+    fn remove_stages(&self) -> Result<(), DeviceFault> {
+        self.check_lock()?;
+        self.known(Part::Folder, again(|| self.remove_each()))
+    }
+
     // Removes what is a stage beside this place by its name.
-    fn remove_stages(&self, entries: fs::ReadDir) -> Result<(), DeviceFault> {
-        for entry in entries {
+    fn remove_each(&self) -> io::Result<()> {
+        for entry in fs::read_dir(self.rt, self.folder)? {
             match entry {
                 Ok(entry) => {
                     if self.is_stage(entry.file_name()) {
                         // What cannot be removed, as a folder of such a name, stays.
-                        let _removed = fs::remove_file(self.rt, entry.path());
+                        let _removed = again(|| fs::remove_file(self.rt, entry.path()));
                     }
                 }
                 // A name that is not UTF-8 is none of a stage's.
                 Err(error) if error.kind() == ErrorKind::InvalidFilename => {}
-                Err(error) => return Err(self.remember(Part::Folder, Cause::System(error))),
+                Err(error) => return Err(error),
             }
         }
         Ok(())
+    }
+
+    // Makes an empty file of a stage's name.
+    fn make_stage(&self, name: &StageName) -> Result<StageFile, DeviceFault> {
+        self.check_lock()?;
+        let path = self.stage_path(name)?;
+        let opened = OpenOptions::new()
+            .read(true)
+            .write(true)
+            .create_new(true)
+            .mode(FOR_THE_OWNER)
+            .open(self.rt, path.as_str());
+        let file = self.known(Part::Stage, opened)?;
+        Ok(StageFile { file })
+    }
+
+    // Writes a beginning of `bytes` behind what the stage holds and returns how long it is.
+    fn write_front(&self, handle: &StageFile, bytes: &[u8]) -> Result<usize, DeviceFault>
+        ensures bound { IfOk result (λ n. n ≤ length bytes.now) }
+        ensures some { IfOk result (λ n. 0 < length bytes.now → 0 < n) }
+    {
+        let mut file = &handle.file;
+        match again(|| file.write(bytes)) {
+            Ok(n) if n <= bytes.len() && (n > 0 || bytes.is_empty()) => Ok(n),
+            Ok(_) => {
+                let cause = Cause::System(ErrorKind::WriteZero.into());
+                Err(self.remember(Part::Stage, cause))
+            }
+            Err(error) => Err(self.remember(Part::Stage, Cause::System(error))),
+        }
+    }
+
+    // Gives the stage the rights of the file at the place.
+    fn pass_rights(&self, handle: &StageFile) -> Result<(), DeviceFault> {
+        let older = self.older()?;
+        self.known(Part::Stage, give_rights(&handle.file, &older, self.mode))
+    }
+
+    // Brings to the disk what the stage holds. The record too is for the owner of what stands at
+    // the place, whoever runs this.
+    fn settle_stage(&self, handle: &StageFile) -> Result<(), DeviceFault> {
+        self.give_owner(Part::Stage, &handle.file)?;
+        self.known(Part::Stage, handle.file.sync_all())
+    }
+
+    // Gives the file of the stage's name the lasting one.
+    fn rename_stage(&self, name: &StageName, to: Name) -> Result<(), DeviceFault> {
+        self.check_lock()?;
+        let from = self.stage_path(name)?;
+        let path = self.path_of(to)?;
+        self.known(
+            part_of(to),
+            again(|| fs::rename(self.rt, from.as_str(), path.as_str())),
+        )
+    }
+
+    // Brings the folder to the disk.
+    fn settle_folder(&self) -> Result<(), DeviceFault> {
+        let folder = self.known(Part::Folder, fs::open(self.rt, self.folder))?;
+        self.known(Part::Folder, folder.sync_all())
+    }
+
+    // Removes a stage's name.
+    fn remove_stage(&self, name: &StageName) -> Result<(), DeviceFault> {
+        let path = self.stage_path(name)?;
+        self.known(
+            Part::Stage,
+            again(|| fs::remove_file(self.rt, path.as_str())),
+        )
+    }
+
+    // What the record holds, where there is one.
+    fn find_record(&self, alloc: Global) -> Result<Option<Vec<u8>>, DeviceFault> {
+        let path = self.path_of(Name::Record)?;
+        let path = path.as_str();
+        if self.regular(Part::Record, path)?.is_none() {
+            return Ok(None);
+        }
+        let file = self.known(Part::Record, fs::open(self.rt, path))?;
+        if !self.leads_to(Part::Record, path, &file)? {
+            return Err(self.remember(Part::Record, Cause::Restless));
+        }
+        let mut buf = [0u8; MOST_OF_RECORD + 1];
+        let n = self.known(Part::Record, read_most(&file, &mut buf))?;
+        match buf.get(..n) {
+            Some(bytes) if n <= MOST_OF_RECORD => {
+                let line = bytes.strip_suffix(b"\n").unwrap_or(bytes);
+                Ok(Some(self.made(line.to_vec(alloc))?))
+            }
+            _ => Err(self.remember(Part::Record, Cause::TooLong)),
+        }
+    }
+}
+
+/// The path of the folder that a path leads into, and the last part of the path.
+pub fn parts_of(path: &str) -> (&str, &str)
+    // The name that a place has without `--name` is the last part of its path.
+    ensures last { IsLastPart path.now result.1.now }
+{
+    match path.rsplit_once('/') {
+        Some(("", name)) => ("/", name),
+        Some((folder, name)) => (folder, name),
+        None => (".", path),
     }
 }
 
@@ -340,12 +503,12 @@ fn rights_after(older: u32) -> u32 {
 // Gives a stage the owner and the group of an older file, as far as that is allowed: whether it has
 // the group now.
 fn give_group(file: &File, older: &Metadata) -> io::Result<bool> {
-    let made = file.metadata()?;
+    let made = again(|| file.metadata())?;
     let is_same = made.uid() == older.uid() && made.gid() == older.gid();
     Ok(
         is_same
-            || fchown(file, Some(older.uid()), Some(older.gid())).is_ok()
-            || fchown(file, None, Some(older.gid())).is_ok(),
+            || again(|| fchown(file, Some(older.uid()), Some(older.gid()))).is_ok()
+            || again(|| fchown(file, None, Some(older.gid()))).is_ok(),
     )
 }
 
@@ -372,144 +535,78 @@ fn give_rights(file: &File, older: &Option<Metadata>, mode: Option<u32>) -> io::
 impl Folder for FileFolder<'_> {
     type Handle = StageFile;
 
-    ghost run = { λ _. untold };
+    ghost run = { λ _. unknown };
 
-    // Each fault ends the run and is remembered by itself, so none is counted.
-    ghost folder_faults = { λ _. most_faults };
+    ghost folder_faults = { λ f. faults_of f };
 
     ghost read_fails = { true };
 
     fn lock(&mut self) -> Result<bool, DeviceFault> {
-        if self.is_locked()? {
-            return Ok(true);
-        }
-        let path = self.beside("lock")?;
-        let path = path.as_str();
-        for _ in 0..MOST_OPENINGS {
-            let Some(file) = self.open_lock(path)? else {
-                continue;
-            };
-            if !self.lock_file(&file)? {
-                return Ok(false);
-            }
-            // Who held the lock before may have removed the file.
-            if self.leads_to(Part::Lock, path, &file)? {
-                self.give_owner(Part::Lock, &file)?;
-                self.lock = Some(file);
-                return Ok(true);
-            }
-        }
-        Err(self.remember(Part::Lock, Cause::Restless))
+        let answer = self.take_lock();
+        self.counted(answer)
     }
 
     fn clear(&mut self) -> Result<(), DeviceFault> {
-        self.check_lock()?;
-        for _ in 0..MOST_INTERRUPTIONS {
-            match fs::read_dir(self.rt, self.folder) {
-                Ok(entries) => return self.remove_stages(entries),
-                Err(error) if error.kind() == ErrorKind::Interrupted => {}
-                Err(error) => return Err(self.remember(Part::Folder, Cause::System(error))),
-            }
-        }
-        Err(self.interrupted(Part::Folder))
+        let answer = self.remove_stages();
+        self.counted(answer)
     }
 
     fn create(&mut self, name: &StageName) -> Result<StageFile, DeviceFault> {
-        self.check_lock()?;
-        let path = self.stage_path(name)?;
-        let opened = OpenOptions::new()
-            .read(true)
-            .write(true)
-            .create_new(true)
-            .mode(FOR_THE_OWNER)
-            .open(self.rt, path.as_str());
-        let file = self.known(Part::Stage, opened)?;
-        Ok(StageFile { file })
+        let answer = self.make_stage(name);
+        self.counted(answer)
     }
 
     fn write(&mut self, handle: &StageFile, bytes: &[u8]) -> Result<usize, DeviceFault> {
-        for _ in 0..MOST_INTERRUPTIONS {
-            let mut file = &handle.file;
-            match file.write(bytes) {
-                Ok(n) if n <= bytes.len() && (n > 0 || bytes.is_empty()) => return Ok(n),
-                Ok(_) => {
-                    let cause = Cause::System(ErrorKind::WriteZero.into());
-                    return Err(self.remember(Part::Stage, cause));
-                }
-                Err(error) if error.kind() == ErrorKind::Interrupted => {}
-                Err(error) => return Err(self.remember(Part::Stage, Cause::System(error))),
-            }
-        }
-        Err(self.interrupted(Part::Stage))
+        let answer = self.write_front(handle, bytes);
+        self.counted(answer)
     }
 
     fn read_at(&self, handle: &StageFile, at: u64, buf: &mut [u8]) -> Result<usize, DeviceFault> {
-        for _ in 0..MOST_INTERRUPTIONS {
-            match handle.file.read_at(buf, at) {
-                Ok(n) if n <= buf.len() && is_within_file(at, n) => {
-                    self.show_verified(at, n);
-                    return Ok(n);
-                }
-                Ok(_) => break,
-                Err(error) if error.kind() == ErrorKind::Interrupted => {}
-                Err(error) => return Err(self.remember(Part::Stage, Cause::System(error))),
+        match again(|| handle.file.read_at(buf, at)) {
+            Ok(n) if n <= buf.len() && is_within_file(at, n) => {
+                self.show_verified(at, n);
+                Ok(n)
             }
+            Ok(_) => {
+                let cause = Cause::System(ErrorKind::FileTooLarge.into());
+                Err(self.remember(Part::Stage, cause))
+            }
+            Err(error) => Err(self.remember(Part::Stage, Cause::System(error))),
         }
-        Err(self.interrupted(Part::Stage))
     }
 
-    fn count_fault(&mut self) {}
+    fn count_fault(&mut self) {
+        self.raise();
+    }
 
     fn take_rights(&mut self, handle: &StageFile) -> Result<(), DeviceFault> {
-        let older = self.older()?;
-        self.known(Part::Stage, give_rights(&handle.file, &older, self.mode))
+        let answer = self.pass_rights(handle);
+        self.counted(answer)
     }
 
     fn settle(&mut self, handle: &StageFile) -> Result<(), DeviceFault> {
-        // The record too is for the owner of what stands at the place, whoever runs this.
-        self.give_owner(Part::Stage, &handle.file)?;
-        self.known(Part::Stage, handle.file.sync_all())
+        let answer = self.settle_stage(handle);
+        self.counted(answer)
     }
 
     fn rename(&mut self, name: &StageName, to: Name) -> Result<(), DeviceFault> {
-        self.check_lock()?;
-        let from = self.stage_path(name)?;
-        let path = self.path_of(to)?;
-        self.known(
-            part_of(to),
-            fs::rename(self.rt, from.as_str(), path.as_str()),
-        )
+        let answer = self.rename_stage(name, to);
+        self.counted(answer)
     }
 
     fn settle_names(&mut self) -> Result<(), DeviceFault> {
-        let folder = self.known(Part::Folder, fs::open(self.rt, self.folder))?;
-        self.known(Part::Folder, folder.sync_all())
+        let answer = self.settle_folder();
+        self.counted(answer)
     }
 
     fn remove(&mut self, name: &StageName) -> Result<(), DeviceFault> {
-        let path = self.stage_path(name)?;
-        self.known(Part::Stage, fs::remove_file(self.rt, path.as_str()))
+        let answer = self.remove_stage(name);
+        self.counted(answer)
     }
 
     fn read_record(&mut self, alloc: Global) -> Result<Option<Vec<u8>>, DeviceFault> {
-        let path = self.path_of(Name::Record)?;
-        let path = path.as_str();
-        if self.regular(Part::Record, path)?.is_none() {
-            return Ok(None);
-        }
-        let file = self.known(Part::Record, fs::open(self.rt, path))?;
-        if !self.leads_to(Part::Record, path, &file)? {
-            return Err(self.remember(Part::Record, Cause::Restless));
-        }
-        let mut buf = [0u8; MOST_OF_RECORD + 1];
-        let n = self.known(Part::Record, read_most(&file, &mut buf))?;
-        match buf.get(..n) {
-            Some(bytes) if n <= MOST_OF_RECORD => {
-                let line = bytes.strip_suffix(b"\n").unwrap_or(bytes);
-                Ok(Some(self.made(line.to_vec(alloc))?))
-            }
-            _ => Err(self.remember(Part::Record, Cause::TooLong)),
-        }
+        let answer = self.find_record(alloc);
+        self.counted(answer)
     }
 }
 
@@ -526,19 +623,14 @@ fn is_within_file(at: u64, n: usize) -> bool
 // Reads up to all of `buf`, less only where the file ends, and returns how much.
 fn read_most(mut file: &File, buf: &mut [u8]) -> io::Result<usize> {
     let mut filled = 0;
-    for _ in 0..MOST_INTERRUPTIONS {
+    for _ in 0..buf.len() {
         let Some(rest) = buf.get_mut(filled..) else {
-            return Ok(filled);
+            break;
         };
-        if rest.is_empty() {
-            return Ok(filled);
-        }
-        match file.read(rest) {
-            Ok(0) => return Ok(filled),
-            Ok(n) => filled = filled.saturating_add(n),
-            Err(error) if error.kind() == ErrorKind::Interrupted => {}
-            Err(error) => return Err(error),
+        match again(|| file.read(rest))? {
+            0 => break,
+            n => filled = filled.saturating_add(n),
         }
     }
-    Err(ErrorKind::Interrupted.into())
+    Ok(filled)
 }

@@ -3,13 +3,11 @@
 
 ghost use Rattle.std.specs.Prelude.{◌≤◌, IfOk, length};
 
+use crate::interruptions::again;
 use crate::progress::Progress;
 use std::fs::File;
 use std::io::{ErrorKind, Read};
 use std::{fmt, io};
-
-// How often a call is made again that a signal interrupts.
-const MOST_INTERRUPTIONS: u32 = 1_000_000;
 
 /// Why a file could not be read to its end.
 #[derive(Clone, Copy)]
@@ -69,7 +67,7 @@ impl Input {
         if let Some(Unread::TooLong) = self.unread {
             return Err(ErrorKind::FileTooLarge.into());
         }
-        let n = read_again(&mut self.file, buf)?;
+        let n = again(|| self.file.read(buf))?;
         match self.read.checked_add(n as u64) {
             Some(read) if read <= self.most && n <= buf.len() => {
                 self.read = read;
@@ -91,17 +89,6 @@ impl Input {
             }
         }
     }
-}
-
-// Reads once, and again where a signal interrupts it.
-fn read_again(file: &mut File, buf: &mut [u8]) -> io::Result<usize> {
-    for _ in 0..MOST_INTERRUPTIONS {
-        match file.read(buf) {
-            Err(error) if error.kind() == ErrorKind::Interrupted => {}
-            answer => return answer,
-        }
-    }
-    Err(ErrorKind::Interrupted.into())
 }
 
 impl Read for Input {

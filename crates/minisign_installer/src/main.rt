@@ -2,29 +2,31 @@
 //! scheme that is insecure, and says so.
 #![tactic(auto)]
 
-ghost use Rattle.std.specs.Prelude.{◌≡◌, ℕ, List, OnOk, IfErr, map, option_map, string_bytes};
+ghost use Rattle.std.specs.Prelude.{◌≡◌, ℕ, false, List, OnOk, IfErr, drop, map, option_map, string_bytes};
 ghost use Rattle.minisign_install.specs.Installing.{IsVouched, terms_of};
-ghost use Rattle.minisign_installer.specs.Endings.{HasCause, IsAskedUpdate, ShowsRequest, status_of, wanted_name, wanted_numbering};
+ghost use Rattle.minisign_installer.specs.Endings.{HasCause, IsAskedUpdate, IsWantedName, NeedsRecord, ShowsRequest, status_of, wanted_numbering};
+ghost use Rattle.minisign_installer.specs.Files.{faults_of};
 
-mod arguments;
 mod endings;
 mod files;
 mod inputs;
+mod interruptions;
 mod progress;
 mod report;
 mod requests;
 mod troubles;
 
-use arguments::{read_arguments, words_of};
 use endings::Ending;
-use files::FileFolder;
+use files::{FileFolder, parts_of};
 use inputs::{Input, Unread};
+use interruptions::again;
 use minisign::NamedFault;
 use minisign::base::devices::random_sources::SourceRandom;
 use minisign::base::devices::sources::ReaderSource;
 use minisign::base::scheme::Scheme;
 use minisign::base::toy::ToyScheme;
 use minisign::reading::read_text;
+use minisign_arguments::{behind_program, read_arguments, words_of};
 use minisign_install::{InstallFault, Numbering, Wanted, install_update};
 use progress::{Progress, Work};
 use report::{Report, show_help, show_version};
@@ -61,7 +63,7 @@ fn run(rt: &HostRuntime, report: &Report) -> Ending {
     }
 }
 
-// Does what these arguments ask for, which stand behind the program's name.
+// Does what these arguments ask for, of which the first is the program.
 fn run_arguments<S: Scheme>(
     rt: &HostRuntime,
     scheme: &S,
@@ -70,11 +72,14 @@ fn run_arguments<S: Scheme>(
 ) -> Ending
     // A run ends with 0 only where the arguments ask for the help or the version, or for an
     // installation, and then only where some texts vouch for some data, and the comment that was
-    // signed with it has the name that `--name` gives, where it does, and a number in the field that
-    // `--numbering` names.
-    ensures ended { ShowsRequest (S.accepts scheme.now) (map (λ a. string_bytes a) arguments.now) result }
+    // signed with it has the name that `--name` gives, or without it the last part of the place's
+    // path, and a number in the field that `--numbering` names (`IsWantedName`).
+    ensures ended { ShowsRequest (S.accepts scheme.now) (map (λ a. string_bytes a) (drop 1 arguments.now)) result }
+
+    // A run ends with 7 only where the arguments ask for an installation without `--first`.
+    ensures unrecorded { NeedsRecord (map (λ a. string_bytes a) (drop 1 arguments.now)) result }
 {
-    match words_of(rt.alloc(), arguments) {
+    match words_of(rt.alloc(), behind_program(arguments)) {
         Ok(words) => run_words(rt, scheme, words.as_slice(), report),
         Err(fault) => report.fault(&fault.into()),
     }
@@ -83,6 +88,7 @@ fn run_arguments<S: Scheme>(
 // Does what these words ask for.
 fn run_words<S: Scheme>(rt: &HostRuntime, scheme: &S, words: &[&str], report: &Report) -> Ending
     ensures ended { ShowsRequest (S.accepts scheme.now) (map (λ w. w.now) words.now) result }
+    ensures unrecorded { NeedsRecord (map (λ w. w.now) words.now) result }
 {
     match request_of(words) {
         Ok(Request::Help) => show_help(rt),
@@ -96,6 +102,7 @@ fn run_words<S: Scheme>(rt: &HostRuntime, scheme: &S, words: &[&str], report: &R
 }
 
 // Installs what is asked for, and says what came in between.
+#[tactic(auto, using(crate::proofs::Causes::needs_record))]
 fn install_asked<S: Scheme>(
     rt: &HostRuntime,
     scheme: &S,
@@ -103,6 +110,7 @@ fn install_asked<S: Scheme>(
     report: &Report,
 ) -> Ending
     ensures ended { status_of result ≡ 0 → IsAskedUpdate (S.accepts scheme.now) asked.entry }
+    ensures unrecorded { status_of result ≡ 7 → asked.entry.is_first ≡ false }
 {
     let Some(mut folder) = FileFolder::of_place(rt, asked.place, asked.mode) else {
         return report.bad_place(asked.place);
@@ -126,7 +134,7 @@ fn install_asked<S: Scheme>(
     let wanted = Wanted {
         pk_text: pk_text.as_str(),
         sig_text: sig_text.as_str(),
-        file: wanted_name(asked.name, folder.name()),
+        file: wanted_name(asked.name, asked.place),
         numbering: wanted_numbering(asked.numbering),
     };
     match install_files(
@@ -144,12 +152,12 @@ fn install_asked<S: Scheme>(
 }
 
 // The name that the signed comment has to have.
-fn wanted_name<'a>(name: Option<&'a str>, of_place: &'a str) -> &'a str
-    ensures { result.now ≡ wanted_name (option_map (λ n. n.now) name.entry) of_place.now }
+fn wanted_name<'a>(name: Option<&'a str>, place: &'a str) -> &'a str
+    ensures { IsWantedName (option_map (λ n. n.now) name.entry) place.now result.now }
 {
     match name {
         Some(name) => name,
-        None => of_place,
+        None => parts_of(place).1,
     }
 }
 
@@ -164,6 +172,7 @@ fn wanted_numbering(numbering: Option<Numbering>) -> Numbering
 }
 
 // Installs the data over a folder of files.
+#[tactic(auto, using(crate::proofs::Causes::has_cause))]
 fn install_files<S: Scheme>(
     rt: &HostRuntime,
     scheme: &S,
@@ -177,9 +186,10 @@ fn install_files<S: Scheme>(
     // are the named files, the code and tests show.
     ensures vouched { OnOk result (IsVouched (S.accepts scheme.now) (terms_of wanted.entry)) }
 
-    // Why a fault may come: the record is refused only where it is not the first installation, and
-    // all that is said of the data only where some data has it.
-    ensures causes { IfErr result (HasCause (S.accepts scheme.now) (terms_of wanted.entry) is_first) }
+    // Why a fault may come: a device's only where that device's count of faults rose, as the folder's
+    // does where a call on its files failed; the record is refused only where it is not the first
+    // installation, and all that is said of the data only where some data has it.
+    ensures causes { IfErr result (HasCause (S.accepts scheme.now) (terms_of wanted.entry) is_first (faults_of folder.old) (faults_of folder.new)) }
 {
     install_update(
         rt.alloc(),
@@ -195,7 +205,7 @@ fn install_files<S: Scheme>(
 // Opens the data, and shows how far it was copied.
 fn open_data(rt: &HostRuntime, asked: Asked<'_>) -> io::Result<Input> {
     let file = fs::open(rt, asked.data)?;
-    let found = file.metadata()?;
+    let found = again(|| file.metadata())?;
     let all = if found.is_file() {
         Some(found.len())
     } else {

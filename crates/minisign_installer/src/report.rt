@@ -1,6 +1,7 @@
 //! What the program says, each line in one write. What cannot be written changes no exit status.
 
-ghost use Rattle.minisign_installer.specs.Endings.{IsNoSuccess};
+ghost use Rattle.std.specs.Prelude.{◌≡◌};
+ghost use Rattle.minisign_installer.specs.Endings.{IsNoSuccess, IsOtherEnd, IsUnrecorded, status_of};
 
 use crate::endings::{Ending, ending_of};
 use crate::files::FileFolder;
@@ -39,7 +40,7 @@ SIG vouch for it as the update that is wanted. The toy scheme protects nothing.
 
 Each option comes at most once, anywhere before `--`. It ends with
   0  the update was installed, or what was asked for was shown
-  1  a file could not be used, or memory or random bytes were wanting
+  1  a file could not be used, memory ran out, or no random bytes came
   2  the words are no request
   3  the update is refused
   4  the update is older than what was installed
@@ -55,16 +56,22 @@ pub struct Report {
 }
 
 /// Shows how the program is called.
-pub fn show_help(rt: &HostRuntime) -> Ending {
+pub fn show_help(rt: &HostRuntime) -> Ending
+    ensures { IsOtherEnd result }
+{
     show(rt, USAGE, HELP)
 }
 
 /// Shows the program's version.
-pub fn show_version(rt: &HostRuntime) -> Ending {
+pub fn show_version(rt: &HostRuntime) -> Ending
+    ensures { IsOtherEnd result }
+{
     show(rt, VERSION, "")
 }
 
-fn show(rt: &HostRuntime, first: &str, second: &str) -> Ending {
+fn show(rt: &HostRuntime, first: &str, second: &str) -> Ending
+    ensures { IsOtherEnd result }
+{
     let mut output = WriterSink::new(rt.stdout());
     match (
         put_all(&mut output, first.as_bytes()),
@@ -88,7 +95,8 @@ impl Report {
 
     /// The words are no request.
     pub fn misuse(&self, misuse: Misuse<'_>) -> Ending
-        ensures { IsNoSuccess result }
+        ensures failure { IsNoSuccess result }
+        ensures other { IsOtherEnd result }
     {
         match misuse {
             Misuse::UnknownOption(word) => self.line(word, "there is no such option"),
@@ -104,7 +112,8 @@ impl Report {
 
     /// An argument is not UTF-8.
     pub fn misuse_of_bytes(&self) -> Ending
-        ensures { IsNoSuccess result }
+        ensures failure { IsNoSuccess result }
+        ensures other { IsOtherEnd result }
     {
         self.say("error: an argument is not UTF-8\n");
         self.say(USAGE);
@@ -113,7 +122,8 @@ impl Report {
 
     /// The path of the place does not end with a name.
     pub fn bad_place(&self, place: &str) -> Ending
-        ensures { IsNoSuccess result }
+        ensures failure { IsNoSuccess result }
+        ensures other { IsOtherEnd result }
     {
         self.line(place, "it does not end with the name of a file");
         Ending::Misused
@@ -121,7 +131,8 @@ impl Report {
 
     /// A fault before any file was used.
     pub fn fault(&self, fault: &PError) -> Ending
-        ensures { IsNoSuccess result }
+        ensures failure { IsNoSuccess result }
+        ensures other { IsOtherEnd result }
     {
         if let Ok(line) = format!(in self.rt.alloc(); "error: {fault}\n") {
             self.say(&line);
@@ -131,7 +142,8 @@ impl Report {
 
     /// A file could not be opened or read.
     pub fn unread(&self, path: &str, why: Unread) -> Ending
-        ensures { IsNoSuccess result }
+        ensures failure { IsNoSuccess result }
+        ensures other { IsOtherEnd result }
     {
         self.line(path, why);
         match why {
@@ -149,7 +161,8 @@ impl Report {
         unread: Option<Unread>,
         folder: &FileFolder<'_>,
     ) -> Ending
-        ensures { IsNoSuccess result }
+        ensures failure { IsNoSuccess result }
+        ensures unrecorded { status_of result ≡ 7 → IsUnrecorded fault.now }
     {
         let ending = ending_of(fault);
         match ending {

@@ -11,8 +11,8 @@ mod generated;
 #[cfg(test)]
 mod names;
 #[cfg(test)]
+mod refused_allocations;
+#[cfg(test)]
 mod sealed;
 #[cfg(test)]
 mod texts;
-#[cfg(test)]
-mod wanting_memory;

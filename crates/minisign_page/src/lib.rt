@@ -11,7 +11,7 @@ ghost use Rattle.minisign.specs.Acceptance.{Verifier};
 ghost use Rattle.minisign_external.specs.Questions.{AnswersTexts, AreOpen};
 ghost use Rattle.minisign_external.specs.Numbers.{IsAnswer, IsMeaning, WritesCut, answer_yes, misuse_number, refusal_number};
 ghost use Rattle.minisign_external.specs.PublicKeys.{IsKeyNumber, TellsPublicKey, bare, two_lines};
-ghost use Rattle.minisign_external.specs.States.{AreQuestions, GivesNumber, HasAsked, HasEnded, IsAskingNumber, IsFed, IsMarkedFed, IsVerdictNumber, TellsIdentifiers, feeding_misuse};
+ghost use Rattle.minisign_external.specs.States.{AreQuestions, GivesNumber, HasAsked, HasEnded, IsAskingNumber, IsFedState, IsMarkedFed, IsVerdictNumber, TellsIdentifiers, feeding_misuse};
 
 use minisign_external::numbers::{ANSWER_YES, is_answer, write_error_text};
 use minisign_external::public_keys::{tell_bare_public_key, tell_public_key};
@@ -31,7 +31,7 @@ pub extern "C" fn page_error_text(error: u32, text: &mut [u8]) -> usize
 /// Begins: the state was fed nothing.
 #[unsafe(no_mangle)]
 pub extern "C" fn page_init(state: &mut State)
-    ensures { IsFed state.new [] }
+    ensures { IsFedState state.new [] }
 {
     *state = State::new();
 }
@@ -39,7 +39,7 @@ pub extern "C" fn page_init(state: &mut State)
 /// Feeds the next bytes of the data.
 #[unsafe(no_mangle)]
 pub extern "C" fn page_update(state: &mut State, piece: &[u8]) -> u32
-    ensures fed { (m : List ℕ) → IsFed state.old m → (result ≡ 0) × IsFed state.new (m ++ piece.now) }
+    ensures fed { (m : List ℕ) → IsFedState state.old m → (result ≡ 0) × IsFedState state.new (m ++ piece.now) }
     ensures begun { result ≡ 0 → IsMarkedFed state.old }
     ensures refused { 0 < result → (result ≡ misuse_number (feeding_misuse state.old)) × (state.new ≡ state.old) }
 {
@@ -100,13 +100,13 @@ pub extern "C" fn page_ask(
     ensures asked { result ≡ 0 → (pk : PublicKeyRecord) × (x : SignatureBoxRecord) × (c : CommentsRecord)
         × AreOpen pk_text.now sig_text.now (allow_legacy == 1) pk x c
         × AreQuestions questions.new message.new pk x c }
-    ensures digest { result ≡ 0 → (m : List ℕ) → IsFed state.old m → questions.new.digest ≡ blake2b_digest 64 m }
+    ensures digest { result ≡ 0 → (m : List ℕ) → IsFedState state.old m → questions.new.digest ≡ blake2b_digest 64 m }
     ensures asking { result ≡ 0 → HasAsked state.new pk_text.now sig_text.now (allow_legacy == 1) }
 
     ensures begun { result ≡ 0 → IsMarkedFed state.old }
 
     // The identifiers of texts that read, asked or refused.
-    ensures identifiers { allow_legacy < 2 → (m : List ℕ) → IsFed state.old m → IsUtf8 pk_text.now → IsUtf8 sig_text.now
+    ensures identifiers { allow_legacy < 2 → (m : List ℕ) → IsFedState state.old m → IsUtf8 pk_text.now → IsUtf8 sig_text.now
         → TellsIdentifiers pk_text.now sig_text.now questions.new }
 
     // Why they were not asked.

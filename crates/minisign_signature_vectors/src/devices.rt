@@ -1,4 +1,4 @@
 //! Devices that fail, and memory that is refused.
 
 mod failing;
-mod wanting_memory;
+mod refused_allocations;

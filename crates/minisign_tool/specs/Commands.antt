@@ -1,5 +1,5 @@
 -- Which command the arguments ask for.
-use Rattle.std.specs.Prelude.{◌≡◌, ℕ, ◌⊎◌, List, [], ◌∷◌, codes}
+use Rattle.std.specs.Prelude.{◌≡◌, ℕ, ◌⊎◌, List, [], ◌∷◌, Option, Some, None, codes}
 use Rattle.minisign_tool.specs.declared.commands.Command.{Command}
 use Rattle.minisign_tool.specs.declared.commands.Command.TheVariants.{Cat, Keygen, Sign, Usage, Verify, VerifyRaw}
 
@@ -25,3 +25,8 @@ AsksFor words (Verify pk file sig) = words ≡ codes "verify" ∷ pk.now ∷ fil
 AsksFor words (VerifyRaw pk sig) = words ≡ codes "verify-raw" ∷ pk.now ∷ sig.now ∷ []
 AsksFor words (Cat pk file sig) = words ≡ codes "cat" ∷ pk.now ∷ file.now ∷ sig.now ∷ []
 AsksFor words Usage = ¬ (IsForm words)
+
+-- what was read behind the program's name asks for this command, and for the usage where an argument is not UTF-8
+abbrev pub ReadAsksFor : Option (List (List ℕ)) → Command → Type 0
+ReadAsksFor None command = command ≡ Usage
+ReadAsksFor (Some words) command = AsksFor words command

@@ -1,9 +1,9 @@
 -- What the exit status of a command shows.
-use Rattle.std.specs.Prelude.{◌≡◌, ℕ, List, false, ⊤}
+use Rattle.std.specs.Prelude.{◌≡◌, ℕ, ◌≤◌, List, false, ⊤}
 use Rattle.minisign_base.specs.Members.{SinkOf}
 use Rattle.minisign.specs.Acceptance.{Verifier}
 use Rattle.minisign.specs.Headline.{TextsVouchFor}
-use Rattle.minisign_tool.specs.Report.{TakesOrFails, usage_line, warning_line}
+use Rattle.minisign_tool.specs.Report.{EndsWithFault, SaysAfterWarning, ShowsOnlyFault, TakesOrFails, usage_line, warning_line}
 use Rattle.minisign_tool.specs.VerifyRaw.{VouchesRaw}
 use Rattle.minisign_tool.specs.declared.commands.Command.{Command}
 use Rattle.minisign_tool.specs.declared.commands.Command.TheVariants.{Cat, Keygen, Sign, Usage, Verify, VerifyRaw}
@@ -29,6 +29,25 @@ HoldsAfter accepts Usage = ⊥
 abbrev pub ShowsCommand : Verifier → Command → ℕ → Type 0
 ShowsCommand accepts command status = status ≡ 0 → HoldsAfter accepts command
 
+-- what a command says that is quiet where it ends well: the warning, and with status 1 the line of a fault behind it
+abbrev pub SaysOnlyFaults : {S : Type 0} → SinkOf S → S → S → ℕ → Type 0
+SaysOnlyFaults sink old new status =
+    (status ≡ 0 → TakesOrFails sink old new warning_line) × (status ≡ 1 → ShowsOnlyFault sink old new (λ _. ⊤))
+
+-- what a command says that verifies: the warning, and with status 0 some lines behind it, with 1 the line of a fault at the end
+abbrev pub SaysVerdict : {S : Type 0} → SinkOf S → S → S → ℕ → Type 0
+SaysVerdict sink old new status =
+    (status ≡ 0 → (lines : List ℕ) × SaysAfterWarning sink old new lines) × (status ≡ 1 → EndsWithFault sink old new (λ _ _. ⊤))
+
 -- the warning was said, and then the usage
 abbrev pub ShowsWarningAndUsage : {S : Type 0} → SinkOf S → S → S → Type 0
 ShowsWarningAndUsage {S = S} sink old new = (warned : S) × TakesOrFails sink old warned warning_line × TakesOrFails sink warned new usage_line
+
+-- what a run says that this command was asked of: as the command does, with the status 0 or 1, or the usage with the status 2
+abbrev pub SaysCommand : {S : Type 0} → SinkOf S → Command → S → S → ℕ → Type 0
+SaysCommand sink (Keygen pk sk) old new status = (status ≤ 1) × SaysOnlyFaults sink old new status
+SaysCommand sink (Sign sk file sig) old new status = (status ≤ 1) × SaysOnlyFaults sink old new status
+SaysCommand sink (Verify pk file sig) old new status = (status ≤ 1) × SaysVerdict sink old new status
+SaysCommand sink (VerifyRaw pk sig) old new status = (status ≤ 1) × SaysVerdict sink old new status
+SaysCommand sink (Cat pk file sig) old new status = (status ≤ 1) × SaysVerdict sink old new status
+SaysCommand sink Usage old new status = (status ≡ 2) × ShowsWarningAndUsage sink old new

@@ -1,8 +1,8 @@
 -- What `keygen` makes.
-use Rattle.std.specs.Prelude.{ℕ, List, None}
-use Rattle.minisign_base.specs.Passages.{PromptPassage, RandomPassage, SinkPassage}
-use Rattle.minisign.specs.Generation.{IsGenuinePair, IsSealedPair, OpensOnlyTo, TakesPart}
-use Rattle.minisign.specs.NewPassword.{HasTyped}
+use Rattle.std.specs.Prelude.{ℕ, List, None, Ok}
+use Rattle.minisign_base.specs.DeviceCalls.{PromptCall, RandomCall, SinkCall, TakesPart}
+use Rattle.minisign.specs.Generation.{IsGenuinePair, IsSealedPair, OpensOnlyTo}
+use Rattle.minisign.specs.NewPassword.{IsSealing}
 use Rattle.minisign.specs.PublicKeyText.{public_key_text}
 use Rattle.minisign.specs.Records.{PublicKeyRecord, SecretKeyRecord}
 use Rattle.minisign.specs.Sealing.{xored_key}
@@ -11,12 +11,12 @@ use Rattle.minisign.specs.SecretKeyText.{secret_key_text}
 -- a pair was made of the random bytes that were drawn, under a password that was typed twice; one sink took
 -- the text of its public key, the other that of its secret key with the comment by default, and this text
 -- opens under the password to the secret key of that public one, and to no other
-pub record MakesKeys {Z R W P K : Type 0} (public_of : List ℕ → List ℕ) (z : RandomPassage Z) (p : PromptPassage R W)
-    (pk_sink : SinkPassage P) (sk_sink : SinkPassage K) : Type 0 where
+pub record MakesKeys {Z R W P K : Type 0} (public_of : List ℕ → List ℕ) (z : RandomCall Z) (p : PromptCall R W)
+    (pk_sink : SinkCall P) (sk_sink : SinkCall K) : Type 0 where
   pub password : List ℕ
   pub pk : PublicKeyRecord
   pub sk : SecretKeyRecord
-  pub typed : HasTyped p password
+  pub typed : IsSealing p None (Ok password)
   pub pair : IsSealedPair public_of password z pk sk
   pub public : TakesPart pk_sink (public_key_text pk)
   pub secret : TakesPart sk_sink (secret_key_text None sk)

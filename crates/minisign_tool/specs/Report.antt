@@ -4,7 +4,7 @@ use Rattle.std.specs.Io.KnownBytes.{Appends}
 use Rattle.minisign_base.specs.Devices.{Rose, AppendsFront}
 use Rattle.minisign_base.specs.Fault.{Fault, text_of}
 use Rattle.minisign_base.specs.Members.{SinkOf}
-use Rattle.minisign_base.specs.Passages.{SinkPassage, sink_passage}
+use Rattle.minisign_base.specs.DeviceCalls.{SinkCall, sink_call}
 use Rattle.minisign.specs.Lines.{line}
 
 -- the first line of every run
@@ -36,10 +36,10 @@ abbrev pub ShowsFault : {S : Type 0} → SinkOf S → S → S → Fault → Type
 ShowsFault sink old new e = TakesOrFails sink old new (fault_line e)
 
 -- a run ends with a fault: the warning was said, what Fails says went on, and the line of the fault was said
-abbrev pub EndsWithFault : {S : Type 0} → SinkOf S → S → S → (SinkPassage S → Fault → Type 0) → Type 0
+abbrev pub EndsWithFault : {S : Type 0} → SinkOf S → S → S → (SinkCall S → Fault → Type 0) → Type 0
 EndsWithFault {S = S} sink old new Fails =
     (e : Fault) × (warned told : S) × TakesOrFails sink old warned warning_line × ShowsFault sink told new e
-    × Fails (sink_passage sink warned told) e
+    × Fails (sink_call sink warned told) e
 
 -- a run that says nothing else ends with a fault for which Fails holds: the warning was said, and then its line
 abbrev pub ShowsOnlyFault : {S : Type 0} → SinkOf S → S → S → (Fault → Type 0) → Type 0

@@ -1,17 +1,17 @@
 -- Two texts that are read from files.
 use Rattle.std.specs.Prelude.{◌≡◌, ℕ, ◌⊎◌, List}
 use Rattle.minisign_base.specs.Fault.{Fault}
-use Rattle.minisign_base.specs.Passages.{SourcePassage}
+use Rattle.minisign_base.specs.DeviceCalls.{SourceCall}
 use Rattle.minisign.specs.Reading.{ReadsWhole}
 use Rattle.minisign.specs.TextFiles.{IsTextFault}
 
 -- two files were read whole, and these are their texts
-pub record ReadsBoth {P Q : Type 0} (first : SourcePassage P) (second : SourcePassage Q) (first_text second_text : List ℕ) : Type 0 where
+pub record ReadsBoth {P Q : Type 0} (first : SourceCall P) (second : SourceCall Q) (first_text second_text : List ℕ) : Type 0 where
   pub first_read : ReadsWhole first.source first.old first.new first_text
   pub second_read : ReadsWhole second.source second.old second.new second_text
 
 -- one of two files did not give a text; the second is left alone where it is the first
-abbrev pub EitherFails : {P Q : Type 0} → SourcePassage P → SourcePassage Q → Fault → Type 0
+abbrev pub EitherFails : {P Q : Type 0} → SourceCall P → SourceCall Q → Fault → Type 0
 EitherFails first second e =
     (IsTextFault first.source first.old first.new e × (second.new ≡ second.old))
     ⊎ ((first_text : List ℕ) × ReadsWhole first.source first.old first.new first_text

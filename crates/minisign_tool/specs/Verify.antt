@@ -1,14 +1,16 @@
 -- How a run that verifies with two text files ends.
 use Rattle.std.specs.Prelude.{◌≡◌, ℕ, ◌⊎◌, true, false, List}
 use Rattle.minisign_base.specs.Fault.{Fault}
-use Rattle.minisign_base.specs.Passages.{RereaderPassage, SinkPassage, SourcePassage, TakesFront}
+use Rattle.minisign_base.specs.Members.{SourceOf}
+use Rattle.minisign_base.specs.DeviceCalls.{RereaderCall, SinkCall, SourceCall, TakesFront, rereader_call, source_call, unused}
 use Rattle.minisign.specs.Records.{PublicKeyRecord, SignatureBoxRecord}
 use Rattle.minisign.specs.Acceptance.{Flags, Verifier, status_lines}
 use Rattle.minisign.specs.Headline.{CopyIsVouchedFor, TextsVouchFor}
 use Rattle.minisign.specs.Reading.{IsAhead}
-use Rattle.minisign.specs.Verifying.{HasCopy, SayingFails}
+use Rattle.minisign.specs.Verifying.{HasCopy, VerifyingFails}
 use Rattle.minisign.specs.VerifyingTexts.{ReadTexts, TextsFail, VerifyingTextsFails}
 use Rattle.minisign_tool.specs.TextFiles.{EitherFails, ReadsBoth}
+use Rattle.minisign_tool.specs.declared.verify.VerifyingDevices.{VerifyingDevices}
 
 -- the status is said, nothing is copied, and legacy signatures are refused
 abbrev pub says_only : Flags
@@ -18,50 +20,63 @@ says_only = record { quiet = false; output = false; legacy = false }
 abbrev pub says_and_copies : Flags
 says_and_copies = record { quiet = false; output = true; legacy = false }
 
+-- the devices of verifying with two text files over a run
+pub record VerifyingCall (P Q R : Type 0) : Type 1 where
+  pub pk_file : SourceCall P
+  pub sig_file : SourceCall Q
+  pub data_reader : RereaderCall R
+
+-- the same as a clause writes it
+abbrev pub verifying_call : {P Q R : Type 0} → SourceOf P → SourceOf Q → SourceOf R → (R → Type 0)
+    → VerifyingDevices P Q R → VerifyingDevices P Q R → VerifyingCall P Q R
+verifying_call pk_file sig_file data_reader steady old new = record {
+  pk_file = source_call pk_file old.pk_file new.pk_file;
+  sig_file = source_call sig_file old.sig_file new.sig_file;
+  data_reader = rereader_call data_reader steady old.data_reader new.data_reader;
+}
+
 -- verifying with two texts fails, where nothing is to be copied: a text is refused, with nothing read or
--- said, or no verdict is said with the key and the box that the texts read as
-abbrev pub VerifyFails : {R W : Type 0} → Verifier → List ℕ → List ℕ → RereaderPassage R → SinkPassage W → Fault → Type 0
+-- said, or it failed at one of its stages with the key and the box that the texts read as
+abbrev pub VerifyFails : {R W : Type 0} → Verifier → List ℕ → List ℕ → RereaderCall R → SinkCall W → Fault → Type 0
 VerifyFails accepts pk_text sig_text reader status e =
     (TextsFail pk_text sig_text e × (reader.new ≡ reader.old) × (status.new ≡ status.old))
     ⊎ ((key : PublicKeyRecord) × (box : SignatureBoxRecord) × ReadTexts pk_text sig_text key box
-    × SayingFails accepts key box says_only reader status e)
+    × VerifyingFails accepts key box says_only reader status unused e)
 
 -- nothing was said, or a beginning of the status lines of the box that the texts read as
-abbrev pub SaysFront : {W : Type 0} → SinkPassage W → List ℕ → List ℕ → Type 0
+abbrev pub SaysFront : {W : Type 0} → SinkCall W → List ℕ → List ℕ → Type 0
 SaysFront status pk_text sig_text =
     (status.new ≡ status.old) ⊎ ((key : PublicKeyRecord) × (box : SignatureBoxRecord) × ReadTexts pk_text sig_text key box
     × TakesFront status (status_lines box))
 
 -- what both files held vouches for all of the data, and its status lines were said as Said says
-pub record FilesVouch {P Q R : Type 0} (accepts : Verifier) (pk_file : SourcePassage P) (sig_file : SourcePassage Q)
-    (reader : RereaderPassage R) (Said : List ℕ → Type 0) : Type 0 where
+pub record FilesVouch {P Q R : Type 0} (accepts : Verifier) (d : VerifyingCall P Q R) (Said : List ℕ → Type 0) : Type 0 where
   pub pk_text : List ℕ
   pub sig_text : List ℕ
   pub message : List ℕ
-  pub pk_held : IsAhead (pk_file.source.ahead pk_file.old) pk_text
-  pub sig_held : IsAhead (sig_file.source.ahead sig_file.old) sig_text
-  pub given : IsAhead (reader.source.ahead reader.old) message
+  pub pk_held : IsAhead (d.pk_file.source.ahead d.pk_file.old) pk_text
+  pub sig_held : IsAhead (d.sig_file.source.ahead d.sig_file.old) sig_text
+  pub given : IsAhead (d.data_reader.source.ahead d.data_reader.old) message
   pub vouched : TextsVouchFor accepts pk_text sig_text message false
   pub said : Said (status_lines vouched.box)
 
 -- and the data was copied, as a copy for which what both files held vouches
-pub record FilesVouchForCopy {P Q R O : Type 0} (accepts : Verifier) (pk_file : SourcePassage P) (sig_file : SourcePassage Q)
-    (reader : RereaderPassage R) (out : SinkPassage O) (Said : List ℕ → Type 0) : Type 0 where
-  pub verified : FilesVouch accepts pk_file sig_file reader Said
-  pub copied : HasCopy accepts verified.vouched.key verified.vouched.box false reader out verified.message
+pub record FilesVouchForCopy {P Q R O : Type 0} (accepts : Verifier) (d : VerifyingCall P Q R) (out : SinkCall O)
+    (Said : List ℕ → Type 0) : Type 0 where
+  pub verified : FilesVouch accepts d Said
+  pub copied : HasCopy accepts verified.vouched.key verified.vouched.box false d.data_reader out verified.message
   pub copy : CopyIsVouchedFor accepts verified.pk_text verified.sig_text false out
 
 -- a file gave no text, with no data read, or verifying with the texts failed
-abbrev pub FilesFail : {P Q R W : Type 0} → Verifier → SourcePassage P → SourcePassage Q → RereaderPassage R → SinkPassage W → Fault → Type 0
-FilesFail accepts pk_file sig_file reader status e =
-    (EitherFails pk_file sig_file e × (reader.new ≡ reader.old) × (status.new ≡ status.old))
-    ⊎ ((pk_text sig_text : List ℕ) × ReadsBoth pk_file sig_file pk_text sig_text
-    × VerifyFails accepts pk_text sig_text reader status e × SaysFront status pk_text sig_text)
+abbrev pub FilesFail : {P Q R W : Type 0} → Verifier → VerifyingCall P Q R → SinkCall W → Fault → Type 0
+FilesFail accepts d status e =
+    (EitherFails d.pk_file d.sig_file e × (d.data_reader.new ≡ d.data_reader.old) × (status.new ≡ status.old))
+    ⊎ ((pk_text sig_text : List ℕ) × ReadsBoth d.pk_file d.sig_file pk_text sig_text
+    × VerifyFails accepts pk_text sig_text d.data_reader status e × SaysFront status pk_text sig_text)
 
 -- a file gave no text, with no data read or copied, or verifying with the texts and copying failed
-abbrev pub FilesFailToCopy : {P Q R O W : Type 0} → Verifier → SourcePassage P → SourcePassage Q → RereaderPassage R → SinkPassage O
-    → SinkPassage W → Fault → Type 0
-FilesFailToCopy accepts pk_file sig_file reader out status e =
-    (EitherFails pk_file sig_file e × (reader.new ≡ reader.old) × (out.new ≡ out.old) × (status.new ≡ status.old))
-    ⊎ ((pk_text sig_text : List ℕ) × ReadsBoth pk_file sig_file pk_text sig_text
-    × VerifyingTextsFails accepts pk_text sig_text says_and_copies reader status out e × SaysFront status pk_text sig_text)
+abbrev pub FilesFailToCopy : {P Q R O W : Type 0} → Verifier → VerifyingCall P Q R → SinkCall O → SinkCall W → Fault → Type 0
+FilesFailToCopy accepts d out status e =
+    (EitherFails d.pk_file d.sig_file e × (d.data_reader.new ≡ d.data_reader.old) × (out.new ≡ out.old) × (status.new ≡ status.old))
+    ⊎ ((pk_text sig_text : List ℕ) × ReadsBoth d.pk_file d.sig_file pk_text sig_text
+    × VerifyingTextsFails accepts pk_text sig_text says_and_copies d.data_reader status out e × SaysFront status pk_text sig_text)

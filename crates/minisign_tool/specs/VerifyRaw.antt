@@ -2,12 +2,12 @@
 use Rattle.std.specs.Prelude.{◌≡◌, ℕ, ◌<◌, ◌⊎◌, false, List, length, None}
 use Rattle.minisign_base.specs.Fault.{Fault, Named}
 use Rattle.minisign_base.specs.declared.faults.NamedFault.TheVariants.{RecordTooShort}
-use Rattle.minisign_base.specs.Passages.{RereaderPassage, SinkPassage, SourcePassage, TakesFront}
+use Rattle.minisign_base.specs.DeviceCalls.{RereaderCall, SinkCall, SourceCall, TakesFront, unused}
 use Rattle.minisign.specs.Records.{PublicKeyRecord, SignatureRecord, SignatureBoxRecord, ReadsPublicKey, ReadsSignature, IsKnownAlgorithm, IsBonesFault}
 use Rattle.minisign.specs.Acceptance.{Verifier, Vouches, verified_text}
 use Rattle.minisign.specs.Lines.{line}
 use Rattle.minisign.specs.Reading.{IsReadFault, ReadsWhole}
-use Rattle.minisign.specs.Verifying.{SayingFails}
+use Rattle.minisign.specs.Verifying.{VerifyingFails}
 use Rattle.minisign_tool.specs.TextFiles.{ReadsBoth}
 use Rattle.minisign_tool.specs.Verify.{says_only}
 
@@ -34,28 +34,28 @@ pub record VouchesRaw (accepts : Verifier) (key_file signature_file message : Li
   pub held : HoldsRaw key_file signature_file key signature
   pub accepted : Vouches accepts key (bare_box signature) message false
 
--- verifying with the bytes of a key and a signature fails: they hold none, with nothing read or said, or no
--- verdict is said with the key and the bare signature that they hold
-abbrev pub VerifyRawFails : {R W : Type 0} → Verifier → List ℕ → List ℕ → RereaderPassage R → SinkPassage W → Fault → Type 0
+-- verifying with the bytes of a key and a signature fails: they hold none, with nothing read or said, or it failed at
+-- one of its stages with the key and the bare signature that they hold; nothing is to be copied
+abbrev pub VerifyRawFails : {R W : Type 0} → Verifier → List ℕ → List ℕ → RereaderCall R → SinkCall W → Fault → Type 0
 VerifyRawFails accepts key_file signature_file reader status e =
     (IsFileFault key_file signature_file e × (reader.new ≡ reader.old) × (status.new ≡ status.old))
     ⊎ ((key : PublicKeyRecord) × (signature : SignatureRecord) × HoldsRaw key_file signature_file key signature
-    × SayingFails accepts key (bare_box signature) says_only reader status e)
+    × VerifyingFails accepts key (bare_box signature) says_only reader status unused e)
 
 -- nothing was said, or a beginning of the status line
-abbrev pub SaysLineFront : {W : Type 0} → SinkPassage W → Type 0
+abbrev pub SaysLineFront : {W : Type 0} → SinkCall W → Type 0
 SaysLineFront status = (status.new ≡ status.old) ⊎ TakesFront status (line verified_text)
 
 -- one of two files was not read whole; the second is left alone where it is the first
-abbrev pub EitherIsUnread : {P Q : Type 0} → SourcePassage P → SourcePassage Q → Fault → Type 0
+abbrev pub EitherIsUnread : {P Q : Type 0} → SourceCall P → SourceCall Q → Fault → Type 0
 EitherIsUnread first second e =
     (IsReadFault first.source first.old first.new e × (second.new ≡ second.old))
     ⊎ ((first_bytes : List ℕ) × ReadsWhole first.source first.old first.new first_bytes
     × IsReadFault second.source second.old second.new e)
 
 -- what both files held vouches for all of the data, and the status line was said as Said says
-pub record RawFilesVouch {P Q R : Type 0} (accepts : Verifier) (pk_file : SourcePassage P) (sig_file : SourcePassage Q)
-    (reader : RereaderPassage R) (Said : List ℕ → Type 0) : Type 0 where
+pub record RawFilesVouch {P Q R : Type 0} (accepts : Verifier) (pk_file : SourceCall P) (sig_file : SourceCall Q)
+    (reader : RereaderCall R) (Said : List ℕ → Type 0) : Type 0 where
   pub key_file : List ℕ
   pub signature_file : List ℕ
   pub message : List ℕ
@@ -65,7 +65,7 @@ pub record RawFilesVouch {P Q R : Type 0} (accepts : Verifier) (pk_file : Source
   pub said : Said (line verified_text)
 
 -- a file was not read whole, with no data read, or verifying with the bytes of both failed
-abbrev pub RawFilesFail : {P Q R W : Type 0} → Verifier → SourcePassage P → SourcePassage Q → RereaderPassage R → SinkPassage W → Fault → Type 0
+abbrev pub RawFilesFail : {P Q R W : Type 0} → Verifier → SourceCall P → SourceCall Q → RereaderCall R → SinkCall W → Fault → Type 0
 RawFilesFail accepts pk_file sig_file reader status e =
     (EitherIsUnread pk_file sig_file e × (reader.new ≡ reader.old) × (status.new ≡ status.old))
     ⊎ ((key_file signature_file : List ℕ) × ReadsBoth pk_file sig_file key_file signature_file

@@ -1,12 +1,13 @@
 //! The command `cat`: as `verify`, and what was verified is copied out.
 
 ghost use Rattle.std.specs.Prelude.{◌≡◌, ◌≤◌, false, true, OnOk, IfErr};
-ghost use Rattle.minisign_base.specs.Passages.{Takes, rereader_passage, sink_passage, source_passage};
+ghost use Rattle.minisign_base.specs.DeviceCalls.{Takes, sink_call};
 ghost use Rattle.minisign_tool.specs.Report.{EndsWithFault, SaysAfterWarning};
-ghost use Rattle.minisign_tool.specs.Verify.{FilesFailToCopy, FilesVouchForCopy};
+ghost use Rattle.minisign_tool.specs.Verify.{FilesFailToCopy, FilesVouchForCopy, verifying_call};
 
 use crate::report::{report, warn};
 use crate::text_files::read_both_texts;
+use crate::verify::VerifyingDevices;
 use minisign::base::devices::sinks::Sink;
 use minisign::base::devices::sources::{Rereader, Source};
 use minisign::base::scheme::Scheme;
@@ -14,15 +15,13 @@ use minisign::{Result, verify_texts};
 use std::alloc::Global;
 
 /// Verifies as `run_verify` does, and then copies the data to `out`, for which it is read a second
-/// time; `out` is flushed where both readings have one digest. So `data_reader` has to go back to
-/// its place, which is marked before any data is read. What `out` holds may be relied on where 0 is
+/// time; `out` is flushed where both readings have one digest. So the data's source has to go back
+/// to its place, which is marked before any data is read. What `out` holds may be relied on where 0 is
 /// returned, and never otherwise.
-pub fn run_cat<S: Scheme, P: Source, R: Rereader, Q: Source, O: Sink, W: Sink>(
+pub fn run_cat<S: Scheme, P: Source, Q: Source, R: Rereader, O: Sink, W: Sink>(
     alloc: Global,
     scheme: &S,
-    pk_file: &mut P,
-    data_reader: &mut R,
-    sig_file: &mut Q,
+    devices: &mut VerifyingDevices<P, Q, R>,
     out: &mut O,
     errors: &mut W,
 ) -> u8
@@ -33,61 +32,51 @@ pub fn run_cat<S: Scheme, P: Source, R: Rereader, Q: Source, O: Sink, W: Sink>(
     // with the warning and the status lines written, and with the data copied, as a copy that the
     // two texts vouch for.
     ensures accepted { result ≡ 0 → FilesVouchForCopy (S.accepts scheme.now)
-        (source_passage P.Source pk_file.old pk_file.new)
-        (source_passage Q.Source sig_file.old sig_file.new)
-        (rereader_passage R.Source R.steady data_reader.old data_reader.new)
-        (sink_passage O.Sink out.old out.new) (SaysAfterWarning W.Sink errors.old errors.new) }
+        (verifying_call P.Source Q.Source R.Source R.steady devices.old devices.new)
+        (sink_call O.Sink out.old out.new) (SaysAfterWarning W.Sink errors.old errors.new) }
 
     // The output did not fail then.
-    ensures out_calm { result ≡ 0 → O.sink_faults out.new ≡ O.sink_faults out.old }
+    ensures out_no_new_fault { result ≡ 0 → O.sink_faults out.new ≡ O.sink_faults out.old }
 
     // The exit status is 1 only because a file gave no text, with no data read, or verifying fails,
     // as `verify_texts` says, between the warning and the line of the fault.
     ensures refused { result ≡ 1 → EndsWithFault W.Sink errors.old errors.new
         (FilesFailToCopy (S.accepts scheme.now)
-        (source_passage P.Source pk_file.old pk_file.new)
-        (source_passage Q.Source sig_file.old sig_file.new)
-        (rereader_passage R.Source R.steady data_reader.old data_reader.new)
-        (sink_passage O.Sink out.old out.new)) }
+        (verifying_call P.Source Q.Source R.Source R.steady devices.old devices.new)
+        (sink_call O.Sink out.old out.new)) }
 {
     warn(errors);
-    match copy_with_files(alloc, scheme, pk_file, data_reader, sig_file, out, errors) {
+    match copy_with_files(alloc, scheme, devices, out, errors) {
         Ok(()) => 0,
         Err(fault) => report(errors, &fault),
     }
 }
 
 // Reads both texts, the key's first, and then verifies with them and copies.
-fn copy_with_files<S: Scheme, P: Source, R: Rereader, Q: Source, O: Sink, W: Sink>(
+fn copy_with_files<S: Scheme, P: Source, Q: Source, R: Rereader, O: Sink, W: Sink>(
     alloc: Global,
     scheme: &S,
-    pk_file: &mut P,
-    data_reader: &mut R,
-    sig_file: &mut Q,
+    devices: &mut VerifyingDevices<P, Q, R>,
     out: &mut O,
     errors: &mut W,
 ) -> Result<()>
     ensures accepted { OnOk result (FilesVouchForCopy (S.accepts scheme.now)
-        (source_passage P.Source pk_file.old pk_file.new)
-        (source_passage Q.Source sig_file.old sig_file.new)
-        (rereader_passage R.Source R.steady data_reader.old data_reader.new)
-        (sink_passage O.Sink out.old out.new) (Takes (sink_passage W.Sink errors.old errors.new))) }
-    ensures calm { OnOk result (W.sink_faults errors.new ≡ W.sink_faults errors.old) }
-    ensures out_calm { OnOk result (O.sink_faults out.new ≡ O.sink_faults out.old) }
+        (verifying_call P.Source Q.Source R.Source R.steady devices.old devices.new)
+        (sink_call O.Sink out.old out.new) (Takes (sink_call W.Sink errors.old errors.new))) }
+    ensures no_new_fault { OnOk result (W.sink_faults errors.new ≡ W.sink_faults errors.old) }
+    ensures out_no_new_fault { OnOk result (O.sink_faults out.new ≡ O.sink_faults out.old) }
     ensures refused { IfErr result (FilesFailToCopy (S.accepts scheme.now)
-        (source_passage P.Source pk_file.old pk_file.new)
-        (source_passage Q.Source sig_file.old sig_file.new)
-        (rereader_passage R.Source R.steady data_reader.old data_reader.new)
-        (sink_passage O.Sink out.old out.new) (sink_passage W.Sink errors.old errors.new)) }
+        (verifying_call P.Source Q.Source R.Source R.steady devices.old devices.new)
+        (sink_call O.Sink out.old out.new) (sink_call W.Sink errors.old errors.new)) }
 {
-    let (pk_text, sig_text) = read_both_texts(alloc, pk_file, sig_file)?;
+    let (pk_text, sig_text) = read_both_texts(alloc, &mut devices.pk_file, &mut devices.sig_file)?;
     let (quiet, output, allow_legacy) = (false, true, false);
     verify_texts(
         alloc,
         scheme,
         &pk_text,
         &sig_text,
-        data_reader,
+        &mut devices.data_reader,
         quiet,
         output,
         allow_legacy,

@@ -2,6 +2,7 @@
 //!
 //! The texts of the key and the signature were made with Python's hashlib.
 use crate::text_tests::cat_ends;
+use crate::verify::VerifyingDevices;
 use minisign::base::devices::sinks::VecSink;
 use minisign::base::devices::sources::{FileSource, ReaderSource};
 use std::fs::File;
@@ -76,15 +77,12 @@ fn copies(
     wanted: &[u8],
 ) -> Result<bool, Fail> {
     let mut out = VecSink::new(rt.alloc());
-    let ended = cat_ends(
-        rt.alloc(),
-        &mut ReaderSource::new(open(rt, folder, "key.pk")?),
-        &mut FileSource::new(open(rt, folder, name)?),
-        &mut ReaderSource::new(open(rt, folder, "abc.sig")?),
-        &mut out,
-        status,
-        text,
-    );
+    let mut devices = VerifyingDevices {
+        pk_file: ReaderSource::new(open(rt, folder, "key.pk")?),
+        sig_file: ReaderSource::new(open(rt, folder, "abc.sig")?),
+        data_reader: FileSource::new(open(rt, folder, name)?),
+    };
+    let ended = cat_ends(rt.alloc(), &mut devices, &mut out, status, text);
     let copied = out.as_slice() == wanted;
     Ok(ended && copied)
 }

@@ -1,9 +1,7 @@
 //! Which command the arguments ask for.
 
-ghost use Rattle.std.specs.Prelude.{◌≡◌, drop, map, string_bytes, IfOk};
+ghost use Rattle.std.specs.Prelude.{◌≡◌, map};
 ghost use Rattle.minisign_tool.specs.Commands.{AsksFor};
-
-use std::alloc::{AllocError, Global};
 
 /// A command and the paths of its files.
 #[derive(Clone, Copy)]
@@ -56,25 +54,4 @@ pub fn command_of<'a>(words: &[&'a str]) -> Command<'a>
         ["cat", pk, file, sig] => Command::Cat { pk, file, sig },
         _ => Command::Usage,
     }
-}
-
-/// The arguments behind the first one, which is the program. Takes no memory.
-pub fn behind_program(arguments: &[String]) -> &[String]
-    ensures { result.now ≡ drop 1 arguments.now }
-{
-    match arguments {
-        [_program, behind @ ..] => behind,
-        [] => arguments,
-    }
-}
-
-/// The words of the arguments. Only running out of memory is refused.
-pub fn words_of(alloc: Global, arguments: &[String]) -> Result<Vec<&str>, AllocError>
-    ensures { IfOk result (λ v. map (λ w. w.now) v.items ≡ map (λ s. string_bytes s) arguments.now) }
-{
-    let mut words = Vec::with_capacity(alloc, arguments.len())?;
-    'words: for argument in arguments {
-        words.push(argument.as_str())?;
-    }
-    Ok(words)
 }

@@ -2,12 +2,13 @@
 //! them and the standard streams, and returns the exit status. What fails before the body has begun
 //! is returned as a fault, with nothing said.
 
-ghost use Rattle.std.specs.Prelude.{◌≡◌, ◌≤◌, ◌⊎◌, IfOk, IfErr};
-ghost use Rattle.minisign_base.specs.Fault.{Named};
+ghost use Rattle.std.specs.Prelude.{◌≡◌, ◌≤◌, ◌⊎◌, Err, IsOk, IfOk, IfErr};
+ghost use Rattle.minisign_base.specs.Fault.{Fault, Named};
 ghost use Rattle.minisign_base.specs.declared.faults.NamedFault.TheVariants.{ClockIncorrect, ReadingFailed};
 ghost use Rattle.minisign_tool.specs.Copying.{input_is_output};
-ghost use Rattle.minisign_tool.specs.Endings.{SomeBytesVouch, SomeTextsVouch};
+ghost use Rattle.minisign_tool.specs.Endings.{SaysOnlyFaults, SaysVerdict, SomeBytesVouch, SomeTextsVouch};
 ghost use Rattle.minisign_tool.specs.Replacing.{HoldsContents, for_all, for_the_owner};
+ghost use Rattle.minisign_tool.specs.Report.{ShowsFault};
 
 use crate::cat::run_cat;
 use crate::keygen::run_keygen;
@@ -15,8 +16,8 @@ use crate::replacing::{
     Contents, FOR_ALL, FOR_THE_OWNER, is_same_file, replace_both, replace_file,
 };
 use crate::report::report;
-use crate::sign::run_sign;
-use crate::verify::run_verify;
+use crate::sign::{SigningDevices, run_sign};
+use crate::verify::{VerifyingDevices, run_verify};
 use crate::verify_raw::run_verify_raw;
 use minisign::Result;
 use minisign::base::devices::random_sources::SourceRandom;
@@ -41,6 +42,9 @@ pub fn keygen_files<S: Scheme, W: Sink>(
     // The exit status is 0 or 1.
     ensures status { IfOk result (λ s. s ≤ 1) }
 
+    // With status 0 the warning is said, with 1 the line of a fault behind it, and nothing else.
+    ensures said { IfOk result (SaysOnlyFaults W.Sink errors.old errors.new) }
+
     // The only fault that comes before the body is `reading failed`, and nothing is said then.
     ensures refused { IfErr result (λ e. (e ≡ Named ReadingFailed) × (errors.new ≡ errors.old)) }
 {
@@ -60,10 +64,7 @@ pub fn keygen_files<S: Scheme, W: Sink>(
         return Ok(status);
     }
     let (public, secret) = contents_of_pair(pk, pk_text.as_slice(), sk, sk_text.as_slice());
-    Ok(match replace_both(rt, public, secret) {
-        Ok(()) => 0,
-        Err(fault) => report(errors, &fault),
-    })
+    Ok(end_replacing(errors, replace_both(rt, public, secret)))
 }
 
 // What the two files of a pair are to hold: a new one of the public key is for all, one of the
@@ -106,6 +107,9 @@ pub fn sign_files<S: Scheme, W: Sink>(
     // The exit status is 0 or 1.
     ensures status { IfOk result (λ s. s ≤ 1) }
 
+    // With status 0 the warning is said, with 1 the line of a fault behind it, and nothing else.
+    ensures said { IfOk result (SaysOnlyFaults W.Sink errors.old errors.new) }
+
     // The only faults that come before the body are `reading failed` and that of the clock, and
     // nothing is said then.
     ensures refused { IfErr result (λ e. ((e ≡ Named ReadingFailed) ⊎ (e ≡ Named ClockIncorrect))
@@ -115,16 +119,19 @@ pub fn sign_files<S: Scheme, W: Sink>(
     let data_file = open(rt, file)?;
     let random_file = open(rt, "/dev/urandom")?;
     let moment = unix_timestamp(rt)?;
+    let mut devices = SigningDevices {
+        sk_file: ReaderSource::new(sk_file),
+        data_reader: ReaderSource::new(data_file),
+        random: SourceRandom::new(ReaderSource::new(random_file)),
+        prompt: Prompt::new(ReaderSource::new(rt.stdin()), WriterSink::new(rt.stdout())),
+    };
     let mut signature = VecSink::new(rt.alloc());
     let status = run_sign(
         rt.alloc(),
         scheme,
-        &mut ReaderSource::new(sk_file),
-        &mut ReaderSource::new(data_file),
-        &mut signature,
-        &mut SourceRandom::new(ReaderSource::new(random_file)),
-        &mut Prompt::new(ReaderSource::new(rt.stdin()), WriterSink::new(rt.stdout())),
+        &mut devices,
         moment,
+        &mut signature,
         errors,
     );
     if status != 0 {
@@ -135,10 +142,7 @@ pub fn sign_files<S: Scheme, W: Sink>(
         mode: FOR_ALL,
         bytes: signature.as_slice(),
     };
-    Ok(match replace_file(rt, contents) {
-        Ok(()) => 0,
-        Err(fault) => report(errors, &fault),
-    })
+    Ok(end_replacing(errors, replace_file(rt, contents)))
 }
 
 /// Opens the public key, the data and the signature, and runs `verify` over them.
@@ -157,20 +161,21 @@ pub fn verify_files<S: Scheme, W: Sink>(
     // the scheme accepts.
     ensures accepted { IfOk result (λ s. s ≡ 0 → SomeTextsVouch (S.accepts scheme.now)) }
 
+    // With status 0 lines are said behind the warning, with 1 the line of a fault comes last.
+    ensures said { IfOk result (SaysVerdict W.Sink errors.old errors.new) }
+
     // The only fault that comes before the body is `reading failed`, and nothing is said then.
     ensures refused { IfErr result (λ e. (e ≡ Named ReadingFailed) × (errors.new ≡ errors.old)) }
 {
     let pk_file = open(rt, pk)?;
     let data_file = open(rt, file)?;
     let sig_file = open(rt, sig)?;
-    Ok(run_verify(
-        rt.alloc(),
-        scheme,
-        &mut ReaderSource::new(pk_file),
-        &mut ReaderSource::new(data_file),
-        &mut ReaderSource::new(sig_file),
-        errors,
-    ))
+    let mut devices = VerifyingDevices {
+        pk_file: ReaderSource::new(pk_file),
+        sig_file: ReaderSource::new(sig_file),
+        data_reader: ReaderSource::new(data_file),
+    };
+    Ok(run_verify(rt.alloc(), scheme, &mut devices, errors))
 }
 
 /// Opens the key and the signature, and runs `verify-raw` over them and standard input.
@@ -187,6 +192,9 @@ pub fn verify_raw_files<S: Scheme, W: Sink>(
     // The exit status is 0 only where the bytes of a key, of a bare signature and data are there
     // for which these vouch, whatever the scheme accepts.
     ensures accepted { IfOk result (λ s. s ≡ 0 → SomeBytesVouch (S.accepts scheme.now)) }
+
+    // With status 0 lines are said behind the warning, with 1 the line of a fault comes last.
+    ensures said { IfOk result (SaysVerdict W.Sink errors.old errors.new) }
 
     // The only fault that comes before the body is `reading failed`, and nothing is said then.
     ensures refused { IfErr result (λ e. (e ≡ Named ReadingFailed) × (errors.new ≡ errors.old)) }
@@ -221,6 +229,9 @@ pub fn cat_files<S: Scheme, W: Sink>(
     // the scheme accepts.
     ensures accepted { IfOk result (λ s. s ≡ 0 → SomeTextsVouch (S.accepts scheme.now)) }
 
+    // With status 0 lines are said behind the warning, with 1 the line of a fault comes last.
+    ensures said { IfOk result (SaysVerdict W.Sink errors.old errors.new) }
+
     // The only faults that come before the body are `reading failed` and data from the file that
     // standard output leads into, and nothing is said then.
     ensures refused { IfErr result (λ e. ((e ≡ Named ReadingFailed) ⊎ (e ≡ input_is_output))
@@ -232,15 +243,26 @@ pub fn cat_files<S: Scheme, W: Sink>(
     if is_output(rt, &data_file) {
         return Err(input_is_output());
     }
-    Ok(run_cat(
-        rt.alloc(),
-        scheme,
-        &mut ReaderSource::new(pk_file),
-        &mut FileSource::new(data_file),
-        &mut ReaderSource::new(sig_file),
-        &mut WriterSink::new(rt.stdout()),
-        errors,
-    ))
+    let mut devices = VerifyingDevices {
+        pk_file: ReaderSource::new(pk_file),
+        sig_file: ReaderSource::new(sig_file),
+        data_reader: FileSource::new(data_file),
+    };
+    let mut out = WriterSink::new(rt.stdout());
+    Ok(run_cat(rt.alloc(), scheme, &mut devices, &mut out, errors))
+}
+
+// The exit status of a command whose body ended well and whose files were replaced, or were not: then
+// the fault is shown.
+fn end_replacing<W: Sink>(errors: &mut W, replaced: Result<()>) -> u8
+    ensures status { result ≤ 1 }
+    ensures silent { result ≡ 0 → IsOk replaced × (errors.new ≡ errors.old) }
+    ensures shown { result ≡ 1 → (e : Fault) × (replaced ≡ Err e) × ShowsFault W.Sink errors.old errors.new e }
+{
+    match replaced {
+        Ok(()) => 0,
+        Err(fault) => report(errors, &fault),
+    }
 }
 
 // Opens a file for reading.

@@ -1,7 +1,7 @@
 //! The command `keygen`: a sealed pair under a password that is typed twice, as two texts.
 
 ghost use Rattle.std.specs.Prelude.{◌≡◌, ◌≤◌, None};
-ghost use Rattle.minisign_base.specs.Passages.{prompt_passage, random_passage, sink_passage};
+ghost use Rattle.minisign_base.specs.DeviceCalls.{prompt_call, random_call, sink_call};
 ghost use Rattle.minisign.specs.Generation.{SealedTextsFail};
 ghost use Rattle.minisign_tool.specs.Keygen.{MakesKeys};
 ghost use Rattle.minisign_tool.specs.Report.{ShowsOnlyFault, TakesOrFails, warning_line};
@@ -39,20 +39,20 @@ pub fn run_keygen<S: Scheme, Z: RandomSource, R: Source, W: Sink, P: Sink, K: Si
     // password that was typed twice, and both texts were written; the secret key's text opens under
     // that password, to the key of the public one. The warning is said before.
     ensures made { result ≡ 0 → MakesKeys (S.public_of scheme.now)
-        (random_passage Z.RandomSource random.old random.new)
-        (prompt_passage R.Source W.Sink prompt.old prompt.new)
-        (sink_passage P.Sink pk_sink.old pk_sink.new)
-        (sink_passage K.Sink sk_sink.old sk_sink.new) }
+        (random_call Z.RandomSource random.old random.new)
+        (prompt_call R.Source W.Sink prompt.old prompt.new)
+        (sink_call P.Sink pk_sink.old pk_sink.new)
+        (sink_call K.Sink sk_sink.old sk_sink.new) }
     ensures warned { result ≡ 0 → TakesOrFails E.Sink errors.old errors.new warning_line }
 
     // The exit status is 1 only because no pair was made, with neither sink touched, or as
     // `KeyPair::generate_and_write_encrypted_keypair` says.
     ensures refused { result ≡ 1 → ShowsOnlyFault E.Sink errors.old errors.new
         (SealedTextsFail (S.public_of scheme.now)
-        (random_passage Z.RandomSource random.old random.new)
-        (prompt_passage R.Source W.Sink prompt.old prompt.new) None
-        (sink_passage P.Sink pk_sink.old pk_sink.new)
-        (sink_passage K.Sink sk_sink.old sk_sink.new) None) }
+        (random_call Z.RandomSource random.old random.new)
+        (prompt_call R.Source W.Sink prompt.old prompt.new) None
+        (sink_call P.Sink pk_sink.old pk_sink.new)
+        (sink_call K.Sink sk_sink.old sk_sink.new) None) }
 {
     warn(errors);
     let (password, comment) = (None, None);

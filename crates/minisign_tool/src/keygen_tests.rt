@@ -167,14 +167,14 @@ fn answers_texts_and_keys(rt: HostRuntime) {
     makes(&rt, alloc, "two that differ", drawn, b"a\nb\n", differ);
     let ended = fails(ENDED, FIRST_ASKED);
     makes(&rt, alloc, "nothing typed", drawn, b"", ended);
-    let wanting = fails(RANDOM_FAILED, "");
+    let no_random_bytes = fails(RANDOM_FAILED, "");
     makes(
         &rt,
         alloc,
         "71 random bytes",
         &drawn[..71],
         b"p\np\n",
-        wanting,
+        no_random_bytes,
     );
 }
 

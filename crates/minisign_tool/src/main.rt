@@ -2,12 +2,11 @@
 //! so.
 #![tactic(auto)]
 
-ghost use Rattle.std.specs.Prelude.{◌≡◌, ◌≤◌, drop, map, string_bytes, IfOk, OnErr};
-ghost use Rattle.minisign_tool.specs.Commands.{AsksFor};
-ghost use Rattle.minisign_tool.specs.Endings.{ShowsCommand, ShowsWarningAndUsage};
+ghost use Rattle.std.specs.Prelude.{◌≡◌, ◌≤◌, drop, map, option_map, string_bytes, IfOk, IsOk, OnErr, OnOk};
+ghost use Rattle.minisign_tool.specs.Commands.{AsksFor, ReadAsksFor};
+ghost use Rattle.minisign_tool.specs.Endings.{SaysCommand, ShowsCommand, ShowsWarningAndUsage};
 ghost use Rattle.minisign_tool.specs.declared.commands.Command.{Command};
 
-mod arguments;
 mod cat;
 #[cfg(test)]
 mod cat_tests;
@@ -30,14 +29,14 @@ mod text_tests;
 mod verify;
 mod verify_raw;
 
-use arguments::read_arguments;
-use commands::{Command, behind_program, command_of, words_of};
+use commands::{Command, command_of};
 use files::{cat_files, keygen_files, sign_files, verify_files, verify_raw_files};
 use minisign::Result;
 use minisign::base::NamedFault;
 use minisign::base::devices::sinks::{Sink, WriterSink};
 use minisign::base::scheme::Scheme;
 use minisign::base::toy::ToyScheme;
+use minisign_arguments::{behind_program, read_arguments, words_of};
 use report::{end, usage, warn};
 use std::process::ExitCode;
 use streams::hold_closed_streams;
@@ -47,19 +46,39 @@ fn main(rt: HostRuntime) -> ExitCode {
     // No file may get the number of a closed stream, into which a prompt or a fault's line would
     // go.
     let answer = match hold_closed_streams(&rt) {
-        Ok(_held) => run(&rt, &ToyScheme::new(), &mut errors),
+        Ok(_held) => run(&rt, &ToyScheme::new(), read_arguments(&rt), &mut errors),
         Err(_) => Err(NamedFault::ReadingFailed.into()),
     };
     ExitCode::from(end(&mut errors, answer))
 }
 
-// Runs the command that the arguments ask for, and returns its exit status. What fails before its
-// body has begun is a fault, with nothing said.
-fn run<S: Scheme, W: Sink>(rt: &HostRuntime, scheme: &S, errors: &mut W) -> Result<u8>
+// Runs the command that the arguments ask for, which were read or were not, and returns its exit
+// status. What fails before its body has begun is a fault, with nothing said.
+fn run<S: Scheme, W: Sink>(
+    rt: &HostRuntime,
+    scheme: &S,
+    arguments: Result<Option<Vec<String>>>,
+    errors: &mut W,
+) -> Result<u8>
+    // The exit status is at most 2, and with a fault nothing was said.
     ensures status { IfOk result (λ s. s ≤ 2) }
     ensures unsaid { OnErr result (errors.new ≡ errors.old) }
+
+    // There is an exit status only of arguments that were read.
+    ensures read { OnOk result (IsOk arguments) }
+
+    // A run of `verify` or `cat` ends with 0 only where two texts and data are there for which they
+    // vouch, and one of `verify-raw` only where the bytes of a key, of a bare signature and data
+    // are; the usage ends with 2. What is said is what the command says that ends so, or the usage
+    // behind the warning.
+    //
+    // Arguments of which one is not UTF-8 ask for the usage.
+    ensures ended { IfOk result (λ s. IfOk arguments (λ a. (command : Command)
+        × ReadAsksFor (option_map (λ v. map (λ w. string_bytes w) (drop 1 v.items)) a) command
+        × ShowsCommand (S.accepts scheme.now) command s
+        × SaysCommand W.Sink command errors.old errors.new s)) }
 {
-    match read_arguments(rt)? {
+    match arguments? {
         Some(arguments) => run_arguments(rt, scheme, &arguments, errors),
         None => Ok(show_usage(errors)),
     }
@@ -78,9 +97,11 @@ fn run_arguments<S: Scheme, W: Sink>(
 
     // A run of `verify` or `cat` ends with 0 only where two texts and data are there for which they
     // vouch, and one of `verify-raw` only where the bytes of a key, of a bare signature and data
-    // are; the usage never ends with 0, and is said behind the warning.
+    // are; the usage ends with 2. What is said is what the command says that ends so, or the usage
+    // behind the warning.
     ensures ended { IfOk result (λ s. (command : Command) × AsksFor (map (λ a. string_bytes a) (drop 1 arguments.now)) command
-        × ShowsCommand (S.accepts scheme.now) command s) }
+        × ShowsCommand (S.accepts scheme.now) command s
+        × SaysCommand W.Sink command errors.old errors.new s) }
 {
     let words = words_of(rt.alloc(), behind_program(arguments))?;
     run_command(rt, scheme, command_of(&words), errors)
@@ -99,8 +120,10 @@ fn run_command<S: Scheme, W: Sink>(
 
     // A run of `verify` or `cat` ends with 0 only where two texts and data are there for which they
     // vouch, and one of `verify-raw` only where the bytes of a key, of a bare signature and data
-    // are; the usage never ends with 0, and is said behind the warning.
+    // are; the usage ends with 2. What is said is what the command says that ends so, or the usage
+    // behind the warning.
     ensures ended { IfOk result (ShowsCommand (S.accepts scheme.now) command.entry) }
+    ensures said { IfOk result (SaysCommand W.Sink command.entry errors.old errors.new) }
 {
     match command {
         Command::Keygen { pk, sk } => keygen_files(rt, scheme, pk, sk, errors),

@@ -73,7 +73,7 @@ pub fn end<W: Sink>(errors: &mut W, answer: Result<u8>) -> u8
 // 504 bytes, as that of every named fault does, and otherwise in three.
 fn put_fault<W: Sink>(errors: &mut W, text: &[u8]) -> std::result::Result<(), DeviceFault>
     ensures bytes { OnOk result (Appends (W.taken errors.old) (W.taken errors.new) (codes "error: " ++ line text.now)) }
-    ensures calm { OnOk result (W.sink_faults errors.new ≡ W.sink_faults errors.old) }
+    ensures no_new_fault { OnOk result (W.sink_faults errors.new ≡ W.sink_faults errors.old) }
     ensures refused { OnErr result (Rose (W.sink_faults errors.old) (W.sink_faults errors.new)) }
     ensures front { OnErr result (AppendsFront (W.taken errors.old) (W.taken errors.new) (codes "error: " ++ line text.now)) }
 {

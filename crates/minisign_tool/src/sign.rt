@@ -3,10 +3,9 @@
 
 ghost use Rattle.std.specs.Prelude.{◌≡◌, ◌≤◌, string_bytes, IfOk, IfErr, OnOk};
 ghost use Rattle.minisign_base.specs.Devices.{HasGiven};
-ghost use Rattle.minisign_base.specs.Passages.{prompt_passage, random_passage, sink_passage, source_passage};
-ghost use Rattle.minisign.specs.Generation.{TakesPart};
+ghost use Rattle.minisign_base.specs.DeviceCalls.{TakesPart, sink_call};
 ghost use Rattle.minisign_tool.specs.Report.{ShowsOnlyFault, TakesOrFails, warning_line};
-ghost use Rattle.minisign_tool.specs.Sign.{FileSigningFails, HasWrittenSigned, HasWrittenVouched, MakesSigned, MakesVouched, NoSignature, WriteFails};
+ghost use Rattle.minisign_tool.specs.Sign.{FileSigningFails, HasWrittenSigned, HasWrittenVouched, MakesSigned, MakesVouched, NoSignature, WriteFails, signing_call};
 
 use crate::report::{report, warn};
 use minisign::base::NamedFault;
@@ -19,30 +18,40 @@ use minisign::reading::read_text;
 use minisign::{Result, default_comments_are_read_back, sign_texts};
 use std::alloc::Global;
 
-/// Signs the data ahead of `data_reader` with the secret key text that `sk_file` holds, and hands
-/// the text of the signature to `signature`, which is flushed. The file is read whole first and has
-/// to be UTF-8; where its key is sealed, `prompt` asks for the password. The comments are those by
-/// default, with the moment in seconds since 1970, and `random` gives 128 bytes. The warning and
-/// the line of a fault go to `errors`. Returns the exit status: 0 where `signature` took the whole
-/// text, otherwise 1. `signature` is not touched before the text is made.
+/// What the command `sign` takes its input from.
+#[derive(Debug, Drop)]
+pub struct SigningDevices<K, R, Z, A, B> {
+    /// Holds the text of the secret key.
+    pub sk_file: K,
+    /// Has the data ahead that is signed.
+    pub data_reader: R,
+    /// Gives the 128 random bytes of the two signatures.
+    pub random: Z,
+    /// Asks for the password of a sealed key.
+    pub prompt: Prompt<A, B>,
+}
+
+/// Signs the data of `devices` with the text of their secret key, and hands the text of the
+/// signature to `signature`, which is flushed. The key's file is read whole first and has to be
+/// UTF-8; where its key is sealed, the prompt asks for the password. The comments are those by
+/// default, with the moment in seconds since 1970. The warning and the line of a fault go to
+/// `errors`. Returns the exit status: 0 where `signature` took the whole text, otherwise 1.
+/// `signature` is not touched before the text is made.
 pub fn run_sign<
     S: Scheme,
     K: Source,
     R: Source,
-    G: Sink,
     Z: RandomSource,
     A: Source,
     B: Sink,
+    G: Sink,
     W: Sink,
 >(
     alloc: Global,
     scheme: &S,
-    sk_file: &mut K,
-    data_reader: &mut R,
-    signature: &mut G,
-    random: &mut Z,
-    prompt: &mut Prompt<A, B>,
+    devices: &mut SigningDevices<K, R, Z, A, B>,
     moment: u64,
+    signature: &mut G,
     errors: &mut W,
 ) -> u8
     // The exit status is 0 or 1.
@@ -51,81 +60,55 @@ pub fn run_sign<
     // The exit status is 0 only if a text was written whole that, of a genuine key, is read back as
     // a box that its public key vouches with.
     ensures headline { result ≡ 0 → HasWrittenVouched (S.accepts scheme.now) (S.public_of scheme.now)
-        (source_passage K.Source sk_file.old sk_file.new)
-        (source_passage R.Source data_reader.old data_reader.new)
-        (sink_passage G.Sink signature.old signature.new) }
+        (signing_call K.Source R.Source Z.RandomSource A.Source B.Sink devices.old devices.new)
+        (sink_call G.Sink signature.old signature.new) }
 
     // That is the text that `sign_texts` says, with the default comments, of what was read, behind
     // the warning.
     ensures signed { result ≡ 0 → HasWrittenSigned (S.signature_of scheme.now)
-        (source_passage K.Source sk_file.old sk_file.new)
-        (prompt_passage A.Source B.Sink prompt.old prompt.new)
-        (source_passage R.Source data_reader.old data_reader.new)
-        (random_passage Z.RandomSource random.old random.new)
-        (sink_passage G.Sink signature.old signature.new) moment }
+        (signing_call K.Source R.Source Z.RandomSource A.Source B.Sink devices.old devices.new)
+        (sink_call G.Sink signature.old signature.new) moment }
     ensures said { result ≡ 0 → TakesOrFails W.Sink errors.old errors.new warning_line }
 
     // The exit status is 1 only because the key's file gave no text, with nothing else touched, or
     // signing failed, with nothing written, or the text was not written whole.
     ensures refused { result ≡ 1 → ShowsOnlyFault W.Sink errors.old errors.new
         (FileSigningFails (S.signature_of scheme.now)
-        (source_passage K.Source sk_file.old sk_file.new)
-        (prompt_passage A.Source B.Sink prompt.old prompt.new)
-        (source_passage R.Source data_reader.old data_reader.new)
-        (random_passage Z.RandomSource random.old random.new)
-        (sink_passage G.Sink signature.old signature.new) moment) }
+        (signing_call K.Source R.Source Z.RandomSource A.Source B.Sink devices.old devices.new)
+        (sink_call G.Sink signature.old signature.new) moment) }
 
     // Whatever the result, the source and the random source lost at most some bytes at their front.
-    ensures given { HasGiven (R.ahead data_reader.old) (R.ahead data_reader.new) }
-    ensures drawn { HasGiven (Z.random_ahead random.old) (Z.random_ahead random.new) }
+    ensures given { HasGiven (R.ahead devices.old.data_reader) (R.ahead devices.new.data_reader) }
+    ensures drawn { HasGiven (Z.random_ahead devices.old.random) (Z.random_ahead devices.new.random) }
 {
     warn(errors);
-    match write_signature(
-        alloc,
-        scheme,
-        sk_file,
-        data_reader,
-        signature,
-        random,
-        prompt,
-        moment,
-    ) {
+    match write_signature(alloc, scheme, devices, moment, signature) {
         Ok(()) => 0,
         Err(fault) => report(errors, &fault),
     }
 }
 
 // Makes the text of the signature, and then hands it to `signature`.
-fn write_signature<S: Scheme, K: Source, R: Source, G: Sink, Z: RandomSource, A: Source, B: Sink>(
+fn write_signature<S: Scheme, K: Source, R: Source, Z: RandomSource, A: Source, B: Sink, G: Sink>(
     alloc: Global,
     scheme: &S,
-    sk_file: &mut K,
-    data_reader: &mut R,
-    signature: &mut G,
-    random: &mut Z,
-    prompt: &mut Prompt<A, B>,
+    devices: &mut SigningDevices<K, R, Z, A, B>,
     moment: u64,
+    signature: &mut G,
 ) -> Result<()>
     ensures headline { OnOk result (HasWrittenVouched (S.accepts scheme.now) (S.public_of scheme.now)
-        (source_passage K.Source sk_file.old sk_file.new)
-        (source_passage R.Source data_reader.old data_reader.new)
-        (sink_passage G.Sink signature.old signature.new)) }
+        (signing_call K.Source R.Source Z.RandomSource A.Source B.Sink devices.old devices.new)
+        (sink_call G.Sink signature.old signature.new)) }
     ensures signed { OnOk result (HasWrittenSigned (S.signature_of scheme.now)
-        (source_passage K.Source sk_file.old sk_file.new)
-        (prompt_passage A.Source B.Sink prompt.old prompt.new)
-        (source_passage R.Source data_reader.old data_reader.new)
-        (random_passage Z.RandomSource random.old random.new)
-        (sink_passage G.Sink signature.old signature.new) moment) }
+        (signing_call K.Source R.Source Z.RandomSource A.Source B.Sink devices.old devices.new)
+        (sink_call G.Sink signature.old signature.new) moment) }
     ensures refused { IfErr result (FileSigningFails (S.signature_of scheme.now)
-        (source_passage K.Source sk_file.old sk_file.new)
-        (prompt_passage A.Source B.Sink prompt.old prompt.new)
-        (source_passage R.Source data_reader.old data_reader.new)
-        (random_passage Z.RandomSource random.old random.new)
-        (sink_passage G.Sink signature.old signature.new) moment) }
-    ensures given { HasGiven (R.ahead data_reader.old) (R.ahead data_reader.new) }
-    ensures drawn { HasGiven (Z.random_ahead random.old) (Z.random_ahead random.new) }
+        (signing_call K.Source R.Source Z.RandomSource A.Source B.Sink devices.old devices.new)
+        (sink_call G.Sink signature.old signature.new) moment) }
+    ensures given { HasGiven (R.ahead devices.old.data_reader) (R.ahead devices.new.data_reader) }
+    ensures drawn { HasGiven (Z.random_ahead devices.old.random) (Z.random_ahead devices.new.random) }
 {
-    let text = make_text(alloc, scheme, sk_file, data_reader, random, prompt, moment)?;
+    let text = make_text(alloc, scheme, devices, moment)?;
     write_text(signature, &text)
 }
 
@@ -134,29 +117,19 @@ fn write_signature<S: Scheme, K: Source, R: Source, G: Sink, Z: RandomSource, A:
 fn make_text<S: Scheme, K: Source, R: Source, Z: RandomSource, A: Source, B: Sink>(
     alloc: Global,
     scheme: &S,
-    sk_file: &mut K,
-    data_reader: &mut R,
-    random: &mut Z,
-    prompt: &mut Prompt<A, B>,
+    devices: &mut SigningDevices<K, R, Z, A, B>,
     moment: u64,
 ) -> Result<String>
     ensures headline { IfOk result (λ t. MakesVouched (S.accepts scheme.now) (S.public_of scheme.now)
-        (source_passage K.Source sk_file.old sk_file.new)
-        (source_passage R.Source data_reader.old data_reader.new) (string_bytes t)) }
+        (signing_call K.Source R.Source Z.RandomSource A.Source B.Sink devices.old devices.new) (string_bytes t)) }
     ensures signed { IfOk result (λ t. MakesSigned (S.signature_of scheme.now)
-        (source_passage K.Source sk_file.old sk_file.new)
-        (prompt_passage A.Source B.Sink prompt.old prompt.new)
-        (source_passage R.Source data_reader.old data_reader.new)
-        (random_passage Z.RandomSource random.old random.new) moment (string_bytes t)) }
+        (signing_call K.Source R.Source Z.RandomSource A.Source B.Sink devices.old devices.new) moment (string_bytes t)) }
     ensures refused { IfErr result (NoSignature
-        (source_passage K.Source sk_file.old sk_file.new)
-        (prompt_passage A.Source B.Sink prompt.old prompt.new)
-        (source_passage R.Source data_reader.old data_reader.new)
-        (random_passage Z.RandomSource random.old random.new)) }
-    ensures given { HasGiven (R.ahead data_reader.old) (R.ahead data_reader.new) }
-    ensures drawn { HasGiven (Z.random_ahead random.old) (Z.random_ahead random.new) }
+        (signing_call K.Source R.Source Z.RandomSource A.Source B.Sink devices.old devices.new)) }
+    ensures given { HasGiven (R.ahead devices.old.data_reader) (R.ahead devices.new.data_reader) }
+    ensures drawn { HasGiven (Z.random_ahead devices.old.random) (Z.random_ahead devices.new.random) }
 {
-    let sk_text = read_text(alloc, sk_file)?;
+    let sk_text = read_text(alloc, &mut devices.sk_file)?;
     let (password, trusted_comment, untrusted_comment) = (None, None, None);
     default_comments_are_read_back(moment);
     sign_texts(
@@ -164,19 +137,19 @@ fn make_text<S: Scheme, K: Source, R: Source, Z: RandomSource, A: Source, B: Sin
         scheme,
         &sk_text,
         password,
-        prompt,
-        data_reader,
+        &mut devices.prompt,
+        &mut devices.data_reader,
         trusted_comment,
         untrusted_comment,
-        random,
+        &mut devices.random,
         moment,
     )
 }
 
 // Hands a text to a sink, which is flushed.
 fn write_text<G: Sink>(sink: &mut G, text: &str) -> Result<()>
-    ensures written { OnOk result (TakesPart (sink_passage G.Sink sink.old sink.new) text.now) }
-    ensures refused { IfErr result (WriteFails (sink_passage G.Sink sink.old sink.new) text.now) }
+    ensures written { OnOk result (TakesPart (sink_call G.Sink sink.old sink.new) text.now) }
+    ensures refused { IfErr result (WriteFails (sink_call G.Sink sink.old sink.new) text.now) }
 {
     match put_and_flush(sink, text.as_bytes()) {
         Ok(()) => Ok(()),

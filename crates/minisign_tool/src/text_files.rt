@@ -1,7 +1,7 @@
 //! Texts of keys and signatures, read from files.
 
 ghost use Rattle.std.specs.Prelude.{string_bytes, IfOk, IfErr};
-ghost use Rattle.minisign_base.specs.Passages.{source_passage};
+ghost use Rattle.minisign_base.specs.DeviceCalls.{source_call};
 ghost use Rattle.minisign_tool.specs.TextFiles.{EitherFails, ReadsBoth};
 
 use minisign::Result;
@@ -17,13 +17,13 @@ pub fn read_both_texts<P: Source, Q: Source>(
     second: &mut Q,
 ) -> Result<(String, String)>
     // Both texts are all the bytes that were ahead of the two sources.
-    ensures texts { IfOk result (λ both. ReadsBoth (source_passage P.Source first.old first.new)
-        (source_passage Q.Source second.old second.new) (string_bytes both.0) (string_bytes both.1)) }
+    ensures texts { IfOk result (λ both. ReadsBoth (source_call P.Source first.old first.new)
+        (source_call Q.Source second.old second.new) (string_bytes both.0) (string_bytes both.1)) }
 
     // Refused is the first file that does not give a text, as `read_text` says; the second is then
     // left alone if the first gives none.
-    ensures refused { IfErr result (EitherFails (source_passage P.Source first.old first.new)
-        (source_passage Q.Source second.old second.new)) }
+    ensures refused { IfErr result (EitherFails (source_call P.Source first.old first.new)
+        (source_call Q.Source second.old second.new)) }
 {
     let first_text = read_text(alloc, first)?;
     let second_text = read_text(alloc, second)?;

@@ -4,8 +4,8 @@
 //! The texts of keys and signatures were made with Python's hashlib, of a seed of zeros and random
 //! bytes of zeros.
 use crate::cat::run_cat;
-use crate::sign::run_sign;
-use crate::verify::run_verify;
+use crate::sign::{SigningDevices, run_sign};
+use crate::verify::{VerifyingDevices, run_verify};
 use minisign::base::devices::random_sources::FixedRandom;
 use minisign::base::devices::sinks::{Sink, VecSink, WriterSink};
 use minisign::base::devices::sources::{FileSource, ReaderSource, Rereader, SliceSource, Source};
@@ -70,50 +70,6 @@ const UNKNOWN_KEY: &str =
 const SIGNED: &str =
     "untrusted comment: signature from rsign secret key\nRUQBAgMEBQYHCAAAAAAAAAAAAAAAAAAAAAAAAAAAAAAAAAAAAAAAAAAAnV06XOjtbnryLxgygHtgJg6o/+bp8Qy3qGtn2FWlYag=\ntrusted comment: timestamp:1555779966\nAAAAAAAAAAAAAAAAAAAAAAAAAAAAAAAAAAAAAAAAAACzbg1jwcNVTdhPc13vFA1LbcuTirOrVu3yMT2CD/878g==\n";
 
-// Runs `verify`: the exit status.
-fn verify_status<P: Source, R: Rereader, Q: Source, W: Sink>(
-    alloc: Global,
-    key: &mut P,
-    data: &mut R,
-    signature: &mut Q,
-    errors: &mut W,
-) -> u8 {
-    run_verify(alloc, &ToyScheme::new(), key, data, signature, errors)
-}
-
-/// Runs `cat`: the exit status.
-pub fn cat_status<P: Source, R: Rereader, Q: Source, O: Sink, W: Sink>(
-    alloc: Global,
-    key: &mut P,
-    data: &mut R,
-    signature: &mut Q,
-    out: &mut O,
-    errors: &mut W,
-) -> u8 {
-    run_cat(alloc, &ToyScheme::new(), key, data, signature, out, errors)
-}
-
-// Runs `sign` over `abc` with random bytes of zeros: the exit status.
-fn sign_status<A: Source, B: Sink, G: Sink, W: Sink>(
-    alloc: Global,
-    key: &[u8],
-    prompt: &mut Prompt<A, B>,
-    signature: &mut G,
-    errors: &mut W,
-) -> u8 {
-    run_sign(
-        alloc,
-        &ToyScheme::new(),
-        &mut SliceSource::new(key),
-        &mut SliceSource::new(b"abc"),
-        signature,
-        &mut FixedRandom::new(&[0; 128]),
-        prompt,
-        1555779966,
-        errors,
-    )
-}
-
 // Whether the sink took this text.
 fn took(sink: &VecSink, text: &str) -> bool {
     sink.as_slice() == text.as_bytes()
@@ -129,52 +85,45 @@ fn verify_ends(
     text: &str,
 ) -> bool {
     let mut errors = VecSink::new(alloc);
-    let answer = verify_status(
-        alloc,
-        &mut SliceSource::new(key),
-        &mut ReaderSource::new(data),
-        &mut SliceSource::new(signature),
-        &mut errors,
-    );
+    let mut devices = VerifyingDevices {
+        pk_file: SliceSource::new(key),
+        sig_file: SliceSource::new(signature),
+        data_reader: ReaderSource::new(data),
+    };
+    let answer = run_verify(alloc, &ToyScheme::new(), &mut devices, &mut errors);
     let said = took(&errors, text);
     answer == status && said
 }
 
 /// Whether `cat` ends with this exit status and says this text.
-pub fn cat_ends<P: Source, R: Rereader, Q: Source, O: Sink>(
+pub fn cat_ends<P: Source, Q: Source, R: Rereader, O: Sink>(
     alloc: Global,
-    key: &mut P,
-    data: &mut R,
-    signature: &mut Q,
+    devices: &mut VerifyingDevices<P, Q, R>,
     out: &mut O,
     status: u8,
     text: &str,
 ) -> bool {
     let mut errors = VecSink::new(alloc);
-    let answer = cat_status(alloc, key, data, signature, out, &mut errors);
+    let answer = run_cat(alloc, &ToyScheme::new(), devices, out, &mut errors);
     let said = took(&errors, text);
     answer == status && said
 }
 
-// The same over data that seeks.
-fn cat_ends_over<O: Sink>(
-    alloc: Global,
-    key: &[u8],
-    data: &[u8],
-    signature: &[u8],
-    out: &mut O,
-    status: u8,
-    text: &str,
-) -> bool {
-    cat_ends(
-        alloc,
-        &mut ReaderSource::new(key),
-        &mut FileSource::new(Cursor::new(data)),
-        &mut ReaderSource::new(signature),
-        out,
-        status,
-        text,
-    )
+// The key, the data, which seeks, and the signature.
+fn seeking<'a>(
+    key: &'a [u8],
+    data: &'a [u8],
+    signature: &'a [u8],
+) -> VerifyingDevices<
+    ReaderSource<&'a [u8]>,
+    ReaderSource<&'a [u8]>,
+    FileSource<Cursor<&'a [u8]>>,
+> {
+    VerifyingDevices {
+        pk_file: ReaderSource::new(key),
+        sig_file: ReaderSource::new(signature),
+        data_reader: FileSource::new(Cursor::new(data)),
+    }
 }
 
 // Whether `cat` over data that seeks ends so, and copies the data where its exit status is 0, and
@@ -188,13 +137,14 @@ fn cat_copies(
     text: &str,
 ) -> bool {
     let mut out = VecSink::new(alloc);
-    let ended = cat_ends_over(alloc, key, data, signature, &mut out, status, text);
+    let mut devices = seeking(key, data, signature);
+    let ended = cat_ends(alloc, &mut devices, &mut out, status, text);
     let wanted: &[u8] = if status == 0 { data } else { b"" };
     let copied = out.as_slice() == wanted;
     ended && copied
 }
 
-// Whether `sign` ends with this exit status and says this text, and so its prompt.
+// Whether `sign` over `abc` with random bytes of zeros ends with this exit status and says this text, and so its prompt.
 fn sign_ends<G: Sink>(
     alloc: Global,
     key: &[u8],
@@ -205,10 +155,22 @@ fn sign_ends<G: Sink>(
     asked: &str,
 ) -> bool {
     let mut errors = VecSink::new(alloc);
-    let mut prompt = Prompt::new(SliceSource::new(typed), VecSink::new(alloc));
-    let answer = sign_status(alloc, key, &mut prompt, signature, &mut errors);
+    let mut devices = SigningDevices {
+        sk_file: SliceSource::new(key),
+        data_reader: SliceSource::new(b"abc"),
+        random: FixedRandom::new(&[0; 128]),
+        prompt: Prompt::new(SliceSource::new(typed), VecSink::new(alloc)),
+    };
+    let answer = run_sign(
+        alloc,
+        &ToyScheme::new(),
+        &mut devices,
+        1555779966,
+        signature,
+        &mut errors,
+    );
     let said = took(&errors, text);
-    let shown = took(&prompt.writer, asked);
+    let shown = took(&devices.prompt.writer, asked);
     answer == status && said && shown
 }
 
@@ -274,11 +236,10 @@ fn verdicts_and_copies(rt: HostRuntime) {
 #[test]
 fn a_full_output_is_told_behind_the_status(rt: HostRuntime) {
     let mut room = [0u8; 2];
-    let told = cat_ends_over(
+    let mut devices = seeking(PUBLIC_KEY.as_bytes(), b"abc", SIGNATURE.as_bytes());
+    let told = cat_ends(
         rt.alloc(),
-        PUBLIC_KEY.as_bytes(),
-        b"abc",
-        SIGNATURE.as_bytes(),
+        &mut devices,
         &mut WriterSink::new(&mut room[..]),
         1,
         UNCOPIED,
@@ -291,15 +252,12 @@ fn a_full_output_is_told_behind_the_status(rt: HostRuntime) {
 fn what_cannot_go_back_is_not_copied(rt: HostRuntime) {
     let alloc = rt.alloc();
     let mut out = VecSink::new(alloc);
-    let told = cat_ends(
-        alloc,
-        &mut SliceSource::new(PUBLIC_KEY.as_bytes()),
-        &mut ReaderSource::new(b"abc".as_slice()),
-        &mut SliceSource::new(SIGNATURE.as_bytes()),
-        &mut out,
-        1,
-        NO_WAY_BACK,
-    );
+    let mut devices = VerifyingDevices {
+        pk_file: SliceSource::new(PUBLIC_KEY.as_bytes()),
+        sig_file: SliceSource::new(SIGNATURE.as_bytes()),
+        data_reader: ReaderSource::new(b"abc".as_slice()),
+    };
+    let told = cat_ends(alloc, &mut devices, &mut out, 1, NO_WAY_BACK);
     let nothing_copied = took(&out, "");
     assert!(rt; told && nothing_copied);
 }
@@ -365,11 +323,15 @@ fn a_full_error_stream_fails_only_the_status(rt: HostRuntime) {
     let mut out = VecSink::new(alloc);
     // Room for the warning and five bytes more.
     let mut room = [0u8; 50];
-    let status = cat_status(
+    let mut devices = VerifyingDevices {
+        pk_file: SliceSource::new(PUBLIC_KEY.as_bytes()),
+        sig_file: SliceSource::new(SIGNATURE.as_bytes()),
+        data_reader: SliceSource::new(b"abc"),
+    };
+    let status = run_cat(
         alloc,
-        &mut SliceSource::new(PUBLIC_KEY.as_bytes()),
-        &mut SliceSource::new(b"abc"),
-        &mut SliceSource::new(SIGNATURE.as_bytes()),
+        &ToyScheme::new(),
+        &mut devices,
         &mut out,
         &mut WriterSink::new(&mut room[..]),
     );

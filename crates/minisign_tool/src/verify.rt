@@ -3,9 +3,9 @@
 
 ghost use Rattle.std.specs.Prelude.{◌≡◌, ◌≤◌, false, OnOk, IfErr};
 ghost use Rattle.minisign_base.specs.Devices.{HasGiven};
-ghost use Rattle.minisign_base.specs.Passages.{Takes, rereader_passage, sink_passage, source_passage};
+ghost use Rattle.minisign_base.specs.DeviceCalls.{Takes, sink_call};
 ghost use Rattle.minisign_tool.specs.Report.{EndsWithFault, SaysAfterWarning};
-ghost use Rattle.minisign_tool.specs.Verify.{FilesFail, FilesVouch};
+ghost use Rattle.minisign_tool.specs.Verify.{FilesFail, FilesVouch, verifying_call};
 
 use crate::report::{report, warn};
 use crate::text_files::read_both_texts;
@@ -15,17 +15,25 @@ use minisign::base::scheme::Scheme;
 use minisign::{Result, verify_texts};
 use std::alloc::Global;
 
-/// Verifies the data ahead of `data_reader` with the public key text that `pk_file` holds and the
-/// signature text that `sig_file` holds; legacy signatures are refused. Both files are read whole,
-/// the key first, and have to be UTF-8, before the data is read. The warning, and then the status
-/// lines or the line of a fault, go to `errors`. Returns the exit status: 0 where the texts vouch
-/// for the data, otherwise 1.
-pub fn run_verify<S: Scheme, P: Source, R: Rereader, Q: Source, W: Sink>(
+/// What the commands `verify` and `cat` take their input from.
+#[derive(Debug, Drop)]
+pub struct VerifyingDevices<P, Q, R> {
+    /// Holds the text of the public key.
+    pub pk_file: P,
+    /// Holds the text of the signature.
+    pub sig_file: Q,
+    /// Has the data ahead that is verified.
+    pub data_reader: R,
+}
+
+/// Verifies the data of `devices` with the texts of their public key and their signature; legacy
+/// signatures are refused. Both files are read whole, the key first, and have to be UTF-8, before
+/// the data is read. The warning, and then the status lines or the line of a fault, go to `errors`.
+/// Returns the exit status: 0 where the texts vouch for the data, otherwise 1.
+pub fn run_verify<S: Scheme, P: Source, Q: Source, R: Rereader, W: Sink>(
     alloc: Global,
     scheme: &S,
-    pk_file: &mut P,
-    data_reader: &mut R,
-    sig_file: &mut Q,
+    devices: &mut VerifyingDevices<P, Q, R>,
     errors: &mut W,
 ) -> u8
     // The exit status is 0 or 1.
@@ -34,50 +42,40 @@ pub fn run_verify<S: Scheme, P: Source, R: Rereader, Q: Source, W: Sink>(
     // The exit status is 0 only if the two texts that were read whole vouch for all of the data,
     // with the warning and the status lines written.
     ensures accepted { result ≡ 0 → FilesVouch (S.accepts scheme.now)
-        (source_passage P.Source pk_file.old pk_file.new)
-        (source_passage Q.Source sig_file.old sig_file.new)
-        (rereader_passage R.Source R.steady data_reader.old data_reader.new)
+        (verifying_call P.Source Q.Source R.Source R.steady devices.old devices.new)
         (SaysAfterWarning W.Sink errors.old errors.new) }
 
     // The exit status is 1 only because a file gave no text, with no data read, or verifying fails,
     // as `verify_texts` says, between the warning and the line of the fault.
     ensures refused { result ≡ 1 → EndsWithFault W.Sink errors.old errors.new
         (FilesFail (S.accepts scheme.now)
-        (source_passage P.Source pk_file.old pk_file.new)
-        (source_passage Q.Source sig_file.old sig_file.new)
-        (rereader_passage R.Source R.steady data_reader.old data_reader.new)) }
-    ensures given { HasGiven (R.ahead data_reader.old) (R.ahead data_reader.new) }
+        (verifying_call P.Source Q.Source R.Source R.steady devices.old devices.new)) }
+    ensures given { HasGiven (R.ahead devices.old.data_reader) (R.ahead devices.new.data_reader) }
 {
     warn(errors);
-    match verify_with_files(alloc, scheme, pk_file, data_reader, sig_file, errors) {
+    match verify_with_files(alloc, scheme, devices, errors) {
         Ok(()) => 0,
         Err(fault) => report(errors, &fault),
     }
 }
 
 // Reads both texts, the key's first, and then verifies with them. Nothing is copied.
-fn verify_with_files<S: Scheme, P: Source, R: Rereader, Q: Source, W: Sink>(
+fn verify_with_files<S: Scheme, P: Source, Q: Source, R: Rereader, W: Sink>(
     alloc: Global,
     scheme: &S,
-    pk_file: &mut P,
-    data_reader: &mut R,
-    sig_file: &mut Q,
+    devices: &mut VerifyingDevices<P, Q, R>,
     errors: &mut W,
 ) -> Result<()>
     ensures accepted { OnOk result (FilesVouch (S.accepts scheme.now)
-        (source_passage P.Source pk_file.old pk_file.new)
-        (source_passage Q.Source sig_file.old sig_file.new)
-        (rereader_passage R.Source R.steady data_reader.old data_reader.new)
-        (Takes (sink_passage W.Sink errors.old errors.new))) }
-    ensures calm { OnOk result (W.sink_faults errors.new ≡ W.sink_faults errors.old) }
+        (verifying_call P.Source Q.Source R.Source R.steady devices.old devices.new)
+        (Takes (sink_call W.Sink errors.old errors.new))) }
+    ensures no_new_fault { OnOk result (W.sink_faults errors.new ≡ W.sink_faults errors.old) }
     ensures refused { IfErr result (FilesFail (S.accepts scheme.now)
-        (source_passage P.Source pk_file.old pk_file.new)
-        (source_passage Q.Source sig_file.old sig_file.new)
-        (rereader_passage R.Source R.steady data_reader.old data_reader.new)
-        (sink_passage W.Sink errors.old errors.new)) }
-    ensures given { HasGiven (R.ahead data_reader.old) (R.ahead data_reader.new) }
+        (verifying_call P.Source Q.Source R.Source R.steady devices.old devices.new)
+        (sink_call W.Sink errors.old errors.new)) }
+    ensures given { HasGiven (R.ahead devices.old.data_reader) (R.ahead devices.new.data_reader) }
 {
-    let (pk_text, sig_text) = read_both_texts(alloc, pk_file, sig_file)?;
+    let (pk_text, sig_text) = read_both_texts(alloc, &mut devices.pk_file, &mut devices.sig_file)?;
     let (quiet, output, allow_legacy) = (false, false, false);
     let mut nowhere = VecSink::new(alloc);
     verify_texts(
@@ -85,7 +83,7 @@ fn verify_with_files<S: Scheme, P: Source, R: Rereader, Q: Source, W: Sink>(
         scheme,
         &pk_text,
         &sig_text,
-        data_reader,
+        &mut devices.data_reader,
         quiet,
         output,
         allow_legacy,

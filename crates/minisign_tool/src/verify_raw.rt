@@ -4,7 +4,7 @@
 ghost use Rattle.std.specs.Prelude.{◌≡◌, ℕ, ◌≤◌, List, OnOk, OnErr, IfErr};
 ghost use Rattle.std.specs.Io.KnownBytes.{Appends};
 ghost use Rattle.minisign_base.specs.Devices.{HasGiven};
-ghost use Rattle.minisign_base.specs.Passages.{Takes, rereader_passage, sink_passage, source_passage};
+ghost use Rattle.minisign_base.specs.DeviceCalls.{Takes, rereader_call, sink_call, source_call};
 ghost use Rattle.minisign.specs.Acceptance.{verified_text};
 ghost use Rattle.minisign.specs.Lines.{line};
 ghost use Rattle.minisign.specs.Reading.{ReadsWhole};
@@ -39,9 +39,9 @@ pub fn run_verify_raw<S: Scheme, P: Source, Q: Source, R: Rereader, W: Sink>(
     // what the files held vouches for the data, with the warning written, or the beginning that the
     // error stream took, and then the status line, and nothing else.
     ensures accepted { result ≡ 0 → RawFilesVouch (S.accepts scheme.now)
-        (source_passage P.Source pk_file.old pk_file.new)
-        (source_passage Q.Source sig_file.old sig_file.new)
-        (rereader_passage R.Source R.steady data_reader.old data_reader.new)
+        (source_call P.Source pk_file.old pk_file.new)
+        (source_call Q.Source sig_file.old sig_file.new)
+        (rereader_call R.Source R.steady data_reader.old data_reader.new)
         (SaysAfterWarning W.Sink errors.old errors.new) }
 
     // The exit status is 1 only if the key file was not read whole (memory ran out, or it failed),
@@ -51,9 +51,9 @@ pub fn run_verify_raw<S: Scheme, P: Source, Q: Source, R: Rereader, W: Sink>(
     // was written.
     ensures refused { result ≡ 1 → EndsWithFault W.Sink errors.old errors.new
         (RawFilesFail (S.accepts scheme.now)
-        (source_passage P.Source pk_file.old pk_file.new)
-        (source_passage Q.Source sig_file.old sig_file.new)
-        (rereader_passage R.Source R.steady data_reader.old data_reader.new)) }
+        (source_call P.Source pk_file.old pk_file.new)
+        (source_call Q.Source sig_file.old sig_file.new)
+        (rereader_call R.Source R.steady data_reader.old data_reader.new)) }
     ensures given { HasGiven (R.ahead data_reader.old) (R.ahead data_reader.new) }
 {
     warn(errors);
@@ -73,16 +73,16 @@ fn verify_with_files<S: Scheme, P: Source, Q: Source, R: Rereader, W: Sink>(
     errors: &mut W,
 ) -> Result<()>
     ensures accepted { OnOk result (RawFilesVouch (S.accepts scheme.now)
-        (source_passage P.Source pk_file.old pk_file.new)
-        (source_passage Q.Source sig_file.old sig_file.new)
-        (rereader_passage R.Source R.steady data_reader.old data_reader.new)
-        (Takes (sink_passage W.Sink errors.old errors.new))) }
-    ensures calm { OnOk result (W.sink_faults errors.new ≡ W.sink_faults errors.old) }
+        (source_call P.Source pk_file.old pk_file.new)
+        (source_call Q.Source sig_file.old sig_file.new)
+        (rereader_call R.Source R.steady data_reader.old data_reader.new)
+        (Takes (sink_call W.Sink errors.old errors.new))) }
+    ensures no_new_fault { OnOk result (W.sink_faults errors.new ≡ W.sink_faults errors.old) }
     ensures refused { IfErr result (RawFilesFail (S.accepts scheme.now)
-        (source_passage P.Source pk_file.old pk_file.new)
-        (source_passage Q.Source sig_file.old sig_file.new)
-        (rereader_passage R.Source R.steady data_reader.old data_reader.new)
-        (sink_passage W.Sink errors.old errors.new)) }
+        (source_call P.Source pk_file.old pk_file.new)
+        (source_call Q.Source sig_file.old sig_file.new)
+        (rereader_call R.Source R.steady data_reader.old data_reader.new)
+        (sink_call W.Sink errors.old errors.new)) }
     ensures given { HasGiven (R.ahead data_reader.old) (R.ahead data_reader.new) }
 {
     let key = read_to_end(alloc, pk_file)?;
@@ -112,15 +112,15 @@ pub fn verify_raw<S: Scheme, R: Rereader, W: Sink>(
 
     // The status line is then written.
     ensures said { OnOk result (Appends (W.taken errors.old) (W.taken errors.new) (line verified_text)) }
-    ensures calm { OnOk result (W.sink_faults errors.new ≡ W.sink_faults errors.old) }
+    ensures no_new_fault { OnOk result (W.sink_faults errors.new ≡ W.sink_faults errors.old) }
 
     // Otherwise the key file is too short, or the signature file holds no bare signature, and no
     // data was read; or verifying fails for the key and the signature that they hold, as above,
     // with at most a beginning of that line written.
     ensures refused { IfErr result (VerifyRawFails (S.accepts scheme.now) key.now signature.now
-        (rereader_passage R.Source R.steady data_reader.old data_reader.new)
-        (sink_passage W.Sink errors.old errors.new)) }
-    ensures front { OnErr result (SaysLineFront (sink_passage W.Sink errors.old errors.new)) }
+        (rereader_call R.Source R.steady data_reader.old data_reader.new)
+        (sink_call W.Sink errors.old errors.new)) }
+    ensures front { OnErr result (SaysLineFront (sink_call W.Sink errors.old errors.new)) }
     ensures given { HasGiven (R.ahead data_reader.old) (R.ahead data_reader.new) }
 {
     let pk = PublicKey::from_bytes(key)?;

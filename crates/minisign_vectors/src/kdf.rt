@@ -3,4 +3,4 @@
 mod kept_rows;
 mod key_derivation;
 mod plain;
-mod wanting_memory;
+mod refused_allocations;

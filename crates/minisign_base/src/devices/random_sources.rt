@@ -9,14 +9,14 @@ use super::{DeviceFault, FaultCount};
 
 /// What gives random bytes.
 pub trait RandomSource {
-    // The bytes that draws will give, where the source tells them.
+    // The bytes that draws will give, where they are known.
     ghost random_ahead: { Self → Option (List ℕ) };
 
     // How many faults there were.
     ghost random_faults: { Self → ℕ };
 
     /// Fills `buf` with the next bytes. Too few bytes is a fault. After a fault some bytes of the
-    /// front may be gone, or the bytes are told no more, and what `buf` holds is left open.
+    /// front may be gone, or the bytes are known no more, and what `buf` holds is left open.
     fn fill(&mut self, buf: &mut [u8]) -> Result<(), DeviceFault>
         // A draw fills the buffer with the next random bytes, or is a fault that raises the count.
         ensures { HasFilled random_ahead random_faults self.old self.new buf.new result };
@@ -94,7 +94,7 @@ impl<S: Source> RandomSource for SourceRandom<S> {
     // A fault only where the source failed or ended; otherwise the source counts none.
     fn fill(&mut self, buf: &mut [u8]) -> Result<(), DeviceFault>
         ensures fill { HasFilled ⟦<SourceRandom<S> as RandomSource>⟧.random_ahead ⟦<SourceRandom<S> as RandomSource>⟧.random_faults self.old self.new buf.new result }
-        ensures source_calm { OnOk result (S.faults self.new.source ≡ S.faults self.old.source) }
+        ensures source_no_new_fault { OnOk result (S.faults self.new.source ≡ S.faults self.old.source) }
         ensures refused { OnErr result (Rose (S.faults self.old.source) (S.faults self.new.source)
             ⊎ IsAtEnd (S.ahead self.new.source)) }
     {

@@ -14,10 +14,10 @@ use std::io::Write;
 
 /// What takes bytes.
 pub trait Sink {
-    // The bytes taken so far, where the sink tells them.
+    // The bytes taken so far, where they are known.
     ghost taken: { Self → Option (List ℕ) };
 
-    // The bytes flushed so far, where the sink tells them: all that it had taken when it was
+    // The bytes flushed so far, where they are known: all that it had taken when it was
     // flushed last.
     ghost flushed: { Self → Option (List ℕ) } = { λ _. None };
 
@@ -30,14 +30,14 @@ pub trait Sink {
         // It takes a beginning of what it is given, at least a byte if there is one; or it is a
         // fault that raises the count, with nothing taken.
         //
-        // A sink may tell what was flushed: a write flushes nothing (`unflushed`). The sinks of the
-        // library tell nothing of it; a sink with a buffer can.
+        // What was flushed may be known: a write flushes nothing (`unflushed`). Of the sinks of the
+        // library it is not; of a sink with a buffer it can be.
         ensures { HasWritten taken flushed sink_faults self.old self.new bytes.now result };
 
     /// Passes on all that was taken. It takes nothing itself.
     fn flush(&mut self) -> Result<(), DeviceFault>
         // A flush takes nothing. After one that succeeds all that the sink took is flushed; after
-        // one that failed what was flushed stays, or is no longer told (`all`, `err_flushed`).
+        // one that failed what was flushed stays, or is known no more (`all`, `err_flushed`).
         ensures { HasFlushed taken flushed sink_faults self.old self.new result };
 }
 
@@ -121,7 +121,7 @@ impl Sink for NoSink {
     }
 }
 
-/// Any writer of std. It tells its bytes where the writer does. A writer that takes nothing of
+/// Any writer of std. Its bytes are known where the writer's are. A writer that takes nothing of
 /// something, or says that it took more than there was, has failed.
 #[derive(Debug, Drop)]
 pub struct WriterSink<W> {
@@ -176,7 +176,7 @@ pub fn put_line<S: Sink>(
     // The whole of a line is written, put together first; or memory runs out for it, with the sink
     // as it was; or the sink fails, and took a beginning.
     ensures bytes { OnOk result (Appends (S.taken sink.old) (S.taken sink.new) (label.now ++ text.now ++ 10 ∷ [])) }
-    ensures calm { OnOk result (S.sink_faults sink.new ≡ S.sink_faults sink.old) }
+    ensures no_new_fault { OnOk result (S.sink_faults sink.new ≡ S.sink_faults sink.old) }
     ensures refused { IfErr result (λ e. ((e ≡ Named OutOfMemory) × (sink.new ≡ sink.old))
         ⊎ ((e ≡ Named WritingFailed) × Rose (S.sink_faults sink.old) (S.sink_faults sink.new))) }
     ensures front { OnErr result (AppendsFront (S.taken sink.old) (S.taken sink.new) (label.now ++ text.now ++ 10 ∷ [])) }
@@ -200,7 +200,7 @@ pub fn put_and_flush<S: Sink>(sink: &mut S, bytes: &[u8]) -> Result<(), DeviceFa
     ensures flushed { OnOk result (AllFlushed (S.flushed sink.new) (S.taken sink.new)) }
 
     // The count of faults rose exactly where it is refused, and then a beginning was written.
-    ensures calm { OnOk result (S.sink_faults sink.new ≡ S.sink_faults sink.old) }
+    ensures no_new_fault { OnOk result (S.sink_faults sink.new ≡ S.sink_faults sink.old) }
     ensures refused { OnErr result (Rose (S.sink_faults sink.old) (S.sink_faults sink.new)) }
     ensures front { OnErr result (AppendsFront (S.taken sink.old) (S.taken sink.new) bytes.now) }
 {
@@ -217,7 +217,7 @@ pub fn put_all<S: Sink>(sink: &mut S, bytes: &[u8]) -> Result<(), DeviceFault>
     ensures bytes { OnOk result (Appends (S.taken sink.old) (S.taken sink.new) bytes.now) }
 
     // The count of faults rose exactly where it is refused, and then a beginning was written.
-    ensures calm { OnOk result (S.sink_faults sink.new ≡ S.sink_faults sink.old) }
+    ensures no_new_fault { OnOk result (S.sink_faults sink.new ≡ S.sink_faults sink.old) }
     ensures refused { OnErr result (Rose (S.sink_faults sink.old) (S.sink_faults sink.new)) }
     ensures front { OnErr result (AppendsFront (S.taken sink.old) (S.taken sink.new) bytes.now) }
 

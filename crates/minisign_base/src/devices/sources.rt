@@ -10,13 +10,13 @@ use std::io::{Read, Seek, SeekFrom};
 
 /// What gives bytes, a finite number of them.
 pub trait Source {
-    // The bytes ahead, where the source tells them.
+    // The bytes ahead, where they are known.
     ghost ahead: { Self → Option (List ℕ) };
 
     // The bytes that going back to the mark would put ahead, where that is known.
     ghost behind: { Self → Option (List ℕ) } = { λ _. None };
 
-    // The bytes given since the place was last marked or gone back to, where the source tells them.
+    // The bytes given since the place was last marked or gone back to, where they are known.
     ghost since: { Self → Option (List ℕ) } = { λ _. None };
 
     // Whether a place is marked. Reads leave that.
@@ -30,18 +30,18 @@ pub trait Source {
 
     /// Moves the next bytes to the front of `buf`, as many as it likes up to all of it, and returns
     /// how many. The result is 0 only where `buf` is empty or no byte is left. After a fault the
-    /// bytes ahead are those before the call, or are told no more.
+    /// bytes ahead are those before the call, or are known no more.
     fn read(&mut self, buf: &mut [u8]) -> Result<usize, DeviceFault>
         // The next bytes are given, and 0 only at the end or without room (fields `bound`, `bytes`,
         // `end`, `left` of `HasRead`).
         //
         // A read that succeeds leaves the mark and the count of faults as they were. After one that
-        // failed the count rose, and the bytes ahead stay or are no longer told; nothing is said
+        // failed the count rose, and the bytes ahead stay or are known no more; nothing is said
         // then of what going back would bring. Whether a place is marked stays in both cases
-        // (`mark`, `calm`, `fault`, `kept`, `err_left`, `marked`).
+        // (`mark`, `no_new_fault`, `fault`, `kept`, `err_left`, `marked`).
         //
-        // A source that tells the bytes given since its place was last marked or gone back to tells
-        // after each read those and the next ones; slices tell them, readers and files do not
+        // Where the bytes given since the place was last marked or gone back to are known, those and
+        // the next ones are known after each read: of slices, but not of readers and files
         // (`since`, `since_kept`).
         ensures { HasRead ahead behind since is_marked left faults self.old self.new buf.new result };
 }
@@ -51,7 +51,7 @@ pub trait Rereader: Source {
     // Going back brings the bytes that were ahead at the mark.
     ghost steady: { Self → Type 0 };
 
-    /// Remembers the place. The bytes ahead stay; after a fault they stay or are told no more, and
+    /// Remembers the place. The bytes ahead stay; after a fault they stay or are known no more, and
     /// no place is marked.
     fn mark(&mut self) -> Result<(), DeviceFault>
         // A steady source remembers what is ahead; a fault raises the count.
@@ -180,8 +180,8 @@ impl Source for NoSource {
     }
 }
 
-/// The bytes of any reader of std, 2^63 - 1 at most: a read after that is a fault. It tells its
-/// bytes where the reader does, until the first fault. It can't go back.
+/// The bytes of any reader of std, 2^63 - 1 at most: a read after that is a fault. Its bytes
+/// are known where the reader's are, until the first fault. It can't go back.
 #[derive(Debug, Drop)]
 pub struct ReaderSource<R> {
     reader: R,
@@ -229,7 +229,7 @@ impl<R: Read> Source for ReaderSource<R> {
 impl<R: Read> Rereader for ReaderSource<R> {
     ghost steady = { λ _. ⊥ };
 
-    // Always a fault. No byte is told after it.
+    // Always a fault. No byte is known after it.
     fn mark(&mut self) -> Result<(), DeviceFault>
         ensures fails { IsErr result }
         ensures refused { Rose (⟦<ReaderSource<R> as Source>⟧.faults self.old) (⟦<ReaderSource<R> as Source>⟧.faults self.new) }
@@ -239,7 +239,7 @@ impl<R: Read> Rereader for ReaderSource<R> {
         Err(no_way_back)
     }
 
-    // Always a fault. No byte is told after it.
+    // Always a fault. No byte is known after it.
     fn back(&mut self) -> Result<(), DeviceFault>
         ensures fails { IsErr result }
         ensures refused { Rose (⟦<ReaderSource<R> as Source>⟧.faults self.old) (⟦<ReaderSource<R> as Source>⟧.faults self.new) }
@@ -250,8 +250,8 @@ impl<R: Read> Rereader for ReaderSource<R> {
 }
 
 /// The bytes of a file, or of anything else of std that is read and seeks, 2^63 - 1 at most: a read
-/// after that is a fault. It marks its place and goes back by seeking. It tells no bytes, since
-/// std's files tell none, and so it is not known to be steady: a file may change between two
+/// after that is a fault. It marks its place and goes back by seeking. No byte is known, since
+/// none of std's files is, and so it is not known to be steady: a file may change between two
 /// readings.
 #[derive(Debug, Drop)]
 pub struct FileSource<F> {
@@ -329,7 +329,7 @@ pub fn fill_from<S: Source>(source: &mut S, buf: &mut [u8]) -> Result<(), Device
     // The buffer is filled with the next bytes of a source, which counts no fault; or the source
     // failed or ended.
     ensures bytes { OnOk result (Consumes (S.ahead source.old) (S.ahead source.new) buf.new) }
-    ensures calm { OnOk result (S.faults source.new ≡ S.faults source.old) }
+    ensures no_new_fault { OnOk result (S.faults source.new ≡ S.faults source.old) }
     ensures refused { OnErr result (Rose (S.faults source.old) (S.faults source.new)
         ⊎ IsAtEnd (S.ahead source.new)) }
     ensures given { OnErr result (HasGiven (S.ahead source.old) (S.ahead source.new)) }

@@ -1,5 +1,5 @@
 //! Each fault of opening, by each of the calls that open a box: with ample memory none of them is
-//! told as being out of memory.
+//! reported as being out of memory.
 
 use crate::sealed::calls::{Way, opened};
 use minisign::{Result, SecretKey, SecretKeyBox};

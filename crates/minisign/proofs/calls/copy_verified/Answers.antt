@@ -3,9 +3,9 @@ use Rattle.minisign.proofs.Commented.{comment_verdict, copied_with, copy_refused
 use Rattle.minisign.proofs.calls.copy_verified.Goals as goal
 
 pub returns-clause-headline : goal.returns-clause-headline
-returns-clause-headline g c = λ message told calm out_calm steady.
+returns-clause-headline g c = λ message told no_new_fault out_no_new_fault steady.
     comment_verdict string_bytes (g.S.Scheme.accepts c.args.scheme.now) c.args.pk_text.now c.args.sig_text.now message false c.verify_with.result
-    (λ memory. c.verify_with.ensures.headline message told memory calm (λ rose. omega (arith, rose)) out_calm (λ wanted. steady))
+    (λ memory. c.verify_with.ensures.headline message told memory no_new_fault (λ rose. omega (arith, rose)) out_no_new_fault (λ wanted. steady))
     c.verify_with.ensures.comment
 
 pub returns-clause-copied : goal.returns-clause-copied

@@ -4,9 +4,9 @@ use Rattle.minisign.proofs.Commented.{ahead_refused, ahead_vouched, comment_verd
 use Rattle.minisign.proofs.calls.verify_reader.Goals as goal
 
 pub returns-clause-headline : goal.returns-clause-headline
-returns-clause-headline g c = λ message told calm.
+returns-clause-headline g c = λ message told no_new_fault.
     comment_verdict string_bytes (g.S.Scheme.accepts c.args.scheme.now) c.args.pk_text.now c.args.sig_text.now message false c.verify_with.result
-    (λ memory. c.verify_with.ensures.headline message told memory calm (λ rose. omega (arith, rose)) (λ rose. omega (arith, rose))
+    (λ memory. c.verify_with.ensures.headline message told memory no_new_fault (λ rose. omega (arith, rose)) (λ rose. omega (arith, rose))
     (λ wanted. absurd (true≢false (sym wanted))))
     c.verify_with.ensures.comment
 

@@ -9,8 +9,8 @@ pub pieces-preserved : goal.pieces-preserved
 pieces-preserved g c =
     let (done, given, taken, fed, since) = c.pieces.invariant.given in
     record {
-      calm = c.in-Ok.ensures.calm ∙ c.pieces.invariant.calm;
-      out_calm = c.in_ok-put_bytes-in-Ok.ensures.calm ∙ c.pieces.invariant.out_calm;
+      no_new_fault = c.in-Ok.ensures.no_new_fault ∙ c.pieces.invariant.no_new_fault;
+      out_no_new_fault = c.in_ok-put_bytes-in-Ok.ensures.no_new_fault ∙ c.pieces.invariant.out_no_new_fault;
       unflushed = c.in_ok-put_bytes-in-Ok.ensures.unflushed ∙ c.pieces.invariant.unflushed;
       marked = c.in-Ok.ensures.marked ∙ c.pieces.invariant.marked;
       mark = c.in-Ok.ensures.mark ∙ c.pieces.invariant.mark;

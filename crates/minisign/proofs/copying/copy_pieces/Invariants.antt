@@ -6,8 +6,8 @@ use Rattle.minisign.proofs.copying.copy_pieces.Given as goal
 
 abbrev pub invariant-pieces : goal.invariant-pieces
 invariant-pieces g l = record {
-  calm : g.S.Source.faults l.source ≡ g.S.Source.faults l.fn.source;
-  out_calm : g.O.Sink.sink_faults l.out ≡ g.O.Sink.sink_faults l.fn.out;
+  no_new_fault : g.S.Source.faults l.source ≡ g.S.Source.faults l.fn.source;
+  out_no_new_fault : g.O.Sink.sink_faults l.out ≡ g.O.Sink.sink_faults l.fn.out;
   unflushed : g.O.Sink.flushed l.out ≡ g.O.Sink.flushed l.fn.out;
   marked : g.S.Source.is_marked l.source ≡ g.S.Source.is_marked l.fn.source;
   mark : g.S.Source.behind l.source ≡ g.S.Source.behind l.fn.source;

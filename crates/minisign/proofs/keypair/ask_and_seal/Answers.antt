@@ -1,7 +1,7 @@
 use Rattle.std.proofs.Common.{Result, Ok, Err, IfOk, OnOk, string_bytes}
 use Rattle.std.proofs.lemmas.Result.{IfErr-weaker}
-use Rattle.minisign_base.specs.Passages.{prompt_passage}
-use Rattle.minisign_base.specs.PromptLaws.{held_both, stopped_first, stopped_second}
+use Rattle.minisign_base.specs.DeviceCalls.{prompt_call}
+use Rattle.minisign_base.specs.PromptLaws.{second_ended, stopped_first}
 use Rattle.minisign.proofs.Beginnings.{passed_up}
 use Rattle.minisign.specs.NewPassword.{choosing, sealing}
 use Rattle.minisign.proofs.keypair.ask_and_seal.Goals as goal
@@ -17,22 +17,23 @@ returns-in_err-password-clause-refused g c =
     passed_up c.from_residual.result c.in_err-password.field-0.0 _ c.from_residual.ensures.1 (
       first,
       second,
-      stopped_first (prompt_passage g.R.Source g.W.Sink c.args.prompt.now c.choose_password.new.prompt) (choosing first second) sealing _ stopped,
+      tt,
+      stopped_first (prompt_call g.R.Source g.W.Sink c.args.prompt.now c.choose_password.new.prompt) (choosing first second) sealing _ stopped,
     )
 
 pub returns-clause-typed : goal.returns-clause-typed
 returns-clause-typed g c =
     let (first, second, typed, again, chosen) = c.in_ok-password.ensures.chosen in
-    let p = prompt_passage g.R.Source g.W.Sink c.args.prompt.now c.seal_aloud.new.prompt in
+    let p = prompt_call g.R.Source g.W.Sink c.args.prompt.now c.seal_aloud.new.prompt in
     told_of c.seal_aloud.result _ _ _ (λ pair told sealed. (
       string_bytes c.in_ok-password.password,
-      record { first = first; second = second; typed = typed; again = again; held = held_both p c.choose_password.new.prompt (choosing first second) sealing chosen told },
+      (first, second, (typed, again), second_ended p c.choose_password.new.prompt (choosing first second) sealing (Ok tt) chosen told),
       rw (c.as_bytes.ensures.value) at sealed,
     )) c.seal_aloud.ensures.told c.seal_aloud.ensures.sealed
 
 pub returns-clause-refused : goal.returns-clause-refused
 returns-clause-refused g c =
     let (first, second, typed, again, chosen) = c.in_ok-password.ensures.chosen in
-    let p = prompt_passage g.R.Source g.W.Sink c.args.prompt.now c.seal_aloud.new.prompt in
-    IfErr-weaker c.seal_aloud.result _ _ (λ e stopped. (first, second, stopped_second p c.choose_password.new.prompt (choosing first second) sealing e chosen stopped))
+    let p = prompt_call g.R.Source g.W.Sink c.args.prompt.now c.seal_aloud.new.prompt in
+    IfErr-weaker c.seal_aloud.result _ _ (λ e stopped. (first, second, tt, second_ended p c.choose_password.new.prompt (choosing first second) sealing (Err e) chosen stopped))
     c.seal_aloud.ensures.refused

@@ -1,11 +1,12 @@
-use Rattle.std.proofs.Common.{Bool, true, false, not, ◌≡◌, ◌∷◌, ◌++◌, [], string_bytes, sym, inl, inr, refl}
+use Rattle.std.proofs.Common.{Ok, Err, Bool, true, false, not, ◌≡◌, ◌∷◌, ◌++◌, [], string_bytes, sym, inl, inr, refl}
 use Rattle.std.proofs.lemmas.Slice.Eq.{bytes_eq-Decides}
-use Rattle.minisign_base.specs.Passages.{prompt_passage}
-use Rattle.minisign_base.specs.PromptLaws.{held_both, stopped_first, stopped_second, typed_is}
-use Rattle.minisign_base.specs.Prompts.{Test, asking, typed}
+use Rattle.minisign_base.specs.DeviceCalls.{prompt_call}
+use Rattle.minisign_base.specs.PromptLaws.{second_ended, stopped_first, typed_is}
+use Rattle.minisign_base.specs.Prompts.{Test, asking}
+use Rattle.minisign_base.specs.Passwords.{typed}
 use Rattle.minisign.proofs.Beginnings.{passed_up}
-use Rattle.minisign.specs.NewPassword.{difference, purpose_line, second_question}
-use Rattle.minisign.specs.Opening.{asking_text}
+use Rattle.minisign.specs.NewPassword.{difference}
+use Rattle.minisign.specs.PromptTexts.{asking_text, purpose_line, second_question}
 use Rattle.minisign.proofs.Choosing.{two_agree, two_differ}
 use Rattle.minisign.proofs.keypair.choose_password.Goals as goal
 
@@ -17,13 +18,13 @@ pub returns-in_err-password-clause-refused : goal.returns-in_err-password-clause
 unfolding purpose_line asking_text
 returns-in_err-password-clause-refused g c =
     let (first, stopped) = c.in_err-password.ensures.refused in
-    let p = prompt_passage g.R.Source g.W.Sink c.say.new.self c.get_password.new.prompt in
+    let p = prompt_call g.R.Source g.W.Sink c.say.new.self c.get_password.new.prompt in
     passed_up c.from_residual-in_err-password.result c.in_err-password.field-0.0 _ c.from_residual-in_err-password.ensures.1 (
       first,
       [],
       inr (
         c.say.new.self,
-        c.in_ok-say.ensures.said,
+        c.in_ok-say.ensures.ended,
         stopped_first p (asking asking_text first) (asking second_question [] ++ Test (difference (typed first) (typed [])) ∷ []) _ stopped,
       ),
     )
@@ -33,16 +34,16 @@ unfolding purpose_line asking_text second_question
 returns-in_err-again-clause-refused g c =
     let (first, answered, asked) = c.in_ok-password.ensures.asked in
     let (second, stopped) = c.in_err-again.ensures.refused in
-    let both = prompt_passage g.R.Source g.W.Sink c.say.new.self c.get_password-2.new.prompt in
-    let p = prompt_passage g.R.Source g.W.Sink c.get_password.new.prompt c.get_password-2.new.prompt in
+    let both = prompt_call g.R.Source g.W.Sink c.say.new.self c.get_password-2.new.prompt in
+    let p = prompt_call g.R.Source g.W.Sink c.get_password.new.prompt c.get_password-2.new.prompt in
     let test = Test (difference (typed first) (typed second)) ∷ [] in
     passed_up c.from_residual-in_err-again.result c.in_err-again.field-0.0 _ c.from_residual-in_err-again.ensures.1 (
       first,
       second,
       inr (
         c.say.new.self,
-        c.in_ok-say.ensures.said,
-        stopped_second both c.get_password.new.prompt (asking asking_text first) (asking second_question second ++ test) _ asked
+        c.in_ok-say.ensures.ended,
+        second_ended both c.get_password.new.prompt (asking asking_text first) (asking second_question second ++ test) (Err _) asked
             (stopped_first p (asking second_question second) test _ stopped),
       ),
     )
@@ -53,16 +54,16 @@ returns-then-ne-clause-refused g c =
     let (first, answered, asked) = c.in_ok-password.ensures.asked in
     let (second, answered_again, asked_again) = c.in_ok-again.ensures.asked in
     let end = c.get_password-2.new.prompt in
-    let both = prompt_passage g.R.Source g.W.Sink c.say.new.self end in
-    let p = prompt_passage g.R.Source g.W.Sink c.get_password.new.prompt end in
+    let both = prompt_call g.R.Source g.W.Sink c.say.new.self end in
+    let p = prompt_call g.R.Source g.W.Sink c.get_password.new.prompt end in
     let test = Test (difference (typed first) (typed second)) ∷ [] in (
       first,
       second,
       inr (
         c.say.new.self,
-        c.in_ok-say.ensures.said,
-        stopped_second both c.get_password.new.prompt (asking asking_text first) (asking second_question second ++ test) _ asked
-            (stopped_second p end (asking second_question second) test _ asked_again
+        c.in_ok-say.ensures.ended,
+        second_ended both c.get_password.new.prompt (asking asking_text first) (asking second_question second ++ test) (Err _) asked
+            (second_ended p end (asking second_question second) test (Err _) asked_again
             (inl (two_differ first second _ _ _ (typed_is first _ answered) (typed_is second _ answered_again) c.if-ne.ensures c.into.ensures, refl))),
       ),
     )
@@ -74,8 +75,8 @@ returns-clause-chosen g c =
     let (second, answered_again, asked_again) = c.in_ok-again.ensures.asked in
     let same : string_bytes c.in_ok-again.again ≡ string_bytes c.in_ok-password.password = sym ((bytes_eq-Decides (string_bytes c.in_ok-password.password) (string_bytes c.in_ok-again.again)).0 (not_false _ c.if-ne.ensures)) in
     let end = c.get_password-2.new.prompt in
-    let both = prompt_passage g.R.Source g.W.Sink c.say.new.self end in
-    let p = prompt_passage g.R.Source g.W.Sink c.get_password.new.prompt end in
+    let both = prompt_call g.R.Source g.W.Sink c.say.new.self end in
+    let p = prompt_call g.R.Source g.W.Sink c.get_password.new.prompt end in
     let test = Test (difference (typed first) (typed second)) ∷ [] in (
       first,
       second,
@@ -83,9 +84,9 @@ returns-clause-chosen g c =
       rw same at answered_again,
       (
         c.say.new.self,
-        c.in_ok-say.ensures.said,
-        held_both both c.get_password.new.prompt (asking asking_text first) (asking second_question second ++ test) asked
-            (held_both p end (asking second_question second) test asked_again
+        c.in_ok-say.ensures.ended,
+        second_ended both c.get_password.new.prompt (asking asking_text first) (asking second_question second ++ test) (Ok tt) asked
+            (second_ended p end (asking second_question second) test (Ok tt) asked_again
             (end, (two_agree first second _ _ (typed_is first _ answered) (typed_is second _ answered_again) c.if-ne.ensures, refl), refl)),
       ),
     )

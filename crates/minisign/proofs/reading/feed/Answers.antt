@@ -6,7 +6,7 @@ pub pieces-preserved : goal.pieces-preserved
 pieces-preserved g c =
     let (done, given, fed) = c.pieces.invariant.given in
     record {
-      calm = c.in_ok-n.ensures.calm ∙ c.pieces.invariant.calm;
+      no_new_fault = c.in_ok-n.ensures.no_new_fault ∙ c.pieces.invariant.no_new_fault;
       marked = c.in_ok-n.ensures.marked ∙ c.pieces.invariant.marked;
       mark = c.in_ok-n.ensures.mark ∙ c.pieces.invariant.mark;
       unfinished = c.update.ensures.finalized;

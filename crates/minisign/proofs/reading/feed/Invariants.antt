@@ -5,7 +5,7 @@ use Rattle.minisign.proofs.reading.feed.Given as goal
 
 abbrev pub invariant-pieces : goal.invariant-pieces
 invariant-pieces g l = record {
-  calm : g.S.Source.faults l.source ≡ g.S.Source.faults l.fn.source;
+  no_new_fault : g.S.Source.faults l.source ≡ g.S.Source.faults l.fn.source;
   marked : g.S.Source.is_marked l.source ≡ g.S.Source.is_marked l.fn.source;
   mark : g.S.Source.behind l.source ≡ g.S.Source.behind l.fn.source;
   unfinished : has_finalized l.hasher ≡ false;

@@ -6,7 +6,7 @@ pub pieces-preserved : goal.pieces-preserved
 pieces-preserved g c =
     let (done, given, kept) = c.pieces.invariant.given in
     record {
-      calm = c.in-Ok.ensures.calm ∙ c.pieces.invariant.calm;
+      no_new_fault = c.in-Ok.ensures.no_new_fault ∙ c.pieces.invariant.no_new_fault;
       marked = c.in-Ok.ensures.marked ∙ c.pieces.invariant.marked;
       mark = c.in-Ok.ensures.mark ∙ c.pieces.invariant.mark;
       given = (

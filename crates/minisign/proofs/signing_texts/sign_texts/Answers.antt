@@ -1,3 +1,8 @@
+use Rattle.std.proofs.Common.{string_bytes}
+use Rattle.std.specs.Option.{option_map}
+use Rattle.std.proofs.lemmas.Result.{IfOk-weaker}
+use Rattle.minisign_base.specs.DeviceCalls.{prompt_call}
+use Rattle.minisign.proofs.GivenKeys.{key_of_given}
 use Rattle.minisign.proofs.SecretKeyTexts.{one_key_text}
 use Rattle.minisign.proofs.signing_texts.sign_texts.Goals as goal
 
@@ -6,3 +11,16 @@ returns-in_err-sk-clause-one_reading g c = λ k l read again. one_key_text _ l k
 
 pub returns-clause-one_reading : goal.returns-clause-one_reading
 returns-clause-one_reading g c = λ k l read again. one_key_text _ l k again read
+
+pub returns-clause-headline : goal.returns-clause-headline
+returns-clause-headline g c =
+    IfOk-weaker c.sign_opened.result _ _
+    (λ t (message, read, signed, headline). (
+      c.in_ok-sk.sk,
+      message,
+      read.given,
+      key_of_given (prompt_call g.P.Source g.Q.Sink c.args.prompt.now c.key_of_text.new.prompt) (option_map (λ s. string_bytes s) c.args.password)
+          c.args.sk_text.now c.in_ok-sk.sk c.in_ok-sk.ensures.gives,
+      headline,
+    ))
+    c.sign_opened.ensures.signed

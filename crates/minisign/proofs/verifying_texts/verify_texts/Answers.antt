@@ -1,11 +1,11 @@
 use Rattle.std.proofs.Common.{◌∙◌, ap, Err}
 use Rattle.std.proofs.lemmas.Result.{err_from_is_err_and}
-use Rattle.minisign_base.specs.Passages.{rereader_passage, sink_passage}
+use Rattle.minisign_base.specs.DeviceCalls.{rereader_call, sink_call}
 use Rattle.minisign.proofs.VouchedTexts.{copy_vouched, fails_with, read_verdict, succeeds_with, text_verdict}
 use Rattle.minisign.proofs.verifying_texts.verify_texts.Goals as goal
 
 pub returns-in_err-pk-clause-headline : goal.returns-in_err-pk-clause-headline
-returns-in_err-pk-clause-headline g c = λ message told memory calm status_calm out_calm again.
+returns-in_err-pk-clause-headline g c = λ message told memory no_new_fault status_no_new_fault out_no_new_fault again.
     let p = err_from_is_err_and c.from_residual.result c.from_residual.ensures.1 in
     text_verdict _ _ _ message _ c.from_residual.result _ (p.1 ∙ ap (λ e. Err e) p.2) c.in_err-pk.ensures.refused memory
 
@@ -13,30 +13,30 @@ pub returns-clause-accepted : goal.returns-clause-accepted
 returns-clause-accepted g c =
     succeeds_with (g.S.Scheme.accepts c.args.scheme.now) c.args.pk_text.now c.args.sig_text.now
     (record { quiet = c.args.quiet; output = c.args.output; legacy = c.args.allow_legacy })
-    (rereader_passage g.R.Source g.R.Rereader.steady c.args.data_reader.now c.verify.new.data_reader)
-    (sink_passage g.W.Sink c.args.status.now c.verify.new.status) (sink_passage g.O.Sink c.args.out.now c.verify.new.out)
+    (rereader_call g.R.Source g.R.Rereader.steady c.args.data_reader.now c.verify.new.data_reader)
+    (sink_call g.W.Sink c.args.status.now c.verify.new.status) (sink_call g.O.Sink c.args.out.now c.verify.new.out)
     _ _ c.in_ok-pk.ensures.read c.verify.result c.verify.ensures.accepted
 
 pub returns-clause-vouched : goal.returns-clause-vouched
 returns-clause-vouched g c = λ wanted.
     copy_vouched (g.S.Scheme.accepts c.args.scheme.now) c.args.pk_text.now c.args.sig_text.now
     (record { quiet = c.args.quiet; output = c.args.output; legacy = c.args.allow_legacy })
-    (rereader_passage g.R.Source g.R.Rereader.steady c.args.data_reader.now c.verify.new.data_reader)
-    (sink_passage g.W.Sink c.args.status.now c.verify.new.status) (sink_passage g.O.Sink c.args.out.now c.verify.new.out)
+    (rereader_call g.R.Source g.R.Rereader.steady c.args.data_reader.now c.verify.new.data_reader)
+    (sink_call g.W.Sink c.args.status.now c.verify.new.status) (sink_call g.O.Sink c.args.out.now c.verify.new.out)
     c.verify.result (returns-clause-accepted g c) wanted
 
 pub returns-clause-refused : goal.returns-clause-refused
 returns-clause-refused g c =
     fails_with (g.S.Scheme.accepts c.args.scheme.now) c.args.pk_text.now c.args.sig_text.now
     (record { quiet = c.args.quiet; output = c.args.output; legacy = c.args.allow_legacy })
-    (rereader_passage g.R.Source g.R.Rereader.steady c.args.data_reader.now c.verify.new.data_reader)
-    (sink_passage g.W.Sink c.args.status.now c.verify.new.status) (sink_passage g.O.Sink c.args.out.now c.verify.new.out)
+    (rereader_call g.R.Source g.R.Rereader.steady c.args.data_reader.now c.verify.new.data_reader)
+    (sink_call g.W.Sink c.args.status.now c.verify.new.status) (sink_call g.O.Sink c.args.out.now c.verify.new.out)
     _ _ c.in_ok-pk.ensures.read c.verify.result c.verify.ensures.refused
 
 pub returns-clause-headline : goal.returns-clause-headline
-returns-clause-headline g c = λ message told memory calm status_calm out_calm again.
+returns-clause-headline g c = λ message told memory no_new_fault status_no_new_fault out_no_new_fault again.
     read_verdict (g.S.Scheme.accepts c.args.scheme.now) c.args.pk_text.now c.args.sig_text.now
     (record { quiet = c.args.quiet; output = c.args.output; legacy = c.args.allow_legacy })
-    (rereader_passage g.R.Source g.R.Rereader.steady c.args.data_reader.now c.verify.new.data_reader)
-    (sink_passage g.W.Sink c.args.status.now c.verify.new.status) (sink_passage g.O.Sink c.args.out.now c.verify.new.out)
-    _ _ c.in_ok-pk.ensures.read message told calm status_calm out_calm again c.verify.result c.verify.ensures.accepted c.verify.ensures.refused memory
+    (rereader_call g.R.Source g.R.Rereader.steady c.args.data_reader.now c.verify.new.data_reader)
+    (sink_call g.W.Sink c.args.status.now c.verify.new.status) (sink_call g.O.Sink c.args.out.now c.verify.new.out)
+    _ _ c.in_ok-pk.ensures.read message told no_new_fault status_no_new_fault out_no_new_fault again c.verify.result c.verify.ensures.accepted c.verify.ensures.refused memory

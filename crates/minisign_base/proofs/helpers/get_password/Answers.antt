@@ -1,7 +1,7 @@
-use Rattle.std.proofs.Common.{[], inl, inr, refl, sym, ap, subst, ⊎_elim}
+use Rattle.std.proofs.Common.{[], Ok, Err, inl, inr, refl, sym, ap, subst, ⊎_elim}
 use Rattle.std.specs.Result.{result_err}
-use Rattle.minisign_base.specs.Passages.{prompt_passage}
-use Rattle.minisign_base.specs.Prompts.{HasHeld, HasStopped, marking}
+use Rattle.minisign_base.specs.DeviceCalls.{prompt_call}
+use Rattle.minisign_base.specs.Prompts.{ConversationEnds, marking}
 use Rattle.minisign_base.specs.PromptLaws.{typed_is}
 use Rattle.minisign_base.proofs.HandedOn.{handed_on}
 use Rattle.minisign_base.proofs.helpers.get_password.Goals as goal
@@ -9,7 +9,7 @@ use Rattle.minisign_base.proofs.helpers.get_password.Goals as goal
 pub returns-in_err-say-clause-refused : goal.returns-in_err-say-clause-refused
 returns-in_err-say-clause-refused g c =
     handed_on c.from_residual-in_err-say.result c.in_err-say.field-0.0 _ c.from_residual-in_err-say.ensures.1
-    ([], inr (c.args.prompt.now, refl, inl c.in_err-say.ensures.refused))
+    ([], inr (c.args.prompt.now, (tt, refl), inl c.in_err-say.ensures.ended))
 
 pub returns-in_err-password-clause-refused : goal.returns-in_err-password-clause-refused
 returns-in_err-password-clause-refused g c =
@@ -17,31 +17,31 @@ returns-in_err-password-clause-refused g c =
     let said = c.say.new.self in
     let writer = c.read_password.ensures.writer in
     handed_on c.from_residual-in_err-password.result c.in_err-password.field-0.0 _ c.from_residual-in_err-password.ensures.1 (⊎_elim
-    (λ (is, failed). ([], inr (begun, refl, inr (said, c.in_ok-say.ensures.said, inl (is, failed, writer)))))
-    (λ (bytes, read, none). (bytes, inr (begun, refl, inr (said, c.in_ok-say.ensures.said, inr (c.read_password.new.self, (read, writer), inl (ap result_err none, refl))))))
+    (λ (is, failed). ([], inr (begun, (tt, refl), inr (said, c.in_ok-say.ensures.ended, inl ((is, failed), writer)))))
+    (λ (bytes, read, none). (bytes, inr (begun, (tt, refl), inr (said, c.in_ok-say.ensures.ended, inr (c.read_password.new.self, (read, writer), inl (ap result_err none, refl))))))
     c.in_err-password.ensures.refused)
 
 pub returns-in_err-mark_empty-clause-refused : goal.returns-in_err-mark_empty-clause-refused
 returns-in_err-mark_empty-clause-refused g c =
     let (bytes, read, answered) = c.in_ok-password.ensures.password in
-    let failed = rw c.deref.ensures at c.in_err-mark_empty.ensures.refused in
+    let failed = rw c.deref.ensures at c.in_err-mark_empty.ensures.ended in
     let said = c.say.new.self in
     let heard = c.read_password.new.self in
     handed_on c.from_residual-in_err-mark_empty.result c.in_err-mark_empty.field-0.0 _ c.from_residual-in_err-mark_empty.ensures.1 (
       bytes,
       inr (
         c.args.prompt.now,
-        refl,
+        (tt, refl),
         inr (
           said,
-          c.in_ok-say.ensures.said,
+          c.in_ok-say.ensures.ended,
           inr (
             heard,
             (read, c.read_password.ensures.writer),
             inr (
               heard,
               (ap result_err answered, refl),
-              subst (λ password. HasStopped (prompt_passage g.R.Source g.W.Sink heard c.mark_empty.new.self) (marking password) c.in_err-mark_empty.field-0.0)
+              subst (λ password. ConversationEnds (prompt_call g.R.Source g.W.Sink heard c.mark_empty.new.self) (marking password) (Err c.in_err-mark_empty.field-0.0))
                   (sym (typed_is bytes _ answered)) failed,
             ),
           ),
@@ -52,23 +52,23 @@ returns-in_err-mark_empty-clause-refused g c =
 pub returns-clause-asked : goal.returns-clause-asked
 returns-clause-asked g c =
     let (bytes, read, answered) = c.in_ok-password.ensures.password in
-    let marked = rw c.deref.ensures at c.in_ok-mark_empty.ensures.marked in
+    let marked = rw c.deref.ensures at c.in_ok-mark_empty.ensures.ended in
     let heard = c.read_password.new.self in (
       bytes,
       answered,
       (
         c.args.prompt.now,
-        refl,
+        (tt, refl),
         (
           c.say.new.self,
-          c.in_ok-say.ensures.said,
+          c.in_ok-say.ensures.ended,
           (
             heard,
             (read, c.read_password.ensures.writer),
             (
               heard,
               (ap result_err answered, refl),
-              subst (λ password. HasHeld (prompt_passage g.R.Source g.W.Sink heard c.mark_empty.new.self) (marking password)) (sym (typed_is bytes _ answered)) marked,
+              subst (λ password. ConversationEnds (prompt_call g.R.Source g.W.Sink heard c.mark_empty.new.self) (marking password) (Ok tt)) (sym (typed_is bytes _ answered)) marked,
             ),
           ),
         ),

@@ -1,6 +1,6 @@
 use Rattle.std.proofs.Common.{◌≡◌, Err, string_bytes, sym, ap, ◌∙◌, arith}
 use Rattle.std.proofs.lemmas.Str.{IsUtf8-string_bytes}
-use Rattle.minisign_base.specs.Prompts.{accepted_line}
+use Rattle.minisign_base.specs.Passwords.{accepted_line}
 use Rattle.minisign_base.proofs.PromptLines.{accepted_line-long, accepted_line-other, accepted_line-text}
 use Rattle.minisign_base.proofs.prompt.accepted_line.Goals as goal
 

@@ -2,8 +2,8 @@ use Rattle.std.proofs.Common.{◌≡◌, ℕ, ◌+◌, ◌<◌, ◌≤◌, List,
 use Rattle.std.specs.Io.KnownBytes.{Consumes}
 use Rattle.std.proofs.lemmas.List.{length-take-le, take-take}
 use Rattle.std.proofs.KnownBytes.{Consumes-trans}
-use Rattle.minisign_base.specs.Passages.{source_passage}
-use Rattle.minisign_base.specs.Prompts.{accepted_line, line_length, read_count}
+use Rattle.minisign_base.specs.DeviceCalls.{source_call}
+use Rattle.minisign_base.specs.Passwords.{accepted_line, line_length, read_count}
 use Rattle.minisign_base.proofs.PromptLines.{line_length-append, line_length-feed, password_of-end, password_of-feed, password_of-long, password_of-nothing, read_front, read_whole, told, told_all}
 use Rattle.minisign_base.proofs.prompt.read_line.Goals as goal
 
@@ -26,10 +26,10 @@ returns-in-Some-eq10 g c =
     record {
       outcome = (
         (done ++ 10 ∷ []) ++ rest,
-        read_front (source_passage g.R.Source c.args.source.now c.next_byte.new.source) (done ++ 10 ∷ []) rest ahead unread
+        read_front (source_call g.R.Source c.args.source.now c.next_byte.new.source) (done ++ 10 ∷ []) rest ahead unread
             (omega (arith, given, stands, size, short))
             (omega (arith, given, byte.1, c.bytes.invariant.left))
-            (c.in_ok-next_byte.ensures.calm ∙ c.bytes.invariant.calm),
+            (c.in_ok-next_byte.ensures.no_new_fault ∙ c.bytes.invariant.no_new_fault),
         omega (arith, bound),
         password_of-feed done rest unfinished (omega (arith, size, short)) ∙ ap accepted_line (sym c.without_carriage_return.ensures.line ∙ front),
       );
@@ -44,10 +44,10 @@ returns-in-None g c =
     record {
       outcome = inr (
         [],
-        read_whole (source_passage g.R.Source c.args.source.now c.next_byte.new.source) [] ahead unread
+        read_whole (source_call g.R.Source c.args.source.now c.next_byte.new.source) [] ahead unread
             (omega arith)
             (omega (arith, byte.2, c.bytes.invariant.left, c.if-used-eq0.true))
-            (c.in_ok-next_byte.ensures.calm ∙ c.bytes.invariant.calm),
+            (c.in_ok-next_byte.ensures.no_new_fault ∙ c.bytes.invariant.no_new_fault),
         password_of-nothing ∙ sym (ap Err c.into.ensures),
       );
     }
@@ -66,10 +66,10 @@ returns-in-None-2 g c =
     record {
       outcome = (
         done,
-        read_whole (source_passage g.R.Source c.args.source.now c.next_byte.new.source) done (rw all at ahead) unread
+        read_whole (source_call g.R.Source c.args.source.now c.next_byte.new.source) done (rw all at ahead) unread
             (omega (arith, size, unfinished))
             (omega (arith, size, byte.2, c.bytes.invariant.left))
-            (c.in_ok-next_byte.ensures.calm ∙ c.bytes.invariant.calm),
+            (c.in_ok-next_byte.ensures.no_new_fault ∙ c.bytes.invariant.no_new_fault),
         omega arith,
         password_of-end done unfinished (omega (arith, size, some)) (omega arith),
       );
@@ -88,7 +88,7 @@ returns g c =
     record {
       outcome = inr (
         done ++ rest,
-        read_front (source_passage g.R.Source c.args.source.now c.bytes.source) done rest ahead unread count (omega (arith, size, c.bytes.invariant.left)) c.bytes.invariant.calm,
+        read_front (source_call g.R.Source c.args.source.now c.bytes.source) done rest ahead unread count (omega (arith, size, c.bytes.invariant.left)) c.bytes.invariant.no_new_fault,
         password_of-long done rest unfinished (size ∙ all) ∙ sym (ap Err c.into-2.ensures),
       );
     }

@@ -1,6 +1,6 @@
 use Rattle.std.proofs.Common.{◌≡◌, ◌+◌, ◌-◌, ◌≤◌, length, take}
 use Rattle.std.specs.Io.KnownBytes.{Consumes}
-use Rattle.minisign_base.specs.Prompts.{line_length}
+use Rattle.minisign_base.specs.Passwords.{line_length}
 use Rattle.minisign_base.proofs.prompt.read_line.Given as goal
 
 abbrev pub invariant-bytes : goal.invariant-bytes
@@ -9,7 +9,7 @@ invariant-bytes g l = record {
   given : Consumes (g.R.Source.ahead l.fn.source) (g.R.Source.ahead l.source) (take l.used l.line);
   unfinished : line_length (take l.used l.line) ≡ l.used;
   left : g.R.Source.left l.source + l.used ≡ g.R.Source.left l.fn.source;
-  calm : g.R.Source.faults l.source ≡ g.R.Source.faults l.fn.source;
+  no_new_fault : g.R.Source.faults l.source ≡ g.R.Source.faults l.fn.source;
 }
 
 abbrev pub decreases-bytes : goal.decreases-bytes

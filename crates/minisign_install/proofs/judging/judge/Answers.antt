@@ -1,8 +1,14 @@
-use Rattle.std.proofs.Common.{inl, inr, ⊎_elim}
-use Rattle.std.proofs.lemmas.Result.{IfErr-weaker}
+use Rattle.std.proofs.Common.{List, ℕ, sym, subst}
+use Rattle.minisign.specs.SignatureText.{SignatureText}
+use Rattle.minisign_install.specs.Installing.{terms_of}
+use Rattle.minisign_install.proofs.Judgements.{judged_comment}
 use Rattle.minisign_install.proofs.judging.judge.Goals as goal
 
-pub returns-clause-refused : goal.returns-clause-refused
-returns-clause-refused g c =
-    IfErr-weaker c.verify_reader.result _ _ (λ e why. ⊎_elim inl (λ more. inr (⊎_elim (λ failed. inl (failed.fault, failed.rose)) inr more)) why)
-    c.verify_reader.ensures.refused
+pub returns-in-Ok : goal.returns-in-Ok
+returns-in-Ok g c = record {
+  judged = λ m fed.
+      let v = c.in-Ok.ensures m fed in
+      let read = subst (λ (t : List ℕ). SignatureText t v.box) (sym c.as_bytes.ensures.value) v.box_read in
+      judged_comment (g.S.Scheme.accepts c.args.scheme.now) (terms_of c.args.wanted) c.args.kept m c.judge_text.result v
+      (c.judge_text.ensures c.as_bytes.ensures.utf8 v.box v.box_read.comments read v.box_read.box c.args.wanted.pk_text.now);
+}

@@ -1,34 +1,30 @@
-use Rattle.std.proofs.Common.{rules, ◌∙◌, sym, refl, []}
-use Rattle.std.proofs.KnownBytes.{Consumes-trans}
-use Rattle.std.proofs.lemmas.List.{append-nil}
+use Rattle.std.proofs.Common.{◌∙◌, sym, subst, refl, ap, [], ◌++◌}
+use Rattle.std.proofs.KnownBytes.{Consumes-nil, Consumes-trans}
 use Rattle.std.specs.Io.KnownBytes.{Consumes}
-use Rattle.minisign_install.proofs.Pieces.{grown_twice}
-use Rattle.minisign_install.proofs.Works.{works_none, works_trans}
+use Rattle.std.specs.List.{concat}
+use Rattle.minisign_install.proofs.Pieces.{concat_both, part_after, writes_both, writes_told}
 use Rattle.minisign_install.proofs.staging.copy.Goals as goal
 
 pub pieces-init : goal.pieces-init
-pieces-init g c =
-    let none : Consumes (g.R.Source.ahead c.args.update.now) (g.R.Source.ahead c.args.update.now) [] = search rules in
-    (refl, refl, ([], none, λ name stage. (works_none name _ _ stage, sym (append-nil _))))
+pieces-init g c = (refl, refl, λ known. ([], refl, Consumes-nil _))
 
 pub pieces-preserved : goal.pieces-preserved
 pieces-preserved g c =
     let file = g.F.Handle.Handle.file c.args.handle.now in
-    let (calm, untouched, (done, given, so_far)) = c.pieces.invariant in (
-      c.in-Ok.ensures.calm ∙ calm,
-      c.in-Ok-write_all.ensures.counted.calm ∙ untouched,
-      (
-        _,
-        Consumes-trans _ _ _ _ _ given c.in-Ok.ensures.bytes,
-        λ name stage.
-            let (works, held) = so_far name stage in (
-              works_trans name file _ _ _ works (c.in-Ok-write_all.ensures.works name works.stage),
-              grown_twice _ _ _ _ _ held (c.in-Ok-write_all.ensures.written name works.stage),
-            ),
-      ),
+    let (no_new_fault, untouched, so_far) = c.pieces.invariant in (
+      c.in-Ok.ensures.no_new_fault ∙ no_new_fault,
+      c.in-Ok-write_all.ensures.counted.no_new_fault ∙ untouched,
+      λ known.
+          let (pieces, writes, given) = so_far known in
+          let (more, written, all) = c.in-Ok-write_all.ensures.written (writes_told file pieces _ _ known writes) in (
+            pieces ++ more,
+            writes_both file pieces more _ _ _ writes written,
+            subst (Consumes _ _) (sym (concat_both pieces more ∙ ap (λ l. concat pieces ++ l) all)) (Consumes-trans _ _ _ _ _ given c.in-Ok.ensures.bytes),
+          ),
     )
 
-pub returns-in_default-write_all-clause-works : goal.returns-in_default-write_all-clause-works
-returns-in_default-write_all-clause-works g c = λ name stage.
-    let works = (c.pieces.invariant.2.2 name stage).0 in
-    works_trans name (g.F.Handle.Handle.file c.args.handle.now) _ _ _ works (c.in_default-write_all.ensures.works name works.stage)
+pub returns-in_default-write_all-clause-broken : goal.returns-in_default-write_all-clause-broken
+returns-in_default-write_all-clause-broken g c = λ known.
+    let file = g.F.Handle.Handle.file c.args.handle.now in
+    let (pieces, writes, given) = c.pieces.invariant.2 known in
+    part_after file pieces _ _ _ writes (c.in_default-write_all.ensures.written (writes_told file pieces _ _ known writes))

@@ -11,5 +11,5 @@ returns-in-Ok-clause-accepted g c ended =
       sig_held = read.sig_held;
       given = read.given;
       vouched = read.vouched;
-      said = (_, c.warn.ensures, read.said, c.in-Ok.ensures.calm);
+      said = (_, c.warn.ensures, read.said, c.in-Ok.ensures.no_new_fault);
     }

@@ -1,7 +1,7 @@
-use Rattle.std.proofs.Common.{inl, inr, sym, ⊎_elim}
-use Rattle.std.proofs.lemmas.Bool.{true≢false}
+use Rattle.std.proofs.Common.{inr}
 use Rattle.std.proofs.lemmas.Result.{MatchResult-weaker, on_ok_weaker}
 use Rattle.minisign_tool.proofs.Outcomes.{if_err_both}
+use Rattle.minisign_tool.proofs.Unused.{texts_fail}
 use Rattle.minisign_tool.proofs.verify.verify_with_files.Goals as goal
 
 pub returns-clause-accepted : goal.returns-clause-accepted
@@ -24,19 +24,14 @@ pub returns-clause-refused : goal.returns-clause-refused
 returns-clause-refused g c =
     let texts = c.in_ok-pk_text.ensures.texts in
     MatchResult-weaker c.verify_texts.result
-    (if_err_both _ _ c.verify_texts.result c.verify_texts.ensures.refused c.verify_texts.ensures.said_front)
+    (if_err_both _ _ c.verify_texts.result
+    (texts_fail (g.S.Scheme.accepts c.args.scheme.now) c.deref.result.now c.deref-2.result.now _ _ _ c.verify_texts.result c.verify_texts.ensures.refused)
+    c.verify_texts.ensures.said_front)
     (λ x ok. ok)
     (λ e both. inr (
       c.deref.result.now,
       c.deref-2.result.now,
       record { first_read = rw c.deref.ensures texts.first_read; second_read = rw c.deref-2.ensures texts.second_read },
-      ⊎_elim (λ stop. inl (stop.why, stop.unread, stop.unsaid))
-          (λ held. inr (
-            held.0,
-            held.1,
-            held.2,
-            ⊎_elim (λ unsaid. unsaid.2) (λ copying. absurd (true≢false (sym copying.wanted))) held.3,
-          ))
-          both.0,
+      both.0,
       both.1,
     ))

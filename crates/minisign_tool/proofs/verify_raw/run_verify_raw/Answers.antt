@@ -10,5 +10,5 @@ returns-in-Ok-clause-accepted g c ended =
       held = read.held;
       read = read.read;
       vouched = read.vouched;
-      said = (_, c.warn.ensures, read.said, c.in-Ok.ensures.calm);
+      said = (_, c.warn.ensures, read.said, c.in-Ok.ensures.no_new_fault);
     }

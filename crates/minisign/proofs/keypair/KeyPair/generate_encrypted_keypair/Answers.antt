@@ -1,7 +1,7 @@
 use Rattle.std.proofs.Common.{◌≡◌, ℕ, List, ◌++◌, length, inr, arith}
 use Rattle.std.proofs.lemmas.List.{length-append}
 use Rattle.std.proofs.lemmas.Result.{IfErr-weaker, IfOk-weaker}
-use Rattle.minisign_base.specs.Passages.{random_passage}
+use Rattle.minisign_base.specs.DeviceCalls.{random_call}
 use Rattle.minisign.specs.Generation.{IsSealedPair}
 use Rattle.minisign.proofs.GeneratedKeys.{sealed_pair}
 use Rattle.minisign.proofs.keypair.KeyPair.generate_encrypted_keypair.Goals as goal
@@ -9,7 +9,7 @@ use Rattle.minisign.proofs.keypair.KeyPair.generate_encrypted_keypair.Goals as g
 pub returns-clause-made : goal.returns-clause-made
 returns-clause-made g c =
     let public_of = g.S.Scheme.public_of c.args.scheme.now in
-    let z = random_passage g.Z.RandomSource c.args.random.now c.draw_with_salt.new.random in
+    let z = random_call g.Z.RandomSource c.args.random.now c.draw_with_salt.new.random in
     let seed : List ℕ = c.in_ok-drawn.drawn.seed in
     let keynum : List ℕ = c.in_ok-drawn.drawn.keynum in
     let salt : List ℕ = c.in_ok-drawn.drawn.salt in
@@ -25,4 +25,4 @@ returns-clause-refused g c =
     let salt : List ℕ = c.in_ok-drawn.drawn.salt in
     let count : length (seed ++ keynum ++ salt) ≡ 72 = simp length-append (omega (arith, c.in_ok-drawn.ensures.lengths.seed_length, c.in_ok-drawn.ensures.lengths.keynum_length, c.in_ok-drawn.ensures.salt)) in
     IfErr-weaker c.seal_pair.result _ _ (λ e failed.
-    inr (record { bytes = seed ++ keynum ++ salt; count = count; drawn = c.in_ok-drawn.ensures.drawn; calm = c.in_ok-drawn.ensures.calm }, failed)) c.seal_pair.ensures.refused
+    inr (record { bytes = seed ++ keynum ++ salt; count = count; drawn = c.in_ok-drawn.ensures.drawn; no_new_fault = c.in_ok-drawn.ensures.no_new_fault }, failed)) c.seal_pair.ensures.refused

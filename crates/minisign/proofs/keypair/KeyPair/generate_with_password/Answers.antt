@@ -1,14 +1,14 @@
 use Rattle.std.proofs.Common.{◌≡◌, ◌≤◌, ℕ, List, ◌++◌, length, inr, arith}
 use Rattle.std.proofs.lemmas.List.{length-append}
 use Rattle.std.proofs.lemmas.Result.{IfErr-weaker, IfOk-weaker}
-use Rattle.minisign_base.specs.Passages.{random_passage}
+use Rattle.minisign_base.specs.DeviceCalls.{random_call}
 use Rattle.minisign.proofs.GeneratedKeys.{sealed_pair}
 use Rattle.minisign.proofs.keypair.KeyPair.generate_with_password.Goals as goal
 
 pub returns-clause-opens : goal.returns-clause-opens
 returns-clause-opens g c =
     let public_of = g.S.Scheme.public_of c.args.scheme.now in
-    let z = random_passage g.Z.RandomSource c.args.random.now c.draw_with_salt.new.random in
+    let z = random_call g.Z.RandomSource c.args.random.now c.draw_with_salt.new.random in
     let drawn = c.in_ok-drawn.ensures in
     IfOk-weaker c.make_sealed_pair.result _ _
     (λ pair sealed. sealed_pair public_of c.args.password.now z pair.pk pair.sk
@@ -24,5 +24,5 @@ returns-clause-refused g c =
     let count : length (seed ++ keynum ++ salt) ≡ 72 = simp length-append (omega (arith, drawn.lengths.seed_length, drawn.lengths.keynum_length, drawn.salt)) in
     let short : length c.args.password.now ≤ 1024 = omega (arith, c.if-password-gt-PASSWORD_BYTES.false) in
     IfErr-weaker c.make_sealed_pair.result _ _
-    (λ e memory. inr (short, inr (record { bytes = seed ++ keynum ++ salt; count = count; drawn = drawn.drawn; calm = drawn.calm }, memory)))
+    (λ e memory. inr (short, inr (record { bytes = seed ++ keynum ++ salt; count = count; drawn = drawn.drawn; no_new_fault = drawn.no_new_fault }, memory)))
     c.make_sealed_pair.ensures.refused

@@ -13,8 +13,8 @@ err_side (Err e) P Q B f h = f e h
 pub returns-clause-held : goal.returns-clause-held
 returns-clause-held g c =
     let said = c.say_done.new.prompt in
-    ok_side c.check_restored.result _ _ _ (λ none. (said, c.in_ok-say_done.ensures.said, (said, (none, refl), refl))) c.check_restored.ensures
+    ok_side c.check_restored.result _ _ _ (λ none. (said, c.in_ok-say_done.ensures.ended, (said, (none, refl), refl))) c.check_restored.ensures
 
 pub returns-clause-refused : goal.returns-clause-refused
 returns-clause-refused g c =
-    err_side c.check_restored.result _ _ _ (λ e wrong. inr (c.say_done.new.prompt, c.in_ok-say_done.ensures.said, inl (wrong, refl))) c.check_restored.ensures
+    err_side c.check_restored.result _ _ _ (λ e wrong. inr (c.say_done.new.prompt, c.in_ok-say_done.ensures.ended, inl (wrong, refl))) c.check_restored.ensures

@@ -8,11 +8,11 @@ rest-preserved g c =
     let at = c.rest.at in
     let n = c.in_ok-at.field-0 in
     let xs = c.args.bytes.now in
-    let (within, taken, calm, unflushed) = c.rest.invariant in
+    let (within, taken, no_new_fault, unflushed) = c.rest.invariant in
     let bound = rw take_rest at c.in_ok-at.ensures.bound in
     let bytes = rw take_rest at c.in_ok-at.ensures.bytes in (
       omega (arith, bound, length-drop at xs),
       rw (take-add at n xs) (Appends-trans _ _ _ _ _ taken bytes),
-      c.in_ok-at.ensures.calm ∙ calm,
+      c.in_ok-at.ensures.no_new_fault ∙ no_new_fault,
       c.in_ok-at.ensures.unflushed ∙ unflushed,
     )

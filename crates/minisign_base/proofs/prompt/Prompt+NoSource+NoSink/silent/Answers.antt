@@ -1,7 +1,7 @@
 use Rattle.std.proofs.Common.{◌≡◌, Err, refl, subst}
 use Rattle.minisign_base.specs.Fault.{Named}
 use Rattle.minisign_base.specs.declared.faults.NamedFault.TheVariants.{EndOfInput}
-use Rattle.minisign_base.specs.Prompts.{password_of}
+use Rattle.minisign_base.specs.Passwords.{password_of}
 use Rattle.minisign_base.proofs.prompt.Prompt+NoSource+NoSink.silent.Goals as goal
 
 pub returns : goal.returns

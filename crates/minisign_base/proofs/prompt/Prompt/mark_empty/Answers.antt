@@ -1,10 +1,18 @@
-use Rattle.std.proofs.Common.{◌≡◌, [], length, refl, sym}
+use Rattle.std.proofs.Common.{◌≡◌, [], length, Result, Ok, Err, inl, refl, sym}
+use Rattle.std.specs.Prelude.{⊤}
 use Rattle.std.proofs.lemmas.Bool.{eqb-true}
 use Rattle.std.proofs.lemmas.List.{nil_from_length}
-use Rattle.std.proofs.lemmas.Result.{on_ok_weaker}
+use Rattle.minisign_base.specs.Fault.{Fault}
+use Rattle.minisign_base.specs.DeviceCalls.{PromptCall, prompt_call}
+use Rattle.minisign_base.specs.Prompts.{ConversationEnds, Say, StepEnds, empty_mark, marking}
 use Rattle.minisign_base.proofs.prompt.Prompt.mark_empty.Goals as goal
 
-pub returns-clause-marked : goal.returns-clause-marked
-returns-clause-marked g c =
+-- a conversation of one step ends as that step does
+marked : {R W : Type 0} (p : PromptCall R W) (answer : Result ⊤ Fault) → StepEnds p (Say empty_mark) answer → ConversationEnds p (marking []) answer
+marked p (Ok _) said = (p.new, said, refl)
+marked p (Err e) said = inl said
+
+pub returns : goal.returns
+returns g c =
     let none : c.args.password.now ≡ [] = nil_from_length c.args.password.now (eqb-true (length c.args.password.now) 0 (sym c.if-not-is_empty.ensures)) in
-    rw none (on_ok_weaker c.say.result (λ said. (c.say.new.self, said, refl)) c.say.ensures.said)
+    record { ended = rw none (marked (prompt_call g.R.Source g.W.Sink c.args.self.now c.say.new.self) c.say.result c.say.ensures.ended) }

@@ -1,0 +1,58 @@
+#!/usr/bin/env python3
+"""Times `c/minisign-install` over a file of 1 GiB by the clock, beside what a person would do by hand: `cat` into a stage,
+`sync` of it and `mv`, and `b2sum` of the data. They take turns, and each ratio is that of one turn to its two others together.
+
+    bench/installing.py [FOLDER] [PROGRAM]
+
+The files are made in FOLDER, or else in a temporary one, which has to be on a disk. PROGRAM is a `minisign-install`; where
+none is named it is built.
+
+Needs: Python 3.9 or later, make, a C compiler, libsodium with its header, minisign and coreutils; 4 GiB of room.
+"""
+
+import os
+import statistics
+import sys
+import tempfile
+
+from timing import installed, measured
+
+# Of the tests, whose folder `timing` adds.
+import needs
+import static_library
+
+SIZE = 1 << 30
+TURNS = 5
+BY_HAND = ["sh", "-c", "cat data > stage && sync stage && mv stage place"]
+
+
+def build(folder):
+    program = os.path.join(folder, "out", "minisign-install")
+    static_library.run_make(f"OUT={folder}/out", f"CC={needs.libsodium()}", program)
+    return program
+
+
+def main():
+    minisign = installed(needs.minisign)
+    with tempfile.TemporaryDirectory(dir=sys.argv[1] if len(sys.argv) > 1 else None) as folder:
+        program = os.path.abspath(sys.argv[2]) if len(sys.argv) > 2 else build(folder)
+        os.chdir(folder)
+        with open("data", "wb") as data, open("/dev/urandom", "rb") as random:
+            for _ in range(SIZE >> 20):
+                data.write(random.read(1 << 20))
+            os.fsync(data.fileno())
+        measured([minisign, "-G", "-W", "-p", "key.pub", "-s", "key.key"])
+        measured([minisign, "-S", "-s", "key.key", "-m", "data", "-x", "sig", "-t", "timestamp:1\tfile:installed"])
+        commands = {"cat, sync, mv": BY_HAND, "b2sum": ["b2sum", "data"],
+                    "minisign-install": [program, "--first", "key.pub", "data", "sig", "installed"]}
+        turns = [{name: measured(command) for name, command in commands.items()} for _ in range(TURNS)]
+    for name in commands:
+        print(f"{name:20} {statistics.median(it[name].seconds for it in turns):8.2f} s "
+              f"{statistics.median(it[name].processor_seconds for it in turns):8.2f} s of the processor "
+              f"{max(it[name].memory for it in turns):8.1f} MiB")
+    ratio = statistics.median(it["minisign-install"].seconds / (it["cat, sync, mv"].seconds + it["b2sum"].seconds) for it in turns)
+    print(f"minisign-install takes {ratio:.2f} of the time of the two together")
+
+
+if __name__ == "__main__":
+    main()

@@ -1,0 +1,362 @@
+/*
+ * minisign-install PK DATA SIG PLACE: installs an update that two texts vouch for, and nothing else.
+ *
+ * The machine of minisign.h says which call is due, and judges: the texts, the data as it was staged, and the comment
+ * that was signed with it. This program makes the call that is due (folder.h) and tells how it went; libsodium says
+ * what Ed25519 accepts. Nothing here decides what comes next, what is refused or what is removed.
+ */
+#define _POSIX_C_SOURCE 200809L
+
+#include <errno.h>
+#include <fcntl.h>
+#include <signal.h>
+#include <stdbool.h>
+#include <stdio.h>
+#include <stdlib.h>
+#include <string.h>
+#include <sys/stat.h>
+#include <unistd.h>
+
+#include <sodium.h>
+
+#include "folder.h"
+#include "minisign.h"
+#include "progress.h"
+#include "report.h"
+#include "requests.h"
+
+#define TEXT_BYTES (1 << 20)
+#define PIECE_BYTES (256 << 10)
+
+#define TOO_LONG "it is longer than it may be"
+
+/* The text of a key or a signature, and one byte more, which none may have. */
+struct text {
+    uint8_t bytes[TEXT_BYTES + 1];
+    size_t len;
+};
+
+/* The data that is copied, and why it could not be read to its end: the number of errno, or that it is too long. */
+struct data {
+    int fd;
+    /* How many bytes may come. */
+    uint64_t most;
+    int number;
+    bool is_too_long;
+    struct steps copied;
+    struct steps verified;
+};
+
+static struct text key, signature;
+static uint8_t piece[PIECE_BYTES];
+
+/* ---- Files that are read ---- */
+
+static int open_file(const char *file)
+{
+    int fd;
+
+    do {
+        fd = open(file, O_RDONLY | O_CLOEXEC);
+    } while (fd < 0 && errno == EINTR);
+    if (fd < 0) {
+        say_answer(file, errno);
+        exit(FAILED);
+    }
+    return fd;
+}
+
+static ssize_t read_again(int fd, uint8_t *bytes, size_t room)
+{
+    ssize_t n;
+
+    do {
+        n = read(fd, bytes, room);
+    } while (n < 0 && errno == EINTR);
+    return n;
+}
+
+static _Noreturn void refuse_file(const char *file, const char *what)
+{
+    say(file, what);
+    exit(REFUSED);
+}
+
+static void read_text(struct text *text, const char *file)
+{
+    int fd = open_file(file);
+    ssize_t n;
+
+    do {
+        n = read_again(fd, text->bytes + text->len, sizeof text->bytes - text->len);
+        text->len += n > 0 ? (size_t) n : 0;
+    } while (n > 0 && text->len < sizeof text->bytes);
+    if (n < 0) {
+        say_answer(file, errno);
+        exit(FAILED);
+    }
+    close(fd);
+    if (text->len == sizeof text->bytes) {
+        refuse_file(file, TOO_LONG);
+    }
+    if (!is_text(text->bytes, text->len)) {
+        refuse_file(file, "it is no text in UTF-8");
+    }
+}
+
+static struct data open_data(const struct request *request)
+{
+    struct data data = { .fd = open_file(request->data), .most = request->most };
+    struct stat found;
+    bool is_sized = fstat(data.fd, &found) == 0 && S_ISREG(found.st_mode);
+
+    data.copied = begin_steps("copied", is_sized ? (uint64_t) found.st_size : 0);
+    data.verified = begin_steps("verified", 0);
+    return data;
+}
+
+/* ---- The calls that are due ---- */
+
+/* The machine is told of the call that is due alone: so it answers nothing else. */
+static void must(enum minisign_error error)
+{
+    if (error != MINISIGN_OK) {
+        abort();
+    }
+}
+
+/* Tells how a call went. */
+static void tell(minisign_installation *machine, enum minisign_error error)
+{
+    must(error == MINISIGN_OK ? minisign_install_done(machine) : minisign_install_failed(machine, error));
+}
+
+static void tell_record(minisign_installation *machine, struct folder *folder)
+{
+    uint8_t record[RECORD_BYTES];
+    size_t len = 0;
+    bool is_there;
+    enum minisign_error error = read_record(folder, record, &len, &is_there);
+
+    if (error != MINISIGN_OK) {
+        must(minisign_install_failed(machine, error));
+    } else if (is_there) {
+        must(minisign_install_record(machine, record, len));
+    } else {
+        must(minisign_install_no_record(machine));
+    }
+}
+
+/* Reads the next piece of the data: its length, 0 at the end, or -1 where it cannot be read, which is remembered. */
+static ssize_t read_data(struct data *data)
+{
+    ssize_t n = read_again(data->fd, piece, sizeof piece);
+
+    if (n < 0) {
+        data->number = errno;
+        return -1;
+    }
+    if ((uint64_t) n > data->most) {
+        data->is_too_long = true;
+        return -1;
+    }
+    data->most -= (uint64_t) n;
+    return n;
+}
+
+static void copy_piece(minisign_installation *machine, struct data *data, struct folder *folder)
+{
+    ssize_t n = read_data(data);
+    enum minisign_error error =
+        n < 0 ? MINISIGN_READING_FAILED : write_stage(folder, &folder->update, piece, (size_t) n);
+
+    if (n > 0 && error == MINISIGN_OK) {
+        show_steps(&data->copied, (uint64_t) n);
+        must(minisign_install_more(machine));
+    } else {
+        end_steps(&data->copied);
+        tell(machine, error);
+    }
+}
+
+static void read_piece(minisign_installation *machine, struct data *data, struct folder *folder)
+{
+    size_t len = 0;
+    enum minisign_error error = read_stage(folder, &folder->update, piece, sizeof piece, &len);
+
+    show_steps(&data->verified, len);
+    if (len == 0) {
+        end_steps(&data->verified);
+    }
+    must(error == MINISIGN_OK ? minisign_install_piece(machine, piece, len) : minisign_install_failed(machine, error));
+}
+
+/* What Ed25519 answers to one of the questions. */
+static enum minisign_answer answer_of(const uint8_t signed_by[64], const uint8_t *bytes, size_t len, const uint8_t by[32])
+{
+    return crypto_sign_verify_detached(signed_by, bytes, len, by) == 0 ? MINISIGN_ANSWER_YES : MINISIGN_ANSWER_NO;
+}
+
+/* Has Ed25519 answer the questions, where the texts do not refuse already. The message has room enough. */
+static void answer(minisign_installation *machine, const struct request *request, const struct folder *folder)
+{
+    static uint8_t message[TEXT_BYTES];
+    const char *name = request->name == NULL ? folder->place.name : request->name;
+    minisign_external q;
+
+    if (minisign_install_ask(machine, key.bytes, key.len, signature.bytes, signature.len, (const uint8_t *) name,
+                             strlen(name), request->numbering, &q, message, sizeof message)
+        == MINISIGN_OK) {
+        enum minisign_answer first = answer_of(q.signature, q.digest, sizeof q.digest, q.public_key);
+        enum minisign_answer second = answer_of(q.comment_signature, message, q.message_len, q.public_key);
+        enum minisign_error refused = minisign_install_answer(machine, first, second);
+
+        /* The machine keeps why. */
+        (void) refused;
+    }
+}
+
+static void write_number(minisign_installation *machine, struct folder *folder)
+{
+    uint8_t digits[MINISIGN_NUMBER_TEXT_BYTES];
+    size_t len = minisign_install_number_text(machine, digits, sizeof digits);
+
+    tell(machine, write_stage(folder, &folder->number, digits, len));
+}
+
+/* Makes each call that is due. */
+static void install(minisign_installation *machine, const struct request *request, struct data *data, struct folder *folder)
+{
+    for (;;) {
+        switch ((enum minisign_due) minisign_install_due(machine)) {
+        case MINISIGN_DUE_LOCK: tell(machine, lock_place(folder)); break;
+        case MINISIGN_DUE_CLEAR: tell(machine, remove_leftovers(folder)); break;
+        case MINISIGN_DUE_READ_RECORD: tell_record(machine, folder); break;
+        case MINISIGN_DUE_CREATE: tell(machine, create_stage(folder, &folder->update)); break;
+        case MINISIGN_DUE_COPY: copy_piece(machine, data, folder); break;
+        case MINISIGN_DUE_READ_BACK: read_piece(machine, data, folder); break;
+        case MINISIGN_DUE_ANSWER: answer(machine, request, folder); break;
+        case MINISIGN_DUE_TAKE_RIGHTS: tell(machine, take_rights(folder)); break;
+        case MINISIGN_DUE_SETTLE: tell(machine, settle_stage(folder, &folder->update)); break;
+        case MINISIGN_DUE_CREATE_RECORD: tell(machine, create_stage(folder, &folder->number)); break;
+        case MINISIGN_DUE_WRITE_RECORD: write_number(machine, folder); break;
+        case MINISIGN_DUE_SETTLE_RECORD: tell(machine, settle_stage(folder, &folder->number)); break;
+        case MINISIGN_DUE_RENAME_RECORD: tell(machine, rename_stage(folder, &folder->number, &folder->record)); break;
+        case MINISIGN_DUE_SETTLE_RECORD_NAME: tell(machine, settle_names(folder)); break;
+        case MINISIGN_DUE_RENAME: tell(machine, rename_stage(folder, &folder->update, &folder->place)); break;
+        case MINISIGN_DUE_SETTLE_NAME: tell(machine, settle_names(folder)); break;
+        case MINISIGN_DUE_REMOVE_RECORD: tell(machine, remove_stage(folder, &folder->number)); break;
+        case MINISIGN_DUE_REMOVE: tell(machine, remove_stage(folder, &folder->update)); break;
+        case MINISIGN_DUE_INSTALLED:
+        case MINISIGN_DUE_REFUSED: return;
+        }
+    }
+}
+
+/* ---- What came of it ---- */
+
+static enum status status_of(enum minisign_error error)
+{
+    switch (error) {
+    case MINISIGN_OK: return INSTALLED;
+    case MINISIGN_OUT_OF_MEMORY:
+    case MINISIGN_READING_FAILED:
+    case MINISIGN_WRITING_FAILED:
+    case MINISIGN_RANDOM_SOURCE_FAILED: return FAILED;
+    case MINISIGN_OLDER_UPDATE: return OLDER;
+    case MINISIGN_PLACE_IN_USE: return IN_USE;
+    case MINISIGN_FOLDER_NOT_ON_DISK: return NOT_ON_DISK;
+    case MINISIGN_NO_RECORD:
+    case MINISIGN_DAMAGED_RECORD: return UNRECORDED;
+    default: return REFUSED;
+    }
+}
+
+/* The path of the file that an error is about. */
+static const char *blamed(const struct request *request, enum minisign_error error)
+{
+    uint8_t public_key[32], key_id[8];
+
+    switch (error) {
+    case MINISIGN_SIGNATURE_REFUSED:
+    case MINISIGN_OLDER_UPDATE: return request->data;
+    case MINISIGN_OUT_OF_MEMORY:
+    case MINISIGN_READING_FAILED:
+    case MINISIGN_WRITING_FAILED:
+    case MINISIGN_RANDOM_SOURCE_FAILED:
+    case MINISIGN_PLACE_IN_USE:
+    case MINISIGN_NO_RECORD:
+    case MINISIGN_DAMAGED_RECORD:
+    case MINISIGN_FOLDER_NOT_ON_DISK: return request->place;
+    default:
+        return minisign_read_public_key(key.bytes, key.len, public_key, key_id) == MINISIGN_OK ? request->signature
+                                                                                              : request->key;
+    }
+}
+
+/* Says why the update is not installed, or not for good: the exit status. */
+static enum status report(const struct request *request, const struct data *data, const struct folder *folder,
+                          enum minisign_error error)
+{
+    char text[MINISIGN_ERROR_TEXT_BYTES];
+    enum status status = status_of(error);
+
+    minisign_error_text(error, text, sizeof text);
+    if (status == FAILED && data->is_too_long) {
+        say(request->data, TOO_LONG);
+        return REFUSED;
+    }
+    if (status == FAILED && data->number != 0) {
+        say_answer(request->data, data->number);
+    } else if (status != FAILED || !say_trouble(folder)) {
+        say(blamed(request, error), text);
+    }
+    if (status == NOT_ON_DISK) {
+        say_trouble(folder);
+    }
+    return status;
+}
+
+/* ---- The program ---- */
+
+/* No file may get the number of a standard stream that is closed, into which a line would go. */
+static void hold_streams(void)
+{
+    for (int fd = STDIN_FILENO; fd <= STDERR_FILENO; fd++) {
+        if (fcntl(fd, F_GETFD) < 0 && open("/", O_RDONLY) != fd) {
+            exit(FAILED);
+        }
+    }
+}
+
+int main(int argc, char *argv[])
+{
+    static struct folder folder;
+    minisign_installation machine;
+    struct request request;
+    struct data data;
+    enum minisign_error error;
+
+    hold_streams();
+    /* A write that nobody reads, or beyond the system's bound on files, is a failed write and no signal. */
+    signal(SIGPIPE, SIG_IGN);
+    signal(SIGXFSZ, SIG_IGN);
+    request = read_request(argc, argv);
+    if (!name_folder(&folder, request.place)) {
+        say(request.place, "it does not end with the name of a file");
+        return MISUSED;
+    }
+    folder.has_mode = request.has_mode;
+    folder.mode = request.mode;
+    if (sodium_init() < 0) {
+        say(request.place, "libsodium could not be started");
+        return FAILED;
+    }
+    read_text(&key, request.key);
+    read_text(&signature, request.signature);
+    data = open_data(&request);
+    must(minisign_install_init(&machine, request.is_first ? 1 : 0));
+    install(&machine, &request, &data, &folder);
+    error = minisign_install_error(&machine);
+    return error == MINISIGN_OK ? INSTALLED : report(&request, &data, &folder, error);
+}

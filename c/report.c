@@ -1,0 +1,27 @@
+/* What minisign-install says. */
+#define _POSIX_C_SOURCE 200809L
+
+#include "report.h"
+
+#include <stdio.h>
+#include <string.h>
+
+#include "minisign.h"
+
+void say(const char *file, const char *what)
+{
+    fprintf(stderr, "error: %s: %s\n", file, what);
+}
+
+void say_answer(const char *file, int number)
+{
+    fprintf(stderr, "error: %s: %s (os error %d)\n", file, strerror(number), number);
+}
+
+/* This is the first thing that the library says of any text. */
+bool is_text(const uint8_t *bytes, size_t len)
+{
+    uint8_t public_key[32], key_id[8];
+
+    return minisign_read_public_key(bytes, len, public_key, key_id) != MINISIGN_NOT_UTF8;
+}

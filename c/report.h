@@ -1,0 +1,36 @@
+/*
+ * What minisign-install says, each line in one write, and its exit statuses. What cannot be written changes no status.
+ */
+#ifndef REPORT_H
+#define REPORT_H
+
+#include <stdbool.h>
+#include <stddef.h>
+#include <stdint.h>
+
+/* The exit statuses. */
+enum status {
+    INSTALLED = 0,
+    /* A file could not be used, memory ran out, or no random bytes came. */
+    FAILED = 1,
+    /* The words ask for nothing. */
+    MISUSED = 2,
+    REFUSED = 3,
+    OLDER = 4,
+    IN_USE = 5,
+    /* The update stands at the place, and a crash may bring back what stood there before. */
+    NOT_ON_DISK = 6,
+    /* No number is kept beside the place. */
+    UNRECORDED = 7
+};
+
+/* Says of a file what is wrong with it. */
+void say(const char *file, const char *what);
+
+/* Says of a file what the system answered, by the number of errno. */
+void say_answer(const char *file, int number);
+
+/* Whether bytes are UTF-8. */
+bool is_text(const uint8_t *bytes, size_t len);
+
+#endif

@@ -1,0 +1,199 @@
+/* The command line of minisign-install. */
+#define _POSIX_C_SOURCE 200809L
+
+#include "requests.h"
+
+#include <errno.h>
+#include <stdio.h>
+#include <stdlib.h>
+#include <string.h>
+
+#include "report.h"
+
+#define USAGE "usage: minisign-install [OPTION ..] PK DATA SIG PLACE\n"
+
+#define HELP \
+    "Installs DATA at PLACE if the texts of the public key PK and of the signature\n" \
+    "SIG vouch for it as the update that is wanted.\n" \
+    "\n" \
+    "  --first            take the update also where no number is kept beside PLACE\n" \
+    "  --numbering FIELD  the update's number is the field `timestamp` of the signed\n" \
+    "                     comment, as without this option, or `version`\n" \
+    "  --name NAME        the name that the signed comment has to have for the file;\n" \
+    "                     without this option it is the last part of PLACE\n" \
+    "  --mode MODE        the rights of the file, as 755; without this option it\n" \
+    "                     keeps the rights of the file at PLACE, but its group gets\n" \
+    "                     none that not all others have, and a new file is for its\n" \
+    "                     owner alone\n" \
+    "  --most BYTES       refuse data that is longer\n" \
+    "  --                 what follows are paths\n" \
+    "  --help             show this\n" \
+    "  --version          show the version of the program\n" \
+    "\n" \
+    "Each option comes at most once, anywhere before `--`. It ends with\n" \
+    "  0  the update was installed, or what was asked for was shown\n" \
+    "  1  a file could not be used, memory ran out, or no random bytes came\n" \
+    "  2  the words are no request\n" \
+    "  3  the update is refused\n" \
+    "  4  the update is older than what was installed\n" \
+    "  5  another installation is at work at this place\n" \
+    "  6  the update stands there, but a crash may bring back what stood there before\n" \
+    "  7  no number is kept beside PLACE, and `--first` was not given\n"
+
+enum { PATHS = 4 };
+
+/* The options that a value follows. */
+enum valued { NUMBERING, NAME, MODE, MOST, VALUED };
+
+static const char *const valued[VALUED] = { "--numbering", "--name", "--mode", "--most" };
+
+/* What the words say that were read: the values as they were written, or NULL. */
+struct line {
+    bool is_first;
+    const char *values[VALUED];
+    const char *paths[PATHS];
+    int count;
+};
+
+static _Noreturn void show(const char *first, const char *second)
+{
+    exit(fputs(first, stdout) >= 0 && fputs(second, stdout) >= 0 && fflush(stdout) == 0 ? INSTALLED : FAILED);
+}
+
+static _Noreturn void misuse(const char *word, const char *what)
+{
+    if (word != NULL) {
+        say(word, what);
+    } else {
+        fprintf(stderr, "error: %s\n", what);
+    }
+    fputs(USAGE, stderr);
+    exit(MISUSED);
+}
+
+static void add_path(struct line *line, const char *word)
+{
+    if (line->count == PATHS) {
+        misuse(word, "there are four paths, and this is a fifth");
+    }
+    line->paths[line->count++] = word;
+}
+
+static int valued_of(const char *word)
+{
+    int option = 0;
+
+    while (option < VALUED && strcmp(word, valued[option]) != 0) {
+        option++;
+    }
+    return option;
+}
+
+static struct line read_line(int argc, char *argv[])
+{
+    struct line line = { 0 };
+    bool is_ended = false;
+
+    for (int i = 1; i < argc; i++) {
+        const char *word = argv[i];
+        int option = valued_of(word);
+
+        if (is_ended || word[0] != '-' || word[1] == 0) {
+            add_path(&line, word);
+        } else if (strcmp(word, "--") == 0) {
+            is_ended = true;
+        } else if (strcmp(word, "--first") == 0) {
+            if (line.is_first) {
+                misuse(word, "it came before");
+            }
+            line.is_first = true;
+        } else if (option == VALUED) {
+            misuse(word, "there is no such option");
+        } else if (line.values[option] != NULL) {
+            misuse(word, "it came before");
+        } else if (++i == argc) {
+            misuse(NULL, "a value has to follow the last word");
+        } else {
+            line.values[option] = argv[i];
+        }
+    }
+    if (line.count < PATHS) {
+        misuse(NULL, "there are fewer than four paths");
+    }
+    return line;
+}
+
+static _Noreturn void refuse_value(const char *value)
+{
+    misuse(value, "the option before it has no such value");
+}
+
+static enum minisign_numbering numbering_of(const char *text)
+{
+    if (text == NULL || strcmp(text, "timestamp") == 0) {
+        return MINISIGN_NUMBERING_TIMESTAMP;
+    }
+    if (strcmp(text, "version") != 0) {
+        refuse_value(text);
+    }
+    return MINISIGN_NUMBERING_VERSION;
+}
+
+/* The rights that three octal digits write, before which a 0 may stand. */
+static mode_t mode_of(const char *text)
+{
+    size_t len = strlen(text);
+
+    if (strspn(text, "01234567") != len || !(len == 3 || (len == 4 && text[0] == '0'))) {
+        refuse_value(text);
+    }
+    return (mode_t) strtoul(text, NULL, 8);
+}
+
+/* The number that decimal digits write; a plus may stand before them. */
+static uint64_t number_of(const char *text)
+{
+    const char *digits = text[0] == '+' ? text + 1 : text;
+    unsigned long long number;
+
+    errno = 0;
+    number = strtoull(digits, NULL, 10);
+    if (digits[0] == 0 || strspn(digits, "0123456789") != strlen(digits) || errno != 0) {
+        refuse_value(text);
+    }
+    return number;
+}
+
+struct request read_request(int argc, char *argv[])
+{
+    struct request request = { .most = INT64_MAX };
+    struct line line;
+
+    for (int i = 1; i < argc; i++) {
+        if (!is_text((const uint8_t *) argv[i], strlen(argv[i]))) {
+            misuse(NULL, "an argument is not UTF-8");
+        }
+    }
+    if (argc == 2 && strcmp(argv[1], "--help") == 0) {
+        show(USAGE, HELP);
+    }
+    if (argc == 2 && strcmp(argv[1], "--version") == 0) {
+        show("minisign-install " MINISIGN_VERSION_TEXT "\n", "");
+    }
+    line = read_line(argc, argv);
+    request.is_first = line.is_first;
+    request.numbering = numbering_of(line.values[NUMBERING]);
+    request.name = line.values[NAME];
+    if (line.values[MODE] != NULL) {
+        request.has_mode = true;
+        request.mode = mode_of(line.values[MODE]);
+    }
+    if (line.values[MOST] != NULL) {
+        request.most = number_of(line.values[MOST]);
+    }
+    request.key = line.paths[0];
+    request.data = line.paths[1];
+    request.signature = line.paths[2];
+    request.place = line.paths[3];
+    return request;
+}

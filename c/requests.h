@@ -1,0 +1,36 @@
+/*
+ * What minisign-install is asked to do: its command line.
+ */
+#ifndef REQUESTS_H
+#define REQUESTS_H
+
+#include <stdbool.h>
+#include <stdint.h>
+#include <sys/types.h>
+
+#include "minisign.h"
+
+/* An installation that is asked for. */
+struct request {
+    /* Whether no number need be kept beside the place. */
+    bool is_first;
+    /* Which field of the signed comment has the number. */
+    enum minisign_numbering numbering;
+    /* The name that the signed comment has to have, or NULL: the place's. */
+    const char *name;
+    /* The rights of the file, if they are given. */
+    bool has_mode;
+    mode_t mode;
+    /* How many bytes the data may have. */
+    uint64_t most;
+    const char *key;
+    const char *data;
+    const char *signature;
+    const char *place;
+};
+
+/* Reads the command line. Ends the program where it asks for the help or the version, which it shows, and where it
+ * asks for nothing, which it says. */
+struct request read_request(int argc, char *argv[]);
+
+#endif

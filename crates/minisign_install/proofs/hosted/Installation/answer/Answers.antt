@@ -1,0 +1,54 @@
+use Rattle.std.proofs.Common.{◌≡◌, ℕ, List, inl, inr, refl, sym, subst, false}
+use Rattle.std.specs.declared.result.Result.{Result}
+use Rattle.std.specs.declared.result.Result.TheVariants.{Ok, Err}
+use Rattle.minisign.specs.Acceptance.{Verifier}
+use Rattle.minisign.specs.Calls.{TextsVouchWith}
+use Rattle.minisign.specs.Headline.{TextsRefuse}
+use Rattle.minisign_external.specs.States.{IsFaultOf}
+use Rattle.minisign_install.specs.Comments.{Says}
+use Rattle.minisign_install.specs.HostNumbers.{install_number}
+use Rattle.minisign_install.specs.Hosted.{GivesUpdate, IsDue}
+use Rattle.minisign_install.specs.Installing.{Terms}
+use Rattle.minisign_install.specs.Refusals.{IsCommentRefused}
+use Rattle.minisign_install.specs.declared.faults.InstallFault.{InstallFault}
+use Rattle.minisign_install.specs.declared.hosted.HostRefusal.{HostRefusal}
+use Rattle.minisign_install.specs.declared.hosted.HostRefusal.TheVariants.{Refused}
+use Rattle.minisign_install.specs.declared.hosted.Installation.{Installation}
+use Rattle.minisign_install.specs.declared.order.Due.TheVariants.{Remove, TakeRights}
+use Rattle.std.specs.Prelude.{MatchResult, ◌≤◌}
+use Rattle.minisign_install.proofs.Judgements.{vouched_with}
+use Rattle.minisign_install.proofs.hosted.Installation.answer.Goals as goal
+
+-- what came of the comment is told of a message that is vouched for
+known : {T : Type 0} (accepts : Verifier) (terms : Terms) (kept : ℕ) (message comment : List ℕ) (new : Installation) (r : Result T HostRefusal)
+    → TextsVouchWith accepts terms.pk_text terms.sig_text message false comment
+    → MatchResult r (λ _. (n : ℕ) × IsDue new (TakeRights n) × Says comment terms.file terms.numbering n × (kept ≤ n))
+    (λ q. (e : InstallFault) × (q ≡ Refused e) × IsDue new (Remove (install_number e)) × IsCommentRefused terms kept comment e)
+    → GivesUpdate accepts terms kept message new r
+known {T} accepts terms kept message comment new (Ok t) vouched (n, due, says, newer) =
+    (n, due, record { comment = comment; vouched = vouched; says = says; newer = newer })
+known {T} accepts terms kept message comment new (Err q) vouched (e, is, due, refused) =
+    subst (λ (q : HostRefusal). GivesUpdate {T = T} accepts terms kept message new (Err q)) (sym is) (due, inr (comment, vouched, refused))
+
+pub returns-in-Ok-clause-answer : goal.returns-in-Ok-clause-answer
+returns-in-Ok-clause-answer c = λ terms kept message accepts asking answers.
+    let v = c.in-Ok.ensures.verdict terms.pk_text terms.sig_text message false accepts asking.asked answers in
+    let judged = asking.judged v.box v.box_read.comments v.box_read v.box_read.box in
+    known accepts terms kept message v.box_read.comments.trusted c.take_judgement.new.self c.take_judgement.result
+    (vouched_with accepts terms.pk_text terms.sig_text message v) (c.take_judgement.ensures.judged terms kept v.box_read.comments.trusted judged)
+
+pub returns-in-Err-WrongUse-clause-answer : goal.returns-in-Err-WrongUse-clause-answer
+returns-in-Err-WrongUse-clause-answer c = λ terms kept message accepts asking answers.
+    absurd (subst (IsFaultOf (TextsRefuse accepts terms.pk_text terms.sig_text message false)) c.in-Err-WrongUse.field-0-is
+    (c.in-Err-WrongUse.ensures.verdict terms.pk_text terms.sig_text message false accepts asking.asked answers))
+
+pub returns-in-Err-Refused-clause-answer : goal.returns-in-Err-Refused-clause-answer
+returns-in-Err-Refused-clause-answer c = λ terms kept message accepts asking answers. (
+  c.remove_for.ensures.due,
+  inl (
+    _,
+    refl,
+    subst (IsFaultOf (TextsRefuse accepts terms.pk_text terms.sig_text message false)) c.in-Err-Refused.field-0-is
+        (c.in-Err-Refused.ensures.verdict terms.pk_text terms.sig_text message false accepts asking.asked answers),
+  ),
+)

@@ -1,0 +1,18 @@
+use Rattle.std.proofs.Common.{refl, take, ◌++◌, []}
+use Rattle.minisign_install.proofs.Pieces.{read_more}
+use Rattle.minisign_install.proofs.judging.feed.Goals as goal
+
+pub pieces-init : goal.pieces-init
+pieces-init g c = ([], c.new-state.ensures, λ known. refl)
+
+pub pieces-preserved : goal.pieces-preserved
+pieces-preserved g c =
+    let (done, fed, so_far) = c.pieces.invariant in
+    let at = c.pieces.at in
+    let n = c.in_ok-n.n in
+    let front = take n c.read_at.new.buf in
+    let xs = (g.F.Folder.run c.args.folder.now).now.holds (g.F.Handle.Handle.file c.args.handle.now) in (
+      done ++ front,
+      c.in-Ok.ensures.fed done fed,
+      λ known. read_more at n xs done front (so_far known) ((c.in_ok-n.ensures.read known).bytes),
+    )

@@ -1,0 +1,121 @@
+-- What an installation over a folder holds between two calls, and what each call that is due does to it.
+use Rattle.std.specs.Prelude.{◌≡◌, ⊤, ℕ, Bool, true, List, Option, IsNone, IsSome, IfSome}
+use Rattle.minisign.specs.Acceptance.{Verifier}
+use Rattle.minisign_external.specs.States.{IsFedState}
+use Rattle.minisign_install.specs.Folders.{Run}
+use Rattle.minisign_install.specs.Hosts.{Explains, Host, Makes, Setting}
+use Rattle.minisign_install.specs.Installing.{IsVouched, Terms}
+use Rattle.minisign_install.specs.Names.{drawn_bytes}
+use Rattle.minisign_install.specs.Refusals.{Counts}
+use Rattle.minisign_install.specs.declared.calls.Stage.{Stage}
+use Rattle.minisign_install.specs.declared.calls.Work.{Work}
+use Rattle.minisign_install.specs.declared.faults.InstallFault.{InstallFault}
+use Rattle.minisign_install.specs.declared.order.Due.{Due}
+use Rattle.minisign_install.specs.declared.order.Due.TheVariants.{Lock, Clear, ReadRecord, Create, Copy, ReadBack, Answer, TakeRights, Settle, CreateRecord, WriteRecord, SettleRecord, RenameRecord, SettleRecordName, Rename, SettleName, RemoveRecord, Remove, Installed, Refused}
+use Rattle.minisign_install.specs.declared.order.Outcome.{Outcome}
+use Rattle.minisign_install.specs.declared.order.Outcome.TheVariants.{Done, Number, Failed}
+use Rattle.std.specs.declared.result.Result.{Result}
+use Rattle.std.specs.declared.result.Result.TheVariants.{Ok, Err}
+
+-- a host at one moment
+abbrev pub host : Run → Option (List ℕ) → List ℕ → Counts → Host
+host run ahead read faults = record { run = run; ahead = ahead; read = read; faults = faults }
+
+-- the names and the files of the two stages, that of the update and that of the record
+pub record Names : Type 0 where
+  pub name : List ℕ
+  pub file : ℕ
+  pub record_name : List ℕ
+  pub record_file : ℕ
+
+-- what an installation is about, with these names
+abbrev pub setting : Verifier → Terms → Bool → Names → Setting
+setting accepts terms first names = record {
+  accepts = accepts;
+  terms = terms;
+  first = first;
+  name = names.name;
+  file = names.file;
+  record_name = names.record_name;
+  record_file = names.record_file;
+}
+
+-- a stage that was made has this name and this file
+abbrev pub IsNamed : {H : Type 0} → (H → ℕ) → Option (Stage H) → List ℕ → ℕ → Type 0
+IsNamed file_of made name file = IfSome made (λ stage. (drawn_bytes stage.name ≡ name) × (file_of stage.handle ≡ file))
+
+-- so have both
+abbrev pub AreNamed : {H : Type 0} → (H → ℕ) → Work H → Names → Type 0
+AreNamed file_of work names = IsNamed file_of work.stage names.name names.file × IsNamed file_of work.record_stage names.record_name names.record_file
+
+-- Which stages were made where this is due.
+abbrev pub HasMade : {E H : Type 0} → Due E → Work H → Type 0
+HasMade Lock work = IsNone work.stage × IsNone work.record_stage
+HasMade Clear work = IsNone work.stage × IsNone work.record_stage
+HasMade ReadRecord work = IsNone work.stage × IsNone work.record_stage
+HasMade (Create kept) work = IsNone work.stage × IsNone work.record_stage
+HasMade (Copy kept) work = IsSome work.stage × IsNone work.record_stage
+HasMade (ReadBack kept) work = IsSome work.stage × IsNone work.record_stage
+HasMade (Answer kept) work = IsSome work.stage × IsNone work.record_stage
+HasMade (TakeRights n) work = IsSome work.stage × IsNone work.record_stage
+HasMade (Settle n) work = IsSome work.stage × IsNone work.record_stage
+HasMade (CreateRecord n) work = IsSome work.stage × IsNone work.record_stage
+HasMade (WriteRecord n) work = IsSome work.stage × IsSome work.record_stage
+HasMade (SettleRecord n) work = IsSome work.stage × IsSome work.record_stage
+HasMade (RenameRecord n) work = IsSome work.stage × IsSome work.record_stage
+HasMade (SettleRecordName n) work = IsSome work.stage × IsSome work.record_stage
+HasMade (Rename n) work = IsSome work.stage × ⊤
+HasMade (SettleName n) work = IsSome work.stage × ⊤
+HasMade (RemoveRecord e) work = IsSome work.stage × IsSome work.record_stage
+HasMade (Remove e) work = IsSome work.stage × ⊤
+HasMade Installed work = ⊤ × ⊤
+HasMade (Refused e) work = ⊤ × ⊤
+
+-- What is known there of any folder: where the answers are due, the state was fed what was read back; and from there on
+-- it is an update.
+abbrev pub Knows : {E H : Type 0} → Verifier → Terms → Due E → Work H → List ℕ → Type 0
+Knows accepts terms (Answer kept) work read = IsFedState work.state read
+Knows accepts terms (TakeRights n) work read = IsVouched accepts terms
+Knows accepts terms due work read = ⊤
+
+-- the lock is held, but for the call that locks
+abbrev pub MayCall : {E : Type 0} → Due E → Run → Type 0
+MayCall Lock run = ⊤
+MayCall due run = run.locked ≡ true
+
+-- the call that was due was made, and went so; of a folder whose run is not known, only why it failed is said
+pub record Went (s : Setting) (due : Due InstallFault) (outcome : Outcome InstallFault) (h h' : Host) : Type 0 where
+  pub made : h.run.known ≡ true → MayCall due h.run → Makes s due outcome h h'
+  pub explained : Explains s due outcome h h'
+
+-- how many calls there may still be
+abbrev pub calls_left : {E : Type 0} → Due E → ℕ
+calls_left Lock = 18
+calls_left Clear = 17
+calls_left ReadRecord = 16
+calls_left (Create kept) = 15
+calls_left (Copy kept) = 14
+calls_left (ReadBack kept) = 13
+calls_left (Answer kept) = 12
+calls_left (TakeRights n) = 11
+calls_left (Settle n) = 10
+calls_left (CreateRecord n) = 9
+calls_left (WriteRecord n) = 8
+calls_left (SettleRecord n) = 7
+calls_left (RenameRecord n) = 6
+calls_left (SettleRecordName n) = 5
+calls_left (Rename n) = 4
+calls_left (SettleName n) = 3
+calls_left (RemoveRecord e) = 2
+calls_left (Remove e) = 1
+calls_left Installed = 0
+calls_left (Refused e) = 0
+
+-- what was done, or failed for this fault, or gave this number
+abbrev pub done_or : Result Unit InstallFault → Outcome InstallFault
+done_or (Ok done) = Done
+done_or (Err e) = Failed e
+
+abbrev pub number_or : Result ℕ InstallFault → Outcome InstallFault
+number_or (Ok n) = Number n
+number_or (Err e) = Failed e

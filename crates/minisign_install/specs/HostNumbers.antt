@@ -1,0 +1,36 @@
+-- The numbers by which a host in another language knows why an installation is refused, and what they mean.
+use Rattle.std.specs.Prelude.{◌≡◌, ℕ, List}
+use Rattle.minisign_external.specs.Numbers.{IsMeaning, fault_number}
+use Rattle.minisign_install.specs.Faults.{install_row}
+use Rattle.minisign_install.specs.declared.comments.Numbering.{Numbering}
+use Rattle.minisign_install.specs.declared.comments.Numbering.TheVariants.{Timestamp, Version}
+use Rattle.minisign_install.specs.declared.faults.InstallFault.{InstallFault}
+use Rattle.minisign_install.specs.declared.faults.InstallFault.TheVariants.{Library, PlaceInUse, NoRecord, DamagedRecord, OtherFile, NoNumber, OlderUpdate, FolderNotOnDisk}
+
+-- the number of a fault: of one of the library its own
+abbrev pub install_number : InstallFault → ℕ
+install_number (Library fault) = fault_number fault
+install_number PlaceInUse = 46
+install_number NoRecord = 47
+install_number DamagedRecord = 48
+install_number OtherFile = 49
+install_number NoNumber = 50
+install_number OlderUpdate = 51
+install_number FolderNotOnDisk = 52
+
+-- the text is what the number means: that of the fault of installing that has it; a fault of the library is reported
+-- without its identifiers
+pub record IsHostMeaning (n : ℕ) (text : List ℕ) : Type 0 where
+  pub library : IsMeaning n text
+  pub place_in_use : n ≡ install_number PlaceInUse → text ≡ (install_row PlaceInUse).text
+  pub no_record : n ≡ install_number NoRecord → text ≡ (install_row NoRecord).text
+  pub damaged_record : n ≡ install_number DamagedRecord → text ≡ (install_row DamagedRecord).text
+  pub other_file : n ≡ install_number OtherFile → text ≡ (install_row OtherFile).text
+  pub no_number : n ≡ install_number NoNumber → text ≡ (install_row NoNumber).text
+  pub older_update : n ≡ install_number OlderUpdate → text ≡ (install_row OlderUpdate).text
+  pub folder_not_on_disk : n ≡ install_number FolderNotOnDisk → text ≡ (install_row FolderNotOnDisk).text
+
+-- the numbers of the two places where a comment may have its number
+abbrev pub numbering_number : Numbering → ℕ
+numbering_number Timestamp = 0
+numbering_number Version = 1

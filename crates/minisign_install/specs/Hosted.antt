@@ -1,0 +1,296 @@
+-- What an installation that a host in another language holds stands for, and what its calls do.
+use Rattle.std.specs.Prelude.{◌≡◌, ◌⊎◌, ◌==◌, ◌||◌, ◌<◌, ◌≤◌, ℕ, Bool, true, false, if◌then◌else◌, List, [], length, nat_le, Option, Some, None, MatchResult}
+use Rattle.std.specs.declared.result.Result.{Result}
+use Rattle.std.specs.Str.{IsUtf8}
+use Rattle.std.specs.Io.BufRead.{strip_last}
+use Rattle.minisign_base.specs.Fault.{Fault, Named}
+use Rattle.minisign_base.specs.Faults.{fault_row}
+use Rattle.minisign_base.specs.declared.faults.NamedFault.TheVariants.{NotUtf8, OutOfMemory, RandomSourceFailed, ReadingFailed, WritingFailed}
+use Rattle.minisign.specs.Acceptance.{Verifier}
+use Rattle.minisign.specs.Records.{CommentsRecord, SignatureBoxRecord}
+use Rattle.minisign.specs.SignatureText.{SignatureText}
+use Rattle.minisign_external.specs.Numbers.{IsAnswer, misuse_number}
+use Rattle.minisign_external.specs.States.{HasAsked, IsAskingRefusal, IsNotFed, verdict_misuse}
+use Rattle.minisign_external.specs.declared.state.Misuse.{Misuse}
+use Rattle.minisign_external.specs.declared.state.Misuse.TheVariants.{BadAnswer, BadNumbering, NotDue}
+use Rattle.minisign_external.specs.declared.state.Refusal.TheVariants as asking
+use Rattle.minisign_install.specs.Comments.{Says}
+use Rattle.minisign_install.specs.HostNumbers.{install_number, numbering_number}
+use Rattle.minisign_install.specs.Installing.{IsKeptNumber, IsUpdate, Terms}
+use Rattle.minisign_install.specs.Order.{fits, next}
+use Rattle.minisign_install.specs.Refusals.{IsCommentRefused, IsDataRefused, IsRecordRefused}
+use Rattle.minisign_install.specs.declared.comments.Numbering.{Numbering}
+use Rattle.minisign_install.specs.declared.faults.InstallFault.{InstallFault}
+use Rattle.minisign_install.specs.declared.faults.InstallFault.TheVariants.{FolderNotOnDisk, Library, PlaceInUse}
+use Rattle.minisign_install.specs.declared.hosted.Installation.{Installation}
+use Rattle.minisign_install.specs.declared.hosted.HostRefusal.{HostRefusal}
+use Rattle.minisign_install.specs.declared.hosted.HostRefusal.TheVariants.{WrongUse, Refused}
+use Rattle.minisign_install.specs.declared.order.Due.{Due}
+use Rattle.minisign_install.specs.declared.order.Due.TheVariants.{Lock, Clear, ReadRecord, Create, Copy, ReadBack, Answer, TakeRights, Settle, CreateRecord, WriteRecord, SettleRecord, RenameRecord, SettleRecordName, Rename, SettleName, RemoveRecord, Remove}
+use Rattle.minisign_install.specs.declared.order.Due.TheVariants as ended
+use Rattle.minisign_install.specs.declared.order.Outcome.{Outcome}
+use Rattle.minisign_install.specs.declared.order.Outcome.TheVariants.{Done, More, Failed}
+
+-- the mark of an installation that was begun: "minstall"
+abbrev pub begun_mark : ℕ
+begun_mark = 7812726606361684333
+
+-- == What is due, in stored form ==
+
+-- the number of a call
+abbrev pub due_number : Due ℕ → ℕ
+due_number Lock = 1
+due_number Clear = 2
+due_number ReadRecord = 3
+due_number (Create kept) = 4
+due_number (Copy kept) = 5
+due_number (ReadBack kept) = 6
+due_number (Answer kept) = 7
+due_number (TakeRights n) = 8
+due_number (Settle n) = 9
+due_number (CreateRecord n) = 10
+due_number (WriteRecord n) = 11
+due_number (SettleRecord n) = 12
+due_number (RenameRecord n) = 13
+due_number (SettleRecordName n) = 14
+due_number (Rename n) = 15
+due_number (SettleName n) = 16
+due_number (RemoveRecord e) = 17
+due_number (Remove e) = 18
+due_number ended.Installed = 19
+due_number (ended.Refused e) = 20
+
+-- the number of an update, or of the record, that comes with the call
+abbrev pub due_update : Due ℕ → ℕ
+due_update (Create kept) = kept
+due_update (Copy kept) = kept
+due_update (ReadBack kept) = kept
+due_update (Answer kept) = kept
+due_update (TakeRights n) = n
+due_update (Settle n) = n
+due_update (CreateRecord n) = n
+due_update (WriteRecord n) = n
+due_update (SettleRecord n) = n
+due_update (RenameRecord n) = n
+due_update (SettleRecordName n) = n
+due_update (Rename n) = n
+due_update (SettleName n) = n
+due_update due = 0
+
+-- the number of the fault that comes with the call
+abbrev pub due_fault : Due ℕ → ℕ
+due_fault (RemoveRecord e) = e
+due_fault (Remove e) = e
+due_fault (ended.Refused e) = e
+due_fault due = 0
+
+-- what is due by a call's number, with the number and the fault that come with it
+abbrev pub due_from : ℕ → ℕ → ℕ → Option (Due ℕ)
+due_from call n e =
+    if call == 1 then Some Lock
+    else if call == 2 then Some Clear
+    else if call == 3 then Some ReadRecord
+    else if call == 4 then Some (Create n)
+    else if call == 5 then Some (Copy n)
+    else if call == 6 then Some (ReadBack n)
+    else if call == 7 then Some (Answer n)
+    else if call == 8 then Some (TakeRights n)
+    else if call == 9 then Some (Settle n)
+    else if call == 10 then Some (CreateRecord n)
+    else if call == 11 then Some (WriteRecord n)
+    else if call == 12 then Some (SettleRecord n)
+    else if call == 13 then Some (RenameRecord n)
+    else if call == 14 then Some (SettleRecordName n)
+    else if call == 15 then Some (Rename n)
+    else if call == 16 then Some (SettleName n)
+    else if call == 17 then Some (RemoveRecord e)
+    else if call == 18 then Some (Remove e)
+    else if call == 19 then Some ended.Installed
+    else if call == 20 then Some (ended.Refused e)
+    else None
+
+-- what is due of an installation; nothing of one that was never begun
+abbrev pub due_of : Installation → Option (Due ℕ)
+due_of i = if i.mark == begun_mark then due_from i.due i.number i.fault else None
+
+-- the installation is begun, and this is due
+abbrev pub IsDue : Installation → Due ℕ → Type 0
+IsDue i due = due_of i ≡ Some due
+
+-- all but what is due stays: what was fed and asked, whether this is the first installation, and what came of the
+-- signed comment
+pub record KeepsRest (old new : Installation) : Type 0 where
+  pub state : new.state ≡ old.state
+  pub is_first : new.is_first ≡ old.is_first
+  pub comment : new.comment ≡ old.comment
+  pub update : new.update ≡ old.update
+
+-- == Calls that go as they are told ==
+
+-- the call that was due went so, and the next one is due
+pub record HasGone (outcome : Outcome ℕ) (old new : Installation) : Type 0 where
+  pub was : Due ℕ
+  pub due : IsDue old was
+  pub fit : fits was outcome ≡ true
+  pub next_due : IsDue new (next was outcome)
+  pub rest : KeepsRest old new
+
+-- what is read back is fed by a call of its own
+abbrev pub is_read_back : Due ℕ → Bool
+is_read_back (ReadBack kept) = true
+is_read_back due = false
+
+-- no call is due that can go so and is not reading back
+abbrev pub CannotGo : Outcome ℕ → Installation → Type 0
+CannotGo outcome i = (due : Due ℕ) → IsDue i due → (fits due outcome ≡ false) ⊎ (is_read_back due ≡ true)
+
+-- a wrong use of an installation, which stays as it was
+abbrev pub IsNotDue : Type 0 → Installation → Installation → Misuse → Type 0
+IsNotDue P old new m = (m ≡ NotDue) × (new ≡ old) × P
+
+-- the numbers of the faults of devices and of memory
+abbrev pub is_device_fault : ℕ → Bool
+is_device_fault e =
+    (e == (fault_row OutOfMemory).number) || (e == (fault_row ReadingFailed).number)
+    || (e == (fault_row WritingFailed).number) || (e == (fault_row RandomSourceFailed).number)
+
+-- a call can fail for the fault of this number: a device failed or memory ran out; and the lock may be held by another
+abbrev pub is_failure : Due ℕ → ℕ → Bool
+is_failure Lock e = is_device_fault e || (e == install_number PlaceInUse)
+is_failure due e = is_device_fault e
+
+-- what it is refused for then: where the place's name could not be brought to the disk, for that
+abbrev pub failure : Due ℕ → ℕ → ℕ
+failure (SettleName n) e = install_number FolderNotOnDisk
+failure due e = e
+
+-- the call that was due failed for this fault
+pub record CallHasFailed (e : ℕ) (old new : Installation) : Type 0 where
+  pub was : Due ℕ
+  pub due : IsDue old was
+  pub can : is_failure was e ≡ true
+  pub gone : HasGone (Failed (failure was e)) old new
+
+-- no call is due that can fail so
+abbrev pub CannotFail : ℕ → Installation → Type 0
+CannotFail e i = (due : Due ℕ) → IsDue i due → (fits due (Failed (failure due e)) ≡ false) ⊎ (is_failure due e ≡ false)
+
+-- == The record ==
+
+-- what a record of these bytes is taken to say: the bytes without a line feed at their end, and nothing where there are
+-- more than 64 of them
+abbrev pub record_text : List ℕ → List ℕ
+record_text bytes = if nat_le (length bytes) 64 then strip_last 10 bytes else []
+
+-- by what the record was found to hold, its number is kept, or the run is refused
+abbrev pub HasReadRecord : Option (List ℕ) → Installation → Installation → Type 0
+HasReadRecord found old new =
+    IsDue old ReadRecord × KeepsRest old new
+    × (((kept : ℕ) × IsDue new (Create kept) × IsKeptNumber (old.is_first == 1) found kept)
+    ⊎ ((e : InstallFault) × IsDue new (ended.Refused (install_number e)) × IsRecordRefused (old.is_first == 1) found e))
+
+-- == Judging ==
+
+-- the updates that these arguments of a call want
+abbrev pub wanted_by : List ℕ → List ℕ → List ℕ → Numbering → Terms
+wanted_by pk_text sig_text file numbering = record { pk_text = pk_text; sig_text = sig_text; file = file; numbering = numbering }
+
+-- a piece was read back, or with none of it the end
+abbrev pub read_outcome : List ℕ → Outcome ℕ
+read_outcome piece = if length piece == 0 then Done else More
+
+-- the stage is read back, and this piece was, or its end
+pub record HasReadBack (piece : List ℕ) (old new : Installation) : Type 0 where
+  pub kept : ℕ
+  pub due : IsDue old (ReadBack kept)
+  pub next_due : IsDue new (next (ReadBack kept) (read_outcome piece))
+
+-- no stage is read back, or the state was never begun
+abbrev pub CannotBeFed : Installation → Misuse → Type 0
+CannotBeFed i m = ((m ≡ NotDue) × ((kept : ℕ) → ¬ (IsDue i (ReadBack kept)))) ⊎ IsNotFed i.state m
+
+-- what is kept of a signed comment: 1 and its number where it says that this is an update, or the number of the
+-- first reason why not
+abbrev pub IsJudged : ℕ → ℕ → Terms → ℕ → List ℕ → Type 0
+IsJudged judged n terms kept comment =
+    ((judged ≡ 1) × Says comment terms.file terms.numbering n × (kept ≤ n))
+    ⊎ ((e : InstallFault) × (judged ≡ install_number e) × IsCommentRefused terms kept comment e)
+
+-- it is kept of the comment that the text of a signature has, which reads as one
+abbrev pub IsTextJudged : ℕ → ℕ → Terms → ℕ → Type 0
+IsTextJudged judged n terms kept =
+    (x : SignatureBoxRecord) (c : CommentsRecord) → SignatureText terms.sig_text x → x.comments ≡ Some c → IsJudged judged n terms kept c.trusted
+
+-- The questions of the two texts were asked, where this number was kept, and the comment of the box that the second
+-- one reads as was judged.
+pub record IsAsking (i : Installation) (terms : Terms) (kept : ℕ) : Type 0 where
+  pub due : IsDue i (Answer kept)
+  pub asked : HasAsked i.state terms.pk_text terms.sig_text false
+  pub judged : IsTextJudged i.comment i.update terms kept
+
+-- asking was refused: it is not due, or the state is used wrongly or has no room for the message, and nothing changes;
+-- or the name of the file or a text is not UTF-8, or the texts are refused, whatever the data and the scheme: then the
+-- stage is to be removed, for that
+abbrev pub IsAskRefusal : Installation → Installation → List ℕ → List ℕ → List ℕ → List ℕ → HostRefusal → Type 0
+IsAskRefusal old new pk_text sig_text file bytes (WrongUse m) =
+    (new ≡ old) × (((m ≡ NotDue) × ((kept : ℕ) → ¬ (IsDue old (Answer kept))))
+    ⊎ IsAskingRefusal old.state pk_text sig_text false bytes (asking.WrongUse m))
+IsAskRefusal old new pk_text sig_text file bytes (Refused e) =
+    KeepsRest old new × (kept : ℕ) × IsDue old (Answer kept) × IsDue new (Remove (install_number e))
+    × (fault : Fault) × (e ≡ Library fault)
+    × (((fault ≡ Named NotUtf8) × ¬ (IsUtf8 file)) ⊎ (IsUtf8 file × IsAskingRefusal old.state pk_text sig_text false bytes (asking.Refused fault)))
+
+-- the number of a refusal
+abbrev pub host_number : HostRefusal → ℕ
+host_number (WrongUse m) = misuse_number m
+host_number (Refused e) = install_number e
+
+-- an update is refused: the stage is to be removed, for the first reason
+abbrev pub IsUpdateRefusal : Verifier → Terms → ℕ → List ℕ → Installation → HostRefusal → Type 0
+IsUpdateRefusal accepts terms kept message new (WrongUse m) = ⊥
+IsUpdateRefusal accepts terms kept message new (Refused e) = IsDue new (Remove (install_number e)) × IsDataRefused accepts terms kept message e
+
+-- what is read back is an update of this number, and its rights are due; or it is none
+abbrev pub GivesUpdate : {T : Type 0} → Verifier → Terms → ℕ → List ℕ → Installation → Result T HostRefusal → Type 0
+GivesUpdate accepts terms kept message new r =
+    MatchResult r (λ _. (n : ℕ) × IsDue new (TakeRights n) × IsUpdate accepts terms kept message n)
+    (IsUpdateRefusal accepts terms kept message new)
+
+-- no success: the answers are not due, or no questions were asked, and nothing changes; or the stage is to be removed
+abbrev pub IsAnswerRefusal : Installation → Installation → HostRefusal → Type 0
+IsAnswerRefusal old new (WrongUse m) =
+    (new ≡ old) × (((m ≡ NotDue) × ((kept : ℕ) → ¬ (IsDue old (Answer kept)))) ⊎ (m ≡ verdict_misuse old.state))
+IsAnswerRefusal old new (Refused e) = (kept : ℕ) × IsDue old (Answer kept) × IsDue new (Remove (install_number e))
+
+-- a signed comment that is passed in is judged: it or the name is not UTF-8, or it is refused
+abbrev pub IsCommentFault : List ℕ → Terms → ℕ → InstallFault → Type 0
+IsCommentFault comment terms kept e =
+    ((e ≡ Library (Named NotUtf8)) × ¬ (IsUtf8 comment × IsUtf8 terms.file))
+    ⊎ (IsUtf8 comment × IsUtf8 terms.file × IsCommentRefused terms kept comment e)
+
+-- == The same by numbers ==
+
+-- asking was refused, by number: a numbering that is none, or as above
+abbrev pub IsAskNumber : Installation → Installation → List ℕ → List ℕ → List ℕ → ℕ → List ℕ → ℕ → Type 0
+IsAskNumber old new pk_text sig_text file numbering bytes n =
+    ((n ≡ misuse_number BadNumbering) × (1 < numbering) × (new ≡ old))
+    ⊎ ((r : HostRefusal) × (n ≡ host_number r) × IsAskRefusal old new pk_text sig_text file bytes r)
+
+-- what is read back is an update, and its rights are due; or it is none, and the stage is to be removed for the first
+-- reason, whose number this is
+abbrev pub GivesUpdateNumber : Verifier → Terms → ℕ → List ℕ → Installation → ℕ → Type 0
+GivesUpdateNumber accepts terms kept message new n =
+    ((n ≡ 0) × (update : ℕ) × IsDue new (TakeRights update) × IsUpdate accepts terms kept message update)
+    ⊎ ((0 < n) × (e : InstallFault) × (n ≡ install_number e) × IsDue new (Remove n) × IsDataRefused accepts terms kept message e)
+
+-- no success, by number: an answer is none, and nothing changes; or as above
+abbrev pub IsAnswerNumber : Installation → Installation → ℕ → ℕ → ℕ → Type 0
+IsAnswerNumber old new first second n =
+    ((n ≡ misuse_number BadAnswer) × (¬ (IsAnswer first) ⊎ ¬ (IsAnswer second)) × (new ≡ old))
+    ⊎ (IsAnswer first × IsAnswer second × (r : HostRefusal) × (n ≡ host_number r) × IsAnswerRefusal old new r)
+
+-- a signed comment is refused, by number
+abbrev pub IsCommentNumber : List ℕ → List ℕ → ℕ → ℕ → ℕ → Type 0
+IsCommentNumber comment file numbering kept n =
+    ((n ≡ misuse_number BadNumbering) × (1 < numbering))
+    ⊎ ((k : Numbering) × (numbering ≡ numbering_number k) × (e : InstallFault) × (n ≡ install_number e) × IsCommentFault comment (wanted_by [] [] file k) kept e)

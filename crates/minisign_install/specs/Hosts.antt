@@ -1,0 +1,165 @@
+-- A host that installs an update by making each call as it is due, and saying how it went: what one such call does to
+-- the folder, and what all of them do, one after another.
+use Rattle.std.specs.Prelude.{◌≡◌, ◌⊎◌, ℕ, List, [], ◌∷◌, ◌++◌, Bool, Option, ⊤}
+use Rattle.std.specs.Fmt.{decimal}
+use Rattle.std.specs.Io.KnownBytes.{Consumes, IsAtEnd}
+use Rattle.std.specs.List.{concat}
+use Rattle.minisign_base.specs.Devices.{Rose}
+use Rattle.minisign_base.specs.Fault.{Named}
+use Rattle.minisign_base.specs.declared.faults.NamedFault.TheVariants.{WritingFailed}
+use Rattle.minisign.specs.Acceptance.{Verifier}
+use Rattle.minisign_install.specs.Folders.{Appends, Clears, ClearsAll, GivesRights, HasCreated, HasLocked, HasRenamed, HasStepped, IsBusy, IsStill, KeepsNames, KeepsOwn, Moment, OwnsLess, Perhaps, Finds, Removes, Renames, Run, Settles, SettlesNames, Spoils, Known}
+use Rattle.minisign_install.specs.Installing.{HasInstalled, InstallsOnlyUpdates, IsKeptNumber, IsUpdate, Terms}
+use Rattle.minisign_install.specs.Order.{next}
+use Rattle.minisign_install.specs.Refusals.{Counts, IsDataRefused, IsDeviceFault, IsLibraryFault, IsRecordFault, IsRecordRefused, IsRefusal}
+use Rattle.minisign_install.specs.declared.faults.InstallFault.{InstallFault}
+use Rattle.minisign_install.specs.declared.faults.InstallFault.TheVariants.{FolderNotOnDisk, Library, PlaceInUse}
+use Rattle.minisign_install.specs.declared.folders.Name.TheVariants.{Place, Record}
+use Rattle.minisign_install.specs.declared.order.Due.{Due}
+use Rattle.minisign_install.specs.declared.order.Due.TheVariants.{Lock, Clear, ReadRecord, Create, Copy, ReadBack, Answer, TakeRights, Settle, CreateRecord, WriteRecord, SettleRecord, RenameRecord, SettleRecordName, Rename, SettleName, RemoveRecord, Remove}
+use Rattle.minisign_install.specs.declared.order.Outcome.{Outcome}
+use Rattle.minisign_install.specs.declared.order.Outcome.TheVariants.{Done, More, Number, Failed}
+
+-- what a run is about: what the signature scheme accepts, which update is wanted, whether it is the first one, and the
+-- names that are drawn for the stage and for that of the record, with the files that they are given to
+pub record Setting : Type 0 where
+  pub accepts : Verifier
+  pub terms : Terms
+  pub first : Bool
+  pub name : List ℕ
+  pub file : ℕ
+  pub record_name : List ℕ
+  pub record_file : ℕ
+
+-- a host: its folder's run so far, the data that is still ahead, what was read back of the stage, and how many faults
+-- its devices have counted
+pub record Host : Type 0 where
+  pub run : Run
+  pub ahead : Option (List ℕ)
+  pub read : List ℕ
+  pub faults : Counts
+
+-- only the folder was called, and this came of it
+abbrev pub OnFolder : (Run → Run → Type 0) → Host → Host → Type 0
+OnFolder call h h' = call h.run h'.run × (h'.ahead ≡ h.ahead) × (h'.read ≡ h.read)
+
+-- one call, with which no stage became or ceased to be the run's own
+abbrev pub Calls : (Moment → Moment → Type 0) → Run → Run → Type 0
+Calls call old new = HasStepped old new call × KeepsOwn old new
+
+-- one call that changed nothing, or none
+abbrev pub CallsNothing : Run → Run → Type 0
+CallsNothing old new = (new ≡ old) ⊎ Calls IsStill old new
+
+-- the file grew by one piece after another
+abbrev pub Writes : ℕ → List (List ℕ) → Run → Run → Type 0
+Writes file [] old new = new ≡ old
+Writes file (piece ∷ more) old new = (mid : Run) × Calls (Appends file piece) old mid × Writes file more mid new
+
+-- the file grew so, and then a call failed that may have changed it somehow, or none was made
+abbrev pub WritesInPart : ℕ → Run → Run → Type 0
+WritesInPart file old new = (pieces : List (List ℕ)) × (mid : Run) × Writes file pieces old mid × ((new ≡ mid) ⊎ Calls (Spoils file) mid new)
+
+-- a stage's name was removed, or this was tried
+abbrev pub Lets : List ℕ → (Moment → Moment → Type 0) → Run → Run → Type 0
+Lets name call old new = HasStepped old new call × OwnsLess name old new
+
+-- The call that was due was made as it was told, and went so.
+abbrev pub Makes : {E : Type 0} → Setting → Due E → Outcome E → Host → Host → Type 0
+Makes s Lock Done h h' = OnFolder (λ old new. HasLocked old new × KeepsOwn old new) h h'
+Makes s Lock (Failed e) h h' = OnFolder (Calls IsStill) h h'
+Makes s Clear Done h h' = OnFolder (Calls ClearsAll) h h'
+Makes s Clear (Failed e) h h' = OnFolder (Calls Clears) h h'
+Makes s ReadRecord (Number kept) h h' = OnFolder (λ old new. (found : Option (List ℕ)) × Calls (Finds Record found) old new × IsKeptNumber s.first found kept) h h'
+Makes s ReadRecord (Failed e) h h' = OnFolder (Calls IsStill) h h'
+Makes s (Create kept) Done h h' = OnFolder (HasCreated s.name s.file) h h'
+Makes s (Create kept) (Failed e) h h' = OnFolder CallsNothing h h'
+Makes s (Copy kept) More h h' = (pieces : List (List ℕ)) × Writes s.file pieces h.run h'.run × Consumes h.ahead h'.ahead (concat pieces) × (h'.read ≡ h.read)
+Makes s (Copy kept) Done h h' =
+    (pieces : List (List ℕ)) × Writes s.file pieces h.run h'.run × Consumes h.ahead h'.ahead (concat pieces) × IsAtEnd h'.ahead × (h'.read ≡ h.read)
+Makes s (Copy kept) (Failed e) h h' = WritesInPart s.file h.run h'.run
+Makes s (ReadBack kept) More h h' = (h'.run ≡ h.run) × ((piece : List ℕ) × (h'.read ≡ h.read ++ piece))
+Makes s (ReadBack kept) Done h h' = (h'.run ≡ h.run) × (h.run.now.holds s.file ≡ h'.read)
+Makes s (ReadBack kept) (Failed e) h h' = h'.run ≡ h.run
+Makes s (Answer kept) (Number n) h h' = (h'.run ≡ h.run) × IsUpdate s.accepts s.terms kept h.read n
+Makes s (Answer kept) (Failed e) h h' = h'.run ≡ h.run
+Makes s (TakeRights n) Done h h' = OnFolder (Calls (GivesRights s.file)) h h'
+Makes s (TakeRights n) (Failed e) h h' = OnFolder (Calls (Spoils s.file)) h h'
+Makes s (Settle n) Done h h' = OnFolder (Calls (Settles s.file)) h h'
+Makes s (Settle n) (Failed e) h h' = OnFolder (Calls (Spoils s.file)) h h'
+Makes s (CreateRecord n) Done h h' = OnFolder (HasCreated s.record_name s.record_file) h h'
+Makes s (CreateRecord n) (Failed e) h h' = OnFolder CallsNothing h h'
+Makes s (WriteRecord n) Done h h' = OnFolder (λ old new. (pieces : List (List ℕ)) × Writes s.record_file pieces old new × (concat pieces ≡ decimal n)) h h'
+Makes s (WriteRecord n) (Failed e) h h' = OnFolder (WritesInPart s.record_file) h h'
+Makes s (SettleRecord n) Done h h' = OnFolder (Calls (Settles s.record_file)) h h'
+Makes s (SettleRecord n) (Failed e) h h' = OnFolder (Calls (Spoils s.record_file)) h h'
+Makes s (RenameRecord n) Done h h' = OnFolder (HasRenamed s.record_name Record) h h'
+Makes s (RenameRecord n) (Failed e) h h' = OnFolder (Calls (Perhaps (Renames s.record_name Record))) h h'
+Makes s (SettleRecordName n) Done h h' = OnFolder (Calls SettlesNames) h h'
+Makes s (SettleRecordName n) (Failed e) h h' = OnFolder (Calls KeepsNames) h h'
+Makes s (Rename n) Done h h' = OnFolder (HasRenamed s.name Place) h h'
+Makes s (Rename n) (Failed e) h h' = OnFolder (Calls (Perhaps (Renames s.name Place))) h h'
+Makes s (SettleName n) Done h h' = OnFolder (Calls SettlesNames) h h'
+Makes s (SettleName n) (Failed e) h h' = OnFolder (Calls KeepsNames) h h'
+Makes s (RemoveRecord first) Done h h' = OnFolder (Lets s.record_name (Removes s.record_name)) h h'
+Makes s (RemoveRecord first) (Failed e) h h' = OnFolder (Lets s.record_name (Perhaps (Removes s.record_name))) h h'
+Makes s (Remove first) Done h h' = OnFolder (Lets s.name (Removes s.name)) h h'
+Makes s (Remove first) (Failed e) h h' = OnFolder (Lets s.name (Perhaps (Removes s.name))) h h'
+Makes s due outcome h h' = ⊥
+
+-- what was said of a call, and the host after it
+pub record Event (E : Type 0) : Type 0 where
+  pub outcome : Outcome E
+  pub host : Host
+
+-- Each call was made as it was due, from when this was due to when that is.
+abbrev pub HasRun : {E : Type 0} → Setting → Due E → Host → List (Event E) → Due E → Host → Type 0
+HasRun s due h [] due' h' = (due' ≡ due) × (h' ≡ h)
+HasRun s due h (event ∷ more) due' h' = Makes s due event.outcome h event.host × HasRun s (next due event.outcome) event.host more due' h'
+
+-- == Why a call failed ==
+
+-- memory ran out, or the device failed that the fault speaks of
+abbrev pub DeviceFails : InstallFault → Host → Host → Type 0
+DeviceFails e h h' = IsLibraryFault (IsDeviceFault h.faults h'.faults) e
+
+-- only the folder failed
+abbrev pub FolderFails : Host → Host → Type 0
+FolderFails h h' = (h'.faults.random ≡ h.faults.random) × (h'.faults.update ≡ h.faults.update) × Rose h.faults.folder h'.faults.folder
+
+-- The fault says why the call that was due failed: a device's, or what was found is refused.
+abbrev pub Blames : Setting → Due InstallFault → InstallFault → Host → Host → Type 0
+Blames s Lock e h h' = ((e ≡ PlaceInUse) × Known h.run (HasStepped h.run h'.run IsBusy)) ⊎ DeviceFails e h h'
+Blames s ReadRecord e h h' =
+    (IsRecordFault s.first e × Known h.run ((found : Option (List ℕ)) × HasStepped h.run h'.run (Finds Record found) × IsRecordRefused s.first found e))
+    ⊎ DeviceFails e h h'
+Blames s (Answer kept) e h h' = IsDataRefused s.accepts s.terms kept h.read e ⊎ DeviceFails e h h'
+Blames s (Rename n) e h h' = (e ≡ Library (Named WritingFailed)) × Rose h.faults.folder h'.faults.folder
+Blames s (SettleName n) e h h' = (e ≡ FolderNotOnDisk) × Rose h.faults.folder h'.faults.folder
+Blames s (RemoveRecord first) e h h' = FolderFails h h'
+Blames s (Remove first) e h h' = FolderFails h h'
+Blames s due e h h' = DeviceFails e h h'
+
+-- devices count their faults, and what is said of a call that failed is why it did
+abbrev pub Explains : Setting → Due InstallFault → Outcome InstallFault → Host → Host → Type 0
+Explains s due (Failed e) h h' = Blames s due e h h'
+Explains s due outcome h h' = h'.faults ≡ h.faults
+
+-- that is so of each call
+abbrev pub IsExplained : Setting → Due InstallFault → Host → List (Event InstallFault) → Type 0
+IsExplained s due h [] = ⊤
+IsExplained s due h (event ∷ more) = Explains s due event.outcome h event.host × IsExplained s (next due event.outcome) event.host more
+
+-- == What a run comes to ==
+
+-- no call was made yet, or only updates are installed
+abbrev pub RunsSafely : Setting → Run → Run → Type 0
+RunsSafely s old new = (new ≡ old) ⊎ InstallsOnlyUpdates s.accepts s.terms s.first old new
+
+-- the update that was ahead is installed, on the disk and for good, and its number with it
+abbrev pub RunHasInstalled : Setting → Option (List ℕ) → Run → Run → Type 0
+RunHasInstalled s ahead old new = (locked : Run) × HasLocked old locked × HasInstalled s.accepts s.terms s.first ahead locked new
+
+-- the update was refused for this fault, which is the first reason
+abbrev pub RunIsRefused : Setting → Host → Host → InstallFault → Type 0
+RunIsRefused s h h' e = IsRefusal s.accepts s.terms s.first h.ahead h.faults h'.faults h.run h'.run e

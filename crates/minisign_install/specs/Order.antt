@@ -1,0 +1,91 @@
+-- Which call comes after which: the table of the machine that tells a host how to install an update.
+use Rattle.std.specs.Prelude.{ℕ, Bool, true, false, if◌then◌else◌}
+use Rattle.minisign_install.specs.declared.order.Due.{Due}
+use Rattle.minisign_install.specs.declared.order.Due.TheVariants.{Lock, Clear, ReadRecord, Create, Copy, ReadBack, Answer, TakeRights, Settle, CreateRecord, WriteRecord, SettleRecord, RenameRecord, SettleRecordName, Rename, SettleName, RemoveRecord, Remove, Installed, Refused}
+use Rattle.minisign_install.specs.declared.order.Outcome.{Outcome}
+use Rattle.minisign_install.specs.declared.order.Outcome.TheVariants.{Done, More, Number, Failed}
+
+-- what is due once the call was done
+abbrev pub after_done : {E : Type 0} → Due E → Due E
+after_done Lock = Clear
+after_done Clear = ReadRecord
+after_done ReadRecord = ReadRecord
+after_done (Create kept) = Copy kept
+after_done (Copy kept) = ReadBack kept
+after_done (ReadBack kept) = Answer kept
+after_done (Answer kept) = Answer kept
+after_done (TakeRights n) = Settle n
+after_done (Settle n) = CreateRecord n
+after_done (CreateRecord n) = WriteRecord n
+after_done (WriteRecord n) = SettleRecord n
+after_done (SettleRecord n) = RenameRecord n
+after_done (RenameRecord n) = SettleRecordName n
+after_done (SettleRecordName n) = Rename n
+after_done (Rename n) = SettleName n
+after_done (SettleName n) = Installed
+after_done (RemoveRecord e) = Remove e
+after_done (Remove e) = Refused e
+after_done Installed = Installed
+after_done (Refused e) = Refused e
+
+-- what is due once it gave a number: the one that the record holds, or that of the update that was vouched for
+abbrev pub after_number : {E : Type 0} → Due E → ℕ → Due E
+after_number ReadRecord n = Create n
+after_number (Answer kept) n = TakeRights n
+after_number due n = due
+
+-- What is due once it failed. Before there is a stage, nothing; then a removal of what was made. Whatever comes of a
+-- removal, the run is refused for what came before it.
+abbrev pub after_failed : {E : Type 0} → Due E → E → Due E
+after_failed Lock e = Refused e
+after_failed Clear e = Refused e
+after_failed ReadRecord e = Refused e
+after_failed (Create kept) e = Refused e
+after_failed (Copy kept) e = Remove e
+after_failed (ReadBack kept) e = Remove e
+after_failed (Answer kept) e = Remove e
+after_failed (TakeRights n) e = Remove e
+after_failed (Settle n) e = Remove e
+after_failed (CreateRecord n) e = Remove e
+after_failed (WriteRecord n) e = RemoveRecord e
+after_failed (SettleRecord n) e = RemoveRecord e
+after_failed (RenameRecord n) e = RemoveRecord e
+after_failed (SettleRecordName n) e = RemoveRecord e
+after_failed (Rename n) e = Remove e
+after_failed (SettleName n) e = Remove e
+after_failed (RemoveRecord first) e = Remove first
+after_failed (Remove first) e = Refused first
+after_failed Installed e = Installed
+after_failed (Refused first) e = Refused first
+
+-- what is due next; an outcome that does not fit changes nothing
+abbrev pub next : {E : Type 0} → Due E → Outcome E → Due E
+next due Done = after_done due
+next due More = due
+next due (Number n) = after_number due n
+next due (Failed e) = after_failed due e
+
+-- pieces there may be more of are copied and read back
+abbrev is_in_pieces : {E : Type 0} → Due E → Bool
+is_in_pieces (Copy kept) = true
+is_in_pieces (ReadBack kept) = true
+is_in_pieces due = false
+
+-- a number comes from the record, and from the answers of the signature scheme
+abbrev gives_number : {E : Type 0} → Due E → Bool
+gives_number ReadRecord = true
+gives_number (Answer kept) = true
+gives_number due = false
+
+-- the run has ended
+abbrev pub has_ended : {E : Type 0} → Due E → Bool
+has_ended Installed = true
+has_ended (Refused e) = true
+has_ended due = false
+
+-- the call that is due can go so
+abbrev pub fits : {E : Type 0} → Due E → Outcome E → Bool
+fits due Done = if has_ended due then false else (if gives_number due then false else true)
+fits due More = is_in_pieces due
+fits due (Number n) = gives_number due
+fits due (Failed e) = if has_ended due then false else true

@@ -1,0 +1,74 @@
+//! The numbers by which a host in another language knows why an installation is refused, and what they mean. None of it
+//! takes memory.
+
+ghost use Rattle.std.specs.Prelude.{◌≡◌, ◌<◌, ℕ, List, length, Some, None, IfSome, MatchOption};
+ghost use Rattle.minisign_external.specs.Numbers.{WritesCut};
+ghost use Rattle.minisign_install.specs.HostNumbers.{IsHostMeaning, install_number, numbering_number};
+
+use crate::comments::Numbering;
+use crate::faults::InstallFault;
+use minisign_external::numbers;
+
+impl InstallFault {
+    /// The number of the fault: of one of the library its own.
+    pub fn number(&self) -> u32
+        // The number of a fault of installing is that of a table, and of a fault of the library its own.
+        ensures { result ≡ install_number self.now }
+    {
+        use InstallFault::*;
+        match self {
+            Library(fault) => numbers::number_of(fault),
+            PlaceInUse => 46,
+            NoRecord => 47,
+            DamagedRecord => 48,
+            OtherFile => 49,
+            NoNumber => 50,
+            OlderUpdate => 51,
+            FolderNotOnDisk => 52,
+        }
+    }
+}
+
+/// What a number means, in English: of a fault of the library what it says without its identifiers.
+pub fn error_text(number: u32) -> &'static str
+    // The text of a number is that of the wrong use, of the fault of installing, or what the fault of the library says
+    // without its identifiers; it has less than 128 bytes.
+    ensures meaning { IsHostMeaning number result.now }
+    ensures room { length result.now < 128 }
+{
+    match number {
+        46 => "another installation is at work at this place",
+        47 => "no number is kept beside the place",
+        48 => "what is kept beside the place is no number",
+        49 => "the signed comment does not name this file",
+        50 => "the signed comment has no such number",
+        51 => "the update is older than what was installed",
+        52 => "installed, but the folder could not be brought to the disk",
+        _ => numbers::error_text(number),
+    }
+}
+
+/// Writes what a number means, in English, to the front of `to`, ended by a 0 and cut where there
+/// is no room for more: returns the length of the whole text, which is at most 127 bytes. Where
+/// `to` has no byte nothing is written.
+pub fn write_error_text(number: u32, to: &mut [u8]) -> usize
+    // The text is that of `error_text`, cut to its room and ended by a 0.
+    ensures written { (text : List ℕ) × IsHostMeaning number text × (result ≡ length text) × WritesCut text to.old to.new }
+    ensures room { result < 128 }
+{
+    numbers::write_cut(error_text(number), to)
+}
+
+impl Numbering {
+    /// The numbering of this number: 0 for the timestamp, 1 for the version.
+    pub fn of_number(number: u32) -> Option<Numbering>
+        // 0 is the timestamp and 1 the version, and no other number is one.
+        ensures { MatchOption result (1 < number) (λ numbering. number ≡ numbering_number numbering) }
+    {
+        match number {
+            0 => Some(Numbering::Timestamp),
+            1 => Some(Numbering::Version),
+            _ => None,
+        }
+    }
+}

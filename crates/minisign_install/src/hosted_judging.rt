@@ -1,0 +1,253 @@
+//! Asking a signature scheme about what a host has read back, and judging the signed comment. None of it takes memory.
+
+ghost use Rattle.std.specs.Prelude.{◌≡◌, ◌≤◌, ℕ, Bool, List, Some, false, OnOk, OnErr, IfErr, IfOk, MatchOption, MatchResult, [], true};
+ghost use Rattle.std.specs.Str.{IsUtf8};
+ghost use Rattle.minisign_hash.specs.Blake2b.{blake2b_digest};
+ghost use Rattle.minisign.specs.Records.{CommentsRecord, PublicKeyRecord, SignatureBoxRecord};
+ghost use Rattle.minisign.specs.Acceptance.{Verifier};
+ghost use Rattle.minisign.specs.SignatureText.{SignatureText};
+ghost use Rattle.minisign_external.specs.Questions.{AnswersTexts, AreOpen};
+ghost use Rattle.minisign_external.specs.States.{AreQuestions, HasEnded, IsFedState, TellsIdentifiers};
+ghost use Rattle.minisign_install.specs.Comments.{Says};
+ghost use Rattle.minisign_install.specs.HostNumbers.{install_number};
+ghost use Rattle.minisign_install.specs.Hosted.{GivesUpdate, IsAnswerRefusal, IsAskRefusal, IsAsking, IsCommentFault, IsJudged, IsTextJudged, KeepsRest, IsDue, wanted_by};
+ghost use Rattle.minisign_install.specs.Installing.{Terms};
+ghost use Rattle.minisign_install.specs.Refusals.{IsCommentRefused};
+ghost use Rattle.minisign_install.specs.declared.faults.InstallFault.TheVariants.{Library};
+ghost use Rattle.minisign_install.specs.declared.hosted.HostRefusal.TheVariants.{Refused};
+ghost use Rattle.minisign_install.specs.declared.order.Due.TheVariants.{Answer, Remove, TakeRights};
+
+use crate::comments::{Numbering, check_comment};
+use crate::faults::InstallFault;
+use crate::hosted::{HostRefusal, Installation};
+use crate::order::Due;
+use minisign::read_signature;
+use minisign_base::NamedFault;
+use minisign_external::state::{Misuse, Questions, Refusal};
+
+// What is kept of a signed comment that says that this is an update.
+const IS_UPDATE: u32 = 1;
+
+impl Installation {
+    /// Asks what the scheme has to answer before it is known whether the two texts vouch for what was
+    /// read back, as `State::ask` does, and judges the signed comment, which is told only behind the
+    /// verdict. Signatures over the data itself are never taken.
+    pub fn ask(
+        &mut self,
+        pk_text: &[u8],
+        sig_text: &[u8],
+        file: &[u8],
+        numbering: Numbering,
+        questions: &mut Questions,
+        message: &mut [u8],
+    ) -> Result<(), HostRefusal>
+        // The questions are those of what the texts read as; the digest is that of everything that was read back.
+        ensures asked { OnOk result ((pk : PublicKeyRecord) × (x : SignatureBoxRecord) × (c : CommentsRecord)
+            × AreOpen pk_text.now sig_text.now false pk x c
+            × AreQuestions questions.new message.new pk x c) }
+        ensures digest { OnOk result ((m : List ℕ) → IsFedState self.old.state m → questions.new.digest ≡ blake2b_digest 64 m) }
+
+        // They are then asked, and the comment of the second text is judged, against the number that was kept; the
+        // answers are due before and behind.
+        ensures asking { OnOk result ((kept : ℕ) × IsDue self.old (Answer kept)
+            × IsAsking self.new (wanted_by pk_text.now sig_text.now file.now numbering) kept) }
+
+        // Where the answers are due, and texts and name are UTF-8, both identifiers are told where both texts read.
+        ensures identifiers { (kept : ℕ) → IsDue self.old (Answer kept) → (m : List ℕ) → IsFedState self.old.state m
+            → IsUtf8 file.now → IsUtf8 pk_text.now → IsUtf8 sig_text.now
+            → TellsIdentifiers pk_text.now sig_text.now questions.new }
+
+        // The refusals come in one order: answers that are not due; a name that is not UTF-8; what `State::ask` refuses,
+        // in its order. A wrong use and a buffer without room change nothing. For any other the stage is to be removed,
+        // and the run is refused for that. The message buffer is as it was.
+        ensures refused { IfErr result (IsAskRefusal self.old self.new pk_text.now sig_text.now file.now message.old) }
+        ensures kept { OnErr result (message.new ≡ message.old) }
+    {
+        if !self.is_answer_due() {
+            return Err(HostRefusal::WrongUse(Misuse::NotDue));
+        }
+        let Ok(file) = str::from_utf8(file) else {
+            let fault = InstallFault::Library(NamedFault::NotUtf8.into());
+            self.remove_for(&fault);
+            return Err(HostRefusal::Refused(fault));
+        };
+        match self.state.ask(pk_text, sig_text, false, questions, message) {
+            Ok(()) => {
+                self.keep_judgement(sig_text, file, numbering);
+                Ok(())
+            }
+            Err(Refusal::WrongUse(misuse)) => Err(HostRefusal::WrongUse(misuse)),
+            Err(Refusal::Refused(fault)) => {
+                let fault = InstallFault::Library(fault);
+                self.remove_for(&fault);
+                Err(HostRefusal::Refused(fault))
+            }
+        }
+    }
+
+    /// The scheme answered so. What was read back is an update where the two texts vouch for it and
+    /// the signed comment names the file and has a number that is not below the kept one; otherwise
+    /// the stage is to be removed, for the first reason.
+    pub fn answer(&mut self, first: bool, second: bool) -> Result<(), HostRefusal>
+        // **For every relation that answers the two questions so, and every message: the rights are due, for the number n,
+        // exactly where the texts vouch for the message, not by a signature over the data itself, and the comment that was
+        // signed with it names the file and has the number n, which is not below the kept one. Otherwise the stage is to be
+        // removed, and the run is refused for the first reason.**
+        ensures answer { (terms : Terms) (kept : ℕ) (message : List ℕ) (accepts : Verifier)
+            → IsAsking self.old terms kept → AnswersTexts accepts terms.pk_text terms.sig_text message first second
+            → GivesUpdate accepts terms kept message self.new result }
+
+        // The rights are due only where the answers were, and what was asked is ended then. A wrong use changes nothing.
+        ensures due { OnOk result (((kept : ℕ) × IsDue self.old (Answer kept)) × ((n : ℕ) × IsDue self.new (TakeRights n))
+            × HasEnded self.old.state self.new.state) }
+        ensures refused { IfErr result (IsAnswerRefusal self.old self.new) }
+    {
+        if !self.is_answer_due() {
+            return Err(HostRefusal::WrongUse(Misuse::NotDue));
+        }
+        match self.state.verdict(first, second) {
+            Ok(()) => self.take_judgement(),
+            Err(Refusal::WrongUse(misuse)) => Err(HostRefusal::WrongUse(misuse)),
+            Err(Refusal::Refused(fault)) => {
+                let fault = InstallFault::Library(fault);
+                self.remove_for(&fault);
+                Err(HostRefusal::Refused(fault))
+            }
+        }
+    }
+
+    // Whether the answers of the scheme are due.
+    fn is_answer_due(&self) -> bool
+        ensures yes { result ≡ true → (kept : ℕ) × IsDue self.now (Answer kept) }
+        ensures no { result ≡ false → (kept : ℕ) → ¬ (IsDue self.now (Answer kept)) }
+    {
+        matches!(self.due(), Some(Due::Answer(_)))
+    }
+
+    // The number that was kept, where the answers of the scheme are due.
+    fn kept(&self) -> u64
+        ensures { (kept : ℕ) → IsDue self.now (Answer kept) → result ≡ kept }
+    {
+        match self.due() {
+            Some(Due::Answer(kept)) => kept,
+            _ => u64::MAX,
+        }
+    }
+
+    // The stage is to be removed for this fault.
+    fn remove_for(&mut self, fault: &InstallFault)
+        ensures due { IsDue self.new (Remove (install_number fault.now)) }
+        ensures rest { KeepsRest self.old self.new }
+    {
+        self.set(Due::Remove(fault.number()));
+    }
+
+    // Keeps what comes of the comment that the text of the signature has.
+    fn keep_judgement(&mut self, sig_text: &[u8], file: &str, numbering: Numbering)
+        ensures judged { (pk_text : List ℕ) (kept : ℕ) → IsDue self.old (Answer kept) → IsUtf8 sig_text.now
+            → IsTextJudged self.new.comment self.new.update (wanted_by pk_text sig_text.now file.now numbering) kept }
+        ensures due { (kept : ℕ) → IsDue self.old (Answer kept) → IsDue self.new (Answer kept) }
+        ensures state { self.new.state ≡ self.old.state }
+    {
+        let kept = self.kept();
+        match judge_text(sig_text, file, numbering, kept) {
+            Ok(number) => {
+                self.comment = IS_UPDATE;
+                self.update = number;
+            }
+            Err(fault) => {
+                self.comment = fault.number();
+                self.update = 0;
+            }
+        }
+    }
+
+    // The verdict was yes: what was kept of the comment is told.
+    fn take_judgement(&mut self) -> Result<(), HostRefusal>
+        ensures judged { (terms : Terms) (kept : ℕ) (comment : List ℕ) → IsJudged self.old.comment self.old.update terms kept comment
+            → MatchResult result (λ _. (n : ℕ) × IsDue self.new (TakeRights n) × Says comment terms.file terms.numbering n × (kept ≤ n))
+            (λ r. (e : InstallFault) × (r ≡ Refused e) × IsDue self.new (Remove (install_number e)) × IsCommentRefused terms kept comment e) }
+        ensures due { OnOk result ((n : ℕ) × IsDue self.new (TakeRights n)) }
+        ensures refused { IfErr result (λ r. (e : InstallFault) × (r ≡ Refused e) × IsDue self.new (Remove (install_number e))) }
+        ensures state { self.new.state ≡ self.old.state }
+    {
+        if self.comment == IS_UPDATE {
+            self.set(Due::TakeRights(self.update));
+            return Ok(());
+        }
+        let fault = comment_fault(self.comment);
+        self.remove_for(&fault);
+        Err(HostRefusal::Refused(fault))
+    }
+}
+
+// Judges the comment that the text of a signature has.
+pub(crate) fn judge_text(
+    sig_text: &[u8],
+    file: &str,
+    numbering: Numbering,
+    kept: u64,
+) -> Result<u64, InstallFault>
+    ensures { IsUtf8 sig_text.now → (x : SignatureBoxRecord) (c : CommentsRecord) → SignatureText sig_text.now x → x.comments ≡ Some c
+        → (pk_text : List ℕ) → MatchResult result (λ n. Says c.trusted file.now numbering n × (kept ≤ n))
+        (IsCommentRefused (wanted_by pk_text sig_text.now file.now numbering) kept c.trusted) }
+{
+    match comment_of(sig_text) {
+        Some(comment) => match check_comment(comment, file, numbering, kept) {
+            Ok(number) => Ok(number),
+            Err(fault) => Err(fault),
+        },
+        None => Err(InstallFault::OtherFile),
+    }
+}
+
+// The trusted comment of the text of a signature, where it reads as one.
+fn comment_of(sig_text: &[u8]) -> Option<&str>
+    ensures { IsUtf8 sig_text.now → (x : SignatureBoxRecord) (c : CommentsRecord) → SignatureText sig_text.now x → x.comments ≡ Some c
+        → MatchOption result ⊥ (λ t. t.now ≡ c.trusted) }
+{
+    let Ok(text) = str::from_utf8(sig_text) else {
+        return None;
+    };
+    match read_signature(text) {
+        Ok(signature) => Some(signature.trusted_comment()),
+        Err(_refused) => None,
+    }
+}
+
+// The fault of a signed comment by its number.
+fn comment_fault(number: u32) -> InstallFault
+    ensures { (terms : Terms) (kept : ℕ) (comment : List ℕ) (e : InstallFault) → number ≡ install_number e → IsCommentRefused terms kept comment e
+        → result ≡ e }
+{
+    match number {
+        50 => InstallFault::NoNumber,
+        51 => InstallFault::OlderUpdate,
+        _ => InstallFault::OtherFile,
+    }
+}
+
+/// Judges a signed comment by itself, for hosts that install in other ways: its number, where it
+/// names the file and has one that is not below the kept one.
+pub fn judge_comment(
+    comment: &[u8],
+    file: &[u8],
+    numbering: Numbering,
+    kept: u64,
+) -> Result<u64, InstallFault>
+    // The number of the comment is told exactly where the comment and the name are UTF-8, the comment names the file and
+    // has this number, and it is not below the kept one; otherwise the first reason is.
+    ensures says { IfOk result (λ n. IsUtf8 comment.now × IsUtf8 file.now × Says comment.now file.now numbering n × (kept ≤ n)) }
+    ensures refused { IfErr result (IsCommentFault comment.now (wanted_by [] [] file.now numbering) kept) }
+{
+    let Ok(comment) = str::from_utf8(comment) else {
+        return Err(NamedFault::NotUtf8.into());
+    };
+    let Ok(file) = str::from_utf8(file) else {
+        return Err(NamedFault::NotUtf8.into());
+    };
+    match check_comment(comment, file, numbering, kept) {
+        Ok(number) => Ok(number),
+        Err(fault) => Err(fault),
+    }
+}

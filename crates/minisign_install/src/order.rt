@@ -1,0 +1,182 @@
+//! The order of the calls that install an update, told one by one: a host of any language makes the
+//! call that is due, says how it went, and is told the next one. What a fault is, is the host's.
+
+ghost use Rattle.std.specs.Prelude.{◌≡◌, ◌⊎◌, List, true};
+ghost use Rattle.minisign_install.specs.Hosts.{Event, HasRun, Host, IsExplained, RunHasInstalled, RunIsRefused, RunsSafely, Setting};
+ghost use Rattle.minisign_install.specs.declared.faults.InstallFault.{InstallFault};
+ghost use Rattle.minisign_install.specs.Order.{after_done, after_failed, after_number, fits, next};
+ghost use Rattle.minisign_install.specs.Runs.{OwnsNoMore};
+
+/// What is due: the call that the host makes next, or how the run has ended. The numbers are those
+/// of the record up to the answers of the signature scheme, and then those of the update.
+#[derive(Debug, Drop)]
+pub enum Due<E> {
+    /// Lock the place, without waiting for another run.
+    Lock,
+    /// Remove the stages that killed runs have left, as far as they can be removed.
+    Clear,
+    /// Read what the record holds.
+    ReadRecord,
+    /// Draw a name, and make the stage under it.
+    Create(u64),
+    /// Copy the next piece of the data into the stage.
+    Copy(u64),
+    /// Read back the next piece of what the stage holds.
+    ReadBack(u64),
+    /// Have the signature scheme answer the two questions.
+    Answer(u64),
+    /// Give the stage the rights of the file at the place.
+    TakeRights(u64),
+    /// Bring to the disk what the stage holds.
+    Settle(u64),
+    /// Draw a name, and make the stage of the record under it.
+    CreateRecord(u64),
+    /// Write the number into the stage of the record.
+    WriteRecord(u64),
+    /// Bring to the disk what the stage of the record holds.
+    SettleRecord(u64),
+    /// Give the stage of the record the record's name.
+    RenameRecord(u64),
+    /// Bring the record's name to the disk.
+    SettleRecordName(u64),
+    /// Give the stage the place's name.
+    Rename(u64),
+    /// Bring the place's name to the disk.
+    SettleName(u64),
+    /// Remove the stage of the record: the run is refused for this fault.
+    RemoveRecord(E),
+    /// Remove the stage: the run is refused for this fault.
+    Remove(E),
+    /// Nothing: the update is installed.
+    Installed,
+    /// Nothing: the run was refused for this fault.
+    Refused(E),
+}
+
+/// How a call went.
+#[derive(Debug, Drop)]
+pub enum Outcome<E> {
+    /// It was done; of a stage that is copied or read back, there is no more.
+    Done,
+    /// A piece was copied, or read back; there may be more.
+    More,
+    /// The number: the one that the record holds, or that of the update that was vouched for.
+    Number(u64),
+    /// It failed, or what it found is refused, and this is why.
+    Failed(E),
+}
+
+impl<E: Drop> Due<E> {
+    /// Whether the call that is due can go so. Nothing can once the run has ended.
+    pub fn fits(&self, outcome: &Outcome<E>) -> bool
+        ensures { result ≡ fits self.now outcome.now }
+    {
+        use Due::*;
+        match outcome {
+            Outcome::Done => !matches!(self, ReadRecord | Answer(_) | Installed | Refused(_)),
+            Outcome::More => matches!(self, Copy(_) | ReadBack(_)),
+            Outcome::Number(_) => matches!(self, ReadRecord | Answer(_)),
+            Outcome::Failed(_) => !matches!(self, Installed | Refused(_)),
+        }
+    }
+
+    /// What is due next. An outcome that does not fit changes nothing.
+    pub fn next(self, outcome: Outcome<E>) -> Due<E>
+        // One table says which call comes after which outcome.
+        ensures { result ≡ next self outcome }
+    {
+        match outcome {
+            Outcome::Done => self.after_done(),
+            Outcome::More => self,
+            Outcome::Number(number) => self.after_number(number),
+            Outcome::Failed(fault) => self.after_failed(fault),
+        }
+    }
+
+    // What is due once it was done.
+    fn after_done(self) -> Due<E>
+        ensures { result ≡ after_done self }
+    {
+        use Due::*;
+        match self {
+            Lock => Clear,
+            Clear => ReadRecord,
+            Create(kept) => Copy(kept),
+            Copy(kept) => ReadBack(kept),
+            ReadBack(kept) => Answer(kept),
+            TakeRights(number) => Settle(number),
+            Settle(number) => CreateRecord(number),
+            CreateRecord(number) => WriteRecord(number),
+            WriteRecord(number) => SettleRecord(number),
+            SettleRecord(number) => RenameRecord(number),
+            RenameRecord(number) => SettleRecordName(number),
+            SettleRecordName(number) => Rename(number),
+            Rename(number) => SettleName(number),
+            SettleName(_) => Installed,
+            RemoveRecord(fault) => Remove(fault),
+            Remove(fault) => Refused(fault),
+            due => due,
+        }
+    }
+
+    // What is due once it gave a number.
+    fn after_number(self, number: u64) -> Due<E>
+        ensures { result ≡ after_number self number }
+    {
+        use Due::*;
+        match self {
+            ReadRecord => Create(number),
+            Answer(_) => TakeRights(number),
+            due => due,
+        }
+    }
+
+    // What is due once it failed. Whatever comes of a removal, the run is refused for what came
+    // before it.
+    fn after_failed(self, fault: E) -> Due<E>
+        ensures { result ≡ after_failed self fault }
+    {
+        use Due::*;
+        match self {
+            Lock | Clear | ReadRecord | Create(_) => Refused(fault),
+            Copy(_)
+            | ReadBack(_)
+            | Answer(_)
+            | TakeRights(_)
+            | Settle(_)
+            | CreateRecord(_)
+            | Rename(_)
+            | SettleName(_) => Remove(fault),
+            WriteRecord(_) | SettleRecord(_) | RenameRecord(_) | SettleRecordName(_) => {
+                RemoveRecord(fault)
+            }
+            RemoveRecord(first) => Remove(first),
+            Remove(first) => Refused(first),
+            due => due,
+        }
+    }
+}
+
+/// A law, for which nothing is done: whatever comes of the calls of a host that makes each one as
+/// it is due, only updates are installed.
+pub fn any_run_installs_only_updates<E: Drop>()
+    // Wherever the run is cut off: it has made no call yet, or what the headline of
+    // `install_update` says holds of it.
+    ensures safe { (s : Setting) (h h' : Host) (events : List (Event E)) (due : Due E)
+        → h.run.known ≡ true → HasRun s Due.Lock h events due h' → RunsSafely s h.run h'.run }
+
+    // Where it has ended well, the data that was ahead is installed, on the disk and for good.
+    ensures installed { (s : Setting) (h h' : Host) (events : List (Event E))
+        → h.run.known ≡ true → HasRun s Due.Lock h events Due.Installed h' → RunHasInstalled s h.ahead h.run h'.run }
+
+    // Where it has ended otherwise, and each failing call says why it failed, the fault is the first
+    // reason, and what the run has brought by then is as `refused` of `install_update` says.
+    ensures refused { (s : Setting) (h h' : Host) (events : List (Event InstallFault)) (e : InstallFault)
+        → h.run.known ≡ true → HasRun s Due.Lock h events (Due.Refused e) h' → IsExplained s Due.Lock h events
+        → RunIsRefused s h h' e }
+
+    // However it has ended, no stage is the run's own that was not so before.
+    ensures lets_go { (s : Setting) (h h' : Host) (events : List (Event E)) (due : Due E)
+        → h.run.known ≡ true → HasRun s Due.Lock h events due h' → (due ≡ Due.Installed) ⊎ ((e : E) × (due ≡ Due.Refused e))
+        → OwnsNoMore h.run h'.run }
+{}

@@ -1,0 +1,20 @@
+//! Calls of the system that a signal interrupts.
+
+use std::io;
+use std::io::ErrorKind;
+
+// How often a call is made again that a signal interrupts.
+const MOST_INTERRUPTIONS: u32 = 1_000_000;
+
+/// Makes a call, and again each time that a signal interrupts it.
+pub fn again<T, F: FnMut() -> io::Result<T>>(mut call: F) -> io::Result<T>
+    requires { F.IsAlwaysCallable call }
+{
+    for _ in 0..MOST_INTERRUPTIONS {
+        match call() {
+            Err(error) if error.kind() == ErrorKind::Interrupted => {}
+            answer => return answer,
+        }
+    }
+    Err(ErrorKind::Interrupted.into())
+}

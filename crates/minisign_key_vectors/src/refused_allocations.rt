@@ -1,0 +1,164 @@
+//! Calls on keys whose result is right or is out of memory, whichever growth is refused: with ample
+//! memory each test sees its call succeed, and `tests/library/refused_memory.py` runs it with each of its
+//! requests refused in turn. A buffer that cannot grow is a sink that fails, so that a call with
+//! one may fail to write too.
+
+use crate::sealed::in_parts::sealed_in_parts;
+use minisign::{KeyPair, PublicKey, Result, SecretKey, SecretKeyBox};
+use minisign_base::devices::random_sources::FixedRandom;
+use minisign_base::devices::sinks::VecSink;
+use minisign_base::devices::sources::SliceSource;
+use minisign_base::prompt::Prompt;
+use minisign_base::toy::ToyScheme;
+use minisign_fixtures::devices::sinks::Counting;
+use minisign_fixtures::keys::{CHECKSUM, secret_record};
+use minisign_fixtures::outcomes::{counted, is_right_or_out_of_memory, is_right_or_unwritten};
+use minisign_fixtures::texts::{
+    COUNTED_PUBLIC_TEXT, COUNTED_SEALED_UNDER_NOTHING, KEY_TEXT, SEALED, SECRET_TEXT,
+};
+use std::alloc::Global;
+
+// A prompt into which these bytes are typed, that asks for no memory.
+fn typed<'a>(bytes: &'a [u8]) -> Prompt<SliceSource<'a>, Counting> {
+    Prompt::new(SliceSource::new(bytes), Counting { bytes: 0 })
+}
+
+// Whether a pair that is not sealed is made as it should be, and its secret key can be copied.
+fn made_raw(alloc: Global) -> Result<bool> {
+    let scheme = ToyScheme::new();
+    let pair = KeyPair::generate_unencrypted_keypair(&scheme, &mut FixedRandom::new(&counted()))?;
+    let text = pair.clone()?.pk.to_box(alloc)?.into_string();
+    Ok(text.as_str() == COUNTED_PUBLIC_TEXT)
+}
+
+// The same, written to two buffers.
+fn wrote_raw(alloc: Global) -> Result<bool> {
+    let mut public = VecSink::new(alloc);
+    let mut secret = VecSink::new(alloc);
+    let pair = KeyPair::generate_and_write_unencrypted_keypair(
+        alloc,
+        &ToyScheme::new(),
+        &mut FixedRandom::new(&counted()),
+        &mut public,
+        &mut secret,
+    )?;
+    let read = PublicKey::from_bytes(public.as_slice())?;
+    Ok(read == pair.pk && SecretKey::from_bytes(secret.as_slice())? == pair.sk)
+}
+
+// Whether the second line of the text is that of the pair sealed under the empty password.
+fn is_sealed_line(text: &str) -> bool {
+    match text.split_once('\n') {
+        Some((_, line)) => match line.strip_suffix("\n") {
+            Some(line) => line == COUNTED_SEALED_UNDER_NOTHING,
+            None => false,
+        },
+        None => false,
+    }
+}
+
+// Whether a sealed pair is made with an empty password that is typed.
+fn made_sealed(alloc: Global) -> Result<bool> {
+    let pair = KeyPair::generate_encrypted_keypair(
+        alloc,
+        &ToyScheme::new(),
+        &mut FixedRandom::new(&counted()),
+        None,
+        &mut typed(b"\n\n"),
+    )?;
+    let text = pair.sk.to_box(alloc, None)?.into_string();
+    Ok(is_sealed_line(text.as_str()))
+}
+
+// The same, written to two buffers.
+fn wrote_sealed(alloc: Global) -> Result<bool> {
+    let mut public = VecSink::new(alloc);
+    let mut secret = VecSink::new(alloc);
+    KeyPair::generate_and_write_encrypted_keypair(
+        alloc,
+        &ToyScheme::new(),
+        &mut FixedRandom::new(&counted()),
+        &mut public,
+        &mut secret,
+        None,
+        None,
+        &mut typed(b"\n\n"),
+    )?;
+    let secret = match std::str::from_utf8(secret.as_slice()) {
+        Ok(text) => is_sealed_line(text),
+        Err(_) => false,
+    };
+    Ok(secret && public.as_slice() == COUNTED_PUBLIC_TEXT.as_bytes())
+}
+
+// Whether the text of key A, sealed, opens with every third row kept.
+fn opened_in_less_memory(alloc: Global) -> Result<bool> {
+    let sk_box = SecretKeyBox::from_string(alloc, SEALED)?;
+    let key = SecretKey::from_box_keeping(alloc, sk_box, None, &mut typed(b"password\n"), 3)?;
+    Ok(key == SecretKey::from_bytes(&secret_record(b"Sc", &CHECKSUM))? && !key.is_encrypted())
+}
+
+// Whether key A opens that was sealed in many parts.
+fn opened_in_parts(alloc: Global) -> Result<bool> {
+    let sk_box = sealed_in_parts(alloc)?;
+    let key = SecretKey::from_box(alloc, sk_box, None, &mut typed(b"password\n"))?;
+    Ok(key == SecretKey::from_bytes(&secret_record(b"Sc", &CHECKSUM))? && !key.is_encrypted())
+}
+
+// Whether the text of key A's public half comes out as it was worked out.
+fn public_written(alloc: Global) -> Result<bool> {
+    let secret = SecretKey::from_bytes(&secret_record(&[0, 0], &CHECKSUM))?;
+    let public = PublicKey::from_secret_key(&secret)?;
+    let text = public.to_box(alloc)?.into_string();
+    Ok(text.as_str() == KEY_TEXT)
+}
+
+// Whether the text of key A comes out again as it was read.
+fn secret_written_again(alloc: Global) -> Result<bool> {
+    let sk_box = SecretKeyBox::from_string(alloc, SECRET_TEXT)?;
+    let sk = sk_box.into_unencrypted_secret_key(alloc)?;
+    let text = sk.to_box(alloc, None)?.into_string();
+    Ok(text.as_str() == SECRET_TEXT)
+}
+
+// Whether both do.
+fn written_again(alloc: Global) -> Result<bool> {
+    let public = public_written(alloc)?;
+    let secret = secret_written_again(alloc)?;
+    Ok(public && secret)
+}
+
+#[test]
+fn making_a_raw_pair(rt: HostRuntime) {
+    assert!(rt; is_right_or_out_of_memory(&made_raw(rt.alloc())));
+}
+
+#[test]
+fn writing_a_raw_pair(rt: HostRuntime) {
+    assert!(rt; is_right_or_unwritten(&wrote_raw(rt.alloc())));
+}
+
+#[test]
+fn making_a_sealed_pair(rt: HostRuntime) {
+    assert!(rt; is_right_or_out_of_memory(&made_sealed(rt.alloc())));
+}
+
+#[test]
+fn writing_a_sealed_pair(rt: HostRuntime) {
+    assert!(rt; is_right_or_unwritten(&wrote_sealed(rt.alloc())));
+}
+
+#[test]
+fn opening_with_every_third_row(rt: HostRuntime) {
+    assert!(rt; is_right_or_out_of_memory(&opened_in_less_memory(rt.alloc())));
+}
+
+#[test]
+fn opening_in_many_parts(rt: HostRuntime) {
+    assert!(rt; is_right_or_out_of_memory(&opened_in_parts(rt.alloc())));
+}
+
+#[test]
+fn texts_of_keys(rt: HostRuntime) {
+    assert!(rt; is_right_or_out_of_memory(&written_again(rt.alloc())));
+}
