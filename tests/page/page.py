@@ -3,11 +3,11 @@
 
     tests/page/page.py [PAGE]
 
-The module's calls have the contracts of those from C, word for word. The page is built, and its module proved for
-WebAssembly before (`page/build.py`), where no PAGE is named. Then Chromium, without a window, is given the kept corpus
-of Minisign's own program, keys and signatures that are made now, each fault, hostile comments and names, files that are
-dropped and stopped, 2 GB, and 500 changed texts, of which the verdicts and their reasons are compared with those of
-`c/minisign-verify`. It looks at what is asked for from outside, at the names for a screen reader, the order of the keyboard,
+The module's calls have the contracts of those from C, word for word but for what a number means. The page is built, and
+its module proved for WebAssembly before (`page/build.py`), where no PAGE is named. Then Chromium, without a window, is
+given the kept corpus of Minisign's own program, keys and signatures that are made now, each fault, hostile comments and
+names, files that are dropped and stopped, 2 GB, and 500 changed texts, of which the verdicts and their reasons are
+compared with those of `c/minisign-verify`. It looks at what is asked for from outside, at the names for a screen reader, the order of the keyboard,
 the contrast of colours and a narrow screen, and at what is said where the browser lacks something. It prints a line for
 each failure; the last line is `N passed, M failed`.
 

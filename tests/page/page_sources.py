@@ -10,7 +10,10 @@ TOP = os.path.join(os.path.dirname(os.path.realpath(__file__)), "..", "..")
 
 
 def check_contracts(checks):
-    """Each export of the page has the signature and the clauses of the one for C, word for word."""
+    """
+    Each export of the page has the signature and the clauses of the one for C, word for word, but for what a number means:
+    the page installs nothing, and the library for C has the numbers of the faults of installing too.
+    """
     texts = {}
     for crate, prefix in (("minisign_page", "page_"), ("minisign_c", "minisign_")):
         with open(os.path.join(TOP, "crates", crate, "src", "lib.rt"), encoding="utf-8") as file:
@@ -18,7 +21,8 @@ def check_contracts(checks):
         texts[crate] = {name: re.sub(r"\s+", " ", re.sub(r"(?m)^\s*//.*$", "", text)) for name, text in found}
     checks.same(len(texts["minisign_page"]), 7, "the number of exports of minisign_page")
     for name, text in texts["minisign_page"].items():
-        checks.check(text == texts["minisign_c"].get(name), f"page_{name} has another contract than minisign_{name}")
+        for_c = text.replace("IsMeaning", "IsHostMeaning")
+        checks.check(for_c == texts["minisign_c"].get(name), f"page_{name} has another contract than minisign_{name}")
 
 
 def check_numbers(checks):
