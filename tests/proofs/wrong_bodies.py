@@ -19,7 +19,8 @@ usage: wrong_bodies.py [--beside FILE] [--keep FOLDER] [CRATE[/NAME]..]
   --beside FILE  runs beside `rt ci`. FILE is what that says, with the line ENDED behind it. The edits of a crate are
                  tried once `rt ci` has proved the crates that it depends on. What earlier checks kept is left alone.
                  Otherwise the checks begin with the work that is kept in the crates' folders out/
-  --keep FOLDER  a new folder for the copy of the repository in which the libraries are proved and built. It is not removed
+  --keep FOLDER  a new folder for the copy of the repository in which the libraries are proved and built. It is not
+                 removed. Behind the line READY nothing is read or written there any more
 """
 
 import os
@@ -44,6 +45,8 @@ MEMORY = 3_000_000_000
 BESIDE, FREE = 2, 5_000_000_000
 # The line behind what `rt ci` has said, once it has ended.
 ENDED = "rt ci has ended"
+# The line behind which the copy in which the libraries are proved and built is left alone.
+READY = "the libraries are ready"
 # How many wrong bodies share a check, about.
 GROUP = 24
 # What a check of a crate reads.
@@ -162,9 +165,9 @@ def bring(crate, source, to, outs):
             shutil.copytree(f"{source}/crates/{crate}/{part}", f"{to}/crates/{crate}/{part}", copy_function=copy)
 
 
-def run_rt(words, folder):
-    """Runs the kit's rt in a folder: its status, and all that it said."""
-    return subprocess.run(["rt", *words], cwd=folder, stdin=subprocess.DEVNULL, stdout=subprocess.PIPE,
+def run_rt(words, folder, before=()):
+    """Runs the kit's rt in a folder, with these words before it: its status, and all that it said."""
+    return subprocess.run([*before, "rt", *words], cwd=folder, stdin=subprocess.DEVNULL, stdout=subprocess.PIPE,
                           stderr=subprocess.STDOUT, errors="replace")
 
 
@@ -177,10 +180,12 @@ def write_top(folder, lines):
 
 
 class Proofs:
-    """The run of `rt ci` that proves the crates, by the file of what it says; with no file, there is none."""
+    """The run of `rt ci` that proves the crates, by the file of what it says; with no file, there is none. And the places
+    for checks, of which few are there beside it."""
 
     def __init__(self, file):
-        self.file, self.checks, self.lock = file, 0, threading.Lock()
+        self.file, self.checks, self.builds, self.lock = file, 0, 0, threading.Lock()
+        self.most = max(1, min(len(os.sched_getaffinity(0)), free_memory() // MEMORY))
 
     def said(self):
         with open(self.file, encoding="utf-8", errors="replace") as it:
@@ -198,9 +203,12 @@ class Proofs:
         return self.has(crates) or not self.is_under_way()
 
     @contextmanager
-    def place(self):
-        """Waits until a check may begin: few run beside `rt ci`, and where they leave it its memory."""
-        while not self.is_taken():
+    def place(self, is_build=False):
+        """Waits until a check may begin: few run beside `rt ci`, and where they leave it its memory. The building of a
+        library, for which many checks wait, comes before them."""
+        with self.lock:
+            self.builds += is_build
+        while not self.is_taken(is_build):
             time.sleep(1)
         try:
             yield
@@ -208,12 +216,15 @@ class Proofs:
             with self.lock:
                 self.checks -= 1
 
-    def is_taken(self):
-        """Takes a place for a check, where there is one."""
+    def is_taken(self, is_build):
+        """Takes a place, where there is one."""
         with self.lock:
-            is_room = self.checks < BESIDE and free_memory() >= FREE + MEMORY * self.checks
-            is_one = is_room or not self.is_under_way()
+            is_beside = self.is_under_way()
+            is_room = not is_beside or free_memory() >= FREE + MEMORY * self.checks
+            is_next = is_build or not self.builds
+            is_one = is_room and is_next and self.checks < (BESIDE if is_beside else self.most)
             self.checks += is_one
+            self.builds -= is_one and is_build
         return is_one
 
 
@@ -224,10 +235,11 @@ class Libraries:
         self.folder, self.proofs, self.built, self.locks = folder, proofs, {}, defaultdict(threading.Lock)
 
     def build(self, crate):
-        """Proves and builds a library, those below which are built, and returns what is said if it is not proved."""
+        """Proves and builds a library, those below which are built, and returns what is said if it is not proved. All
+        edits of the crates above wait for it, so it does not give way to others as the checks of edits do."""
         with self.locks[crate]:
             if crate not in self.built:
-                with self.proofs.place():
+                with self.proofs.place(is_build=True):
                     ran = run_rt(["lib", "--jobs", "1"], f"{self.folder}/crates/{crate}")
                 self.built[crate] = f"{crate}: {first_of(ran.stdout)}" if ran.returncode else ""
         return self.built[crate]
@@ -302,7 +314,7 @@ class Trial:
         """Checks the functions that these bodies change, in a copy of the repository, and returns what is said."""
         words = [word for it in sorted({it.function for it in bodies}) for word in ("--only", it)]
         with self.proofs.place():
-            return run_rt(["check", "--jobs", "1", *words], f"{repository}/crates/{self.crate}").stdout
+            return run_rt(["check", "--jobs", "1", *words], f"{repository}/crates/{self.crate}", ("nice", "-n", "19")).stdout
 
     def changed(self, group):
         """Returns the texts of the files with the changes of a group in place."""
@@ -377,14 +389,20 @@ def groups_of(bodies):
 
 
 def try_all(tasks, crates, libraries, folder):
-    """Tries the wrong bodies of each crate once what it depends on is proved, and yields what there is to say of each."""
-    told, left, works = queue.SimpleQueue(), sum(len(bodies) for bodies in tasks.values()), []
+    """Tries the wrong bodies of each crate once what it depends on is proved, and yields what there is to say of each.
+    Says READY once all have begun."""
+    told, left, works, begun = queue.SimpleQueue(), sum(len(bodies) for bodies in tasks.values()), [], []
     tasks, proofs = dict(tasks), libraries.proofs
-    with ThreadPoolExecutor(max(1, min(len(os.sched_getaffinity(0)), free_memory() // MEMORY))) as pool:
+    with ThreadPoolExecutor(proofs.most) as pool, ThreadPoolExecutor(len(tasks)) as beginning:
         submit = lambda call, *given: works.append(pool.submit(call, *given))
         while left:
             for crate in [it for it in tasks if proofs.are_told(crates[1][it])]:
-                submit(Trial(crate, crates, libraries, folder, told.put).begin, tasks.pop(crate), submit)
+                trial = Trial(crate, crates, libraries, folder, told.put)
+                begun.append(beginning.submit(trial.begin, tasks.pop(crate), submit))
+                works.append(begun[-1])
+            if begun and not tasks and all(it.done() for it in begun):
+                print(READY, flush=True)
+                begun.clear()
             with suppress(queue.Empty):
                 yield told.get(timeout=1)
                 left -= 1
