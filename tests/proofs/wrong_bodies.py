@@ -229,10 +229,11 @@ class Proofs:
 
 
 class Libraries:
-    """The copy of the repository in which the libraries are proved and built, each once."""
+    """The copy of the repository in which the libraries of these names are proved and built, each once."""
 
-    def __init__(self, folder, proofs):
-        self.folder, self.proofs, self.built, self.locks = folder, proofs, {}, defaultdict(threading.Lock)
+    def __init__(self, folder, names, proofs):
+        self.folder, self.names, self.proofs = folder, names, proofs
+        self.built, self.locks = {}, defaultdict(threading.Lock)
 
     def build(self, crate):
         """Proves and builds a library, those below which are built, and returns what is said if it is not proved. All
@@ -259,6 +260,8 @@ class Trial:
         self.folder = f"{folder}/{crate}"
         self.below, self.lines = below[crate], [lines[it] for it in (*below[crate], crate)]
         self.texts = {}
+        # Whether it has all that it takes from the copy with the libraries.
+        self.is_supplied = False
 
     def begin(self, bodies, submit):
         """Checks the functions as they stand, and submits the groups. It tells of each body once, here or there."""
@@ -269,24 +272,30 @@ class Trial:
             if not it.fault:
                 it.places(self.texts[it.path])
         whole = [it for it in bodies if not it.fault]
-        why = self.lacks_proof(whole)
+        why = self.lacks_library()
+        self.is_supplied = True
+        why = why or self.lacks_proof(whole)
         for it in bodies:
             if it.fault or why:
                 self.tell(Verdict(it, Verdict.FAILED, f"bad edit: {it.fault}" if it.fault else f"not tried: {why}"))
         for group in [] if why else groups_of(whole):
             submit(self.try_group, group)
 
-    def lacks_proof(self, bodies):
-        """Checks the functions that these bodies change as they stand, and returns why they are not proved."""
+    def lacks_library(self):
+        """Brings the libraries that the crate depends on, and returns why one of them is not there. A crate that is one of
+        the libraries is built before, so that its checks begin with what was proved then."""
         if not self.proofs.has(self.below):
             return "`rt ci` did not prove what the crate depends on"
         write_top(self.folder, self.lines)
-        for it in self.below:
-            why = self.libraries.build(it)
+        for it in (*self.below, self.crate):
+            why = self.libraries.build(it) if it in self.libraries.names else ""
             if why:
                 return f"a library is not proved: {why}"
-            self.libraries.bring(it, self.folder, "rlib")
-        self.libraries.bring(self.crate, self.folder, "incremental")
+            self.libraries.bring(it, self.folder, "incremental" if it == self.crate else "rlib")
+        return ""
+
+    def lacks_proof(self, bodies):
+        """Checks the functions that these bodies change as they stand, and returns why they are not proved."""
         said = self.check(self.folder, bodies)
         is_proved = re.search(r"(?m)^only=(\d+) proved=\1$", said)
         return "" if is_proved else f"the crate as it stands is not proved: {first_of(said)}"
@@ -390,19 +399,18 @@ def groups_of(bodies):
 
 def try_all(tasks, crates, libraries, folder):
     """Tries the wrong bodies of each crate once what it depends on is proved, and yields what there is to say of each.
-    Says READY once all have begun."""
-    told, left, works, begun = queue.SimpleQueue(), sum(len(bodies) for bodies in tasks.values()), [], []
+    Says READY once all have what they take from the libraries."""
+    told, left, works, trials = queue.SimpleQueue(), sum(len(bodies) for bodies in tasks.values()), [], []
     tasks, proofs = dict(tasks), libraries.proofs
     with ThreadPoolExecutor(proofs.most) as pool, ThreadPoolExecutor(len(tasks)) as beginning:
         submit = lambda call, *given: works.append(pool.submit(call, *given))
         while left:
             for crate in [it for it in tasks if proofs.are_told(crates[1][it])]:
-                trial = Trial(crate, crates, libraries, folder, told.put)
-                begun.append(beginning.submit(trial.begin, tasks.pop(crate), submit))
-                works.append(begun[-1])
-            if begun and not tasks and all(it.done() for it in begun):
+                trials.append(Trial(crate, crates, libraries, folder, told.put))
+                works.append(beginning.submit(trials[-1].begin, tasks.pop(crate), submit))
+            if trials and not tasks and all(it.is_supplied for it in trials):
                 print(READY, flush=True)
-                begun.clear()
+                trials.clear()
             with suppress(queue.Empty):
                 yield told.get(timeout=1)
                 left -= 1
@@ -444,11 +452,12 @@ def main(words):
     outcomes = {crate: Counter() for crate in tasks}
     with tempfile.TemporaryDirectory(prefix="wrong-bodies-") as room:
         folder = folder or f"{room}/libraries"
-        wanted = {name for crate in tasks for name in (crate, *crates[1][crate])}
+        libraries = {name for crate in tasks for name in crates[1][crate]}
+        wanted = {*tasks, *libraries}
         write_top(folder, [line for crate, line in crates[0].items() if crate in wanted])
         for it in wanted:
             bring(it, ROOT, folder, [] if proofs.file else ["rlib", "incremental"])
-        for verdict in try_all(tasks, crates, Libraries(folder, proofs), f"{room}/trials"):
+        for verdict in try_all(tasks, crates, Libraries(folder, libraries, proofs), f"{room}/trials"):
             print(verdict.text, flush=True)
             outcomes[verdict.crate][verdict.outcome] += 1
     for crate, counted in outcomes.items():
