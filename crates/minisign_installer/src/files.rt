@@ -5,6 +5,7 @@ ghost use Rattle.std.specs.Prelude.{◌≡◌, ◌+◌, ◌<◌, ◌≤◌, ◌^
 ghost use Rattle.minisign_base.specs.Devices.{most_faults};
 ghost use Rattle.minisign_install.specs.Folders.{HasCounted, unknown};
 ghost use Rattle.minisign_installer.specs.Files.{IsLastPart, faults_of};
+ghost use Rattle.minisign_installer.specs.Rights.{KeepsRights};
 
 use crate::interruptions::again;
 use crate::progress::{Progress, Work};
@@ -495,7 +496,10 @@ fn is_drawn(digits: &str) -> bool {
 // What a new file may have of the rights of an older one. The bits of the group are kept only as far
 // as all others have them too: where the older file has an access control list, they are the list's
 // mask and not the rights of the group, and nothing here can tell.
-fn rights_after(older: u32) -> u32 {
+#[tactic(auto, using(crate::proofs::Rights::sum_of_rights))]
+fn rights_after(older: u32) -> u32
+    ensures kept { KeepsRights older result }
+{
     let others = older & RIGHTS_OF_OTHERS;
     (older & RIGHTS_OF_THE_OWNER) | (older & (others << 3)) | others
 }

@@ -1,2 +1,3 @@
 mod Outcomes
+mod Rights
 pub mod Unused

@@ -3,6 +3,7 @@
 
 ghost use Rattle.std.specs.Prelude.{IfErr};
 ghost use Rattle.minisign_tool.specs.Replacing.{IsWriteFault};
+ghost use Rattle.minisign_tool.specs.Rights.{KeepsRights};
 
 use minisign::base::devices::sinks::{WriterSink, put_and_flush};
 use minisign::base::{NamedFault, PError, Result};
@@ -330,7 +331,10 @@ fn create_beside(rt: &HostRuntime, path: &str, mode: u32) -> Result<(File, Strin
 // What a new file may have of the rights of an older one. The bits of the group are kept only as far
 // as all others have them too: where the older file has an access control list, they are the list's
 // mask and not the rights of the group, and nothing here can tell.
-fn rights_after(older: u32) -> u32 {
+#[tactic(auto, using(crate::proofs::Rights::sum_of_rights))]
+fn rights_after(older: u32) -> u32
+    ensures kept { KeepsRights older result }
+{
     let others = older & RIGHTS_OF_OTHERS;
     (older & RIGHTS_OF_THE_OWNER) | (older & (others << 3)) | others
 }
