@@ -1,3 +1,2 @@
 mod Causes
 mod Paths
-mod Rights

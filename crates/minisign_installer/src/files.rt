@@ -5,13 +5,13 @@ ghost use Rattle.std.specs.Prelude.{◌≡◌, ◌+◌, ◌<◌, ◌≤◌, ◌^
 ghost use Rattle.minisign_base.specs.Devices.{most_faults};
 ghost use Rattle.minisign_install.specs.Folders.{HasCounted, unknown};
 ghost use Rattle.minisign_installer.specs.Files.{IsLastPart, faults_of};
-ghost use Rattle.minisign_installer.specs.Rights.{KeepsRights};
 
 use crate::interruptions::again;
 use crate::progress::{Progress, Work};
 use crate::troubles::{Cause, Part, Trouble};
 use minisign::DeviceFault;
 use minisign_install::{Folder, Handle, Name, StageName};
+use minisign_programs::rights::{ALL_RIGHTS, RIGHTS_OF_THE_GROUP, rights_after};
 use std::alloc::Global;
 use std::cell::Cell;
 use std::fs::{File, Metadata, OpenOptions, Permissions, TryLockError};
@@ -21,16 +21,6 @@ use std::{fs, io};
 
 // Its owner alone may read and write a file that is made.
 const FOR_THE_OWNER: u32 = 0o600;
-
-// The nine bits that say who may read, write and run a file, and those of its owner, of its group
-// and of all others.
-const ALL_RIGHTS: u32 = 0o777;
-
-const RIGHTS_OF_THE_OWNER: u32 = 0o700;
-
-const RIGHTS_OF_THE_GROUP: u32 = 0o070;
-
-const RIGHTS_OF_OTHERS: u32 = 0o007;
 
 // How long the record may be: more than the 20 digits of the greatest number.
 const MOST_OF_RECORD: usize = 64;
@@ -491,17 +481,6 @@ fn is_drawn(digits: &str) -> bool {
     digits.len() == DIGITS
         && digits.as_bytes().iter().all(|digit| digit.is_ascii_digit()
             || (*digit >= b'a' && *digit <= b'f'))
-}
-
-// What a new file may have of the rights of an older one. The bits of the group are kept only as far
-// as all others have them too: where the older file has an access control list, they are the list's
-// mask and not the rights of the group, and nothing here can tell.
-#[tactic(auto, using(crate::proofs::Rights::sum_of_rights))]
-fn rights_after(older: u32) -> u32
-    ensures kept { KeepsRights older result }
-{
-    let others = older & RIGHTS_OF_OTHERS;
-    (older & RIGHTS_OF_THE_OWNER) | (older & (others << 3)) | others
 }
 
 // Gives a stage the owner and the group of an older file, as far as that is allowed: whether it has

@@ -1,3 +1,2 @@
 mod Outcomes
-mod Rights
 pub mod Unused

@@ -4,7 +4,6 @@ pub mod Endings
 pub mod Keygen
 pub mod Replacing
 pub mod Report
-pub mod Rights
 pub mod Sign
 pub mod TextFiles
 pub mod Verify

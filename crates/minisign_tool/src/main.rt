@@ -36,7 +36,7 @@ use minisign::base::NamedFault;
 use minisign::base::devices::sinks::{Sink, WriterSink};
 use minisign::base::scheme::Scheme;
 use minisign::base::toy::ToyScheme;
-use minisign_arguments::{behind_program, read_arguments, words_of};
+use minisign_programs::arguments::{behind_program, read_arguments, words_of};
 use report::{end, usage, warn};
 use std::process::ExitCode;
 use streams::hold_closed_streams;

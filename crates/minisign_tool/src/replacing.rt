@@ -3,10 +3,10 @@
 
 ghost use Rattle.std.specs.Prelude.{IfErr};
 ghost use Rattle.minisign_tool.specs.Replacing.{IsWriteFault};
-ghost use Rattle.minisign_tool.specs.Rights.{KeepsRights};
 
 use minisign::base::devices::sinks::{WriterSink, put_and_flush};
 use minisign::base::{NamedFault, PError, Result};
+use minisign_programs::rights::{ALL_RIGHTS, RIGHTS_OF_THE_GROUP, rights_after};
 use std::fs::{File, Metadata, OpenOptions, Permissions};
 use std::os::unix::fs::{MetadataExt, OpenOptionsExt, PermissionsExt, fchown};
 use std::random::RandomSource;
@@ -17,16 +17,6 @@ pub const FOR_ALL: u32 = 0o666;
 
 /// Its owner alone may read and write a file that is made.
 pub const FOR_THE_OWNER: u32 = 0o600;
-
-// The nine bits that say who may read, write and run a file, and those of its owner, of its group
-// and of all others.
-const ALL_RIGHTS: u32 = 0o777;
-
-const RIGHTS_OF_THE_OWNER: u32 = 0o700;
-
-const RIGHTS_OF_THE_GROUP: u32 = 0o070;
-
-const RIGHTS_OF_OTHERS: u32 = 0o007;
 
 // How many links are followed one after another, as the system does.
 const MOST_LINKS: u32 = 40;
@@ -326,17 +316,6 @@ fn create_beside(rt: &HostRuntime, path: &str, mode: u32) -> Result<(File, Strin
         }
     }
     Err(NamedFault::WritingFailed.into())
-}
-
-// What a new file may have of the rights of an older one. The bits of the group are kept only as far
-// as all others have them too: where the older file has an access control list, they are the list's
-// mask and not the rights of the group, and nothing here can tell.
-#[tactic(auto, using(crate::proofs::Rights::sum_of_rights))]
-fn rights_after(older: u32) -> u32
-    ensures kept { KeepsRights older result }
-{
-    let others = older & RIGHTS_OF_OTHERS;
-    (older & RIGHTS_OF_THE_OWNER) | (older & (others << 3)) | others
 }
 
 // Gives a new file the owner, the group and the rights of an older one. Where another group may not

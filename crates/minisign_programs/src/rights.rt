@@ -1,0 +1,27 @@
+//! The rights of a new file that takes the place of an older one.
+
+ghost use Rattle.minisign_programs.specs.Rights.{KeepsRights};
+
+/// The nine bits of the rights in a file's mode.
+pub const ALL_RIGHTS: u32 = 0o777;
+/// Those of the owner.
+pub const RIGHTS_OF_THE_OWNER: u32 = 0o700;
+/// Those of the group.
+pub const RIGHTS_OF_THE_GROUP: u32 = 0o070;
+/// Those of all others.
+pub const RIGHTS_OF_OTHERS: u32 = 0o007;
+
+/// What a new file may have of the rights of an older one, whose mode this is.
+///
+/// The bits of the group are kept only as far as all others have them too: where the older file has
+/// an access control list, they are the list's mask and not the rights of the group, and nothing in
+/// the mode can tell. Of the special bits none is kept.
+#[tactic(auto, using(crate::proofs::Bits::sum_of_rights))]
+pub fn rights_after(older: u32) -> u32
+    // A new file has the older one's rights for the owner and for all others, and of those for the
+    // group just what all others have too.
+    ensures kept { KeepsRights older result }
+{
+    let others = older & RIGHTS_OF_OTHERS;
+    (older & RIGHTS_OF_THE_OWNER) | (older & (others << 3)) | others
+}
