@@ -1,7 +1,8 @@
 //! Passwords that are asked for.
 
-use minisign_base::devices::sinks::{VecSink, WriterSink};
+use minisign_base::devices::sinks::{Sink, VecSink, WriterSink};
 use minisign_base::devices::sources::{ReaderSource, SliceSource, Source};
+use minisign_base::errors::Result;
 use minisign_base::faults::NamedFault::{
     EndOfInput, NotUtf8, PasswordTooLong, ReadingFailed, WritingFailed,
 };
@@ -36,6 +37,15 @@ impl Write for Screen {
     }
 }
 
+// What comes of asking for a password.
+fn asked<R: Source, W: Sink>(
+    alloc: Global,
+    prompt: &mut Prompt<R, W>,
+    question: &str,
+) -> Result<String> {
+    get_password(alloc, prompt, question)
+}
+
 // Whether asking for a password comes to this, with a password of so many bytes where it is
 // accepted, and leaves so many bytes unread.
 fn comes_so<R: Source + Drop>(
@@ -46,7 +56,7 @@ fn comes_so<R: Source + Drop>(
     unread: usize,
 ) -> bool {
     let mut prompt = Prompt::new(reader, VecSink::new(alloc));
-    let answer = get_password(alloc, &mut prompt, "Password: ");
+    let answer = asked(alloc, &mut prompt, "Password: ");
     let right = match &answer {
         Ok(password) => password.len() == count,
         Err(_) => true,
@@ -116,7 +126,7 @@ fn long_lines_are_cut_and_refused(rt: HostRuntime) {
 fn gives(alloc: Global, typed: &str, expected: &str, shown: &str) -> bool {
     let reader = OneByOne::new(typed.as_bytes());
     let mut prompt = Prompt::new(reader, VecSink::new(alloc));
-    let password = get_password(alloc, &mut prompt, "?");
+    let password = asked(alloc, &mut prompt, "?");
     is_text(&password, expected) && prompt.writer.as_slice() == shown.as_bytes()
 }
 
@@ -152,7 +162,7 @@ fn failing_readers_are_named(rt: HostRuntime) {
 fn fails_so(alloc: Global, reads: u64, expected: Outcome) -> bool {
     let reader = FailsAfter::new(b"abc\n", reads);
     let mut prompt = Prompt::new(reader, VecSink::new(alloc));
-    let answer = get_password(alloc, &mut prompt, "Password: ");
+    let answer = asked(alloc, &mut prompt, "Password: ");
     comes_to(&answer, expected) && prompt.writer.as_slice() == b"Password: ".as_slice()
 }
 
@@ -168,7 +178,7 @@ fn failing_writers_are_named_before_anything_is_read(rt: HostRuntime) {
 fn is_unread(alloc: Global, room: usize, taken: &str) -> bool {
     let writer = LimitedSink::new(alloc, room).flushed(0);
     let mut prompt = Prompt::new(SliceSource::new(b"\n"), writer);
-    let answer = get_password(alloc, &mut prompt, "Password: ");
+    let answer = asked(alloc, &mut prompt, "Password: ");
     let told = comes_to(&answer, Refused(WritingFailed));
     let left = prompt.reader.read(&mut [0; 2]);
     told && prompt.writer.as_slice() == taken.as_bytes() && left == Ok(1)
@@ -191,6 +201,6 @@ fn each_text_is_flushed(rt: HostRuntime) {
 fn is_accepted(alloc: Global, typed: &str, screen: &mut Screen) -> bool {
     let reader = ReaderSource::new(typed.as_bytes());
     let mut prompt = Prompt::new(reader, WriterSink::new(screen));
-    let password = get_password(alloc, &mut prompt, "Password: ");
+    let password = asked(alloc, &mut prompt, "Password: ");
     password.is_ok()
 }
