@@ -97,27 +97,36 @@ fn line(
     Ok(bytes)
 }
 
+// How many of which letter are typed, and what behind them; what comes of it, and how many bytes are
+// left unread.
+const LONG_LINES: [(usize, u8, &str, Outcome, usize); 15] = [
+    (1024, b'a', "\n", Accepted, 0),
+    (1024, b'a', "\r\n", Accepted, 0),
+    (1024, b'a', "", Accepted, 0),
+    (1025, b'a', "", Refused(PasswordTooLong), 0),
+    (1025, b'a', "\n", Refused(PasswordTooLong), 0),
+    (1025, b'a', "\r\n", Refused(PasswordTooLong), 1),
+    (1024, b'a', "\r", Refused(PasswordTooLong), 0),
+    (1024, b'a', "\rb\n", Refused(PasswordTooLong), 1),
+    (1027, b'a', "\n", Refused(PasswordTooLong), 2),
+    (1026, 0xff, "", Refused(PasswordTooLong), 0),
+    (1025, 0xff, "", Refused(NotUtf8), 0),
+    (1025, 0xff, "\n", Refused(NotUtf8), 0),
+    (1, 0xff, "\n", Refused(NotUtf8), 0),
+    (0, b'a', "", Refused(EndOfInput), 0),
+    (8, b'p', "\nmore", Accepted, 4),
+];
+
+// The rows, so that no proof looks into all of them.
+fn long_lines() -> &'static [(usize, u8, &'static str, Outcome, usize)] {
+    &LONG_LINES
+}
+
 #[test]
 fn long_lines_are_cut_and_refused(rt: HostRuntime) {
-    for (count, letter, tail, expected, unread) in [
-        (1024usize, b'a', "\n", Accepted, 0usize),
-        (1024, b'a', "\r\n", Accepted, 0),
-        (1024, b'a', "", Accepted, 0),
-        (1025, b'a', "", Refused(PasswordTooLong), 0),
-        (1025, b'a', "\n", Refused(PasswordTooLong), 0),
-        (1025, b'a', "\r\n", Refused(PasswordTooLong), 1),
-        (1024, b'a', "\r", Refused(PasswordTooLong), 0),
-        (1024, b'a', "\rb\n", Refused(PasswordTooLong), 1),
-        (1027, b'a', "\n", Refused(PasswordTooLong), 2),
-        (1026, 0xff, "", Refused(PasswordTooLong), 0),
-        (1025, 0xff, "", Refused(NotUtf8), 0),
-        (1025, 0xff, "\n", Refused(NotUtf8), 0),
-        (1, 0xff, "\n", Refused(NotUtf8), 0),
-        (0, b'a', "", Refused(EndOfInput), 0),
-        (8, b'p', "\nmore", Accepted, 4),
-    ] {
-        let line = line(rt.alloc(), letter, count, tail);
-        let right = both_come_so(rt.alloc(), &line, expected, count, unread);
+    for (count, letter, tail, expected, unread) in long_lines() {
+        let line = line(rt.alloc(), *letter, *count, tail);
+        let right = both_come_so(rt.alloc(), &line, *expected, *count, *unread);
         assert!(rt; right, "at {count} of {letter} and {tail:?}");
     }
 }
@@ -130,19 +139,27 @@ fn gives(alloc: Global, typed: &str, expected: &str, shown: &str) -> bool {
     is_text(&password, expected) && prompt.writer.as_slice() == shown.as_bytes()
 }
 
+// What is typed, the password, and what is shown.
+const LINE_ENDS: [(&str, &str, &str); 9] = [
+    ("password\n", "password", "?"),
+    ("password", "password", "?"),
+    ("pass word \r\n", "pass word ", "?"),
+    ("a\r\r\n", "a\r", "?"),
+    ("a\rb\n", "a\rb", "?"),
+    ("\r", "\r", "?"),
+    ("\n", "", "?<empty>\n"),
+    ("\r\n", "", "?<empty>\n"),
+    ("\npassword\n", "", "?<empty>\n"),
+];
+
+// The rows, so that no proof looks into all of them.
+fn line_ends() -> &'static [(&'static str, &'static str, &'static str)] {
+    &LINE_ENDS
+}
+
 #[test]
 fn line_ends_are_no_part_of_a_password(rt: HostRuntime) {
-    for (typed, expected, shown) in [
-        ("password\n", "password", "?"),
-        ("password", "password", "?"),
-        ("pass word \r\n", "pass word ", "?"),
-        ("a\r\r\n", "a\r", "?"),
-        ("a\rb\n", "a\rb", "?"),
-        ("\r", "\r", "?"),
-        ("\n", "", "?<empty>\n"),
-        ("\r\n", "", "?<empty>\n"),
-        ("\npassword\n", "", "?<empty>\n"),
-    ] {
+    for (typed, expected, shown) in line_ends() {
         assert!(rt; gives(rt.alloc(), typed, expected, shown), "at {typed:?}");
     }
 }

@@ -43,18 +43,18 @@ const OF_ABC: [&str; 5] = [
 
 #[test]
 fn digests_of_each_length(rt: HostRuntime) {
-    for expected in OF_NOTHING {
-        assert!(rt;
-            is_digest(rt.alloc(), b"", expected),
-            "of nothing: {expected}"
-        );
+    assert!(rt; are_digests(rt.alloc(), b"", &OF_NOTHING));
+    assert!(rt; are_digests(rt.alloc(), b"abc", &OF_ABC));
+}
+
+// Whether all of these are digests of the message.
+fn are_digests(alloc: Global, message: &[u8], digests: &[&str]) -> bool {
+    for expected in digests {
+        if !is_digest(alloc, message, expected) {
+            return false;
+        }
     }
-    for expected in OF_ABC {
-        assert!(rt;
-            is_digest(rt.alloc(), b"abc", expected),
-            "of abc: {expected}"
-        );
-    }
+    true
 }
 
 // Whether this is the digest of as many bytes as the text shows: of the message as a whole, and as
@@ -128,11 +128,16 @@ const AROUND_THE_ENDS: [(usize, &str); 7] = [
     ),
 ];
 
+// The rows, so that no proof looks into all of them.
+fn around_the_ends() -> &'static [(usize, &'static str)] {
+    &AROUND_THE_ENDS
+}
+
 #[test]
 fn digests_around_the_ends_of_blocks(rt: HostRuntime) {
     let message = counted_to(255);
-    for (len, expected) in AROUND_THE_ENDS {
-        let right = is_digest_by_bytes(rt.alloc(), front(&message, len), expected);
+    for (len, expected) in around_the_ends() {
+        let right = is_digest_by_bytes(rt.alloc(), front(&message, *len), expected);
         assert!(rt; right, "at {len}");
     }
 }

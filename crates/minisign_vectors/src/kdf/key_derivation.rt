@@ -105,10 +105,15 @@ const CODES: [(usize, &str); 7] = [
     ),
 ];
 
+// The rows, so that no proof looks into all of them.
+fn codes() -> &'static [(usize, &'static str)] {
+    &CODES
+}
+
 #[test]
 fn hmac_of_keys_of_each_kind(rt: HostRuntime) {
-    for (len, code) in CODES {
-        assert!(rt; is_code_of_text(rt.alloc(), len, code), "a key of {len}");
+    for (len, code) in codes() {
+        assert!(rt; is_code_of_text(rt.alloc(), *len, code), "a key of {len}");
     }
 }
 
@@ -231,10 +236,15 @@ const KEYS: [((u8, u32, u32), &str); 10] = [
     ((7, 5, 2), "960be3793d40fcc023847c20005a83a261fcb50d"),
 ];
 
+// The rows, so that no proof looks into all of them.
+fn keys() -> &'static [((u8, u32, u32), &'static str)] {
+    &KEYS
+}
+
 #[test]
 fn scrypt_of_small_parameters(rt: HostRuntime) {
-    for (params, key) in KEYS {
-        let right = derives(rt.alloc(), ("pw", "some salt"), params, key);
+    for (params, key) in keys() {
+        let right = derives(rt.alloc(), ("pw", "some salt"), *params, key);
         assert!(rt; right, "at {key}");
     }
 }
