@@ -6,9 +6,37 @@ use crate::installing::{FIRST, KEY_TEXT, SECOND};
 use minisign_base::scheme::Scheme;
 use minisign_base::toy::ToyScheme;
 use minisign_external::state::{Misuse, Questions};
+use minisign_fixtures::outcomes::front;
 use minisign_install::Numbering;
 use minisign_install::hosted::Installation;
 use minisign_install::hosted_judging::judge_comment;
+
+// What a host tells an installation, or asks it, and the answer.
+#[derive(Drop)]
+enum Step<'a> {
+    // What was due is done.
+    Done(Result<(), Misuse>),
+    // A piece was copied, and there may be more.
+    More(Result<(), Misuse>),
+    // What was due failed, by the fault with this number.
+    Failed(u32, Result<(), Misuse>),
+    // The record holds these bytes.
+    Record(&'a [u8], Result<(), Misuse>),
+    // There is no record.
+    NoRecord(Result<(), Misuse>),
+    // This piece was read back.
+    Piece(&'a [u8], Result<(), Misuse>),
+    // The number of what is due.
+    Due(u32),
+    // The number that is to be written.
+    Number(&'a [u8]),
+    // The number of the fault that the run was refused for.
+    RefusedFor(u32),
+}
+
+const TAKEN: Result<(), Misuse> = Ok(());
+
+const NOT_DUE: Result<(), Misuse> = Err(Misuse::NotDue);
 
 fn no_questions() -> Questions {
     Questions {
@@ -47,61 +75,51 @@ fn read_back(record: &[u8], data: &[u8]) -> Installation {
 fn judged(it: &mut Installation, sig_text: &str, file: &[u8]) -> u32 {
     let mut questions = no_questions();
     let mut message = [0u8; 300];
+    let refused = asked(it, sig_text, file, &mut questions, &mut message);
+    if refused != 0 {
+        return refused;
+    }
+    let key = &questions.public_key;
+    let first = accepts(&questions.digest, key, &questions.signature);
+    let message = front(&message, questions.message_len as usize);
+    let second = accepts(message, key, &questions.comment_signature);
+    answered(it, first, second)
+}
+
+// Asks about the file: the number of the refusal, or 0.
+fn asked(
+    it: &mut Installation,
+    sig_text: &str,
+    file: &[u8],
+    questions: &mut Questions,
+    message: &mut [u8],
+) -> u32 {
     let asked = it.ask(
         KEY_TEXT.as_bytes(),
         sig_text.as_bytes(),
         file,
         Numbering::Timestamp,
-        &mut questions,
-        &mut message,
+        questions,
+        message,
     );
-    if let Err(refusal) = asked {
-        return refusal.number();
-    }
-    let scheme = ToyScheme::new();
-    let first = scheme.verify(
-        &questions.digest,
-        &questions.public_key,
-        &questions.signature,
-    );
-    let len = (questions.message_len as usize).min(300);
-    let second = scheme.verify(
-        &message[..len],
-        &questions.public_key,
-        &questions.comment_signature,
-    );
-    match it.answer(first, second) {
+    match asked {
         Ok(()) => 0,
         Err(refusal) => refusal.number(),
     }
 }
 
-// What a host tells an installation, or asks it, and the answer.
-#[derive(Drop)]
-enum Step<'a> {
-    // What was due is done.
-    Done(Result<(), Misuse>),
-    // A piece was copied, and there may be more.
-    More(Result<(), Misuse>),
-    // What was due failed, by the fault with this number.
-    Failed(u32, Result<(), Misuse>),
-    // The record holds these bytes.
-    Record(&'a [u8], Result<(), Misuse>),
-    // There is no record.
-    NoRecord(Result<(), Misuse>),
-    // This piece was read back.
-    Piece(&'a [u8], Result<(), Misuse>),
-    // The number of what is due.
-    Due(u32),
-    // The number that is to be written.
-    Number(&'a [u8]),
-    // The number of the fault that the run was refused for.
-    RefusedFor(u32),
+// Whether the toy scheme accepts the signature.
+fn accepts(message: &[u8], public_key: &[u8; 32], signature: &[u8; 64]) -> bool {
+    ToyScheme::new().verify(message, public_key, signature)
 }
 
-const TAKEN: Result<(), Misuse> = Ok(());
-
-const NOT_DUE: Result<(), Misuse> = Err(Misuse::NotDue);
+// Gives both answers: the number of the refusal, or 0.
+fn answered(it: &mut Installation, first: bool, second: bool) -> u32 {
+    match it.answer(first, second) {
+        Ok(()) => 0,
+        Err(refusal) => refusal.number(),
+    }
+}
 
 // Whether the installation gives these answers, one after another.
 fn follows(it: &mut Installation, steps: &[Step<'_>]) -> bool {
