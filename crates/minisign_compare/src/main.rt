@@ -38,7 +38,7 @@ fn main(rt: HostRuntime) -> io::Result<ExitCode> {
     Ok(ExitCode::SUCCESS)
 }
 
-// Answers one line, unless it is neither a request nor a comment nor empty.
+// Answers one line; an empty one and a comment get no answer. It is false of what is no request.
 fn answer_line<W: Write>(
     rt: &HostRuntime,
     table: &mut Table,
