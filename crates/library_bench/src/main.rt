@@ -17,13 +17,14 @@ mod scrypt;
 
 use minisign::base::devices::random_sources::FixedRandom;
 use minisign::base::devices::sinks::VecSink;
-use minisign::base::devices::sources::{FileSource, SliceSource};
+use minisign::base::devices::sources::{FileSource, Rereader, SliceSource, Source};
 use minisign::base::prompt::Prompt;
 use minisign::base::toy::ToyScheme;
 use minisign::hash::blake2b::Blake2b;
 use minisign::reading::{read_text, read_to_end};
 use minisign::{PublicKey, PublicKeyBox, SecretKey, SecretKeyBox, SignatureBox, sign, verify};
 use scrypt::time_scrypt;
+use std::alloc::Global;
 use std::process::ExitCode;
 use std::{env, fs, io};
 
@@ -70,16 +71,18 @@ fn main(rt: HostRuntime) -> io::Result<ExitCode> {
             println!(rt; "{result}")?;
             Ok(ExitCode::SUCCESS)
         }
-        Err(Stopped::Fault(fault)) => {
-            eprintln!(rt; "error: {fault}")?;
-            Ok(ExitCode::FAILURE)
-        }
-        Err(Stopped::Files(error)) => {
-            eprintln!(rt; "error: {error}")?;
-            Ok(ExitCode::FAILURE)
-        }
-        Err(Stopped::Usage) => tell_usage(&rt),
+        Err(stopped) => tell_stopped(&rt, &stopped),
     }
+}
+
+// Tells why a job ended without a result.
+fn tell_stopped(rt: &HostRuntime, stopped: &Stopped) -> io::Result<ExitCode> {
+    match stopped {
+        Stopped::Fault(fault) => eprintln!(rt; "error: {fault}")?,
+        Stopped::Files(error) => eprintln!(rt; "error: {error}")?,
+        Stopped::Usage => return tell_usage(rt),
+    }
+    Ok(ExitCode::FAILURE)
 }
 
 fn tell_usage(rt: &HostRuntime) -> io::Result<ExitCode> {
@@ -138,10 +141,25 @@ fn hash(rt: &HostRuntime, path: &str, rounds: u64) -> Result<u64, Stopped> {
     Ok(sum)
 }
 
+fn key_of(rt: &HostRuntime, path: &str) -> Result<PublicKey, Stopped> {
+    let text = text_of(rt, path)?;
+    let key_box = PublicKeyBox::from_string(rt.alloc(), &text)?;
+    Ok(key_box.into_public_key(rt.alloc())?)
+}
+
+fn box_of(rt: &HostRuntime, path: &str) -> Result<SignatureBox, Stopped> {
+    let text = text_of(rt, path)?;
+    Ok(SignatureBox::from_string(rt.alloc(), &text)?)
+}
+
+fn secret_of(rt: &HostRuntime, path: &str) -> Result<SecretKeyBox, Stopped> {
+    let text = text_of(rt, path)?;
+    Ok(SecretKeyBox::from_string(rt.alloc(), &text)?)
+}
+
 fn verify_file(rt: &HostRuntime, pk: &str, sig: &str, path: &str) -> Result<u64, Stopped> {
-    let pk_text = text_of(rt, pk)?;
-    let key = PublicKeyBox::from_string(rt.alloc(), &pk_text)?.into_public_key(rt.alloc())?;
-    let signature_box = SignatureBox::from_string(rt.alloc(), &text_of(rt, sig)?)?;
+    let key = key_of(rt, pk)?;
+    let signature_box = box_of(rt, sig)?;
     verify_with(rt, &key, &signature_box, path)?;
     Ok(1)
 }
@@ -153,43 +171,61 @@ fn verify_with(
     path: &str,
 ) -> Result<(), Stopped> {
     let mut source = FileSource::new(fs::open(rt, path)?);
-    let mut status = VecSink::new(rt.alloc());
-    let mut out = VecSink::new(rt.alloc());
+    Ok(verified(rt.alloc(), key, signature_box, &mut source)?)
+}
+
+// Verifies what a source has ahead, quietly and with no output.
+fn verified<R: Rereader>(
+    alloc: Global,
+    key: &PublicKey,
+    signature_box: &SignatureBox,
+    source: &mut R,
+) -> minisign::Result<()> {
+    let mut status = VecSink::new(alloc);
+    let mut out = VecSink::new(alloc);
     verify(
-        rt.alloc(),
+        alloc,
         &ToyScheme::new(),
         key,
         signature_box,
-        &mut source,
+        source,
         true,
         false,
         false,
         &mut status,
         &mut out,
-    )?;
-    Ok(())
+    )
 }
 
 fn sign_file(rt: &HostRuntime, sk: &str, path: &str) -> Result<u64, Stopped> {
-    let key_box = SecretKeyBox::from_string(rt.alloc(), &text_of(rt, sk)?)?;
-    let key = key_box.into_unencrypted_secret_key(rt.alloc())?;
+    let key = secret_of(rt, sk)?.into_unencrypted_secret_key(rt.alloc())?;
     let mut source = FileSource::new(fs::open(rt, path)?);
+    let text = signed_text(rt.alloc(), &key, &mut source)?;
+    Ok(text.len() as u64)
+}
+
+// The text over what a source has ahead, with the comment `t`.
+fn signed_text<R: Source>(
+    alloc: Global,
+    key: &SecretKey,
+    source: &mut R,
+) -> minisign::Result<String> {
     let signature_box = sign(
-        rt.alloc(),
+        alloc,
         &ToyScheme::new(),
         None,
-        &key,
-        &mut source,
+        key,
+        source,
         Some("t"),
         None,
         &mut FixedRandom::new(&ZEROS),
         0,
     )?;
-    Ok(signature_box.to_string(rt.alloc())?.len() as u64)
+    signature_box.to_string(alloc)
 }
 
 fn open(rt: &HostRuntime, sk: &str, password: String) -> Result<u64, Stopped> {
-    let key_box = SecretKeyBox::from_string(rt.alloc(), &text_of(rt, sk)?)?;
+    let key_box = secret_of(rt, sk)?;
     let mut unasked = Prompt::new(SliceSource::new(b""), VecSink::new(rt.alloc()));
     let key = SecretKey::from_box(rt.alloc(), key_box, Some(password), &mut unasked)?;
     Ok(key.is_encrypted() as u64)
@@ -217,18 +253,27 @@ fn signatures(rt: &HostRuntime, sig: &str, rounds: u64) -> Result<u64, Stopped> 
 }
 
 fn small(rt: &HostRuntime, pk: &str, sig: &str, rounds: u64) -> Result<u64, Stopped> {
-    let pk_text = text_of(rt, pk)?;
-    let key = PublicKeyBox::from_string(rt.alloc(), &pk_text)?.into_public_key(rt.alloc())?;
-    let signature_box = SignatureBox::from_string(rt.alloc(), &text_of(rt, sig)?)?;
+    let key = key_of(rt, pk)?;
+    let signature_box = box_of(rt, sig)?;
     let mut verified = 0u64;
     for _ in 0..rounds {
         for number in 0..SMALL_FILES {
-            let Ok(name) = format!(in rt.alloc(); "{number}") else {
-                return Err(Stopped::Usage);
-            };
-            verify_with(rt, &key, &signature_box, &name)?;
+            verify_small(rt, &key, &signature_box, number)?;
             verified = verified.wrapping_add(1);
         }
     }
     Ok(verified)
+}
+
+// Verifies the small file with this number for a name.
+fn verify_small(
+    rt: &HostRuntime,
+    key: &PublicKey,
+    signature_box: &SignatureBox,
+    number: u64,
+) -> Result<(), Stopped> {
+    let Ok(name) = format!(in rt.alloc(); "{number}") else {
+        return Err(Stopped::Usage);
+    };
+    verify_with(rt, key, signature_box, &name)
 }

@@ -17,14 +17,16 @@ use minisign_examples::rotating::{NewKey, check_with_new_key};
 use minisign_examples::small_device::open_in_little_memory;
 use minisign_examples::updating::check_update;
 use minisign_fixtures::outcomes::Outcome::{self, Accepted, Refused};
-use minisign_fixtures::outcomes::{comes_to, holds, is_text};
+use minisign_fixtures::outcomes::{comes_to, holds};
 use minisign_fixtures::texts::{KEY_TEXT, LEGACY_TEXT, SEALED, SECRET_TEXT, SIGNATURE_TEXT};
 use std::alloc::Global;
 use std::fs;
-use std::process::Abort;
 use std::test::Fail;
 
 const REFUSED: Outcome = Refused(SignatureRefused);
+
+// The worked texts, which vouch for `abc` with the comment `t`.
+const WORKED: (&str, &str) = (KEY_TEXT, SIGNATURE_TEXT);
 
 // Verifies the bytes with two texts.
 fn verified(alloc: Global, texts: (&str, &str), message: &[u8]) -> Result<String> {
@@ -32,37 +34,36 @@ fn verified(alloc: Global, texts: (&str, &str), message: &[u8]) -> Result<String
     verify_bytes(alloc, &ToyScheme::new(), pk_text, sig_text, message)
 }
 
-// Whether the worked texts vouch for the bytes, with the comment `t`.
-fn is_vouched_for(alloc: Global) -> bool {
-    let comment = verified(alloc, (KEY_TEXT, SIGNATURE_TEXT), b"abc");
-    is_text(&comment, "t")
+// Whether this comes of verifying: the comment `t`, or a refusal.
+fn tells(answer: &Result<String>, expected: Outcome) -> bool {
+    match answer {
+        Ok(comment) => expected == Accepted && comment.as_str() == "t",
+        Err(_) => comes_to(answer, expected),
+    }
 }
 
-// Asserts that verifying the bytes is refused so.
-fn refuses<A: Abort>(
-    rt: &A,
-    alloc: Global,
-    texts: (&str, &str),
-    message: &[u8],
-    expected: Outcome,
-) {
+// Whether this comes of verifying the bytes with two texts.
+fn is_told(alloc: Global, texts: (&str, &str), message: &[u8], expected: Outcome) -> bool {
     let answer = verified(alloc, texts, message);
-    let came = comes_to(&answer, expected);
-    assert!(rt; came, "at {expected:?}");
+    tells(&answer, expected)
 }
 
 #[test]
 fn the_comment_of_bytes_is_returned(rt: HostRuntime) {
-    let alloc = rt.alloc();
-    assert!(rt; is_vouched_for(alloc));
-    let worked = (KEY_TEXT, SIGNATURE_TEXT);
-    refuses(&rt, alloc, worked, b"abd", REFUSED);
-    let legacy = Refused(LegacyNotAccepted);
-    refuses(&rt, alloc, (KEY_TEXT, LEGACY_TEXT), b"abc", legacy);
-    let one_line = (KEY_TEXT, "untrusted comment: c");
-    refuses(&rt, alloc, one_line, b"abc", Refused(MissingSignature));
-    let no_key = Refused(MissingPublicKeyComment);
-    refuses(&rt, alloc, ("", ""), b"abc", no_key);
+    for (texts, message, expected) in [
+        (WORKED, b"abc", Accepted),
+        (WORKED, b"abd", REFUSED),
+        ((KEY_TEXT, LEGACY_TEXT), b"abc", Refused(LegacyNotAccepted)),
+        (
+            (KEY_TEXT, "untrusted comment: c"),
+            b"abc",
+            Refused(MissingSignature),
+        ),
+        (("", ""), b"abc", Refused(MissingPublicKeyComment)),
+    ] {
+        let right = is_told(rt.alloc(), texts, message, expected);
+        assert!(rt; right, "at {expected:?}");
+    }
 }
 
 // Verifies a file with key A and the text in another one.
@@ -77,89 +78,84 @@ fn file_verified(rt: &HostRuntime, sig_path: &str, data_path: &str) -> Result<St
     )
 }
 
-// Whether the file in the folder is vouched for, with the comment `t`.
-fn is_file_vouched_for(rt: &HostRuntime, folder: &str) -> std::result::Result<bool, Fail> {
-    let sig_path = path_of(rt, folder, "abc.sig")?;
-    let data_path = path_of(rt, folder, "abc")?;
-    let comment = file_verified(rt, sig_path.as_str(), data_path.as_str());
-    Ok(is_text(&comment, "t"))
-}
-
-// Whether verifying a file of the folder is refused so.
-fn is_file_refused(
+// Whether this comes of verifying a file of the folder.
+fn is_file_told(
     rt: &HostRuntime,
     folder: &str,
-    sig: &str,
-    file: &str,
+    (sig, file): (&str, &str),
     expected: Outcome,
 ) -> std::result::Result<bool, Fail> {
     let sig_path = path_of(rt, folder, sig)?;
     let data_path = path_of(rt, folder, file)?;
     let answer = file_verified(rt, sig_path.as_str(), data_path.as_str());
-    Ok(comes_to(&answer, expected))
+    Ok(tells(&answer, expected))
+}
+
+// Makes a folder with a signature and the data.
+fn make_signed(rt: &HostRuntime, folder: &str) -> std::result::Result<(), Fail> {
+    make_empty(rt, folder)?;
+    put(rt, folder, "abc.sig", SIGNATURE_TEXT.as_bytes())?;
+    put(rt, folder, "abc", b"abc")
 }
 
 #[test]
 fn the_comment_of_files_is_returned(rt: HostRuntime) -> std::result::Result<(), Fail> {
     let folder = folder_path(&rt, "callers")?;
-    let folder = folder.as_str();
-    make_empty(&rt, folder)?;
-    put(&rt, folder, "abc.sig", SIGNATURE_TEXT.as_bytes())?;
-    put(&rt, folder, "abc", b"abc")?;
-    let unread = Refused(ReadingFailed);
-    assert!(rt; is_file_vouched_for(&rt, folder)?);
-    assert!(rt; is_file_refused(&rt, folder, "missing", "abc", unread)?);
-    assert!(rt; is_file_refused(&rt, folder, "abc.sig", "missing", unread)?);
-    assert!(rt; is_file_refused(&rt, folder, "abc.sig", "abc.sig", REFUSED)?);
-    fs::remove_dir_all(&rt, folder)?;
+    make_signed(&rt, folder.as_str())?;
+    for (files, expected) in [
+        (("abc.sig", "abc"), Accepted),
+        (("missing", "abc"), Refused(ReadingFailed)),
+        (("abc.sig", "missing"), Refused(ReadingFailed)),
+        (("abc.sig", "abc.sig"), REFUSED),
+    ] {
+        let right = is_file_told(&rt, folder.as_str(), files, expected)?;
+        assert!(rt; right, "at {expected:?}");
+    }
+    fs::remove_dir_all(&rt, folder.as_str())?;
     Ok(())
 }
 
-// Copies the data, if the worked texts vouch for it.
-fn copied<R: Rereader>(alloc: Global, data: &mut R, out: &mut VecSink) -> Result<String> {
-    copy_verified(
-        alloc,
-        &ToyScheme::new(),
-        KEY_TEXT,
-        SIGNATURE_TEXT,
-        data,
-        out,
-    )
+// Copies the data, if the texts vouch for it.
+fn copied<R: Rereader>(
+    alloc: Global,
+    texts: (&str, &str),
+    data: &mut R,
+    out: &mut VecSink,
+) -> Result<String> {
+    let (pk_text, sig_text) = texts;
+    copy_verified(alloc, &ToyScheme::new(), pk_text, sig_text, data, out)
 }
 
-// Whether the data is vouched for, with the comment `t`, and copied.
-fn is_copied(alloc: Global, message: &[u8]) -> bool {
+// Whether this comes of copying the data with the worked texts, and this is what was copied.
+fn is_copied(alloc: Global, message: &[u8], expected: Outcome, left: &[u8]) -> bool {
     let mut out = VecSink::new(alloc);
-    let answer = copied(alloc, &mut SliceSource::new(message), &mut out);
-    let told = is_text(&answer, "t");
-    told && out.as_slice() == message
-}
-
-// Whether the data is refused so, and nothing of it is copied.
-fn is_left(alloc: Global, message: &[u8], expected: Outcome) -> bool {
-    let mut out = VecSink::new(alloc);
-    let answer = copied(alloc, &mut SliceSource::new(message), &mut out);
-    let came = comes_to(&answer, expected);
-    came && out.as_slice().is_empty()
+    let answer = copied(alloc, WORKED, &mut SliceSource::new(message), &mut out);
+    let told = tells(&answer, expected);
+    told && out.as_slice() == left
 }
 
 #[test]
 fn what_is_vouched_for_is_copied(rt: HostRuntime) {
-    assert!(rt; is_copied(rt.alloc(), b"abc"));
-    assert!(rt; is_left(rt.alloc(), b"abd", REFUSED));
+    assert!(rt; is_copied(rt.alloc(), b"abc", Accepted, b"abc"));
+    assert!(rt; is_copied(rt.alloc(), b"abd", REFUSED, b""));
 }
 
-// Whether a source that cannot go back is refused, and nothing is copied.
-fn is_read_once(alloc: Global) -> bool {
-    let mut out = VecSink::new(alloc);
-    let mut data = ReaderSource::new(b"abc".as_slice());
-    let refused = copied(alloc, &mut data, &mut out).is_err();
-    refused && out.as_slice().is_empty()
+// Whether the data of a source that cannot go back is refused.
+fn is_read_once(alloc: Global, out: &mut VecSink) -> bool {
+    let answer = copied(
+        alloc,
+        WORKED,
+        &mut ReaderSource::new(b"abc".as_slice()),
+        out,
+    );
+    answer.is_err()
 }
 
 #[test]
 fn a_source_that_cannot_go_back_is_not_copied(rt: HostRuntime) {
-    assert!(rt; is_read_once(rt.alloc()));
+    let mut out = VecSink::new(rt.alloc());
+    assert!(rt; is_read_once(rt.alloc(), &mut out));
+    assert!(rt; out.as_slice().is_empty());
 }
 
 // Opens the text of a secret key.
@@ -249,20 +245,20 @@ fn keys_are_opened_alike_in_little_memory(rt: HostRuntime) {
 }
 
 // What comes of the update under this name.
-fn checked(alloc: Global, update: &[u8], name: &str) -> Result<()> {
-    check_update(
-        alloc,
-        &ToyScheme::new(),
-        KEY_TEXT,
-        SIGNATURE_TEXT,
-        update,
-        name,
-    )
+fn checked(alloc: Global, texts: (&str, &str), update: &[u8], name: &str) -> Result<()> {
+    let (pk_text, sig_text) = texts;
+    check_update(alloc, &ToyScheme::new(), pk_text, sig_text, update, name)
+}
+
+// Whether this comes of the update under this name.
+fn is_taken(alloc: Global, update: &[u8], name: &str, expected: Outcome) -> bool {
+    let answer = checked(alloc, WORKED, update, name);
+    comes_to(&answer, expected)
 }
 
 // Whether the update is refused for its name, by a fault that has no name of the library's.
 fn is_refused_for_its_name(alloc: Global, name: &str) -> bool {
-    let answer = checked(alloc, b"abc", name);
+    let answer = checked(alloc, WORKED, b"abc", name);
     match &answer {
         Ok(()) => false,
         Err(fault) => fault.named().is_none() && *fault.kind() == ErrorKind::Verify,
@@ -271,43 +267,45 @@ fn is_refused_for_its_name(alloc: Global, name: &str) -> bool {
 
 #[test]
 fn an_update_is_taken_under_its_name_alone(rt: HostRuntime) {
-    let alloc = rt.alloc();
-    let own = checked(alloc, b"abc", "t");
-    assert!(rt; comes_to(&own, Accepted));
+    assert!(rt; is_taken(rt.alloc(), b"abc", "t", Accepted));
     for other in ["T", "", "t ", "tt"] {
-        assert!(rt; is_refused_for_its_name(alloc, other), "as {other:?}");
+        assert!(rt; is_refused_for_its_name(rt.alloc(), other), "as {other:?}");
     }
-    let changed = checked(alloc, b"abd", "t");
-    assert!(rt; comes_to(&changed, REFUSED));
+    assert!(rt; is_taken(rt.alloc(), b"abd", "t", REFUSED));
 }
 
-// Whether the update under a new key, which this text has to vouch for, comes out so.
+// What comes of the update under a new key, which a text has to vouch for.
+fn checked_anew(
+    alloc: Global,
+    (pk_text, sig_text): (&str, &str),
+    new_key: NewKey<'_>,
+    update: &[u8],
+) -> Result<()> {
+    check_with_new_key(alloc, &ToyScheme::new(), pk_text, new_key, sig_text, update)
+}
+
+// Whether this comes of the update under a new key, which this text has to vouch for.
 fn is_checked(alloc: Global, sig_text: &str, update: &[u8], expected: Outcome) -> bool {
     let new_key = NewKey {
         pk_text: KEY_TEXT,
         sig_text,
     };
-    let answer = check_with_new_key(
-        alloc,
-        &ToyScheme::new(),
-        KEY_TEXT,
-        new_key,
-        SIGNATURE_TEXT,
-        update,
-    );
+    let answer = checked_anew(alloc, WORKED, new_key, update);
     comes_to(&answer, expected)
 }
 
-// Whether the update comes out so with a new key that the old one signed.
-fn is_vouched_by_the_old(alloc: Global, update: &[u8], expected: Outcome) -> Result<bool> {
-    let text = signed_with(alloc, SECRET_TEXT, "", KEY_TEXT.as_bytes(), "key of 2027")?;
-    Ok(is_checked(alloc, text.as_str(), update, expected))
+// Whether this comes of the update with a new key that the old one signed.
+fn is_vouched_by_the_old(alloc: Global, update: &[u8], expected: Outcome) -> bool {
+    let text = signed_with(alloc, SECRET_TEXT, "", KEY_TEXT.as_bytes(), "key of 2027");
+    match &text {
+        Ok(text) => is_checked(alloc, text.as_str(), update, expected),
+        Err(_) => false,
+    }
 }
 
 #[test]
 fn a_new_key_is_vouched_for_by_the_old_one(rt: HostRuntime) {
-    let alloc = rt.alloc();
-    assert!(rt; holds(&is_vouched_by_the_old(alloc, b"abc", Accepted)));
-    assert!(rt; holds(&is_vouched_by_the_old(alloc, b"abd", REFUSED)));
-    assert!(rt; is_checked(alloc, SIGNATURE_TEXT, b"abc", REFUSED));
+    assert!(rt; is_vouched_by_the_old(rt.alloc(), b"abc", Accepted));
+    assert!(rt; is_vouched_by_the_old(rt.alloc(), b"abd", REFUSED));
+    assert!(rt; is_checked(rt.alloc(), SIGNATURE_TEXT, b"abc", REFUSED));
 }

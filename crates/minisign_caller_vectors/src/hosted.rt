@@ -1,13 +1,42 @@
 //! An installation that a host holds, driven call by call: what is due after each, and what is refused. The texts are of
 //! the toy scheme, as in `installing`.
 
+use self::Step::{Done, Due, Failed, More, NoRecord, Number, Piece, Record, RefusedFor};
 use crate::installing::{FIRST, KEY_TEXT, SECOND};
 use minisign_base::scheme::Scheme;
 use minisign_base::toy::ToyScheme;
 use minisign_external::state::{Misuse, Questions};
+use minisign_fixtures::outcomes::front;
 use minisign_install::Numbering;
 use minisign_install::hosted::Installation;
 use minisign_install::hosted_judging::judge_comment;
+
+// What a host tells an installation, or asks it, and the answer.
+#[derive(Drop)]
+enum Step<'a> {
+    // What was due is done.
+    Done(Result<(), Misuse>),
+    // A piece was copied, and there may be more.
+    More(Result<(), Misuse>),
+    // What was due failed, by the fault with this number.
+    Failed(u32, Result<(), Misuse>),
+    // The record holds these bytes.
+    Record(&'a [u8], Result<(), Misuse>),
+    // There is no record.
+    NoRecord(Result<(), Misuse>),
+    // This piece was read back.
+    Piece(&'a [u8], Result<(), Misuse>),
+    // The number of what is due.
+    Due(u32),
+    // The number that is to be written.
+    Number(&'a [u8]),
+    // The number of the fault that the run was refused for.
+    RefusedFor(u32),
+}
+
+const TAKEN: Result<(), Misuse> = Ok(());
+
+const NOT_DUE: Result<(), Misuse> = Err(Misuse::NotDue);
 
 fn no_questions() -> Questions {
     Questions {
@@ -46,36 +75,78 @@ fn read_back(record: &[u8], data: &[u8]) -> Installation {
 fn judged(it: &mut Installation, sig_text: &str, file: &[u8]) -> u32 {
     let mut questions = no_questions();
     let mut message = [0u8; 300];
+    let refused = asked(it, sig_text, file, &mut questions, &mut message);
+    if refused != 0 {
+        return refused;
+    }
+    let key = &questions.public_key;
+    let first = accepts(&questions.digest, key, &questions.signature);
+    let message = front(&message, questions.message_len as usize);
+    let second = accepts(message, key, &questions.comment_signature);
+    answered(it, first, second)
+}
+
+// Asks about the file: the number of the refusal, or 0.
+fn asked(
+    it: &mut Installation,
+    sig_text: &str,
+    file: &[u8],
+    questions: &mut Questions,
+    message: &mut [u8],
+) -> u32 {
     let asked = it.ask(
         KEY_TEXT.as_bytes(),
         sig_text.as_bytes(),
         file,
         Numbering::Timestamp,
-        &mut questions,
-        &mut message,
+        questions,
+        message,
     );
-    if let Err(refusal) = asked {
-        return refusal.number();
+    match asked {
+        Ok(()) => 0,
+        Err(refusal) => refusal.number(),
     }
-    let scheme = ToyScheme::new();
-    let first = scheme.verify(
-        &questions.digest,
-        &questions.public_key,
-        &questions.signature,
-    );
-    let len = (questions.message_len as usize).min(300);
-    let second = scheme.verify(
-        &message[..len],
-        &questions.public_key,
-        &questions.comment_signature,
-    );
+}
+
+// Whether the toy scheme accepts the signature.
+fn accepts(message: &[u8], public_key: &[u8; 32], signature: &[u8; 64]) -> bool {
+    ToyScheme::new().verify(message, public_key, signature)
+}
+
+// Gives both answers: the number of the refusal, or 0.
+fn answered(it: &mut Installation, first: bool, second: bool) -> u32 {
     match it.answer(first, second) {
         Ok(()) => 0,
         Err(refusal) => refusal.number(),
     }
 }
 
-// The number that is to be written.
+// Whether the installation gives these answers, one after another.
+fn follows(it: &mut Installation, steps: &[Step<'_>]) -> bool {
+    for step in steps {
+        if !answers(it, step) {
+            return false;
+        }
+    }
+    true
+}
+
+// Whether it gives this answer.
+fn answers(it: &mut Installation, step: &Step<'_>) -> bool {
+    match step {
+        Step::Done(answer) => it.done() == *answer,
+        Step::More(answer) => it.more() == *answer,
+        Step::Failed(fault, answer) => it.failed(*fault) == *answer,
+        Step::Record(bytes, answer) => it.record(bytes) == *answer,
+        Step::NoRecord(answer) => it.no_record() == *answer,
+        Step::Piece(bytes, answer) => it.piece(bytes) == *answer,
+        Step::Due(number) => it.due_number() == *number,
+        Step::Number(digits) => number_is(it, digits),
+        Step::RefusedFor(number) => it.refused_for() == *number,
+    }
+}
+
+// Whether these are the digits of the number that is to be written.
 fn number_is(it: &Installation, digits: &[u8]) -> bool {
     let mut text = [0u8; 20];
     let len = it.write_number(&mut text).min(20);
@@ -85,22 +156,43 @@ fn number_is(it: &Installation, digits: &[u8]) -> bool {
 #[test]
 fn an_update_is_installed_as_it_is_told(rt: HostRuntime) {
     let mut it = read_back(b"4\n", b"first");
-    assert!(rt; it.due_number() == 7);
+    assert!(rt; follows(&mut it, &[Due(7)]));
     assert!(rt; judged(&mut it, FIRST, b"app") == 0);
-    assert!(rt; it.due_number() == 8);
-    assert!(rt; it.done() == Ok(()));
-    assert!(rt; it.done() == Ok(()));
-    assert!(rt; it.due_number() == 10);
-    assert!(rt; number_is(&it, b""));
-    assert!(rt; it.done() == Ok(()));
-    assert!(rt; it.due_number() == 11);
-    assert!(rt; number_is(&it, b"5"));
-    for _ in 0..6 {
-        assert!(rt; it.done() == Ok(()));
+    let steps = [
+        Due(8),
+        Done(TAKEN),
+        Done(TAKEN),
+        Due(10),
+        Number(b""),
+        Done(TAKEN),
+        Due(11),
+        Number(b"5"),
+        Done(TAKEN),
+        Done(TAKEN),
+        Done(TAKEN),
+        Done(TAKEN),
+        Done(TAKEN),
+        Done(TAKEN),
+        Due(19),
+        Done(NOT_DUE),
+        RefusedFor(0),
+    ];
+    assert!(rt; follows(&mut it, &steps));
+}
+
+// Whether judging what was read back comes to the fault with this number, or to none.
+fn is_judged(data: &[u8], sig_text: &str, record: &[u8], file: &[u8], number: u32) -> bool {
+    let mut it = read_back(record, data);
+    if judged(&mut it, sig_text, file) != number {
+        return false;
     }
-    assert!(rt; it.due_number() == 19);
-    assert!(rt; it.done() == Err(Misuse::NotDue));
-    assert!(rt; it.refused_for() == 0);
+    if number == 0 {
+        return follows(&mut it, &[Due(8)]);
+    }
+    follows(
+        &mut it,
+        &[Due(18), Done(TAKEN), Due(20), RefusedFor(number)],
+    )
 }
 
 #[test]
@@ -115,15 +207,21 @@ fn what_is_read_back_is_refused_by_number(rt: HostRuntime) {
         (b"first", FIRST, b"5", &[0xff], 8),
     ];
     for (data, sig_text, record, file, number) in rows {
-        let mut it = read_back(record, data);
-        assert!(rt; judged(&mut it, sig_text, file) == number);
-        assert!(rt; it.due_number() == if number == 0 { 8 } else { 18 });
-        if number != 0 {
-            let _removed = it.done();
-            assert!(rt; it.due_number() == 20);
-            assert!(rt; it.refused_for() == number);
-        }
+        assert!(rt;
+            is_judged(data, sig_text, record, file, number),
+            "at {number}"
+        );
     }
+}
+
+// Whether reading the record is due so, and the run is refused for the fault with this number, or
+// for none.
+fn is_read(record: &[u8], is_first: bool, due: u32, number: u32) -> bool {
+    let mut it = before_the_record(is_first);
+    follows(
+        &mut it,
+        &[Record(record, TAKEN), Due(due), RefusedFor(number)],
+    )
 }
 
 #[test]
@@ -140,47 +238,53 @@ fn records_are_read_and_refused(rt: HostRuntime) {
         (&[b'0'; 65], false, 20, 48),
     ];
     for (record, is_first, due, number) in rows {
-        let mut it = before_the_record(is_first);
-        assert!(rt; it.record(record) == Ok(()));
-        assert!(rt; it.due_number() == due);
-        assert!(rt; it.refused_for() == number);
+        assert!(rt; is_read(record, is_first, due, number), "at {record:?}");
     }
     let mut it = before_the_record(false);
-    assert!(rt; it.no_record() == Ok(()));
-    assert!(rt; it.refused_for() == 47);
+    assert!(rt; follows(&mut it, &[NoRecord(TAKEN), RefusedFor(47)]));
 }
 
 #[test]
 fn what_failed_is_told_at_the_end(rt: HostRuntime) {
     let mut it = Installation::new(true);
-    assert!(rt; it.failed(1) == Err(Misuse::NotDue));
-    assert!(rt; it.failed(46) == Ok(()));
-    assert!(rt; it.refused_for() == 46);
+    let steps = [Failed(1, NOT_DUE), Failed(46, TAKEN), RefusedFor(46)];
+    assert!(rt; follows(&mut it, &steps));
     let mut it = before_the_record(true);
-    assert!(rt; it.failed(46) == Err(Misuse::NotDue));
-    assert!(rt; it.done() == Err(Misuse::NotDue));
-    assert!(rt; it.no_record() == Ok(()));
-    assert!(rt; it.record(b"7") == Err(Misuse::NotDue));
-    assert!(rt; it.done() == Ok(()));
-    assert!(rt; it.more() == Ok(()));
-    assert!(rt; it.piece(b"first") == Err(Misuse::NotDue));
-    assert!(rt; it.failed(65) == Ok(()));
-    assert!(rt; it.due_number() == 18);
-    assert!(rt; it.failed(64) == Ok(()));
-    assert!(rt; it.refused_for() == 65);
+    let steps = [
+        Failed(46, NOT_DUE),
+        Done(NOT_DUE),
+        NoRecord(TAKEN),
+        Record(b"7", NOT_DUE),
+        Done(TAKEN),
+        More(TAKEN),
+        Piece(b"first", NOT_DUE),
+        Failed(65, TAKEN),
+        Due(18),
+        Failed(64, TAKEN),
+        RefusedFor(65),
+    ];
+    assert!(rt; follows(&mut it, &steps));
+}
+
+// The number that a comment for the file `app` gives where this one is kept, and for a fault 1000
+// more than its number.
+fn judged_alone(comment: &[u8], kept: u64) -> u64 {
+    match judge_comment(comment, b"app", Numbering::Version, kept) {
+        Ok(number) => number,
+        Err(fault) => 1000 + u64::from(fault.number()),
+    }
 }
 
 #[test]
 fn comments_are_judged_by_themselves(rt: HostRuntime) {
-    let judge = |comment: &[u8], kept: u64| {
-        match judge_comment(comment, b"app", Numbering::Version, kept) {
-            Ok(number) => number,
-            Err(fault) => 1000 + u64::from(fault.number()),
-        }
-    };
-    assert!(rt; judge(b"file:app\tversion:5", 5) == 5);
-    assert!(rt; judge(b"file:app\tversion:5", 6) == 1051);
-    assert!(rt; judge(b"file:app\ttimestamp:5", 0) == 1050);
-    assert!(rt; judge(b"file:other\tversion:5", 0) == 1049);
-    assert!(rt; judge(&[0xff], 0) == 1008);
+    let rows: [(&[u8], u64, u64); 5] = [
+        (b"file:app\tversion:5", 5, 5),
+        (b"file:app\tversion:5", 6, 1051),
+        (b"file:app\ttimestamp:5", 0, 1050),
+        (b"file:other\tversion:5", 0, 1049),
+        (&[0xff], 0, 1008),
+    ];
+    for (comment, kept, number) in rows {
+        assert!(rt; judged_alone(comment, kept) == number, "at {number}");
+    }
 }

@@ -37,16 +37,29 @@ fn install(
     sig_text: &str,
     is_first: bool,
 ) -> Result<(), InstallFault> {
+    let wanted = Wanted {
+        pk_text: KEY_TEXT,
+        sig_text,
+        file: "app",
+        numbering: Numbering::Timestamp,
+    };
+    install_wanted(alloc, folder, drawn, data, wanted, is_first)
+}
+
+// Installs what is wanted.
+fn install_wanted(
+    alloc: Global,
+    folder: &mut MemoryFolder,
+    drawn: &[u8],
+    data: &[u8],
+    wanted: Wanted<'_>,
+    is_first: bool,
+) -> Result<(), InstallFault> {
     install_in_memory(
         alloc,
         &ToyScheme::new(),
         &mut FixedRandom::new(drawn),
-        Wanted {
-            pk_text: KEY_TEXT,
-            sig_text,
-            file: "app",
-            numbering: Numbering::Timestamp,
-        },
+        wanted,
         is_first,
         &mut SliceSource::new(data),
         folder,
@@ -102,10 +115,12 @@ fn refusal_behind_second(
     sig_text: &str,
 ) -> Option<InstallFault> {
     let mut folder = MemoryFolder::new(alloc);
-    let installed = installs(alloc, &mut folder, b"second", SECOND, true, b"6");
-    let answer = install(alloc, &mut folder, drawn, update, sig_text, false);
-    if installed && holds(&folder, b"second", b"6") {
-        answer.err()
+    if !installs(alloc, &mut folder, b"second", SECOND, true, b"6") {
+        return None;
+    }
+    let refusal = install(alloc, &mut folder, drawn, update, sig_text, false).err();
+    if holds(&folder, b"second", b"6") {
+        refusal
     } else {
         None
     }
@@ -115,10 +130,9 @@ fn refusal_behind_second(
 fn updates_are_installed_one_after_another(rt: HostRuntime) {
     let alloc = rt.alloc();
     let mut folder = MemoryFolder::new(alloc);
-    let first = installs(alloc, &mut folder, b"first", FIRST, true, b"5");
-    let second = installs(alloc, &mut folder, b"second", SECOND, false, b"6");
-    let again = installs(alloc, &mut folder, b"second", SECOND, false, b"6");
-    assert!(rt; first && second && again, "{first} {second} {again}");
+    assert!(rt; installs(alloc, &mut folder, b"first", FIRST, true, b"5"));
+    assert!(rt; installs(alloc, &mut folder, b"second", SECOND, false, b"6"));
+    assert!(rt; installs(alloc, &mut folder, b"second", SECOND, false, b"6"));
 }
 
 #[test]

@@ -138,18 +138,18 @@ fn secret_keys_are_not_made_for_reasons_in_their_order(rt: HostRuntime) {
 
 #[test]
 fn public_keys_are_not_made_for_reasons_in_their_order(rt: HostRuntime) {
-    let alloc = rt.alloc();
-    let mut to = [7u8; 77];
-    for (comment, wanted) in [
-        (&b"\n\xff"[..], 8),
-        (&b"\n\r"[..], 9),
-        (&b"\r"[..], 11),
-        (&b"c"[..], 5),
-    ] {
-        let answer = number(write_public_key(alloc, &IDENTIFIER, &secret(), comment, &mut to));
-        assert!(rt; answer == wanted, "{answer}, and not {wanted}");
-        assert!(rt; to == [7; 77], "at {wanted}");
+    let rows: [(&[u8], u32); 4] = [(b"\n\xff", 8), (b"\n\r", 9), (b"\r", 11), (b"c", 5)];
+    for (comment, wanted) in rows {
+        assert!(rt; is_not_written(rt.alloc(), comment, wanted), "at {wanted}");
     }
+}
+
+// Whether the public key is not made in 77 bytes, for the reason with this number, and nothing is
+// written.
+fn is_not_written(alloc: Global, comment: &[u8], wanted: u32) -> bool {
+    let mut to = [7u8; 77];
+    let answer = number(write_public_key(alloc, &IDENTIFIER, &secret(), comment, &mut to));
+    answer == wanted && to == [7; 77]
 }
 
 // The number of asking for signatures with key A sealed, whose parallelization is 1.

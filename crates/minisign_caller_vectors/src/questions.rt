@@ -416,16 +416,21 @@ fn writes<A: Abort>(
 fn texts_are_refused_by_number(rt: HostRuntime) {
     let alloc = rt.alloc();
     let state = with_a_key(alloc, SECRET_KEY);
-    writes(&rt, alloc, &state, b"t", b"u", 230, 0);
-    writes(&rt, alloc, &state, b"t", b"u", 229, 5);
-    writes(&rt, alloc, &state, b"\xff", b"u", 300, 8);
-    writes(&rt, alloc, &state, b"t", b"\xff", 300, 8);
-    writes(&rt, alloc, &state, b"t\nt", b"u", 300, 9);
-    writes(&rt, alloc, &state, b"t ", b"u", 300, 9);
-    writes(&rt, alloc, &state, b" t", b"u", 300, 9);
-    writes(&rt, alloc, &state, b"t", b"u\nu", 300, 9);
-    writes(&rt, alloc, &state, b"t", b"u\r", 300, 9);
-    writes(&rt, alloc, &state, b"t", b" u ", 300, 0);
+    let rows: [(&[u8], &[u8], usize, u32); 10] = [
+        (b"t", b"u", 230, 0),
+        (b"t", b"u", 229, 5),
+        (b"\xff", b"u", 300, 8),
+        (b"t", b"\xff", 300, 8),
+        (b"t\nt", b"u", 300, 9),
+        (b"t ", b"u", 300, 9),
+        (b" t", b"u", 300, 9),
+        (b"t", b"u\nu", 300, 9),
+        (b"t", b"u\r", 300, 9),
+        (b"t", b" u ", 300, 0),
+    ];
+    for (trusted, untrusted, room, wanted) in rows {
+        writes(&rt, alloc, &state, trusted, untrusted, room, wanted);
+    }
 }
 
 // What Minisign would not read back, which `tests/c/wrong_use.c` has the lengths of.

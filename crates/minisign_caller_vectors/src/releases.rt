@@ -30,12 +30,26 @@ fn read_box(alloc: Global, text: &str) -> Result<SignatureBox> {
 }
 
 // Whether the text of the signature has the comments by default.
-fn has_comments(alloc: Global, sig_text: &str) -> Result<bool> {
-    let signature_box = read_box(alloc, sig_text)?;
+fn has_comments(alloc: Global, sig_text: &str) -> bool {
+    let read = read_box(alloc, sig_text);
+    match &read {
+        Ok(signature_box) => {
+            is_from_rsign(alloc, signature_box) && is_dated(alloc, signature_box)
+        }
+        Err(_) => false,
+    }
+}
+
+// Whether the untrusted comment is the one by default.
+fn is_from_rsign(alloc: Global, signature_box: &SignatureBox) -> bool {
     let untrusted = signature_box.untrusted_comment(alloc);
-    let below = is_text(&untrusted, "signature from rsign secret key");
+    is_text(&untrusted, "signature from rsign secret key")
+}
+
+// Whether the trusted comment is the one by default at second 0.
+fn is_dated(alloc: Global, signature_box: &SignatureBox) -> bool {
     let trusted = signature_box.trusted_comment(alloc);
-    Ok(below && is_text(&trusted, "timestamp:0"))
+    is_text(&trusted, "timestamp:0")
 }
 
 // Whether checking the update with both texts comes out so.
@@ -51,9 +65,8 @@ fn is_checked(alloc: Global, texts: (&str, &str), update: &str, expected: Outcom
 fn are_released(alloc: Global, texts: (&str, &str)) -> bool {
     let (pk_text, sig_text) = texts;
     let refused = Refused(SignatureRefused);
-    let commented = has_comments(alloc, sig_text);
     pk_text == COUNTED_PUBLIC_TEXT
-        && holds(&commented)
+        && has_comments(alloc, sig_text)
         && is_checked(alloc, texts, "lorem ipsum", Accepted)
         && is_checked(alloc, texts, "lorem ipsun", refused)
 }

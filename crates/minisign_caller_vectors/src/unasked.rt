@@ -6,6 +6,7 @@ use minisign::{
     KeyPair, Result, SecretKey, SecretKeyBox, open_with_password, sign_file, sign_reader,
 };
 use minisign_base::devices::random_sources::FixedRandom;
+use minisign_base::devices::sinks::Sink;
 use minisign_base::devices::sources::Source;
 use minisign_base::faults::NamedFault::{
     EncryptedKeyRefused, EndOfInput, PasswordTooLong, RandomSourceFailed, ReadingFailed,
@@ -94,20 +95,30 @@ fn refuses_files(rt: &HostRuntime, there: &str, missing: &str) -> Result<bool> {
     )
 }
 
+// Whether the file is signed by both keys, the refusals come, and no signature stands beside it.
+fn is_signed(rt: &HostRuntime, folder: &str) -> std::result::Result<bool, Fail> {
+    let there = path_of(rt, folder, "abc")?;
+    let missing = path_of(rt, folder, "missing")?;
+    let beside = path_of(rt, folder, "abc.minisig")?;
+    let right = is_signed_alone(rt, there.as_str(), missing.as_str());
+    Ok(!fs::exists(rt, beside.as_str())? && right)
+}
+
+// Whether the file is signed by both keys, and the refusals come.
+fn is_signed_alone(rt: &HostRuntime, there: &str, missing: &str) -> bool {
+    let unsealed = signs_file(rt, SECRET_TEXT, there);
+    let sealed = signs_file(rt, SEALED, there);
+    let refused = refuses_files(rt, there, missing);
+    holds(&unsealed) && holds(&sealed) && holds(&refused)
+}
+
 #[test]
 fn a_file_is_signed_by_its_name(rt: HostRuntime) -> std::result::Result<(), Fail> {
     let folder = folder_path(&rt, "unasked")?;
-    let folder = folder.as_str();
-    make_empty(&rt, folder)?;
-    put(&rt, folder, "abc", b"abc")?;
-    let there = path_of(&rt, folder, "abc")?;
-    let missing = path_of(&rt, folder, "missing")?;
-    assert!(rt; holds(&signs_file(&rt, SECRET_TEXT, there.as_str())));
-    assert!(rt; holds(&signs_file(&rt, SEALED, there.as_str())));
-    assert!(rt; holds(&refuses_files(&rt, there.as_str(), missing.as_str())));
-    let beside = path_of(&rt, folder, "abc.minisig")?;
-    assert!(rt; !fs::exists(&rt, beside.as_str())?);
-    fs::remove_dir_all(&rt, folder)?;
+    make_empty(&rt, folder.as_str())?;
+    put(&rt, folder.as_str(), "abc", b"abc")?;
+    assert!(rt; is_signed(&rt, folder.as_str())?);
+    fs::remove_dir_all(&rt, folder.as_str())?;
     Ok(())
 }
 
@@ -197,17 +208,28 @@ fn opened_silently(alloc: Global, password: Option<&str>) -> Result<SecretKey> {
     SecretKey::from_box(alloc, sk_box, password, &mut Prompt::silent())
 }
 
+// Whether it comes to this.
+fn is_opened_silently(alloc: Global, password: Option<&str>, expected: Outcome) -> bool {
+    let answer = opened_silently(alloc, password);
+    comes_to(&answer, expected)
+}
+
+// Whether the prompt has no line for the question.
+fn is_not_answered<R: Source, W: Sink>(
+    alloc: Global,
+    prompt: &mut Prompt<R, W>,
+    question: &str,
+) -> bool {
+    let answer = get_password(alloc, prompt, question);
+    comes_to(&answer, Refused(EndOfInput))
+}
+
 #[test]
 fn a_silent_prompt_gives_no_password(rt: HostRuntime) {
-    let alloc = rt.alloc();
-    let ended = Refused(EndOfInput);
     let mut silent = Prompt::silent();
     for question in ["Password: ", ""] {
-        let answer = get_password(alloc, &mut silent, question);
-        assert!(rt; comes_to(&answer, ended));
+        assert!(rt; is_not_answered(rt.alloc(), &mut silent, question));
     }
-    let unasked = opened_silently(alloc, None);
-    assert!(rt; comes_to(&unasked, ended));
-    let opened = opened_silently(alloc, Some("password"));
-    assert!(rt; comes_to(&opened, Accepted));
+    assert!(rt; is_opened_silently(rt.alloc(), None, Refused(EndOfInput)));
+    assert!(rt; is_opened_silently(rt.alloc(), Some("password"), Accepted));
 }

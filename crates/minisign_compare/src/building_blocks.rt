@@ -1,16 +1,19 @@
 //! Requests for hashes, derived keys, limits, numbers, the clock and a typed password.
 
-ghost use Rattle.std.specs.Prelude.{◌≡◌, ℕ, List, ◌++◌, false, OnOk};
+ghost use Rattle.std.specs.Prelude.{◌≡◌, ◌≤◌, ℕ, List, ◌++◌, false, OnOk};
 ghost use Rattle.minisign_hash.specs.Fed.{IsFed, has_finalized, output_length};
 
-use crate::devices::{after_prompt, typed_prompt};
+use crate::devices::typed_prompt;
 use crate::refusals::Refusal;
-use crate::replies::Reply;
+use crate::replies::{Fields, Reply};
 use crate::words::{Words, number_of};
 use minisign::PError;
+use minisign::base::devices::sinks::Sink;
+use minisign::base::devices::sources::Source;
 use minisign::base::helpers::{
     get_password, load_u64_le, raw_scrypt_params, store_u64_le, unix_timestamp,
 };
+use minisign::base::prompt::Prompt;
 use minisign::hash::blake2b::Blake2b;
 use minisign::hash::util::fixed_time_eq;
 use minisign_kdf::{Params, scrypt};
@@ -44,9 +47,14 @@ fn answer_limits(words: &mut Words, reply: &mut Reply) -> Result<(), Refusal> {
     let n_log2_max = words.number::<u8>()?;
     words.end()?;
     let params = raw_scrypt_params(memlimit, opslimit, n_log2_max)?;
-    reply.fields.number("n_log2", params.n_log2() as u64)?;
-    reply.fields.number("r", params.r() as u64)?;
-    reply.fields.number("p", params.p() as u64)?;
+    show_params(&params, &mut reply.fields)
+}
+
+// The fields of the parameters of key derivation.
+fn show_params(params: &Params, fields: &mut Fields) -> Result<(), Refusal> {
+    fields.number("n_log2", params.n_log2() as u64)?;
+    fields.number("r", params.r() as u64)?;
+    fields.number("p", params.p() as u64)?;
     Ok(())
 }
 
@@ -58,17 +66,26 @@ fn answer_blake2b(alloc: Global, words: &mut Words, reply: &mut Reply) -> Result
     if outlen == 0 || outlen > 64 {
         return Err(Refusal::OutsideConditions);
     }
-    let mut whole = vec![in alloc; 0u8; outlen]?;
-    Blake2b::blake2b(&mut whole, &bytes);
+    show_digests(outlen, cuts, &bytes, &mut reply.fields)
+}
+
+// The fields of a digest: of the bytes as a whole, and in pieces, as the state tells it first and
+// again.
+fn show_digests(outlen: usize, cuts: &str, bytes: &[u8], fields: &mut Fields) -> Result<(), Refusal>
+    requires some { 1 ≤ outlen }
+    requires fits { outlen ≤ 64 }
+{
+    let mut whole = [0u8; 64];
+    Blake2b::blake2b(&mut whole[..outlen], bytes);
     let mut state = Blake2b::new(outlen);
-    feed(&mut state, cuts, &bytes)?;
-    let mut pieces = vec![in alloc; 0u8; outlen]?;
-    state.finalize(&mut pieces);
-    let mut again = vec![in alloc; 0u8; outlen]?;
-    state.finalize(&mut again);
-    reply.fields.bytes("whole", &whole)?;
-    reply.fields.bytes("pieces", &pieces)?;
-    reply.fields.bytes("again", &again)?;
+    feed(&mut state, cuts, bytes)?;
+    let mut pieces = [0u8; 64];
+    state.finalize(&mut pieces[..outlen]);
+    let mut again = [0u8; 64];
+    state.finalize(&mut again[..outlen]);
+    fields.bytes("whole", &whole[..outlen])?;
+    fields.bytes("pieces", &pieces[..outlen])?;
+    fields.bytes("again", &again[..outlen])?;
     Ok(())
 }
 
@@ -104,12 +121,22 @@ fn answer_scrypt(alloc: Global, words: &mut Words, reply: &mut Reply) -> Result<
         Ok(params) => params,
         Err(error) => return Err(Refusal::Fault(PError::from(error))),
     };
-    let mut out = vec![in alloc; 0u8; length]?;
-    if let Err(error) = scrypt(alloc, &password, &salt, &params, &mut out) {
-        return Err(Refusal::Fault(PError::from(error)));
-    }
-    reply.fields.bytes("out", &out)?;
+    let key = derived(alloc, &password, &salt, &params, length);
+    reply.fields.returned_bytes("out", key)?;
     Ok(())
+}
+
+// The key of so many bytes.
+fn derived(
+    alloc: Global,
+    password: &[u8],
+    salt: &[u8],
+    params: &Params,
+    length: usize,
+) -> minisign::Result<Vec<u8>> {
+    let mut key = vec![in alloc; 0u8; length]?;
+    scrypt(alloc, password, salt, params, &mut key)?;
+    Ok(key)
 }
 
 fn answer_equal(alloc: Global, words: &mut Words, reply: &mut Reply) -> Result<(), Refusal> {
@@ -154,24 +181,33 @@ impl Clock for Shows {
     }
 }
 
+// A clock that shows so many seconds since 1970, or behind a `-` can't be read.
+fn clock_of(word: &str) -> Result<Shows, Refusal> {
+    if word.starts_with("-") {
+        return Ok(Shows(None));
+    }
+    Ok(Shows(Some(Duration::new(number_of(word)?, 0))))
+}
+
 fn answer_timestamp(words: &mut Words, reply: &mut Reply) -> Result<(), Refusal> {
     let word = words.next()?;
     words.end()?;
-    let clock = if word.starts_with("-") {
-        Shows(None)
-    } else {
-        Shows(Some(Duration::new(number_of(word)?, 0)))
-    };
+    let clock = clock_of(word)?;
     reply.fields.number("out", unix_timestamp(&clock)?)?;
     Ok(())
+}
+
+// What the call that asks for a password returns.
+fn asked<R: Source, W: Sink>(alloc: Global, prompt: &mut Prompt<R, W>) -> minisign::Result<String> {
+    get_password(alloc, prompt, "Password: ")
 }
 
 fn answer_password(alloc: Global, words: &mut Words, reply: &mut Reply) -> Result<(), Refusal> {
     let typed = words.typed_lines(alloc)?;
     words.end()?;
     let mut prompt = typed_prompt(alloc, &typed);
-    let password = get_password(alloc, &mut prompt, "Password: ");
-    (reply.stdout, reply.typed_left) = after_prompt(alloc, prompt)?;
-    reply.fields.bytes("out", password?.as_bytes())?;
+    let password = asked(alloc, &mut prompt);
+    reply.end_prompt(alloc, prompt)?;
+    reply.fields.returned_text("out", password)?;
     Ok(())
 }

@@ -5,11 +5,43 @@ use crate::refusals::Refusal;
 use crate::replies::Reply;
 use crate::signatures::{box_of, show};
 use crate::table::Table;
-use crate::words::{Words, bytes_of};
+use crate::words::{Words, bytes_of, text_or_none_of};
 use minisign::base::devices::sinks::VecSink;
-use minisign::base::toy::ToyScheme;
-use minisign::{PublicKey, PublicKeyBox, SecretKey, sign, verify};
+use minisign::base::toy::{ToyScheme, Triple};
+use minisign::{PublicKey, PublicKeyBox, SecretKey, SignatureBox, sign, verify};
 use std::alloc::Global;
+
+// The words of a request to sign.
+#[derive(Clone, Copy, Drop)]
+struct SignWords<'a> {
+    pk: &'a str,
+    sk: &'a str,
+    data: &'a str,
+    trusted_comment: &'a str,
+    untrusted_comment: &'a str,
+    random: &'a str,
+    moment: u64,
+}
+
+impl<'a> SignWords<'a> {
+    // All that are left.
+    fn read(words: &mut Words<'a>) -> Result<SignWords<'a>, Refusal> {
+        let read = SignWords {
+            pk: words.next()?,
+            sk: words.next()?,
+            data: words.next()?,
+            trusted_comment: words.next()?,
+            untrusted_comment: words.next()?,
+            random: words.next()?,
+            moment: words.number()?,
+        };
+        words.end()?;
+        Ok(read)
+    }
+}
+
+// What is signed with: the bytes of a secret key, the data, and random bytes.
+type Given<'a> = (&'a [u8], &'a DataWord, &'a [u8]);
 
 /// Answers `sign`, `verify` or `verify_texts`.
 pub fn answer(
@@ -33,33 +65,76 @@ fn answer_sign(
     words: &mut Words,
     reply: &mut Reply,
 ) -> Result<(), Refusal> {
-    let pk_word = words.next()?;
-    let sk_bytes = words.bytes(alloc)?;
-    let data = DataWord::read(alloc, words.next()?)?;
-    let trusted_comment = words.text_or_none(alloc)?;
-    let untrusted_comment = words.text_or_none(alloc)?;
-    let bytes = random_bytes(alloc, words.next()?)?;
-    let moment = words.number::<u64>()?;
-    words.end()?;
-    let sk = SecretKey::from_bytes(&sk_bytes)?;
-    let pk = key_or_none(alloc, pk_word)?;
+    let asked = SignWords::read(words)?;
+    let sk_bytes = bytes_of(alloc, asked.sk)?;
+    let data = DataWord::read(alloc, asked.data)?;
+    let bytes = random_bytes(alloc, asked.random)?;
+    sign_with_comments(alloc, table, asked, (&sk_bytes, &data, &bytes), reply)
+}
+
+// Signs, once the comments are read.
+fn sign_with_comments(
+    alloc: Global,
+    table: &Table,
+    asked: SignWords<'_>,
+    given: Given<'_>,
+    reply: &mut Reply,
+) -> Result<(), Refusal> {
+    let trusted = text_or_none_of(alloc, asked.trusted_comment)?;
+    let untrusted = text_or_none_of(alloc, asked.untrusted_comment)?;
+    let comments = (trusted.as_deref(), untrusted.as_deref());
+    sign_with_keys(alloc, table, asked, given, comments, reply)
+}
+
+// Signs, once the keys are read.
+fn sign_with_keys(
+    alloc: Global,
+    table: &Table,
+    asked: SignWords<'_>,
+    (sk_bytes, data, bytes): Given<'_>,
+    comments: (Option<&str>, Option<&str>),
+    reply: &mut Reply,
+) -> Result<(), Refusal> {
+    let sk = SecretKey::from_bytes(sk_bytes)?;
+    let pk = key_or_none(alloc, asked.pk)?;
     let triples = table.triples(alloc)?;
     let mut source = data.source();
-    let mut random = CountedRandom::new(&bytes);
-    let signature_box = sign(
+    let mut random = CountedRandom::new(bytes);
+    let signed = signed(
         alloc,
-        &ToyScheme::with_table(&triples),
-        pk.as_ref(),
-        &sk,
+        &triples,
+        (pk.as_ref(), &sk),
         &mut source,
-        trusted_comment.as_deref(),
-        untrusted_comment.as_deref(),
+        comments,
         &mut random,
-        moment,
+        asked.moment,
     );
     reply.tail.number("drawn", random.drawn())?;
     show_reads(&source, reply)?;
-    show(alloc, &signature_box?, &mut reply.fields)
+    show(alloc, &signed?, &mut reply.fields)
+}
+
+// What the call that signs returns.
+fn signed(
+    alloc: Global,
+    triples: &[Triple<'_>],
+    (pk, sk): (Option<&PublicKey>, &SecretKey),
+    source: &mut CountedSource<'_>,
+    (trusted_comment, untrusted_comment): (Option<&str>, Option<&str>),
+    random: &mut CountedRandom<'_>,
+    moment: u64,
+) -> minisign::Result<SignatureBox> {
+    sign(
+        alloc,
+        &ToyScheme::with_table(triples),
+        pk,
+        sk,
+        source,
+        trusted_comment,
+        untrusted_comment,
+        random,
+        moment,
+    )
 }
 
 fn answer_verify(
@@ -92,24 +167,51 @@ fn judge(
     reply: &mut Reply,
 ) -> Result<(), Refusal> {
     let signature_box = box_of(alloc, words.next()?)?;
+    judge_box(alloc, table, (pk, &signature_box), words, reply)
+}
+
+// Verifies with a key, a box and what the words behind these say.
+fn judge_box(
+    alloc: Global,
+    table: &Table,
+    texts: (&PublicKey, &SignatureBox),
+    words: &mut Words,
+    reply: &mut Reply,
+) -> Result<(), Refusal> {
     let data = DataWord::read(alloc, words.next()?)?;
     let quiet = words.flag()?;
     let output = words.flag()?;
     let allow_legacy = words.flag()?;
     words.end()?;
     let triples = table.triples(alloc)?;
+    judge_data(
+        alloc,
+        &triples,
+        texts,
+        &data,
+        (quiet, output, allow_legacy),
+        reply,
+    )
+}
+
+// Verifies the data.
+fn judge_data(
+    alloc: Global,
+    triples: &[Triple<'_>],
+    texts: (&PublicKey, &SignatureBox),
+    data: &DataWord,
+    flags: (bool, bool, bool),
+    reply: &mut Reply,
+) -> Result<(), Refusal> {
     let mut source = data.source();
     let mut status = VecSink::new(alloc);
     let mut out = VecSink::new(alloc);
-    let verdict = verify(
+    let verdict = verified(
         alloc,
-        &ToyScheme::with_table(&triples),
-        pk,
-        &signature_box,
+        triples,
+        texts,
         &mut source,
-        quiet,
-        output,
-        allow_legacy,
+        flags,
         &mut status,
         &mut out,
     );
@@ -117,6 +219,30 @@ fn judge(
     reply.stderr = status.into_vec();
     show_reads(&source, reply)?;
     Ok(verdict?)
+}
+
+// What the call that verifies returns.
+fn verified(
+    alloc: Global,
+    triples: &[Triple<'_>],
+    (pk, signature_box): (&PublicKey, &SignatureBox),
+    source: &mut CountedSource<'_>,
+    (quiet, output, allow_legacy): (bool, bool, bool),
+    status: &mut VecSink,
+    out: &mut VecSink,
+) -> minisign::Result<()> {
+    verify(
+        alloc,
+        &ToyScheme::with_table(triples),
+        pk,
+        signature_box,
+        source,
+        quiet,
+        output,
+        allow_legacy,
+        status,
+        out,
+    )
 }
 
 // How the data was read.

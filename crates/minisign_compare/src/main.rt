@@ -15,6 +15,7 @@ mod signatures;
 mod table;
 mod words;
 
+use minisign::PError;
 use refusals::Refusal;
 use replies::Reply;
 use std::io::{self, BufRead, BufReader, BufWriter, Write};
@@ -27,12 +28,7 @@ fn main(rt: HostRuntime) -> io::Result<ExitCode> {
     let mut table = Table::new(rt.alloc());
     for line in BufReader::new(rt.alloc(), rt.reader())?.lines(rt.alloc()) {
         let line = line?;
-        if line.is_empty() || line.starts_with("#") {
-            continue;
-        }
-        let mut reply = Reply::new(rt.alloc());
-        let answer = answer(&rt, &mut table, line.as_str(), &mut reply);
-        if !print(&rt, &mut answers, &answer, &reply)? {
+        if !answer_line(&rt, &mut table, line.as_str(), &mut answers)? {
             answers.flush()?;
             eprintln!(rt; "bad request: {line}")?;
             return Ok(ExitCode::from(3));
@@ -40,6 +36,21 @@ fn main(rt: HostRuntime) -> io::Result<ExitCode> {
     }
     answers.flush()?;
     Ok(ExitCode::SUCCESS)
+}
+
+// Answers one line; an empty one and a comment get no answer. It is false of what is no request.
+fn answer_line<W: Write>(
+    rt: &HostRuntime,
+    table: &mut Table,
+    line: &str,
+    answers: &mut W,
+) -> io::Result<bool> {
+    if line.is_empty() || line.starts_with("#") {
+        return Ok(true);
+    }
+    let mut reply = Reply::new(rt.alloc());
+    let answer = answer(rt, table, line, &mut reply);
+    print(rt, answers, &answer, &reply)
 }
 
 // Answers one request.
@@ -51,20 +62,22 @@ fn answer(
 ) -> Result<(), Refusal> {
     let mut words = Words::new(line);
     let name = words.next()?;
-    if name.starts_with("pk_") {
-        public_keys::answer(rt, name, &mut words, reply)
-    } else if name.starts_with("sk_") {
-        secret_keys::answer(rt, name, &mut words, reply)
-    } else if name.starts_with("sig_") || name.starts_with("bones_") {
-        signatures::answer(rt, name, &mut words, reply)
-    } else if name.starts_with("gen_") {
-        pairs::answer(rt.alloc(), name, &mut words, reply)
-    } else if name.starts_with("table_") {
-        table.answer(rt.alloc(), name, &mut words)
-    } else if name.starts_with("sign") || name.starts_with("verify") {
-        judging::answer(rt.alloc(), table, name, &mut words, reply)
-    } else {
-        building_blocks::answer(rt.alloc(), name, &mut words, reply)
+    match subject(name) {
+        "pk" => public_keys::answer(rt, name, &mut words, reply),
+        "sk" => secret_keys::answer(rt, name, &mut words, reply),
+        "sig" | "bones" => signatures::answer(rt, name, &mut words, reply),
+        "gen" => pairs::answer(rt.alloc(), name, &mut words, reply),
+        "table" => table.answer(rt.alloc(), name, &mut words),
+        "sign" | "verify" => judging::answer(rt.alloc(), table, name, &mut words, reply),
+        _ => building_blocks::answer(rt.alloc(), name, &mut words, reply),
+    }
+}
+
+// What a request is about: its name up to the first `_`.
+fn subject(name: &str) -> &str {
+    match name.split_once('_') {
+        Some((subject, _)) => subject,
+        None => name,
     }
 }
 
@@ -76,16 +89,32 @@ fn print<W: Write>(
     reply: &Reply,
 ) -> io::Result<bool> {
     match answer {
-        Ok(()) if reply.fields.as_str().is_empty() => write!(answers, "ok")?,
-        Ok(()) => write!(answers, "ok {}", reply.fields.as_str())?,
-        Err(Refusal::Fault(fault)) => {
-            let text = format!(in rt.alloc(); "{fault}")?;
-            let digits = hex::encode(rt.alloc(), text.as_bytes())?;
-            write!(answers, "err {:?} x{digits}", fault.kind())?;
-        }
+        Ok(()) => print_fields(answers, reply.fields.as_str())?,
+        Err(Refusal::Fault(fault)) => print_fault(rt, answers, fault)?,
         Err(Refusal::OutsideConditions) => write!(answers, "outside")?,
         Err(Refusal::BadRequest) => return Ok(false),
     }
+    print_deeds(rt, answers, reply)?;
+    Ok(true)
+}
+
+// Prints what a call returned.
+fn print_fields<W: Write>(answers: &mut W, fields: &str) -> io::Result<()> {
+    if fields.is_empty() {
+        return write!(answers, "ok");
+    }
+    write!(answers, "ok {fields}")
+}
+
+// Prints the fault that a call returned.
+fn print_fault<W: Write>(rt: &HostRuntime, answers: &mut W, fault: &PError) -> io::Result<()> {
+    let text = format!(in rt.alloc(); "{fault}")?;
+    let digits = hex::encode(rt.alloc(), text.as_bytes())?;
+    write!(answers, "err {:?} x{digits}", fault.kind())
+}
+
+// Prints what a call did besides.
+fn print_deeds<W: Write>(rt: &HostRuntime, answers: &mut W, reply: &Reply) -> io::Result<()> {
     let stdout = hex::encode(rt.alloc(), &reply.stdout)?;
     let stderr = hex::encode(rt.alloc(), &reply.stderr)?;
     writeln!(
@@ -93,6 +122,5 @@ fn print<W: Write>(
         " | {} stdout=x{stdout} stderr=x{stderr} typed_left={}",
         reply.tail.as_str(),
         reply.typed_left
-    )?;
-    Ok(true)
+    )
 }

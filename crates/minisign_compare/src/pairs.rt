@@ -1,10 +1,13 @@
 //! Requests for pairs of keys.
 
-use crate::devices::{CountedRandom, after_prompt, random_bytes, sink_of, typed_prompt};
+use crate::devices::{CountedRandom, random_bytes, sink_of, typed_prompt};
 use crate::refusals::Refusal;
 use crate::replies::{Fields, Reply};
 use crate::words::Words;
 use minisign::KeyPair;
+use minisign::base::devices::sinks::VecSink;
+use minisign::base::devices::sources::SliceSource;
+use minisign::base::prompt::Prompt;
 use minisign::base::toy::ToyScheme;
 use minisign_fixtures::devices::sinks::LimitedSink;
 use std::alloc::Global;
@@ -29,9 +32,14 @@ fn plain(alloc: Global, words: &mut Words, reply: &mut Reply) -> Result<(), Refu
     let bytes = random_bytes(alloc, words.next()?)?;
     words.end()?;
     let mut random = CountedRandom::new(&bytes);
-    let pair = KeyPair::generate_unencrypted_keypair(&ToyScheme::new(), &mut random);
+    let pair = generated_plain(&mut random);
     reply.tail.number("drawn", random.drawn())?;
     show(alloc, &pair?, &mut reply.fields)
+}
+
+// What the call that makes a pair without a password returns.
+fn generated_plain(random: &mut CountedRandom<'_>) -> minisign::Result<KeyPair> {
+    KeyPair::generate_unencrypted_keypair(&ToyScheme::new(), random)
 }
 
 fn sealed(alloc: Global, words: &mut Words, reply: &mut Reply) -> Result<(), Refusal> {
@@ -41,16 +49,20 @@ fn sealed(alloc: Global, words: &mut Words, reply: &mut Reply) -> Result<(), Ref
     words.end()?;
     let mut random = CountedRandom::new(&bytes);
     let mut prompt = typed_prompt(alloc, &typed);
-    let pair = KeyPair::generate_encrypted_keypair(
-        alloc,
-        &ToyScheme::new(),
-        &mut random,
-        password,
-        &mut prompt,
-    );
-    (reply.stdout, reply.typed_left) = after_prompt(alloc, prompt)?;
+    let pair = generated_sealed(alloc, &mut random, password, &mut prompt);
+    reply.end_prompt(alloc, prompt)?;
     reply.tail.number("drawn", random.drawn())?;
     show(alloc, &pair?, &mut reply.fields)
+}
+
+// What the call that makes a sealed pair returns.
+fn generated_sealed(
+    alloc: Global,
+    random: &mut CountedRandom<'_>,
+    password: Option<String>,
+    prompt: &mut Prompt<SliceSource<'_>, VecSink>,
+) -> minisign::Result<KeyPair> {
+    KeyPair::generate_encrypted_keypair(alloc, &ToyScheme::new(), random, password, prompt)
 }
 
 fn write_plain(alloc: Global, words: &mut Words, reply: &mut Reply) -> Result<(), Refusal> {
@@ -59,15 +71,25 @@ fn write_plain(alloc: Global, words: &mut Words, reply: &mut Reply) -> Result<()
     let mut sk_sink = sink_of(alloc, words.next()?)?;
     words.end()?;
     let mut random = CountedRandom::new(&bytes);
-    let pair = KeyPair::generate_and_write_unencrypted_keypair(
-        alloc,
-        &ToyScheme::new(),
-        &mut random,
-        &mut pk_sink,
-        &mut sk_sink,
-    );
+    let pair = written_plain(alloc, &mut random, &mut pk_sink, &mut sk_sink);
     show_tail(&random, &pk_sink, &sk_sink, &mut reply.tail)?;
     show(alloc, &pair?, &mut reply.fields)
+}
+
+// What the call that writes a pair without a password returns.
+fn written_plain(
+    alloc: Global,
+    random: &mut CountedRandom<'_>,
+    pk_sink: &mut LimitedSink,
+    sk_sink: &mut LimitedSink,
+) -> minisign::Result<KeyPair> {
+    KeyPair::generate_and_write_unencrypted_keypair(
+        alloc,
+        &ToyScheme::new(),
+        random,
+        pk_sink,
+        sk_sink,
+    )
 }
 
 fn write_sealed(alloc: Global, words: &mut Words, reply: &mut Reply) -> Result<(), Refusal> {
@@ -80,9 +102,8 @@ fn write_sealed(alloc: Global, words: &mut Words, reply: &mut Reply) -> Result<(
     words.end()?;
     let mut random = CountedRandom::new(&bytes);
     let mut prompt = typed_prompt(alloc, &typed);
-    let pair = KeyPair::generate_and_write_encrypted_keypair(
+    let pair = written_sealed(
         alloc,
-        &ToyScheme::new(),
         &mut random,
         &mut pk_sink,
         &mut sk_sink,
@@ -90,9 +111,31 @@ fn write_sealed(alloc: Global, words: &mut Words, reply: &mut Reply) -> Result<(
         password,
         &mut prompt,
     );
-    (reply.stdout, reply.typed_left) = after_prompt(alloc, prompt)?;
+    reply.end_prompt(alloc, prompt)?;
     show_tail(&random, &pk_sink, &sk_sink, &mut reply.tail)?;
     show(alloc, &pair?, &mut reply.fields)
+}
+
+// What the call that writes a sealed pair returns.
+fn written_sealed(
+    alloc: Global,
+    random: &mut CountedRandom<'_>,
+    pk_sink: &mut LimitedSink,
+    sk_sink: &mut LimitedSink,
+    comment: Option<&str>,
+    password: Option<String>,
+    prompt: &mut Prompt<SliceSource<'_>, VecSink>,
+) -> minisign::Result<KeyPair> {
+    KeyPair::generate_and_write_encrypted_keypair(
+        alloc,
+        &ToyScheme::new(),
+        random,
+        pk_sink,
+        sk_sink,
+        comment,
+        password,
+        prompt,
+    )
 }
 
 // What was drawn, and what the two sinks took.
@@ -110,8 +153,8 @@ fn show_tail(
 
 // The fields of a pair.
 fn show(alloc: Global, pair: &KeyPair, fields: &mut Fields) -> Result<(), Refusal> {
-    fields.bytes("pk", &pair.pk.to_bytes(alloc)?)?;
-    fields.bytes("sk", &pair.sk.to_bytes(alloc)?)?;
+    fields.returned_bytes("pk", pair.pk.to_bytes(alloc))?;
+    fields.returned_bytes("sk", pair.sk.to_bytes(alloc))?;
     fields.flag("encrypted", pair.sk.is_encrypted())?;
     Ok(())
 }

@@ -87,8 +87,8 @@ fn next_key(alloc: Global, words: &mut Words) -> Result<PublicKey, Refusal> {
 
 // The fields of a public key.
 fn show(alloc: Global, key: &PublicKey, fields: &mut Fields) -> Result<(), Refusal> {
-    fields.bytes("raw", &key.to_bytes(alloc)?)?;
+    fields.returned_bytes("raw", key.to_bytes(alloc))?;
     fields.bytes("keynum", key.keynum())?;
-    fields.bytes("base64", key.to_base64(alloc)?.as_bytes())?;
+    fields.returned_text("base64", key.to_base64(alloc))?;
     Ok(())
 }

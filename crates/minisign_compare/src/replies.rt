@@ -4,7 +4,12 @@ ghost use Rattle.std.specs.Prelude.{◌≡◌, [], ◌++◌, OnOk, codes, if◌t
 ghost use Rattle.hex.specs.Hex.{encode_lower};
 ghost use Rattle.minisign_compare.specs.Fields.{begun};
 
+use crate::devices::after_prompt;
+use crate::refusals::Refusal;
 use minisign::Result;
+use minisign::base::devices::sinks::VecSink;
+use minisign::base::devices::sources::SliceSource;
+use minisign::base::prompt::Prompt;
 use std::alloc::Global;
 
 /// Fields `NAME=VALUE`, parted by single spaces.
@@ -62,6 +67,18 @@ impl Fields {
         Ok(())
     }
 
+    /// A field of the bytes that a call returned.
+    pub fn returned_bytes(&mut self, name: &str, returned: Result<Vec<u8>>) -> Result<()> {
+        let bytes = returned?;
+        self.bytes(name, &bytes)
+    }
+
+    /// A field of the bytes of the text that a call returned.
+    pub fn returned_text(&mut self, name: &str, returned: Result<String>) -> Result<()> {
+        let text = returned?;
+        self.bytes(name, text.as_bytes())
+    }
+
     // A field's name.
     fn begin(&mut self, name: &str) -> Result<()>
         ensures text { OnOk result (string_bytes self.new.text ≡ begun (string_bytes self.old.text) name.now) }
@@ -100,5 +117,15 @@ impl Reply {
             stderr: Vec::new(alloc),
             typed_left: 0,
         }
+    }
+
+    /// Keeps what a prompt was told, and how many lines are left of those that were typed.
+    pub fn end_prompt(
+        &mut self,
+        alloc: Global,
+        prompt: Prompt<SliceSource<'_>, VecSink>,
+    ) -> std::result::Result<(), Refusal> {
+        (self.stdout, self.typed_left) = after_prompt(alloc, prompt)?;
+        Ok(())
     }
 }

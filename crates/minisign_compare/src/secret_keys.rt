@@ -1,6 +1,6 @@
 //! Requests for secret keys.
 
-use crate::devices::{after_prompt, typed_prompt};
+use crate::devices::typed_prompt;
 use crate::refusals::Refusal;
 use crate::replies::{Fields, Reply};
 use crate::words::Words;
@@ -31,11 +31,11 @@ fn open(alloc: Global, words: &mut Words, reply: &mut Reply) -> Result<(), Refus
     let password = words.text_or_none(alloc)?;
     let typed = words.typed_lines(alloc)?;
     words.end()?;
-    let mut prompt = typed_prompt(alloc, &typed);
     let key_box = SecretKeyBox::from_string(alloc, text.as_str())?;
+    let mut prompt = typed_prompt(alloc, &typed);
     let key = key_box.into_secret_key(alloc, password, &mut prompt);
-    (reply.stdout, reply.typed_left) = after_prompt(alloc, prompt)?;
-    show(alloc, &key?, &mut reply.fields)
+    reply.end_prompt(alloc, prompt)?;
+    show_opened(alloc, key, &mut reply.fields)
 }
 
 fn from_file(rt: &HostRuntime, words: &mut Words, reply: &mut Reply) -> Result<(), Refusal> {
@@ -46,8 +46,8 @@ fn from_file(rt: &HostRuntime, words: &mut Words, reply: &mut Reply) -> Result<(
     words.end()?;
     let mut prompt = typed_prompt(alloc, &typed);
     let key = SecretKey::from_file(rt, alloc, path.as_str(), password, &mut prompt);
-    (reply.stdout, reply.typed_left) = after_prompt(alloc, prompt)?;
-    show(alloc, &key?, &mut reply.fields)
+    reply.end_prompt(alloc, prompt)?;
+    show_opened(alloc, key, &mut reply.fields)
 }
 
 fn plain(alloc: Global, words: &mut Words, reply: &mut Reply) -> Result<(), Refusal> {
@@ -87,11 +87,22 @@ fn next_key(alloc: Global, words: &mut Words) -> Result<SecretKey, Refusal> {
     Ok(SecretKey::from_bytes(&words.bytes(alloc)?)?)
 }
 
+// The fields of the secret key that a call returned.
+fn show_opened(
+    alloc: Global,
+    returned: minisign::Result<SecretKey>,
+    fields: &mut Fields,
+) -> Result<(), Refusal> {
+    let key = returned?;
+    show(alloc, &key, fields)
+}
+
 // The fields of a secret key.
 fn show(alloc: Global, key: &SecretKey, fields: &mut Fields) -> Result<(), Refusal> {
-    fields.bytes("raw", &key.to_bytes(alloc)?)?;
+    fields.returned_bytes("raw", key.to_bytes(alloc))?;
     fields.bytes("keynum", key.keynum())?;
     fields.flag("encrypted", key.is_encrypted())?;
-    fields.bytes("debug", format!(in alloc; "{key:?}")?.as_bytes())?;
+    let debug = format!(in alloc; "{key:?}")?;
+    fields.returned_text("debug", Ok(debug))?;
     Ok(())
 }

@@ -42,7 +42,7 @@ fn from_file(rt: &HostRuntime, words: &mut Words, reply: &mut Reply) -> Result<(
 fn from_bytes(alloc: Global, words: &mut Words, reply: &mut Reply) -> Result<(), Refusal> {
     let bones = next_bones(alloc, words)?;
     words.end()?;
-    reply.fields.bytes("bones", &bones.to_bytes(alloc)?)?;
+    reply.fields.returned_bytes("bones", bones.to_bytes(alloc))?;
     reply.fields.flag("prehashed", bones.is_prehashed())?;
     Ok(())
 }
@@ -50,24 +50,24 @@ fn from_bytes(alloc: Global, words: &mut Words, reply: &mut Reply) -> Result<(),
 fn bones_untrusted(alloc: Global, words: &mut Words, reply: &mut Reply) -> Result<(), Refusal> {
     let signature_box = SignatureBox::from_bones(next_bones(alloc, words)?);
     words.end()?;
-    let comment = signature_box.untrusted_comment(alloc)?;
-    reply.fields.bytes("untrusted", comment.as_bytes())?;
+    let comment = signature_box.untrusted_comment(alloc);
+    reply.fields.returned_text("untrusted", comment)?;
     Ok(())
 }
 
 fn bones_trusted(alloc: Global, words: &mut Words, reply: &mut Reply) -> Result<(), Refusal> {
     let signature_box = SignatureBox::from_bones(next_bones(alloc, words)?);
     words.end()?;
-    let comment = signature_box.trusted_comment(alloc)?;
-    reply.fields.bytes("trusted", comment.as_bytes())?;
+    let comment = signature_box.trusted_comment(alloc);
+    reply.fields.returned_text("trusted", comment)?;
     Ok(())
 }
 
 fn bones_to_string(alloc: Global, words: &mut Words, reply: &mut Reply) -> Result<(), Refusal> {
     let signature_box = SignatureBox::from_bones(next_bones(alloc, words)?);
     words.end()?;
-    let text = signature_box.to_string(alloc)?;
-    reply.fields.bytes("text", text.as_bytes())?;
+    let text = signature_box.to_string(alloc);
+    reply.fields.returned_text("text", text)?;
     Ok(())
 }
 
@@ -100,15 +100,17 @@ pub fn show(
     signature_box: &SignatureBox,
     fields: &mut Fields,
 ) -> Result<(), Refusal> {
-    let bones = SignatureBones::from(signature_box.try_clone(alloc)?);
-    fields.bytes("bones", &bones.to_bytes(alloc)?)?;
+    fields.returned_bytes("bones", record_of(alloc, signature_box))?;
     fields.bytes("keynum", signature_box.keynum())?;
     fields.flag("prehashed", signature_box.is_prehashed())?;
-    fields.bytes(
-        "untrusted",
-        signature_box.untrusted_comment(alloc)?.as_bytes(),
-    )?;
-    fields.bytes("trusted", signature_box.trusted_comment(alloc)?.as_bytes())?;
-    fields.bytes("text", signature_box.to_string(alloc)?.as_bytes())?;
+    fields.returned_text("untrusted", signature_box.untrusted_comment(alloc))?;
+    fields.returned_text("trusted", signature_box.trusted_comment(alloc))?;
+    fields.returned_text("text", signature_box.to_string(alloc))?;
     Ok(())
+}
+
+// The record of the bare signature in a box.
+fn record_of(alloc: Global, signature_box: &SignatureBox) -> minisign::Result<Vec<u8>> {
+    let bones = SignatureBones::from(signature_box.try_clone(alloc)?);
+    bones.to_bytes(alloc)
 }

@@ -50,10 +50,7 @@ impl<'a> Words<'a> {
 
     /// The next word as a text, or none where it is `-`.
     pub fn text_or_none(&mut self, alloc: Global) -> Result<Option<String>, Refusal> {
-        match self.next()? {
-            "-" => Ok(None),
-            word => Ok(Some(text_of(alloc, word)?)),
-        }
+        text_or_none_of(alloc, self.next()?)
     }
 
     /// The next word as a number.
@@ -116,6 +113,14 @@ pub fn text_of(alloc: Global, word: &str) -> Result<String, Refusal>
     match String::from_utf8(bytes_of(alloc, word)?) {
         Ok(text) => Ok(text),
         Err(_) => Err(Refusal::BadRequest),
+    }
+}
+
+/// The text, or none where the word is `-`.
+pub fn text_or_none_of(alloc: Global, word: &str) -> Result<Option<String>, Refusal> {
+    match word {
+        "-" => Ok(None),
+        word => Ok(Some(text_of(alloc, word)?)),
     }
 }
 

@@ -1,9 +1,10 @@
 //! The devices that bytes come from and go to.
 
-use super::reading::reads;
+use super::reading::Call::{FailsToRead, GoesBack, Marks, Reads};
+use super::reading::follows;
 use minisign_base::devices::random_sources::{FixedRandom, RandomSource, SourceRandom};
 use minisign_base::devices::sinks::{Sink, VecSink, WriterSink, put_all};
-use minisign_base::devices::sources::{ReaderSource, Rereader, SliceSource, Source};
+use minisign_base::devices::sources::{ReaderSource, SliceSource};
 use std::io;
 use std::io::{Read, Write};
 use std::test::Fail;
@@ -44,57 +45,60 @@ impl Write for TakesNothing {
 
 #[test]
 fn slices_are_read_and_read_again(rt: HostRuntime) {
-    let mut source = SliceSource::new(b"abcde");
-    let mut buf = [0u8; 2];
-    assert!(rt; source.back().is_err());
-    assert!(rt; reads(&mut source, &mut buf, 2, b"ab"));
-    assert!(rt; source.mark().is_ok());
-    assert!(rt; reads(&mut source, &mut buf, 2, b"cd"));
-    assert!(rt; reads(&mut source, &mut buf, 1, b"ed"));
-    assert!(rt; reads(&mut source, &mut buf, 0, b"ed"));
-    assert!(rt; source.back().is_ok());
-    assert!(rt; reads(&mut source, &mut buf, 2, b"cd"));
+    let calls = [
+        GoesBack(false),
+        Reads(2, *b"ab"),
+        Marks(true),
+        Reads(2, *b"cd"),
+        Reads(1, *b"ed"),
+        Reads(0, *b"ed"),
+        GoesBack(true),
+        Reads(2, *b"cd"),
+    ];
+    assert!(rt; follows(&mut SliceSource::new(b"abcde"), &calls));
 }
 
 #[test]
 fn readers_are_read_and_never_go_back(rt: HostRuntime) {
-    let bytes: &[u8] = b"abc";
-    let mut source = ReaderSource::new(bytes);
-    let mut buf = [0u8; 2];
-    assert!(rt; reads(&mut source, &mut buf, 2, b"ab"));
-    assert!(rt; reads(&mut source, &mut buf, 1, b"cb"));
-    assert!(rt; reads(&mut source, &mut buf, 0, b"cb"));
-    assert!(rt; source.mark().is_err());
-    assert!(rt; source.back().is_err());
+    let calls = [
+        Reads(2, *b"ab"),
+        Reads(1, *b"cb"),
+        Reads(0, *b"cb"),
+        Marks(false),
+        GoesBack(false),
+    ];
+    assert!(rt; follows(&mut ReaderSource::new(b"abc".as_slice()), &calls));
 }
 
 #[test]
 fn readers_go_on_behind_a_fault(rt: HostRuntime) {
+    let calls = [Reads(1, [1, 0]), FailsToRead, Reads(1, [3, 0])];
     let mut failing = ReaderSource::new(FailsOnce { reads: 0 });
-    let mut buf = [0u8; 2];
-    assert!(rt; reads(&mut failing, &mut buf, 1, &[1, 0]));
-    assert!(rt; failing.read(&mut buf).is_err());
-    assert!(rt; reads(&mut failing, &mut buf, 1, &[3, 0]));
+    assert!(rt; follows(&mut failing, &calls));
+}
+
+// Whether the sink takes each of the parts, and is flushed.
+fn takes<S: Sink>(sink: &mut S, parts: &[&[u8]]) -> bool {
+    for part in parts {
+        if put_all(sink, part).is_err() {
+            return false;
+        }
+    }
+    sink.flush().is_ok()
 }
 
 #[test]
 fn sinks_take_all_that_is_put(rt: HostRuntime) {
     let mut sink = VecSink::new(rt.alloc());
-    assert!(rt; put_all(&mut sink, b"abc").is_ok());
-    assert!(rt; put_all(&mut sink, b"").is_ok());
-    assert!(rt; put_all(&mut sink, b"de").is_ok());
-    assert!(rt; sink.flush().is_ok());
+    assert!(rt; takes(&mut sink, &[b"abc", b"", b"de"]));
     assert!(rt; sink.as_slice() == b"abcde".as_slice());
-    let taken = sink.into_vec();
-    assert!(rt; taken.as_slice() == b"abcde".as_slice());
+    assert!(rt; sink.into_vec().as_slice() == b"abcde".as_slice());
 }
 
 #[test]
 fn writers_take_all_that_is_put(rt: HostRuntime) -> Result<(), Fail> {
     let mut held = vec![in rt.alloc(); b'a']?;
-    let mut writer = WriterSink::new(&mut held);
-    assert!(rt; put_all(&mut writer, b"bc").is_ok());
-    assert!(rt; writer.flush().is_ok());
+    assert!(rt; takes(&mut WriterSink::new(&mut held), &[b"bc"]));
     assert!(rt; held.as_slice() == b"abc".as_slice());
     Ok(())
 }
@@ -107,27 +111,32 @@ fn a_writer_that_takes_nothing_is_a_fault(rt: HostRuntime) {
     assert!(rt; nothing.flush().is_err());
 }
 
+// Whether these bytes are drawn, of which there are three at the most.
+fn draws<R: RandomSource>(random: &mut R, expected: &[u8]) -> bool {
+    let mut buf = [0u8; 3];
+    let (drawn, _) = buf.split_at_mut(expected.len().min(3));
+    random.fill(drawn).is_ok() && *drawn == *expected
+}
+
+// Whether three bytes are not drawn.
+fn draws_nothing<R: RandomSource>(random: &mut R) -> bool {
+    random.fill(&mut [0; 3]).is_err()
+}
+
 #[test]
 fn random_bytes_come_in_order(rt: HostRuntime) {
     let mut fixed = FixedRandom::new(b"abcde");
-    let mut buf = [0u8; 3];
-    assert!(rt; fixed.fill(&mut buf).is_ok());
-    assert!(rt; buf == *b"abc");
-    assert!(rt; fixed.fill(&mut buf).is_err());
-    let mut two = [0u8; 2];
-    assert!(rt; fixed.fill(&mut two).is_ok());
-    assert!(rt; two == *b"de");
+    assert!(rt; draws(&mut fixed, b"abc"));
+    assert!(rt; draws_nothing(&mut fixed));
+    assert!(rt; draws(&mut fixed, b"de"));
 }
 
 #[test]
 fn random_bytes_come_from_a_source(rt: HostRuntime) {
     let mut drawn = SourceRandom::new(SliceSource::new(b"abcd"));
-    let mut buf = [0u8; 3];
-    assert!(rt; drawn.fill(&mut buf).is_ok());
-    assert!(rt; buf == *b"abc");
-    assert!(rt; drawn.fill(&mut buf).is_err());
+    assert!(rt; draws(&mut drawn, b"abc"));
+    assert!(rt; draws_nothing(&mut drawn));
     let mut failing = SourceRandom::new(ReaderSource::new(FailsOnce { reads: 0 }));
-    assert!(rt; failing.fill(&mut buf).is_err());
-    assert!(rt; failing.fill(&mut buf).is_ok());
-    assert!(rt; buf == [3, 4, 5]);
+    assert!(rt; draws_nothing(&mut failing));
+    assert!(rt; draws(&mut failing, &[3, 4, 5]));
 }

@@ -45,7 +45,8 @@ fn limits_are_refused(rt: HostRuntime) {
 
 #[test]
 fn numbers_as_bytes(rt: HostRuntime) {
-    assert_eq!(rt; store_u64_le(0xff), [0xff, 0, 0, 0, 0, 0, 0, 0]);
-    assert_eq!(rt; load_u64_le(&store_u64_le(0xff)), 255);
-    assert_eq!(rt; load_u64_le(&[0xff, 0, 0, 0, 0, 0, 0, 0, 7]), 255);
+    let stored = store_u64_le(0xff);
+    assert!(rt; stored == [0xff, 0, 0, 0, 0, 0, 0, 0]);
+    assert!(rt; load_u64_le(&stored) == 255);
+    assert!(rt; load_u64_le(&[0xff, 0, 0, 0, 0, 0, 0, 0, 7]) == 255);
 }

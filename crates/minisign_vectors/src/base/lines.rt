@@ -33,20 +33,24 @@ impl Write for Counting {
     }
 }
 
+// Whether putting a line comes to this.
+fn is_put<W: Sink>(
+    alloc: Global,
+    sink: &mut W,
+    (label, text): (&str, &str),
+    expected: Outcome,
+) -> bool {
+    let answer = put_line(alloc, sink, label.as_bytes(), text.as_bytes());
+    comes_to(&answer, expected)
+}
+
 #[test]
 fn lines_have_a_label_a_text_and_a_line_feed(rt: HostRuntime) {
     let mut sink = VecSink::new(rt.alloc());
-    for (label, text) in [("error: ", "reading failed"), ("", ""), ("warning", "")] {
-        let put = put_line(rt.alloc(), &mut sink, label.as_bytes(), text.as_bytes());
-        assert!(rt; put.is_ok());
+    for line in [("error: ", "reading failed"), ("", ""), ("warning", "")] {
+        assert!(rt; is_put(rt.alloc(), &mut sink, line, Accepted));
     }
     assert!(rt; sink.as_slice() == b"error: reading failed\n\nwarning\n".as_slice());
-}
-
-// Whether putting a line comes to this.
-fn is_put<W: Sink>(alloc: Global, sink: &mut W, expected: Outcome) -> bool {
-    let answer = put_line(alloc, sink, b"a label ", b"a text");
-    comes_to(&answer, expected)
 }
 
 #[test]
@@ -57,8 +61,9 @@ fn a_line_is_one_write(rt: HostRuntime) {
         last: 0,
     };
     let mut sink = WriterSink::new(&mut writer);
-    assert!(rt; is_put(rt.alloc(), &mut sink, Accepted));
-    assert!(rt; is_put(rt.alloc(), &mut sink, Refused(WritingFailed)));
+    let line = ("a label ", "a text");
+    assert!(rt; is_put(rt.alloc(), &mut sink, line, Accepted));
+    assert!(rt; is_put(rt.alloc(), &mut sink, line, Refused(WritingFailed)));
     assert!(rt; writer.calls == 2);
     assert!(rt; writer.last == b'\n');
 }

@@ -1,7 +1,8 @@
 //! Passwords that are asked for.
 
-use minisign_base::devices::sinks::{VecSink, WriterSink};
+use minisign_base::devices::sinks::{Sink, VecSink, WriterSink};
 use minisign_base::devices::sources::{ReaderSource, SliceSource, Source};
+use minisign_base::errors::Result;
 use minisign_base::faults::NamedFault::{
     EndOfInput, NotUtf8, PasswordTooLong, ReadingFailed, WritingFailed,
 };
@@ -36,6 +37,15 @@ impl Write for Screen {
     }
 }
 
+// What comes of asking for a password.
+fn asked<R: Source, W: Sink>(
+    alloc: Global,
+    prompt: &mut Prompt<R, W>,
+    question: &str,
+) -> Result<String> {
+    get_password(alloc, prompt, question)
+}
+
 // Whether asking for a password comes to this, with a password of so many bytes where it is
 // accepted, and leaves so many bytes unread.
 fn comes_so<R: Source + Drop>(
@@ -46,7 +56,7 @@ fn comes_so<R: Source + Drop>(
     unread: usize,
 ) -> bool {
     let mut prompt = Prompt::new(reader, VecSink::new(alloc));
-    let answer = get_password(alloc, &mut prompt, "Password: ");
+    let answer = asked(alloc, &mut prompt, "Password: ");
     let right = match &answer {
         Ok(password) => password.len() == count,
         Err(_) => true,
@@ -87,27 +97,36 @@ fn line(
     Ok(bytes)
 }
 
+// How many of which letter are typed, and what behind them; what comes of it, and how many bytes are
+// left unread.
+const LONG_LINES: [(usize, u8, &str, Outcome, usize); 15] = [
+    (1024, b'a', "\n", Accepted, 0),
+    (1024, b'a', "\r\n", Accepted, 0),
+    (1024, b'a', "", Accepted, 0),
+    (1025, b'a', "", Refused(PasswordTooLong), 0),
+    (1025, b'a', "\n", Refused(PasswordTooLong), 0),
+    (1025, b'a', "\r\n", Refused(PasswordTooLong), 1),
+    (1024, b'a', "\r", Refused(PasswordTooLong), 0),
+    (1024, b'a', "\rb\n", Refused(PasswordTooLong), 1),
+    (1027, b'a', "\n", Refused(PasswordTooLong), 2),
+    (1026, 0xff, "", Refused(PasswordTooLong), 0),
+    (1025, 0xff, "", Refused(NotUtf8), 0),
+    (1025, 0xff, "\n", Refused(NotUtf8), 0),
+    (1, 0xff, "\n", Refused(NotUtf8), 0),
+    (0, b'a', "", Refused(EndOfInput), 0),
+    (8, b'p', "\nmore", Accepted, 4),
+];
+
+// The rows, so that no proof looks into all of them.
+fn long_lines() -> &'static [(usize, u8, &'static str, Outcome, usize)] {
+    &LONG_LINES
+}
+
 #[test]
 fn long_lines_are_cut_and_refused(rt: HostRuntime) {
-    for (count, letter, tail, expected, unread) in [
-        (1024usize, b'a', "\n", Accepted, 0usize),
-        (1024, b'a', "\r\n", Accepted, 0),
-        (1024, b'a', "", Accepted, 0),
-        (1025, b'a', "", Refused(PasswordTooLong), 0),
-        (1025, b'a', "\n", Refused(PasswordTooLong), 0),
-        (1025, b'a', "\r\n", Refused(PasswordTooLong), 1),
-        (1024, b'a', "\r", Refused(PasswordTooLong), 0),
-        (1024, b'a', "\rb\n", Refused(PasswordTooLong), 1),
-        (1027, b'a', "\n", Refused(PasswordTooLong), 2),
-        (1026, 0xff, "", Refused(PasswordTooLong), 0),
-        (1025, 0xff, "", Refused(NotUtf8), 0),
-        (1025, 0xff, "\n", Refused(NotUtf8), 0),
-        (1, 0xff, "\n", Refused(NotUtf8), 0),
-        (0, b'a', "", Refused(EndOfInput), 0),
-        (8, b'p', "\nmore", Accepted, 4),
-    ] {
-        let line = line(rt.alloc(), letter, count, tail);
-        let right = both_come_so(rt.alloc(), &line, expected, count, unread);
+    for (count, letter, tail, expected, unread) in long_lines() {
+        let line = line(rt.alloc(), *letter, *count, tail);
+        let right = both_come_so(rt.alloc(), &line, *expected, *count, *unread);
         assert!(rt; right, "at {count} of {letter} and {tail:?}");
     }
 }
@@ -116,23 +135,31 @@ fn long_lines_are_cut_and_refused(rt: HostRuntime) {
 fn gives(alloc: Global, typed: &str, expected: &str, shown: &str) -> bool {
     let reader = OneByOne::new(typed.as_bytes());
     let mut prompt = Prompt::new(reader, VecSink::new(alloc));
-    let password = get_password(alloc, &mut prompt, "?");
+    let password = asked(alloc, &mut prompt, "?");
     is_text(&password, expected) && prompt.writer.as_slice() == shown.as_bytes()
+}
+
+// What is typed, the password, and what is shown.
+const LINE_ENDS: [(&str, &str, &str); 9] = [
+    ("password\n", "password", "?"),
+    ("password", "password", "?"),
+    ("pass word \r\n", "pass word ", "?"),
+    ("a\r\r\n", "a\r", "?"),
+    ("a\rb\n", "a\rb", "?"),
+    ("\r", "\r", "?"),
+    ("\n", "", "?<empty>\n"),
+    ("\r\n", "", "?<empty>\n"),
+    ("\npassword\n", "", "?<empty>\n"),
+];
+
+// The rows, so that no proof looks into all of them.
+fn line_ends() -> &'static [(&'static str, &'static str, &'static str)] {
+    &LINE_ENDS
 }
 
 #[test]
 fn line_ends_are_no_part_of_a_password(rt: HostRuntime) {
-    for (typed, expected, shown) in [
-        ("password\n", "password", "?"),
-        ("password", "password", "?"),
-        ("pass word \r\n", "pass word ", "?"),
-        ("a\r\r\n", "a\r", "?"),
-        ("a\rb\n", "a\rb", "?"),
-        ("\r", "\r", "?"),
-        ("\n", "", "?<empty>\n"),
-        ("\r\n", "", "?<empty>\n"),
-        ("\npassword\n", "", "?<empty>\n"),
-    ] {
+    for (typed, expected, shown) in line_ends() {
         assert!(rt; gives(rt.alloc(), typed, expected, shown), "at {typed:?}");
     }
 }
@@ -152,7 +179,7 @@ fn failing_readers_are_named(rt: HostRuntime) {
 fn fails_so(alloc: Global, reads: u64, expected: Outcome) -> bool {
     let reader = FailsAfter::new(b"abc\n", reads);
     let mut prompt = Prompt::new(reader, VecSink::new(alloc));
-    let answer = get_password(alloc, &mut prompt, "Password: ");
+    let answer = asked(alloc, &mut prompt, "Password: ");
     comes_to(&answer, expected) && prompt.writer.as_slice() == b"Password: ".as_slice()
 }
 
@@ -168,7 +195,7 @@ fn failing_writers_are_named_before_anything_is_read(rt: HostRuntime) {
 fn is_unread(alloc: Global, room: usize, taken: &str) -> bool {
     let writer = LimitedSink::new(alloc, room).flushed(0);
     let mut prompt = Prompt::new(SliceSource::new(b"\n"), writer);
-    let answer = get_password(alloc, &mut prompt, "Password: ");
+    let answer = asked(alloc, &mut prompt, "Password: ");
     let told = comes_to(&answer, Refused(WritingFailed));
     let left = prompt.reader.read(&mut [0; 2]);
     told && prompt.writer.as_slice() == taken.as_bytes() && left == Ok(1)
@@ -191,6 +218,6 @@ fn each_text_is_flushed(rt: HostRuntime) {
 fn is_accepted(alloc: Global, typed: &str, screen: &mut Screen) -> bool {
     let reader = ReaderSource::new(typed.as_bytes());
     let mut prompt = Prompt::new(reader, WriterSink::new(screen));
-    let password = get_password(alloc, &mut prompt, "Password: ");
+    let password = asked(alloc, &mut prompt, "Password: ");
     password.is_ok()
 }

@@ -1,7 +1,8 @@
 //! A source that marks its place and goes back by seeking.
 
-use super::reading::reads;
-use minisign_base::devices::sources::{FileSource, Rereader};
+use super::reading::Call::{GoesBack, Marks, Reads};
+use super::reading::follows;
+use minisign_base::devices::sources::FileSource;
 use std::io;
 use std::io::{Cursor, Read, Seek, SeekFrom};
 
@@ -29,25 +30,32 @@ impl Seek for Stuck {
 
 #[test]
 fn files_are_read_again_from_the_mark(rt: HostRuntime) {
-    let bytes: &[u8] = b"abcde";
-    let mut source = FileSource::new(Cursor::new(bytes));
-    let mut buf = [0u8; 2];
-    assert!(rt; source.back().is_err());
-    assert!(rt; reads(&mut source, &mut buf, 2, b"ab"));
-    assert!(rt; source.mark().is_ok());
-    for _ in 0..2 {
-        assert!(rt; reads(&mut source, &mut buf, 2, b"cd"));
-        assert!(rt; reads(&mut source, &mut buf, 1, b"ed"));
-        assert!(rt; reads(&mut source, &mut buf, 0, b"ed"));
-        assert!(rt; source.back().is_ok());
-    }
+    let calls = [
+        GoesBack(false),
+        Reads(2, *b"ab"),
+        Marks(true),
+        Reads(2, *b"cd"),
+        Reads(1, *b"ed"),
+        Reads(0, *b"ed"),
+        GoesBack(true),
+        Reads(2, *b"cd"),
+        Reads(1, *b"ed"),
+        Reads(0, *b"ed"),
+        GoesBack(true),
+    ];
+    let mut source = FileSource::new(Cursor::new(b"abcde".as_slice()));
+    assert!(rt; follows(&mut source, &calls));
+}
+
+// Whether a file whose place is sought so is marked, and goes back or not.
+fn is_reached(place: Option<u64>, reached: bool) -> bool {
+    let mut source = FileSource::new(Stuck { place });
+    follows(&mut source, &[Marks(true), GoesBack(reached)])
 }
 
 #[test]
 fn a_place_that_is_not_reached_is_a_fault(rt: HostRuntime) {
-    for (place, reached) in [(None, false), (Some(4u64), false), (Some(5), true)] {
-        let mut source = FileSource::new(Stuck { place });
-        assert!(rt; source.mark().is_ok());
-        assert_eq!(rt; source.back().is_ok(), reached, "at {place:?}");
-    }
+    assert!(rt; is_reached(None, false));
+    assert!(rt; is_reached(Some(4), false));
+    assert!(rt; is_reached(Some(5), true));
 }

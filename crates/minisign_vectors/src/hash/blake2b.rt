@@ -4,6 +4,7 @@ ghost use Rattle.std.specs.Prelude.{◌≡◌, ◌≤◌, false, length};
 ghost use Rattle.minisign_hash.specs.Fed.{has_finalized, output_length};
 
 use crate::shown::shows;
+use minisign_fixtures::outcomes::front;
 use minisign_fixtures::plain::blake2b::scalar_digest;
 use minisign_hash::blake2b::Blake2b;
 use minisign_hash::constants::{
@@ -42,18 +43,18 @@ const OF_ABC: [&str; 5] = [
 
 #[test]
 fn digests_of_each_length(rt: HostRuntime) {
-    for expected in OF_NOTHING {
-        assert!(rt;
-            is_digest(rt.alloc(), b"", expected),
-            "of nothing: {expected}"
-        );
+    assert!(rt; are_digests(rt.alloc(), b"", &OF_NOTHING));
+    assert!(rt; are_digests(rt.alloc(), b"abc", &OF_ABC));
+}
+
+// Whether all of these are digests of the message.
+fn are_digests(alloc: Global, message: &[u8], digests: &[&str]) -> bool {
+    for expected in digests {
+        if !is_digest(alloc, message, expected) {
+            return false;
+        }
     }
-    for expected in OF_ABC {
-        assert!(rt;
-            is_digest(rt.alloc(), b"abc", expected),
-            "of abc: {expected}"
-        );
-    }
+    true
 }
 
 // Whether this is the digest of as many bytes as the text shows: of the message as a whole, and as
@@ -96,31 +97,64 @@ fn digest_of_parts(message: &[u8], len: usize) -> Option<[u8; 64]>
 
 // Lengths around the ends of blocks, and the digest at each of the bytes 0, 1, 2 and so on modulo
 // 256.
-const LENGTHS: [usize; 7] = [127, 128, 129, 255, 256, 257, 385];
-
-const DIGESTS: [&str; 7] = [
-    "b6292669ccd38d5f01caae96ba272c76a879a45743afa0725d83b9ebb26665b731f1848c52f11972b6644f554c064fa90780dbbbf3a89d4fc31f67df3e5857ef",
-    "2319e3789c47e2daa5fe807f61bec2a1a6537fa03f19ff32e87eecbfd64b7e0e8ccff439ac333b040f19b0c4ddd11a61e24ac1fe0f10a039806c5dcc0da3d115",
-    "f59711d44a031d5f97a9413c065d1e614c417ede998590325f49bad2fd444d3e4418be19aec4e11449ac1a57207898bc57d76a1bcf3566292c20c683a5c4648f",
-    "5b21c5fd8868367612474fa2e70e9cfa2201ffeee8fafab5797ad58fefa17c9b5b107da4a3db6320baaf2c8617d5a51df914ae88da3867c2d41f0cc14fa67928",
-    "1ecc896f34d3f9cac484c73f75f6a5fb58ee6784be41b35f46067b9c65c63a6794d3d744112c653f73dd7deb6666204c5a9bfa5b46081fc10fdbe7884fa5cbf8",
-    "d8bfe068de0b4f9fa876a3f8024eb9f7b0029fd5dcf251199e065cee89e1a282c8dbf0442f2ade7294ac1c6be19b388dc990c34d8cb79f5f10c54fa813834fda",
-    "49b5b192ab4bc11a8bdf3a092d66b076aec56caab4549d850b33c37caace60925f556073081f35d0b95a4c92533940bceb115adfb51842de6d45a62b54e03083",
+const AROUND_THE_ENDS: [(usize, &str); 7] = [
+    (
+        127,
+        "b6292669ccd38d5f01caae96ba272c76a879a45743afa0725d83b9ebb26665b731f1848c52f11972b6644f554c064fa90780dbbbf3a89d4fc31f67df3e5857ef",
+    ),
+    (
+        128,
+        "2319e3789c47e2daa5fe807f61bec2a1a6537fa03f19ff32e87eecbfd64b7e0e8ccff439ac333b040f19b0c4ddd11a61e24ac1fe0f10a039806c5dcc0da3d115",
+    ),
+    (
+        129,
+        "f59711d44a031d5f97a9413c065d1e614c417ede998590325f49bad2fd444d3e4418be19aec4e11449ac1a57207898bc57d76a1bcf3566292c20c683a5c4648f",
+    ),
+    (
+        255,
+        "5b21c5fd8868367612474fa2e70e9cfa2201ffeee8fafab5797ad58fefa17c9b5b107da4a3db6320baaf2c8617d5a51df914ae88da3867c2d41f0cc14fa67928",
+    ),
+    (
+        256,
+        "1ecc896f34d3f9cac484c73f75f6a5fb58ee6784be41b35f46067b9c65c63a6794d3d744112c653f73dd7deb6666204c5a9bfa5b46081fc10fdbe7884fa5cbf8",
+    ),
+    (
+        257,
+        "d8bfe068de0b4f9fa876a3f8024eb9f7b0029fd5dcf251199e065cee89e1a282c8dbf0442f2ade7294ac1c6be19b388dc990c34d8cb79f5f10c54fa813834fda",
+    ),
+    (
+        385,
+        "49b5b192ab4bc11a8bdf3a092d66b076aec56caab4549d850b33c37caace60925f556073081f35d0b95a4c92533940bceb115adfb51842de6d45a62b54e03083",
+    ),
 ];
+
+// The rows, so that no proof looks into all of them.
+fn around_the_ends() -> &'static [(usize, &'static str)] {
+    &AROUND_THE_ENDS
+}
 
 #[test]
 fn digests_around_the_ends_of_blocks(rt: HostRuntime) {
-    let mut message = [0u8; 385];
-    for (i, byte) in message.iter_mut().enumerate() {
-        *byte = (i % 256) as u8;
+    let message = counted_to(255);
+    for (len, expected) in around_the_ends() {
+        let right = is_digest_by_bytes(rt.alloc(), front(&message, *len), expected);
+        assert!(rt; right, "at {len}");
     }
-    for (len, expected) in LENGTHS.into_iter().zip(DIGESTS) {
-        let (message, _) = message.split_at(len.min(385));
-        assert!(rt;
-            is_digest_by_bytes(rt.alloc(), message, expected),
-            "at {len}"
-        );
+}
+
+// Bytes that count up from 0 to the last one, and then from 0 again.
+fn counted_to(last: u8) -> [u8; 385] {
+    let mut bytes = [0u8; 385];
+    let mut next = 0u8;
+    for byte in bytes.iter_mut() {
+        *byte = next;
+        next = if next == last {
+            0
+        } else {
+            next.wrapping_add(1)
+        };
     }
+    bytes
 }
 
 // Whether this is the digest of 64 bytes: of the message as a whole, and byte by byte, finalized
@@ -157,24 +191,28 @@ fn digests_in_two_parts(message: &[u8], cut: usize) -> ([u8; 64], [u8; 64])
     finalized_twice(&mut state)
 }
 
+// Whether this is the digest of the message in two updates, after whichever byte it is cut.
+fn is_digest_however_cut(message: &[u8], expected: &[u8; 64]) -> bool {
+    for cut in [0usize, 1, 127, 128, 129, 255, 256, 257] {
+        let (first, second) = digests_in_two_parts(message, cut.min(message.len()));
+        if first != *expected || second != *expected {
+            return false;
+        }
+    }
+    true
+}
+
 // Every length from 0 to 385, cut after each of these numbers of bytes, beside the scalar body. The
 // digests are chained: each is hashed behind the chain so far, which begins as 64 zeros. The last
 // value is hashlib's.
 #[test]
 fn lanes_beside_the_scalar_body(rt: HostRuntime) {
-    let mut message = [0u8; 385];
-    for (i, byte) in message.iter_mut().enumerate() {
-        *byte = (i % 251) as u8;
-    }
+    let message = counted_to(250);
     let mut chain = [0u8; 64];
     for len in 0..386usize {
-        let (message, _) = message.split_at(len.min(385));
+        let message = front(&message, len);
         let expected = scalar_digest(message);
-        for cut in [0usize, 1, 127, 128, 129, 255, 256, 257] {
-            let (first, second) = digests_in_two_parts(message, cut.min(message.len()));
-            let right = first == expected && second == expected;
-            assert!(rt; right, "{len} bytes cut after {cut}");
-        }
+        assert!(rt; is_digest_however_cut(message, &expected), "at {len}");
         chain = chained(&chain, &expected);
     }
     assert!(rt; shows(rt.alloc(), &chain, CHAINED));

@@ -60,16 +60,26 @@ fn is_full(answer: io::Result<()>) -> bool {
     }
 }
 
+// Whether the writer takes a number of one byte and one of four, and then none.
+fn has_room_for_two(writer: &mut &mut [u8]) -> bool {
+    let first = writer.write_u8(1);
+    let second = writer.write_u32_le(2);
+    first.is_ok() && second.is_ok() && has_no_room(writer)
+}
+
+// Whether the writer is full for numbers of each width.
+fn has_no_room(writer: &mut &mut [u8]) -> bool {
+    let one = is_full(writer.write_u8(3));
+    let four = is_full(writer.write_u32_le(3));
+    let eight = is_full(writer.write_u64_le(3));
+    one && four && eight
+}
+
 // Room for five bytes: one, four, and then none.
 #[test]
 fn full_writers_take_no_numbers(rt: HostRuntime) {
     let mut room = [9u8; 5];
-    let mut writer = room.as_mut_slice();
-    assert!(rt; writer.write_u8(1).is_ok());
-    assert!(rt; writer.write_u32_le(2).is_ok());
-    assert!(rt; is_full(writer.write_u8(3)));
-    assert!(rt; is_full(writer.write_u32_le(3)));
-    assert!(rt; is_full(writer.write_u64_le(3)));
+    assert!(rt; has_room_for_two(&mut room.as_mut_slice()));
     assert!(rt; room == [1, 2, 0, 0, 0]);
 }
 

@@ -6,8 +6,9 @@
 
 ghost use Rattle.std.specs.Prelude.{◌≡◌, ◌*◌, ◌^◌, ◌<◌, ◌≤◌, IfOk, length, vec_len};
 
+use super::plain::plain_key;
 use crate::shown::shows;
-use minisign_fixtures::plain::scrypt::{plain_rom_mix, plain_scrypt};
+use minisign_fixtures::plain::scrypt::plain_rom_mix;
 use minisign_kdf::{KdfError, Params, Rows, mix_kept, scrypt_keeping};
 use std::alloc::{AllocError, Global};
 use std::test::Fail;
@@ -149,85 +150,99 @@ fn rows_of_rfc_7914(rt: HostRuntime) -> Result<(), Fail> {
     Ok(())
 }
 
-// The rows are the block, and what comes of mixing it.
-#[test]
-fn words_stand_in_diagonal_order(rt: HostRuntime) -> Result<(), Fail> {
-    let rows = Rows::fill(rt.alloc(), &BLOCK, 1, 1)?;
-    assert!(rt; rows.len() == 2);
-    let (first, second) = rows.words().split_at(32);
-    assert!(rt; bytes_of(first) == BLOCK);
-    assert!(rt; shows(rt.alloc(), &bytes_of(second), MIXED));
-    Ok(())
-}
-
-// Whether one row is kept, which is the block.
-fn keeps_the_block(alloc: Global, n_log2: u8, k: u64) -> Result<bool, KdfError>
+// Rows of the published block.
+fn filled(alloc: Global, n_log2: u8, k: u64) -> Result<Rows, KdfError>
     requires even { 1 ≤ n_log2 }
     requires cost { n_log2 < 64 }
     requires kept { 1 ≤ k }
 {
-    let rows = Rows::fill(alloc, &BLOCK, n_log2, k)?;
-    let words = rows.words();
-    Ok(rows.len() == 1 && words.len() == 32 && bytes_of(words) == BLOCK)
+    Rows::fill(alloc, &BLOCK, n_log2, k)
+}
+
+// Whether the words are two rows: the block, and what comes of mixing it.
+fn are_block_and_mixed(alloc: Global, words: &[u32]) -> bool {
+    if words.len() != 64 {
+        return false;
+    }
+    let (first, second) = words.split_at(32);
+    bytes_of(first) == BLOCK && shows(alloc, &bytes_of(second), MIXED)
 }
 
 #[test]
-fn one_row_is_the_block(rt: HostRuntime) -> Result<(), Fail> {
-    assert!(rt; keeps_the_block(rt.alloc(), 1, 3)?);
+fn words_stand_in_diagonal_order(rt: HostRuntime) -> Result<(), Fail> {
+    let rows = filled(rt.alloc(), 1, 1)?;
+    assert!(rt; rows.len() == 2);
+    assert!(rt; are_block_and_mixed(rt.alloc(), rows.words()));
     Ok(())
+}
+
+// Whether one row is kept, which is the block.
+fn keeps_the_block(alloc: Global, n_log2: u8, k: u64) -> bool
+    requires even { 1 ≤ n_log2 }
+    requires cost { n_log2 < 64 }
+    requires kept { 1 ≤ k }
+{
+    match filled(alloc, n_log2, k) {
+        Ok(rows) => rows.len() == 1 && is_the_block(rows.words()),
+        Err(_) => false,
+    }
+}
+
+// Whether the words are one row, which is the block.
+fn is_the_block(words: &[u32]) -> bool {
+    words.len() == 32 && bytes_of(words) == BLOCK
+}
+
+#[test]
+fn one_row_is_the_block(rt: HostRuntime) {
+    assert!(rt; keeps_the_block(rt.alloc(), 1, 3));
 }
 
 // Rows that no memory can hold are refused before any mixing, and where one is kept, none is mixed.
 #[test]
-fn rows_of_the_greatest_cost(rt: HostRuntime) -> Result<(), Fail> {
-    let refused = Rows::fill(rt.alloc(), &BLOCK, 63, 1);
+fn rows_of_the_greatest_cost(rt: HostRuntime) {
+    let refused = filled(rt.alloc(), 63, 1);
     assert!(rt; matches!(refused, Err(KdfError::OutOfMemory)));
-    for k in [9223372036854775808u64, 18446744073709551615] {
-        assert!(rt; keeps_the_block(rt.alloc(), 63, k.max(1))?, "k {k}");
-    }
-    Ok(())
+    assert!(rt; keeps_the_block(rt.alloc(), 63, 9223372036854775808));
+    assert!(rt; keeps_the_block(rt.alloc(), 63, 18446744073709551615));
 }
 
 #[test]
-fn keys_of_every_number_are_the_plain_ones(rt: HostRuntime) -> Result<(), Fail> {
+fn keys_of_every_number_are_the_plain_ones(rt: HostRuntime) {
     for n_log2 in 1..7u8 {
-        for (r, p) in [(1u32, 1u32), (2, 1), (3, 2)] {
-            assert!(rt;
-                agrees(rt.alloc(), n_log2, r.clamp(1, 15), p.min(15))?,
-                "at {n_log2}, {r}, {p}"
-            );
-        }
+        assert!(rt; agrees(rt.alloc(), n_log2, 1, 1), "at {n_log2}, 1, 1");
+        assert!(rt; agrees(rt.alloc(), n_log2, 2, 1), "at {n_log2}, 2, 1");
+        assert!(rt; agrees(rt.alloc(), n_log2, 3, 2), "at {n_log2}, 3, 2");
     }
-    Ok(())
 }
 
 // Whether the key is the plain one for every k from 1 to N + 1.
-fn agrees(alloc: Global, n_log2: u8, r: u32, p: u32) -> Result<bool, Fail>
+fn agrees(alloc: Global, n_log2: u8, r: u32, p: u32) -> bool
     requires n_log2 { n_log2 < 8 }
     requires r_some { 1 ≤ r }
     requires r { r < 16 }
     requires p { p < 16 }
 {
-    let params = Params::new(n_log2, r, p).map_err(|_| "refused")?;
-    let mut plain = [0u8; 104];
-    plain_scrypt(
-        alloc,
-        b"password",
-        b"some salt",
-        n_log2,
-        r as usize,
-        p as usize,
-        &mut plain,
-    )?;
+    let Ok(params) = Params::new(n_log2, r, p) else {
+        return false;
+    };
+    let Some(plain) = plain_key(alloc, n_log2, r, p) else {
+        return false;
+    };
     let n = 1u64 << n_log2;
     for k in 1..n + 2 {
-        let mut key = [0u8; 104];
-        let count = scrypt_keeping(alloc, b"password", b"some salt", &params, k, &mut key)?;
-        if key != plain || count != n.div_ceil(k) {
-            return Ok(false);
+        if !is_key(alloc, &params, (k, n.div_ceil(k)), &plain) {
+            return false;
         }
     }
-    Ok(true)
+    true
+}
+
+// Whether this is the key where every k-th row is kept, of so many.
+fn is_key(alloc: Global, params: &Params, (k, count): (u64, u64), expected: &[u8; 104]) -> bool {
+    let mut key = [0u8; 104];
+    let kept = scrypt_keeping(alloc, b"password", b"some salt", params, k.max(1), &mut key);
+    kept == Ok(count) && key == *expected
 }
 
 #[test]
@@ -258,13 +273,18 @@ fn is_mixed_plainly(alloc: Global, n_log2: u8) -> Result<bool, Fail>
 fn refusals_do_not_depend_on_the_number(rt: HostRuntime) -> Result<(), Fail> {
     let params = Params::new(53, 8, 1)?;
     for k in [1u64, 3, 18446744073709551615] {
-        let refused = scrypt_keeping(rt.alloc(), b"pw", b"salt", &params, k.max(1), &mut []);
-        assert!(rt; refused == Err(KdfError::InvalidOutputLen), "k {k}");
+        assert!(rt; is_no_output(rt.alloc(), &params, k), "k {k}");
     }
     for k in [1u64, 1000] {
         assert!(rt; wants_memory(rt.alloc(), &params, k), "k {k}");
     }
     Ok(())
+}
+
+// Whether an output of no bytes is refused.
+fn is_no_output(alloc: Global, params: &Params, k: u64) -> bool {
+    let refused = scrypt_keeping(alloc, b"pw", b"salt", params, k.max(1), &mut []);
+    refused == Err(KdfError::InvalidOutputLen)
 }
 
 // Whether the rows are more than any memory holds, and the output stays.

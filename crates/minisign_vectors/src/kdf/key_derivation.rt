@@ -5,6 +5,7 @@
 //! hashlib (OpenSSL).
 
 use crate::shown::shows;
+use minisign_fixtures::outcomes::front;
 use minisign_kdf::{KdfError, Params, hmac_sha256, pbkdf2_once, scrypt};
 use std::alloc::Global;
 use std::test::Fail;
@@ -73,27 +74,53 @@ fn hmac_joins_its_parts(rt: HostRuntime) {
 const OF_NO_TEXT: &str = "b613679a0814d9ec772f95d778c35fc5ff1697c493715653c6c712144292c5ad";
 
 // Lengths of keys up to, at and over that of a block, and the code under each.
-const KEY_LENGTHS: [usize; 7] = [0, 1, 63, 64, 65, 128, 200];
-
-const CODES: [&str; 7] = [
-    "0611b704abab473f956257a09cc2fc2c867211d077bdffc5a91bd8a5047826ff",
-    "c1a9bf454b10dfe16515829275ce8fd6e5c7a5df851245037730352a6046f1a5",
-    "c90d83e78c64ee16fe2eefa3e8a834d79d1d3d0ea483f8d9908323b714c7f134",
-    "0414bb1d8c0c4556cdb2028727b16610ae377b1a194b6db1f853d4297f2329bc",
-    "5b69580123e3d7e788b7e8352ac37a3247b911c5ec0837147b74109a6382d3f5",
-    "45e99812fad5e4a011b7eaeade4d079afb74236bde40538797cdcb7bf32c4112",
-    "0213fa56a4d26fac09aee9ef2a6faf1f38dfce0d3c4238d63981b8af5d6228ba",
+const CODES: [(usize, &str); 7] = [
+    (
+        0,
+        "0611b704abab473f956257a09cc2fc2c867211d077bdffc5a91bd8a5047826ff",
+    ),
+    (
+        1,
+        "c1a9bf454b10dfe16515829275ce8fd6e5c7a5df851245037730352a6046f1a5",
+    ),
+    (
+        63,
+        "c90d83e78c64ee16fe2eefa3e8a834d79d1d3d0ea483f8d9908323b714c7f134",
+    ),
+    (
+        64,
+        "0414bb1d8c0c4556cdb2028727b16610ae377b1a194b6db1f853d4297f2329bc",
+    ),
+    (
+        65,
+        "5b69580123e3d7e788b7e8352ac37a3247b911c5ec0837147b74109a6382d3f5",
+    ),
+    (
+        128,
+        "45e99812fad5e4a011b7eaeade4d079afb74236bde40538797cdcb7bf32c4112",
+    ),
+    (
+        200,
+        "0213fa56a4d26fac09aee9ef2a6faf1f38dfce0d3c4238d63981b8af5d6228ba",
+    ),
 ];
+
+// The rows, so that no proof looks into all of them.
+fn codes() -> &'static [(usize, &'static str)] {
+    &CODES
+}
 
 #[test]
 fn hmac_of_keys_of_each_kind(rt: HostRuntime) {
-    for (len, code) in KEY_LENGTHS.into_iter().zip(CODES) {
-        let (key, _) = [0x6b; 200].split_at(len.min(200));
-        assert!(rt;
-            is_code(rt.alloc(), key, &[b"text".as_slice()], code),
-            "a key of {len}"
-        );
+    for (len, code) in codes() {
+        assert!(rt; is_code_of_text(rt.alloc(), *len, code), "a key of {len}");
     }
+}
+
+// Whether a key of so many bytes, up to 200, and a text have this code.
+fn is_code_of_text(alloc: Global, len: usize, expected: &str) -> bool {
+    let key = [0x6b; 200];
+    is_code(alloc, front(&key, len), &[b"text".as_slice()], expected)
 }
 
 // RFC 7914, 11, the vector with one iteration.
@@ -172,36 +199,52 @@ fn scrypt_of_rfc_7914(rt: HostRuntime) {
 
 // Block sizes and parallelizations of each kind, and the key for each, of which some end inside a
 // block.
-const PARAMS: [(u8, u32, u32); 10] = [
-    (1, 1, 1),
-    (1, 1, 2),
-    (2, 1, 3),
-    (3, 2, 1),
-    (3, 2, 3),
-    (4, 3, 2),
-    (5, 3, 1),
-    (6, 8, 1),
-    (6, 8, 3),
-    (7, 5, 2),
+const KEYS: [((u8, u32, u32), &str); 10] = [
+    ((1, 1, 1), "bb"),
+    (
+        (1, 1, 2),
+        "796833179bc6e6321173f78097a8b09a34c440ac2f02ef6321ff5d1fd9c3e5",
+    ),
+    (
+        (2, 1, 3),
+        "2062e3007e2fb70db4a6e332e17abc6a7dd6065ab3079ff70f23719c370b9892",
+    ),
+    (
+        (3, 2, 1),
+        "45145e9ddec7c40b9d0689b44a02cb25620b3acae4c73f72b7b52218d28a72e1ea",
+    ),
+    (
+        (3, 2, 3),
+        "1a4f0249dc9def218887e4a3de9eeb2866cf49548455739d24976d93791cb8cbc9b4af89af40b7a62154c1241f83722e13f23e02de2562356aa06c7316900ea8",
+    ),
+    (
+        (4, 3, 2),
+        "a81625b34d60485942740f67333c36609b559b5f893a6bf45180ae998c45d89fb5dc9f1af5c40552c3734ade5bc2e24f28a747ec3c9f26aab0f00ab5573909e7ca",
+    ),
+    (
+        (5, 3, 1),
+        "f166925443581c0ed2c4f63c543afdb36a9e058a156ad89edda5c5ecef9d49d0c8d8f25cb97a4978494e58cf20061f093c66535e0aca76813ac50560120e0866cf70933fa37bf570886b88c32b37507700592b6cdfae7248453ff7aa886216b0585ece14",
+    ),
+    (
+        (6, 8, 1),
+        "d1cb6a3e9927af96cd2874a7f31b9864bf119ae46a447520f9ed7d1e8d7b9189854b596150e6c32dd54bf84e0108a25bba192fad33d9f78ab903f8c0382cacb7da6e352c79a8bf3bfa87f84704453d533d923878bea728fb38513301d9681e40ee7ee0a6bf50f8a4",
+    ),
+    (
+        (6, 8, 3),
+        "901bcd31f6024afdf6423b3d266867c59990a7f6ef60cdf35f901b108392cb1e4b2c9c958733af617f06d6c56bba14b36f86a701ad96a8fd26b3c327b7c97c15eff1c7c3f6b333ec337f601136221eb4252917e49a444eabcaf3fa396b1c39d67504c4e94026c07b",
+    ),
+    ((7, 5, 2), "960be3793d40fcc023847c20005a83a261fcb50d"),
 ];
 
-const KEYS: [&str; 10] = [
-    "bb",
-    "796833179bc6e6321173f78097a8b09a34c440ac2f02ef6321ff5d1fd9c3e5",
-    "2062e3007e2fb70db4a6e332e17abc6a7dd6065ab3079ff70f23719c370b9892",
-    "45145e9ddec7c40b9d0689b44a02cb25620b3acae4c73f72b7b52218d28a72e1ea",
-    "1a4f0249dc9def218887e4a3de9eeb2866cf49548455739d24976d93791cb8cbc9b4af89af40b7a62154c1241f83722e13f23e02de2562356aa06c7316900ea8",
-    "a81625b34d60485942740f67333c36609b559b5f893a6bf45180ae998c45d89fb5dc9f1af5c40552c3734ade5bc2e24f28a747ec3c9f26aab0f00ab5573909e7ca",
-    "f166925443581c0ed2c4f63c543afdb36a9e058a156ad89edda5c5ecef9d49d0c8d8f25cb97a4978494e58cf20061f093c66535e0aca76813ac50560120e0866cf70933fa37bf570886b88c32b37507700592b6cdfae7248453ff7aa886216b0585ece14",
-    "d1cb6a3e9927af96cd2874a7f31b9864bf119ae46a447520f9ed7d1e8d7b9189854b596150e6c32dd54bf84e0108a25bba192fad33d9f78ab903f8c0382cacb7da6e352c79a8bf3bfa87f84704453d533d923878bea728fb38513301d9681e40ee7ee0a6bf50f8a4",
-    "901bcd31f6024afdf6423b3d266867c59990a7f6ef60cdf35f901b108392cb1e4b2c9c958733af617f06d6c56bba14b36f86a701ad96a8fd26b3c327b7c97c15eff1c7c3f6b333ec337f601136221eb4252917e49a444eabcaf3fa396b1c39d67504c4e94026c07b",
-    "960be3793d40fcc023847c20005a83a261fcb50d",
-];
+// The rows, so that no proof looks into all of them.
+fn keys() -> &'static [((u8, u32, u32), &'static str)] {
+    &KEYS
+}
 
 #[test]
 fn scrypt_of_small_parameters(rt: HostRuntime) {
-    for (params, key) in PARAMS.into_iter().zip(KEYS) {
-        let right = derives(rt.alloc(), ("pw", "some salt"), params, key);
+    for (params, key) in keys() {
+        let right = derives(rt.alloc(), ("pw", "some salt"), *params, key);
         assert!(rt; right, "at {key}");
     }
 }
