@@ -2,6 +2,7 @@
 
 import os
 import pty
+import resource
 import shutil
 import signal
 import socket
@@ -113,6 +114,14 @@ class IntoFile:
 
     name: str
     flags: int
+
+
+@dataclass(frozen=True)
+class RoomFor:
+    """A file as standard output or for errors, in which there is room for so many bytes. What is said into such
+    a file counts as one write."""
+
+    length: int
 
 
 @dataclass(frozen=True)
@@ -260,7 +269,7 @@ class Runner:
             stdin=streams.stdin,
             stdout=streams.stdout,
             stderr=streams.stderr,
-            preexec_fn=streams.close_in_child,
+            preexec_fn=streams.prepare_child,
             pass_fds=passed,
             umask=case.umask,
             **how,
@@ -341,8 +350,11 @@ class Streams:
         self.stdout = self.open_stdout(folder, case.stdout)
         # Of such a pair of sockets each write is read by itself.
         self.said, said = socket.socketpair(socket.AF_UNIX, socket.SOCK_SEQPACKET)
-        self.stderr = open_full(case.stderr) or os.dup(said.fileno())
+        self.told = tempfile.TemporaryFile() if isinstance(case.stderr, RoomFor) else None
+        self.stderr = open_full(case.stderr) or os.dup((self.told or said).fileno())
         said.close()
+        rooms = [kind.length for kind in (case.stdout, case.stderr) if isinstance(kind, RoomFor)]
+        self.room = min(rooms, default=None)
         if case.stderr == NO_READER:
             reader, writer = os.pipe()
             os.close(reader)
@@ -386,9 +398,13 @@ class Streams:
             shutil.copyfileobj(output, self.written)
             self.written.flush()
 
-    def close_in_child(self):
+    def prepare_child(self):
+        """Closes the program's closed streams, and limits how long a file may become."""
         for number in self.closed:
             os.close(number)
+        if self.room is not None:
+            resource.setrlimit(resource.RLIMIT_FSIZE, (self.room, self.room))
+            signal.signal(signal.SIGXFSZ, signal.SIG_IGN)
 
     def serve(self):
         """Lets go of the program's ends, and feeds its standard input."""
@@ -411,6 +427,9 @@ class Streams:
 
     def writes(self):
         """Each write on the error stream, once the program has ended."""
+        if self.told:
+            self.told.seek(0)
+            return [self.told.read().decode(errors="backslashreplace")]
         if self.late:
             self.late.join(SECONDS)
         writes = list(self.early)
@@ -428,6 +447,8 @@ class Streams:
             self.terminal.close()
         self.written.close()
         self.said.close()
+        if self.told:
+            self.told.close()
 
 
 class Terminal:

@@ -15,6 +15,7 @@ from running import (
     FromFile,
     OpenedPipe,
     Pieces,
+    RoomFor,
     UnopenedPipe,
     Unreadable,
 )
@@ -71,6 +72,7 @@ def verdict_cases():
         verify_raw("another identifier before a changed signature", 1, WARNING, OTHER_KEYNUM,
                    files={"key.pk": OTHER_KEY, "abc.sig": changed}),
         verify_raw("a signature of the data itself", 1, WARNING, LEGACY, files={"abc.sig": legacy}),
+        verify_raw("a signature that only says it is of the data itself", 1, WARNING, LEGACY, files={"abc.sig": b"Ed" + SIGNATURE[2:]}),
         verify_raw("another identifier before a signature of the data itself", 1, WARNING, OTHER_KEYNUM,
                    files={"key.pk": OTHER_KEY, "abc.sig": legacy}),
         verify_raw("another algorithm of the key", 0, WARNING, VERIFIED, files={"key.pk": b"xx" + KEY[2:]}),
@@ -209,6 +211,7 @@ def stream_cases():
         verify_raw("good data, and a closed output", 0, WARNING, VERIFIED, stdout=CLOSED),
         verify_raw("good data, and a full output", 0, WARNING, VERIFIED, stdout=FULL),
         verify_raw("a closed input", 1, WARNING, READING_FAILED, stdin=CLOSED),
+        verify_raw("for errors room for the warning and five bytes more", 1, WARNING + VERIFIED[:5], stderr=RoomFor(50)),
     ]
 
 

@@ -19,6 +19,7 @@ from running import (
     OneOf,
     OpenedPipe,
     ReadLate,
+    RoomFor,
     SecondName,
     UnopenedPipe,
     Unreadable,
@@ -93,6 +94,7 @@ def verdict_cases():
         verify("other data", 1, WARNING, REFUSED, files={FILE: b"abd"}),
         verify("no data", 1, WARNING, REFUSED, files={FILE: b""}),
         verify("more data", 1, WARNING, REFUSED, files={FILE: b"abc\n"}),
+        verify("a letter more", 1, WARNING, REFUSED, files={FILE: b"abcd"}),
         verify("a changed signature", 1, WARNING, REFUSED, files={SIG: toy.signature_text(b"abc", record=changed)}),
         verify("a changed trusted comment", 1, WARNING, COMMENT_REFUSED,
                files={SIG: GOOD[SIG].replace(b"comment: t\n", b"comment: u\n")}),
@@ -139,6 +141,8 @@ def text_cases():
         ("a key that ends inside a letter", {PK: GOOD[PK] + b"\xc3"}, NOT_UTF8),
         ("a signature that ends inside a letter", {SIG: GOOD[SIG] + b"\xf0\x9f\x94"}, NOT_UTF8),
         ("a signature that is no UTF-8 before an empty key", {PK: b"", SIG: NO_TEXT}, NOT_UTF8),
+        ("a byte that is no UTF-8 as key before an empty signature", {PK: b"\xff", SIG: b""}, NOT_UTF8),
+        ("a byte that is no UTF-8 as signature before an empty key", {PK: b"", SIG: b"\xff"}, NOT_UTF8),
         ("key and signature swapped", {PK: GOOD[SIG], SIG: GOOD[PK]},
          "error: Base64 conversion failed - was an actual public key given?\n"),
     ]
@@ -231,7 +235,11 @@ def verify_stream_cases():
 def cat_stream_cases():
     """An output that cannot be written is told after the status. Nothing is copied where the status cannot be
     written."""
-    cases = [cat("a closed input", 0, WARNING, VERIFIED, output=b"abc", stdin=CLOSED)]
+    cases = [
+        cat("a closed input", 0, WARNING, VERIFIED, output=b"abc", stdin=CLOSED),
+        cat("room for two bytes of the copy", 1, WARNING, VERIFIED, WRITING_FAILED, output=b"ab", stdout=RoomFor(2)),
+        cat("for errors room for the warning and five bytes more", 1, WARNING + VERIFIED[:5], stderr=RoomFor(50)),
+    ]
     for stdout in (CLOSED, FULL):
         for stdin in (b"", CLOSED):
             cases += [

@@ -115,9 +115,7 @@ pub fn sign_files<S: Scheme, W: Sink>(
     ensures refused { IfErr result (λ e. ((e ≡ Named ReadingFailed) ⊎ (e ≡ Named ClockIncorrect))
         × (errors.new ≡ errors.old)) }
 {
-    let sk_file = open(rt, sk)?;
-    let data_file = open(rt, file)?;
-    let random_file = open(rt, "/dev/urandom")?;
+    let (sk_file, data_file, random_file) = open_three(rt, sk, file, "/dev/urandom")?;
     let moment = unix_timestamp(rt)?;
     let mut devices = SigningDevices {
         sk_file: ReaderSource::new(sk_file),
@@ -167,9 +165,7 @@ pub fn verify_files<S: Scheme, W: Sink>(
     // The only fault that comes before the body is `reading failed`, and nothing is said then.
     ensures refused { IfErr result (λ e. (e ≡ Named ReadingFailed) × (errors.new ≡ errors.old)) }
 {
-    let pk_file = open(rt, pk)?;
-    let data_file = open(rt, file)?;
-    let sig_file = open(rt, sig)?;
+    let (pk_file, data_file, sig_file) = open_three(rt, pk, file, sig)?;
     let mut devices = VerifyingDevices {
         pk_file: ReaderSource::new(pk_file),
         sig_file: ReaderSource::new(sig_file),
@@ -237,9 +233,7 @@ pub fn cat_files<S: Scheme, W: Sink>(
     ensures refused { IfErr result (λ e. ((e ≡ Named ReadingFailed) ⊎ (e ≡ input_is_output))
         × (errors.new ≡ errors.old)) }
 {
-    let pk_file = open(rt, pk)?;
-    let data_file = open(rt, file)?;
-    let sig_file = open(rt, sig)?;
+    let (pk_file, data_file, sig_file) = open_three(rt, pk, file, sig)?;
     if is_output(rt, &data_file) {
         return Err(input_is_output());
     }
@@ -263,6 +257,18 @@ fn end_replacing<W: Sink>(errors: &mut W, replaced: Result<()>) -> u8
         Ok(()) => 0,
         Err(fault) => report(errors, &fault),
     }
+}
+
+// Opens three files for reading, in this order.
+fn open_three(
+    rt: &HostRuntime,
+    first: &str,
+    second: &str,
+    third: &str,
+) -> Result<(File, File, File)>
+    ensures { IfErr result (λ e. e ≡ Named ReadingFailed) }
+{
+    Ok((open(rt, first)?, open(rt, second)?, open(rt, third)?))
 }
 
 // Opens a file for reading.

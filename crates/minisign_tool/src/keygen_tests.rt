@@ -2,9 +2,10 @@
 //!
 //! The texts of keys were made with Python's hashlib, of random bytes that count up from 0.
 use crate::keygen::run_keygen;
+use crate::rooms::{ROOM, front, holds};
 use minisign::base::devices::random_sources::FixedRandom;
-use minisign::base::devices::sinks::{Sink, VecSink, WriterSink};
-use minisign::base::devices::sources::{SliceSource, Source};
+use minisign::base::devices::sinks::{VecSink, WriterSink};
+use minisign::base::devices::sources::SliceSource;
 use minisign::base::prompt::Prompt;
 use minisign::base::toy::ToyScheme;
 use std::alloc::Global;
@@ -47,175 +48,162 @@ const COUNTED: [u8; 72] = [
 const SECRET_TEXT: &str =
     "untrusted comment: rsign encrypted secret key\nRWRTY0IyKCkqKywtLi8wMTIzNDU2Nzg5Ojs8PT4/QEFCQ0RFRkcAABAAAAAAAAAAAAIAAAAAXsrUPdVfRwB5KzWs1gxMpeWRV1NwSl+wvS3yfJHSuB4R/Pz7fjWZ0NuIvbOTYzc06tcjZcma8YW35LizX+hn4HmrLBaZfd3HwOv+fYOu+VKlFvoXb5KyfQcAcM++/0OlXTsF5mCWdJA=\n";
 
-// Runs the command: the exit status.
-fn status_of<R: Source, W: Sink, P: Sink, K: Sink, E: Sink>(
+// How a run is given its devices: random bytes, what is typed, and how many bytes the two sinks of
+// keys and the error stream take; and what it has to come to: its exit status, and all that is
+// said, shown at the prompt and written.
+#[derive(Clone, Copy)]
+struct Run {
+    name: &'static str,
+    random_bytes: usize,
+    typed: &'static [u8],
+    rooms: [usize; 3],
+    status: u8,
+    said: &'static str,
+    shown: &'static str,
+    public: &'static str,
+    secret: &'static str,
+}
+
+// A run that makes a pair.
+const GOOD: Run = Run {
+    name: "a password twice",
+    random_bytes: 72,
+    typed: b"p\np\n",
+    rooms: [ROOM, ROOM, ROOM],
+    status: 0,
+    said: WARNING,
+    shown: MADE,
+    public: PUBLIC_TEXT,
+    secret: SECRET_TEXT,
+};
+
+// Runs that end before a key is derived.
+const FAILING: [Run; 3] = [
+    Run {
+        name: "two passwords that differ",
+        typed: b"a\nb\n",
+        status: 1,
+        said: DIFFERENT,
+        shown: BOTH_ASKED,
+        public: "",
+        secret: "",
+        ..GOOD
+    },
+    Run {
+        name: "nothing typed",
+        typed: b"",
+        status: 1,
+        said: ENDED,
+        shown: FIRST_ASKED,
+        public: "",
+        secret: "",
+        ..GOOD
+    },
+    Run {
+        name: "71 random bytes",
+        random_bytes: 71,
+        status: 1,
+        said: RANDOM_FAILED,
+        shown: "",
+        public: "",
+        secret: "",
+        ..GOOD
+    },
+];
+
+const FULL_PUBLIC_SINK: Run = Run {
+    name: "a full public sink",
+    rooms: [9, ROOM, ROOM],
+    status: 1,
+    said: UNWRITTEN,
+    public: "untrusted",
+    secret: "",
+    ..GOOD
+};
+
+const FULL_SECRET_SINK: Run = Run {
+    name: "a full secret sink",
+    rooms: [ROOM, 1, ROOM],
+    status: 1,
+    said: UNWRITTEN,
+    secret: "u",
+    ..GOOD
+};
+
+const FULL_ERROR_STREAM: Run = Run {
+    name: "a full error stream",
+    rooms: [ROOM, ROOM, 5],
+    said: "warni",
+    ..GOOD
+};
+
+// Runs the command over buffers that the two keys and what is said are written into: the exit
+// status.
+fn status_of(
     alloc: Global,
     random_bytes: &[u8],
-    prompt: &mut Prompt<R, W>,
-    pk_sink: &mut P,
-    sk_sink: &mut K,
-    errors: &mut E,
+    prompt: &mut Prompt<SliceSource<'_>, VecSink>,
+    public: &mut [u8],
+    secret: &mut [u8],
+    errors: &mut [u8],
 ) -> u8 {
     run_keygen(
         alloc,
         &ToyScheme::new(),
         &mut FixedRandom::new(random_bytes),
         prompt,
-        pk_sink,
-        sk_sink,
-        errors,
+        &mut WriterSink::new(public),
+        &mut WriterSink::new(secret),
+        &mut WriterSink::new(errors),
     )
 }
 
-// Runs the command with a password that is typed twice: the exit status.
-fn status_typed_twice<P: Sink, K: Sink, E: Sink>(
-    alloc: Global,
-    pk_sink: &mut P,
-    sk_sink: &mut K,
-    errors: &mut E,
-) -> u8 {
-    let mut prompt = Prompt::new(SliceSource::new(b"p\np\n"), VecSink::new(alloc));
-    status_of(alloc, &COUNTED, &mut prompt, pk_sink, sk_sink, errors)
-}
-
-// What the command is wanted to come to: the exit status, what is said, what is shown at the
-// prompt, and both texts.
-#[derive(Clone, Copy)]
-struct Wanted<'a> {
-    status: u8,
-    said: &'a str,
-    shown: &'a str,
-    public: &'a str,
-    secret: &'a str,
-}
-
-// A run that ends with this fault, with nothing written.
-fn fails<'a>(said: &'a str, shown: &'a str) -> Wanted<'a> {
-    Wanted {
-        status: 1,
-        said,
-        shown,
-        public: "",
-        secret: "",
-    }
-}
-
-// Whether the sink took this text.
-fn took(sink: &VecSink, text: &str) -> bool {
-    sink.as_slice() == text.as_bytes()
-}
-
-// Whether all of it is as wanted.
-fn is_wanted(
-    status: u8,
-    errors: &VecSink,
-    writer: &VecSink,
-    texts: (&VecSink, &VecSink),
-    wanted: Wanted,
-) -> bool {
-    let (public, secret) = texts;
-    status == wanted.status
-        && took(errors, wanted.said)
-        && took(writer, wanted.shown)
-        && took(public, wanted.public)
-        && took(secret, wanted.secret)
-}
-
-// Whether the command comes to what is wanted of it.
-fn comes_to(alloc: Global, random_bytes: &[u8], typed: &[u8], wanted: Wanted) -> bool {
-    let mut prompt = Prompt::new(SliceSource::new(typed), VecSink::new(alloc));
-    let mut public = VecSink::new(alloc);
-    let mut secret = VecSink::new(alloc);
-    let mut errors = VecSink::new(alloc);
+// Whether a run comes to what it has to come to.
+fn comes_to(alloc: Global, run: &Run) -> bool {
+    let mut public = [0; ROOM];
+    let mut secret = [0; ROOM];
+    let mut errors = [0; ROOM];
+    let mut prompt = Prompt::new(SliceSource::new(run.typed), VecSink::new(alloc));
     let status = status_of(
         alloc,
-        random_bytes,
+        &COUNTED[..run.random_bytes.min(72)],
         &mut prompt,
-        &mut public,
-        &mut secret,
-        &mut errors,
+        front(&mut public, run.rooms[0]),
+        front(&mut secret, run.rooms[1]),
+        front(&mut errors, run.rooms[2]),
     );
-    is_wanted(status, &errors, &prompt.writer, (&public, &secret), wanted)
+    status == run.status
+        && prompt.writer.as_slice() == run.shown.as_bytes()
+        && holds(&errors, run.said)
+        && holds(&public, run.public)
+        && holds(&secret, run.secret)
 }
 
 // Asserts it.
-fn makes<A: Abort>(
-    rt: &A,
-    alloc: Global,
-    row: &str,
-    random_bytes: &[u8],
-    typed: &[u8],
-    wanted: Wanted,
-) {
-    let came = comes_to(alloc, random_bytes, typed, wanted);
-    assert!(rt; came, "at {row}");
+fn judges<A: Abort>(rt: &A, alloc: Global, run: &Run) {
+    let came = comes_to(alloc, run);
+    assert!(rt; came, "{}", run.name);
 }
 
 #[test]
 fn answers_texts_and_keys(rt: HostRuntime) {
-    let alloc = rt.alloc();
-    let drawn: &[u8] = &COUNTED;
-    let made = Wanted {
-        status: 0,
-        said: WARNING,
-        shown: MADE,
-        public: PUBLIC_TEXT,
-        secret: SECRET_TEXT,
-    };
-    makes(&rt, alloc, "a password twice", drawn, b"p\np\n", made);
-    let differ = fails(DIFFERENT, BOTH_ASKED);
-    makes(&rt, alloc, "two that differ", drawn, b"a\nb\n", differ);
-    let ended = fails(ENDED, FIRST_ASKED);
-    makes(&rt, alloc, "nothing typed", drawn, b"", ended);
-    let no_random_bytes = fails(RANDOM_FAILED, "");
-    makes(
-        &rt,
-        alloc,
-        "71 random bytes",
-        &drawn[..71],
-        b"p\np\n",
-        no_random_bytes,
-    );
+    judges(&rt, rt.alloc(), &GOOD);
+    for run in &FAILING {
+        judges(&rt, rt.alloc(), run);
+    }
 }
 
 #[test]
 fn a_full_public_sink_leaves_the_secret_one_alone(rt: HostRuntime) {
-    let alloc = rt.alloc();
-    let mut room = [0u8; 9];
-    let mut full = WriterSink::new(&mut room[..]);
-    let mut secret = VecSink::new(alloc);
-    let mut errors = VecSink::new(alloc);
-    let status = status_typed_twice(alloc, &mut full, &mut secret, &mut errors);
-    let said = took(&errors, UNWRITTEN);
-    let left_alone = took(&secret, "");
-    let begun = room == *b"untrusted";
-    assert!(rt; status == 1 && said && begun && left_alone);
+    judges(&rt, rt.alloc(), &FULL_PUBLIC_SINK);
 }
 
 #[test]
 fn a_full_secret_sink_is_told(rt: HostRuntime) {
-    let alloc = rt.alloc();
-    let mut room = [0u8; 1];
-    let mut public = VecSink::new(alloc);
-    let mut full = WriterSink::new(&mut room[..]);
-    let mut errors = VecSink::new(alloc);
-    let status = status_typed_twice(alloc, &mut public, &mut full, &mut errors);
-    let said = took(&errors, UNWRITTEN);
-    let written = took(&public, PUBLIC_TEXT);
-    let begun = room == *b"u";
-    assert!(rt; status == 1 && said && written && begun);
+    judges(&rt, rt.alloc(), &FULL_SECRET_SINK);
 }
 
 #[test]
 fn a_full_error_stream_changes_nothing(rt: HostRuntime) {
-    let alloc = rt.alloc();
-    let mut room = [0u8; 5];
-    let mut public = VecSink::new(alloc);
-    let mut secret = VecSink::new(alloc);
-    let mut full = WriterSink::new(&mut room[..]);
-    let status = status_typed_twice(alloc, &mut public, &mut secret, &mut full);
-    let has_public = took(&public, PUBLIC_TEXT);
-    let has_secret = took(&secret, SECRET_TEXT);
-    let begun = room == *b"warni";
-    assert!(rt; status == 0 && begun && has_public && has_secret);
+    judges(&rt, rt.alloc(), &FULL_ERROR_STREAM);
 }

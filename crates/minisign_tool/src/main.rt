@@ -8,8 +8,6 @@ ghost use Rattle.minisign_tool.specs.Endings.{SaysCommand, ShowsCommand, ShowsWa
 ghost use Rattle.minisign_tool.specs.declared.commands.Command.{Command};
 
 mod cat;
-#[cfg(test)]
-mod cat_tests;
 mod commands;
 mod files;
 mod keygen;
@@ -19,15 +17,17 @@ mod replacing;
 mod report;
 #[cfg(test)]
 mod report_tests;
+#[cfg(test)]
+mod rooms;
 mod sign;
+#[cfg(test)]
+mod sign_tests;
 mod streams;
-#[cfg(test)]
-mod tests;
 mod text_files;
-#[cfg(test)]
-mod text_tests;
 mod verify;
 mod verify_raw;
+#[cfg(test)]
+mod verify_raw_tests;
 
 use commands::{Command, command_of};
 use files::{cat_files, keygen_files, sign_files, verify_files, verify_raw_files};

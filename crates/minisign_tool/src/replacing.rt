@@ -137,20 +137,47 @@ pub fn replace_both(rt: &HostRuntime, public: Contents<'_>, secret: Contents<'_>
     // Replacing files is refused for running out of memory or as `writing failed`.
     ensures { IfErr result IsWriteFault }
 {
-    let public_place = find_place(rt, public.path)?;
-    let secret_place = find_place(rt, secret.path)?.apart_from(&public_place);
-    let mut public_stage = make_stage(rt, &public_place, public)?;
-    let mut secret_stage = make_stage(rt, &secret_place, secret)?;
+    let (mut public_stage, mut secret_stage) = make_both(rt, public, secret)?;
     if public_stage.is_none() {
         write_stream(rt, public)?;
     }
     if secret_stage.is_none() {
         write_stream(rt, secret)?;
     }
-    install(&mut public_stage)?;
-    install(&mut secret_stage)?;
-    settle(&public_stage)?;
-    settle(&secret_stage)
+    install_both(&mut public_stage, &mut secret_stage)
+}
+
+// Makes both new files, where the places are regular files.
+fn make_both<'a>(
+    rt: &'a HostRuntime,
+    public: Contents<'_>,
+    secret: Contents<'_>,
+) -> Result<(Option<Stage<'a>>, Option<Stage<'a>>)>
+    ensures { IfErr result IsWriteFault }
+{
+    let (public_place, secret_place) = find_both(rt, public.path, secret.path)?;
+    let public_stage = make_stage(rt, &public_place, public)?;
+    let secret_stage = make_stage(rt, &secret_place, secret)?;
+    Ok((public_stage, secret_stage))
+}
+
+// What the two paths lead to. Where that is one file, its rights are kept for the public key alone.
+fn find_both(rt: &HostRuntime, public: &str, secret: &str) -> Result<(Place, Place)>
+    ensures { IfErr result IsWriteFault }
+{
+    let public_place = find_place(rt, public)?;
+    let secret_place = find_place(rt, secret)?.apart_from(&public_place);
+    Ok((public_place, secret_place))
+}
+
+// Lets both stages take their paths, and then brings the new names to the disk.
+fn install_both(public: &mut Option<Stage<'_>>, secret: &mut Option<Stage<'_>>) -> Result<()>
+    ensures { IfErr result IsWriteFault }
+{
+    install(public)?;
+    install(secret)?;
+    settle(public)?;
+    settle(secret)
 }
 
 // Takes the path of a stage, where there is one.

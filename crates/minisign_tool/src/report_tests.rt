@@ -1,12 +1,148 @@
-//! What `report` shows of each fault that there is: the fault's own text, and nothing in its place.
+//! What `report` shows of each fault that there is: the fault's own text, in one write, and nothing
+//! in its place.
 use crate::files::input_is_output;
 use crate::report::report;
 use minisign::base::devices::sinks::{VecSink, WriterSink};
 use minisign::base::{ErrorKind, NamedFault, PError};
 use std::alloc::{AllocError, Global};
+use std::io;
 use std::io::Write;
 use std::process::Abort;
-use std::{io, str};
+
+const SIGNER: [u8; 8] = *b"\x01\x02\x03\x04\x05\x06\x07\x08";
+
+const KEY: [u8; 8] = *b"\x1f\xe8\xb4\x42\x18\x0f\x62\xe7";
+
+// Each named fault and its text.
+const TEXTS: [(NamedFault, &str); 49] = [
+    (NamedFault::OutOfMemory, "out of memory"),
+    (NamedFault::ReadingFailed, "reading failed"),
+    (NamedFault::WritingFailed, "writing failed"),
+    (NamedFault::GoingBackFailed, "going back failed"),
+    (NamedFault::RandomSourceFailed, "random source failed"),
+    (NamedFault::ClockIncorrect, "system clock is incorrect"),
+    (
+        NamedFault::DataChanged,
+        "Data changed between verification and output",
+    ),
+    (NamedFault::InvalidOutputLength, "invalid output length"),
+    (NamedFault::InputOrOutputFailed, "input or output failed"),
+    (
+        NamedFault::FormattingFailed,
+        "an error occurred when formatting an argument",
+    ),
+    (NamedFault::InvalidUtf8, "invalid UTF-8"),
+    (NamedFault::NotUtf8, "stream did not contain valid UTF-8"),
+    (NamedFault::EndOfInput, "unexpected end of input"),
+    (
+        NamedFault::PasswordTooLong,
+        "passphrase can't exceed 1024 bytes length",
+    ),
+    (NamedFault::PasswordsDiffer, "passwords don't match!"),
+    (NamedFault::ParametersTooHigh, "scrypt parameters too high"),
+    (NamedFault::InvalidParameters, "invalid scrypt parameters"),
+    (NamedFault::WorkTooHigh, "scrypt work too high"),
+    (NamedFault::KeyMightBeEncrypted, "Key might be encrypted"),
+    (NamedFault::KeyNotEncrypted, "Key is not encrypted"),
+    (
+        NamedFault::UnsupportedEncryptionAlgorithm,
+        "Unsupported encryption algorithm",
+    ),
+    (NamedFault::WrongPassword, "Wrong password for that key"),
+    (NamedFault::CorruptedKey, "Corrupted key"),
+    (NamedFault::RecordTooShort, "failed to fill whole buffer"),
+    (
+        NamedFault::MissingPublicKeyComment,
+        "Missing comment in public key",
+    ),
+    (
+        NamedFault::MissingEncodedPublicKey,
+        "Missing encoded key in public key",
+    ),
+    (
+        NamedFault::PublicKeyLineLength,
+        "Base64 conversion failed - was an actual public key given?",
+    ),
+    (
+        NamedFault::PublicKeyLineNotBase64,
+        "Base64 conversion failed - was an actual public key given?: invalid base64",
+    ),
+    (
+        NamedFault::BarePublicKeyLength,
+        "base64 conversion failed - was an actual public key given?",
+    ),
+    (
+        NamedFault::BarePublicKeyNotBase64,
+        "base64 conversion failed - was an actual public key given?: invalid base64",
+    ),
+    (
+        NamedFault::MissingSecretKeyComment,
+        "Missing comment in secret key",
+    ),
+    (
+        NamedFault::MissingEncodedSecretKey,
+        "Missing encoded key in secret key",
+    ),
+    (NamedFault::SecretKeyNotBase64, "invalid base64"),
+    (
+        NamedFault::MissingUntrustedComment,
+        "Missing untrusted comment",
+    ),
+    (NamedFault::MissingSignature, "Missing signature"),
+    (NamedFault::MissingTrustedComment, "Missing trusted comment"),
+    (
+        NamedFault::MissingGlobalSignature,
+        "Missing global signature",
+    ),
+    (
+        NamedFault::UntrustedCommentPrefix,
+        "Untrusted comment must start with: untrusted comment: ",
+    ),
+    (NamedFault::SignatureNotBase64, "invalid base64"),
+    (
+        NamedFault::TrustedCommentPrefix,
+        "Trusted comment should start with: trusted comment: ",
+    ),
+    (
+        NamedFault::UnsupportedSignatureAlgorithm,
+        "Unsupported signature algorithm",
+    ),
+    (
+        NamedFault::TrustedCommentAbsent,
+        "trusted comment is not present",
+    ),
+    (
+        NamedFault::SignatureBoxIncomplete,
+        "Incomplete SignatureBox: trusted comment is missing",
+    ),
+    (
+        NamedFault::EncryptedKeyRefused,
+        "Cannot sign with an encrypted secret key. The key must be decrypted first. Options include: SecretKeyBox::into_secret_key(password), SecretKey::from_box(box, password), SecretKey::from_file(path, password), or use KeyPair::generate_unencrypted_keypair() for passwordless keys.",
+    ),
+    (
+        NamedFault::RefusedByGivenKey { key: KEY },
+        "Could not verify signature with the provided public key ID: E7620F1842B4E81F",
+    ),
+    (
+        NamedFault::DifferentKeyIds {
+            signature: SIGNER,
+            key: KEY,
+        },
+        "Signature key id: 0807060504030201 is different from public key: E7620F1842B4E81F",
+    ),
+    (
+        NamedFault::LegacyNotAccepted,
+        "Legacy signatures are not accepted",
+    ),
+    (
+        NamedFault::SignatureRefused,
+        "Signature verification failed",
+    ),
+    (
+        NamedFault::CommentSignatureRefused,
+        "Comment signature verification failed",
+    ),
+];
 
 // A writer that takes all, and counts its calls.
 #[derive(Drop)]
@@ -33,19 +169,11 @@ fn is_one_write(fault: &PError) -> bool {
     status == 1 && writer.calls == 1
 }
 
-// Whether a text is the line of a fault with this text.
-fn is_line_of(line: &str, text: &str) -> bool {
-    match line.strip_prefix("error: ") {
-        Some(rest) => rest.strip_suffix("\n") == Some(text),
-        None => false,
-    }
-}
-
-// The same of bytes, which have to be UTF-8.
+// Whether bytes are the line of a fault with this text.
 fn are_line_of(bytes: &[u8], text: &str) -> bool {
-    match str::from_utf8(bytes) {
-        Ok(line) => is_line_of(line, text),
-        Err(_) => false,
+    match bytes.strip_prefix(b"error: ") {
+        Some(rest) => rest.strip_suffix(b"\n") == Some(text.as_bytes()),
+        None => false,
     }
 }
 
@@ -57,321 +185,19 @@ fn is_shown_as(alloc: Global, fault: PError, text: &str) -> bool {
     status == 1 && are_line
 }
 
-// Asserts it.
-fn shows<A: Abort>(rt: &A, alloc: Global, fault: PError, text: &str) {
-    let is_shown = is_shown_as(alloc, fault, text);
-    assert!(rt; is_shown, "{text}");
+// Asserts of faults that each is shown as its text.
+fn shows_each<A: Abort>(rt: &A, alloc: Global, texts: &[(NamedFault, &str)]) {
+    for (fault, text) in texts {
+        let is_shown = is_shown_as(alloc, (*fault).into(), text);
+        assert!(rt; is_shown, "{text}");
+    }
 }
 
 #[test]
-fn faults_of_devices_and_of_callers(rt: HostRuntime) {
-    let alloc = rt.alloc();
-    shows(&rt, alloc, NamedFault::OutOfMemory.into(), "out of memory");
-    shows(
-        &rt,
-        alloc,
-        NamedFault::ReadingFailed.into(),
-        "reading failed",
-    );
-    shows(
-        &rt,
-        alloc,
-        NamedFault::WritingFailed.into(),
-        "writing failed",
-    );
-    shows(
-        &rt,
-        alloc,
-        NamedFault::GoingBackFailed.into(),
-        "going back failed",
-    );
-    shows(
-        &rt,
-        alloc,
-        NamedFault::RandomSourceFailed.into(),
-        "random source failed",
-    );
-    shows(
-        &rt,
-        alloc,
-        NamedFault::ClockIncorrect.into(),
-        "system clock is incorrect",
-    );
-    shows(
-        &rt,
-        alloc,
-        NamedFault::DataChanged.into(),
-        "Data changed between verification and output",
-    );
-    shows(
-        &rt,
-        alloc,
-        NamedFault::InvalidOutputLength.into(),
-        "invalid output length",
-    );
-    shows(
-        &rt,
-        alloc,
-        NamedFault::InputOrOutputFailed.into(),
-        "input or output failed",
-    );
-    shows(
-        &rt,
-        alloc,
-        NamedFault::FormattingFailed.into(),
-        "an error occurred when formatting an argument",
-    );
-    shows(&rt, alloc, NamedFault::InvalidUtf8.into(), "invalid UTF-8");
-    shows(&rt, alloc, input_is_output(), "input file is output file");
-}
-
-#[test]
-fn faults_of_passwords_and_sealing(rt: HostRuntime) {
-    let alloc = rt.alloc();
-    shows(
-        &rt,
-        alloc,
-        NamedFault::NotUtf8.into(),
-        "stream did not contain valid UTF-8",
-    );
-    shows(
-        &rt,
-        alloc,
-        NamedFault::EndOfInput.into(),
-        "unexpected end of input",
-    );
-    shows(
-        &rt,
-        alloc,
-        NamedFault::PasswordTooLong.into(),
-        "passphrase can't exceed 1024 bytes length",
-    );
-    shows(
-        &rt,
-        alloc,
-        NamedFault::PasswordsDiffer.into(),
-        "passwords don't match!",
-    );
-    shows(
-        &rt,
-        alloc,
-        NamedFault::ParametersTooHigh.into(),
-        "scrypt parameters too high",
-    );
-    shows(
-        &rt,
-        alloc,
-        NamedFault::InvalidParameters.into(),
-        "invalid scrypt parameters",
-    );
-    shows(
-        &rt,
-        alloc,
-        NamedFault::WorkTooHigh.into(),
-        "scrypt work too high",
-    );
-    shows(
-        &rt,
-        alloc,
-        NamedFault::KeyMightBeEncrypted.into(),
-        "Key might be encrypted",
-    );
-    shows(
-        &rt,
-        alloc,
-        NamedFault::KeyNotEncrypted.into(),
-        "Key is not encrypted",
-    );
-    shows(
-        &rt,
-        alloc,
-        NamedFault::UnsupportedEncryptionAlgorithm.into(),
-        "Unsupported encryption algorithm",
-    );
-    shows(
-        &rt,
-        alloc,
-        NamedFault::WrongPassword.into(),
-        "Wrong password for that key",
-    );
-    shows(&rt, alloc, NamedFault::CorruptedKey.into(), "Corrupted key");
-}
-
-#[test]
-fn faults_of_key_texts(rt: HostRuntime) {
-    let alloc = rt.alloc();
-    shows(
-        &rt,
-        alloc,
-        NamedFault::RecordTooShort.into(),
-        "failed to fill whole buffer",
-    );
-    shows(
-        &rt,
-        alloc,
-        NamedFault::MissingPublicKeyComment.into(),
-        "Missing comment in public key",
-    );
-    shows(
-        &rt,
-        alloc,
-        NamedFault::MissingEncodedPublicKey.into(),
-        "Missing encoded key in public key",
-    );
-    shows(
-        &rt,
-        alloc,
-        NamedFault::PublicKeyLineLength.into(),
-        "Base64 conversion failed - was an actual public key given?",
-    );
-    shows(
-        &rt,
-        alloc,
-        NamedFault::PublicKeyLineNotBase64.into(),
-        "Base64 conversion failed - was an actual public key given?: invalid base64",
-    );
-    shows(
-        &rt,
-        alloc,
-        NamedFault::BarePublicKeyLength.into(),
-        "base64 conversion failed - was an actual public key given?",
-    );
-    shows(
-        &rt,
-        alloc,
-        NamedFault::BarePublicKeyNotBase64.into(),
-        "base64 conversion failed - was an actual public key given?: invalid base64",
-    );
-    shows(
-        &rt,
-        alloc,
-        NamedFault::MissingSecretKeyComment.into(),
-        "Missing comment in secret key",
-    );
-    shows(
-        &rt,
-        alloc,
-        NamedFault::MissingEncodedSecretKey.into(),
-        "Missing encoded key in secret key",
-    );
-    shows(
-        &rt,
-        alloc,
-        NamedFault::SecretKeyNotBase64.into(),
-        "invalid base64",
-    );
-}
-
-#[test]
-fn faults_of_signature_texts(rt: HostRuntime) {
-    let alloc = rt.alloc();
-    shows(
-        &rt,
-        alloc,
-        NamedFault::MissingUntrustedComment.into(),
-        "Missing untrusted comment",
-    );
-    shows(
-        &rt,
-        alloc,
-        NamedFault::MissingSignature.into(),
-        "Missing signature",
-    );
-    shows(
-        &rt,
-        alloc,
-        NamedFault::MissingTrustedComment.into(),
-        "Missing trusted comment",
-    );
-    shows(
-        &rt,
-        alloc,
-        NamedFault::MissingGlobalSignature.into(),
-        "Missing global signature",
-    );
-    shows(
-        &rt,
-        alloc,
-        NamedFault::UntrustedCommentPrefix.into(),
-        "Untrusted comment must start with: untrusted comment: ",
-    );
-    shows(
-        &rt,
-        alloc,
-        NamedFault::SignatureNotBase64.into(),
-        "invalid base64",
-    );
-    shows(
-        &rt,
-        alloc,
-        NamedFault::TrustedCommentPrefix.into(),
-        "Trusted comment should start with: trusted comment: ",
-    );
-    shows(
-        &rt,
-        alloc,
-        NamedFault::UnsupportedSignatureAlgorithm.into(),
-        "Unsupported signature algorithm",
-    );
-    shows(
-        &rt,
-        alloc,
-        NamedFault::TrustedCommentAbsent.into(),
-        "trusted comment is not present",
-    );
-    shows(
-        &rt,
-        alloc,
-        NamedFault::SignatureBoxIncomplete.into(),
-        "Incomplete SignatureBox: trusted comment is missing",
-    );
-}
-
-#[test]
-fn faults_of_signing_and_verdicts(rt: HostRuntime) {
-    let alloc = rt.alloc();
-    let signer = *b"\x01\x02\x03\x04\x05\x06\x07\x08";
-    let key = *b"\x1f\xe8\xb4\x42\x18\x0f\x62\xe7";
-    shows(
-        &rt,
-        alloc,
-        NamedFault::EncryptedKeyRefused.into(),
-        "Cannot sign with an encrypted secret key. The key must be decrypted first. Options include: SecretKeyBox::into_secret_key(password), SecretKey::from_box(box, password), SecretKey::from_file(path, password), or use KeyPair::generate_unencrypted_keypair() for passwordless keys.",
-    );
-    shows(
-        &rt,
-        alloc,
-        NamedFault::RefusedByGivenKey { key }.into(),
-        "Could not verify signature with the provided public key ID: E7620F1842B4E81F",
-    );
-    shows(
-        &rt,
-        alloc,
-        NamedFault::DifferentKeyIds {
-            signature: signer,
-            key,
-        }
-        .into(),
-        "Signature key id: 0807060504030201 is different from public key: E7620F1842B4E81F",
-    );
-    shows(
-        &rt,
-        alloc,
-        NamedFault::LegacyNotAccepted.into(),
-        "Legacy signatures are not accepted",
-    );
-    shows(
-        &rt,
-        alloc,
-        NamedFault::SignatureRefused.into(),
-        "Signature verification failed",
-    );
-    shows(
-        &rt,
-        alloc,
-        NamedFault::CommentSignatureRefused.into(),
-        "Comment signature verification failed",
-    );
+fn each_fault_is_shown_as_its_text(rt: HostRuntime) {
+    shows_each(&rt, rt.alloc(), &TEXTS);
+    let is_shown = is_shown_as(rt.alloc(), input_is_output(), "input file is output file");
+    assert!(rt; is_shown);
 }
 
 #[test]
@@ -387,7 +213,8 @@ fn a_text_of_any_length_is_shown(rt: HostRuntime) -> Result<(), AllocError> {
     for len in [0, 504, 505, 5000] {
         let text = "a".repeat(rt.alloc(), len)?;
         let fault = PError::new(ErrorKind::Misc, text.clone()?);
-        shows(&rt, rt.alloc(), fault, &text);
+        let is_shown = is_shown_as(rt.alloc(), fault, &text);
+        assert!(rt; is_shown, "{len}");
     }
     Ok(())
 }
