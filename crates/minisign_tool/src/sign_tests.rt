@@ -45,7 +45,6 @@ const SIGNED: &str =
 // How a run is given its devices: the text of a key, what is typed, and how many bytes the sink of
 // the signature takes; and what it has to come to: its exit status, and all that is said, asked and
 // written.
-#[derive(Clone, Copy)]
 struct Run {
     name: &'static str,
     key: &'static [u8],
