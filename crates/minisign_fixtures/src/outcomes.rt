@@ -34,12 +34,22 @@ pub fn comes_to<T>(answer: &Result<T>, expected: Outcome) -> bool {
     }
 }
 
+/// The same of an answer of which nothing else is asked.
+pub fn ends_in<T: Drop>(answer: Result<T>, expected: Outcome) -> bool {
+    comes_to(&answer, expected)
+}
+
 /// Whether it was found out, and holds.
 pub fn holds(answer: &Result<bool>) -> bool {
     match answer {
         Ok(right) => *right,
         Err(_) => false,
     }
+}
+
+/// The same of an answer that is passed on.
+pub fn is_so(answer: Result<bool>) -> bool {
+    holds(&answer)
 }
 
 /// Whether it was found out and holds, or memory ran out.
@@ -50,10 +60,20 @@ pub fn is_right_or_out_of_memory(answer: &Result<bool>) -> bool {
     }
 }
 
+/// The same of an answer that is passed on.
+pub fn is_so_or_out_of_memory(answer: Result<bool>) -> bool {
+    is_right_or_out_of_memory(&answer)
+}
+
 /// The same, or a sink could not grow, so that writing failed.
 pub fn is_right_or_unwritten(answer: &Result<bool>) -> bool {
     is_right_or_out_of_memory(answer)
         || comes_to(answer, Outcome::Refused(NamedFault::WritingFailed))
+}
+
+/// The same of an answer that is passed on.
+pub fn is_so_or_unwritten(answer: Result<bool>) -> bool {
+    is_right_or_unwritten(&answer)
 }
 
 /// Whether these are the bytes of the record.
@@ -64,12 +84,22 @@ pub fn is_record(bytes: &Result<Vec<u8>>, record: &[u8]) -> bool {
     }
 }
 
+/// The same of bytes of which nothing else is asked.
+pub fn gives_record(bytes: Result<Vec<u8>>, record: &[u8]) -> bool {
+    is_record(&bytes, record)
+}
+
 /// Whether this is the text.
 pub fn is_text(shown: &Result<String>, text: &str) -> bool {
     match shown {
         Ok(shown) => shown.as_str() == text,
         Err(_) => false,
     }
+}
+
+/// The same of a text of which nothing else is asked.
+pub fn gives_text(shown: Result<String>, text: &str) -> bool {
+    is_text(&shown, text)
 }
 
 /// The bytes in lower hexadecimal, two digits each.

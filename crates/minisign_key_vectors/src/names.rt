@@ -18,7 +18,8 @@ use minisign::{
     SourceRandom, ToyScheme, Triple, VecSink, WriterSink, sign_texts, verify_texts,
 };
 use minisign_fixtures::keys::{DIGEST_OF_ABC, IDENTIFIER};
-use minisign_fixtures::outcomes::holds;
+use minisign_fixtures::outcomes::Outcome::Accepted;
+use minisign_fixtures::outcomes::{ends_in, gives_text, is_so};
 use minisign_fixtures::texts::{KEY_TEXT, SAID, SECRET_TEXT, SIGNATURE_TEXT};
 use std::alloc::Global;
 use std::io::Cursor;
@@ -28,12 +29,16 @@ const ZEROS: [u8; 128] = [0; 128];
 
 #[test]
 fn the_names_of_files_and_of_a_folder(rt: HostRuntime) {
-    assert!(rt; SIG_DEFAULT_CONFIG_DIR_ENV_VAR == "RSIGN_CONFIG_DIR");
-    assert!(rt; SIG_DEFAULT_CONFIG_DIR == ".rsign");
-    assert!(rt; SIG_DEFAULT_PKFILE == "rsign.pub");
-    assert!(rt; SIG_DEFAULT_SKFILE == "rsign.key");
-    assert!(rt; SIG_SUFFIX == ".minisig");
-    assert!(rt; DEFAULT_COMMENT == "signature from rsign secret key");
+    for (name, expected) in [
+        (SIG_DEFAULT_CONFIG_DIR_ENV_VAR, "RSIGN_CONFIG_DIR"),
+        (SIG_DEFAULT_CONFIG_DIR, ".rsign"),
+        (SIG_DEFAULT_PKFILE, "rsign.pub"),
+        (SIG_DEFAULT_SKFILE, "rsign.key"),
+        (SIG_SUFFIX, ".minisig"),
+        (DEFAULT_COMMENT, "signature from rsign secret key"),
+    ] {
+        assert!(rt; name == expected, "at {expected}");
+    }
 }
 
 // Key A signs the data, with the comments `c` and `t`.
@@ -80,24 +85,26 @@ fn verified<S: Scheme, R: Rereader, W: Sink, O: Sink>(
     )
 }
 
-// Whether this is the text that was worked out.
-fn is_worked(answer: &Result<String>) -> bool {
-    match answer {
-        Ok(text) => text.as_str() == SIGNATURE_TEXT,
-        Err(_) => false,
-    }
-}
-
 #[test]
 fn data_is_signed_over_each_source(rt: HostRuntime) {
     let alloc = rt.alloc();
     let scheme = ToyScheme::new();
     let mut read = ReaderSource::new(b"abc".as_slice());
     let mut fixed = FixedRandom::new(&ZEROS);
-    assert!(rt; is_worked(&signed(alloc, &scheme, &mut read, &mut fixed)));
+    assert!(rt;
+        gives_text(
+            signed(alloc, &scheme, &mut read, &mut fixed),
+            SIGNATURE_TEXT
+        )
+    );
     let mut slice = SliceSource::new(b"abc");
     let mut drawn = SourceRandom::new(SliceSource::new(&ZEROS));
-    assert!(rt; is_worked(&signed(alloc, &scheme, &mut slice, &mut drawn)));
+    assert!(rt;
+        gives_text(
+            signed(alloc, &scheme, &mut slice, &mut drawn),
+            SIGNATURE_TEXT
+        )
+    );
 }
 
 #[test]
@@ -113,7 +120,7 @@ fn data_is_verified_and_copied(rt: HostRuntime) {
         &mut WriterSink::new(&mut status),
         &mut out,
     );
-    assert!(rt; answer.is_ok());
+    assert!(rt; ends_in(answer, Accepted));
     assert!(rt; status.as_slice() == SAID);
     assert!(rt; out.as_slice() == b"abc".as_slice());
 }
@@ -206,8 +213,7 @@ fn the_helpers_through_the_library(rt: HostRuntime) {
     assert!(rt; store_u64_le(255) == [255, 0, 0, 0, 0, 0, 0, 0]);
     assert!(rt; load_u64_le(&store_u64_le(255)) == 255);
     assert!(rt; matches!(unix_timestamp(&rt), Ok(moment) if moment > 1700000000));
-    let shown = is_identifier_shown(rt.alloc());
-    assert!(rt; holds(&shown));
+    assert!(rt; is_so(is_identifier_shown(rt.alloc())));
     assert!(rt; is_filled());
 }
 
@@ -230,5 +236,5 @@ fn is_asked(alloc: Global) -> Result<bool> {
 
 #[test]
 fn prompts_and_sinks_through_the_library(rt: HostRuntime) {
-    assert!(rt; holds(&is_asked(rt.alloc())));
+    assert!(rt; is_so(is_asked(rt.alloc())));
 }

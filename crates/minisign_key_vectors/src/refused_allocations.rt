@@ -4,6 +4,7 @@
 //! one may fail to write too.
 
 use crate::sealed::in_parts::sealed_in_parts;
+use crate::texts::is_text_of;
 use minisign::{KeyPair, PublicKey, Result, SecretKey, SecretKeyBox};
 use minisign_base::devices::random_sources::FixedRandom;
 use minisign_base::devices::sinks::VecSink;
@@ -12,7 +13,7 @@ use minisign_base::prompt::Prompt;
 use minisign_base::toy::ToyScheme;
 use minisign_fixtures::devices::sinks::Counting;
 use minisign_fixtures::keys::{CHECKSUM, secret_record};
-use minisign_fixtures::outcomes::{counted, is_right_or_out_of_memory, is_right_or_unwritten};
+use minisign_fixtures::outcomes::{counted, is_so_or_out_of_memory, is_so_or_unwritten};
 use minisign_fixtures::texts::{
     COUNTED_PUBLIC_TEXT, COUNTED_SEALED_UNDER_NOTHING, KEY_TEXT, SEALED, SECRET_TEXT,
 };
@@ -46,15 +47,13 @@ fn wrote_raw(alloc: Global) -> Result<bool> {
     Ok(read == pair.pk && SecretKey::from_bytes(secret.as_slice())? == pair.sk)
 }
 
-// Whether the second line of the text is that of the pair sealed under the empty password.
-fn is_sealed_line(text: &str) -> bool {
-    match text.split_once('\n') {
-        Some((_, line)) => match line.strip_suffix("\n") {
-            Some(line) => line == COUNTED_SEALED_UNDER_NOTHING,
-            None => false,
-        },
-        None => false,
-    }
+// Whether this is the text of the pair that is sealed under the empty password.
+fn is_sealed_text(bytes: &[u8]) -> bool {
+    is_text_of(
+        bytes,
+        "rsign encrypted secret key",
+        COUNTED_SEALED_UNDER_NOTHING,
+    )
 }
 
 // Whether a sealed pair is made with an empty password that is typed.
@@ -67,7 +66,7 @@ fn made_sealed(alloc: Global) -> Result<bool> {
         &mut typed(b"\n\n"),
     )?;
     let text = pair.sk.to_box(alloc, None)?.into_string();
-    Ok(is_sealed_line(text.as_str()))
+    Ok(is_sealed_text(text.as_bytes()))
 }
 
 // The same, written to two buffers.
@@ -84,11 +83,8 @@ fn wrote_sealed(alloc: Global) -> Result<bool> {
         None,
         &mut typed(b"\n\n"),
     )?;
-    let secret = match std::str::from_utf8(secret.as_slice()) {
-        Ok(text) => is_sealed_line(text),
-        Err(_) => false,
-    };
-    Ok(secret && public.as_slice() == COUNTED_PUBLIC_TEXT.as_bytes())
+    let written = public.as_slice() == COUNTED_PUBLIC_TEXT.as_bytes();
+    Ok(written && is_sealed_text(secret.as_slice()))
 }
 
 // Whether the text of key A, sealed, opens with every third row kept.
@@ -121,44 +117,38 @@ fn secret_written_again(alloc: Global) -> Result<bool> {
     Ok(text.as_str() == SECRET_TEXT)
 }
 
-// Whether both do.
-fn written_again(alloc: Global) -> Result<bool> {
-    let public = public_written(alloc)?;
-    let secret = secret_written_again(alloc)?;
-    Ok(public && secret)
-}
-
 #[test]
 fn making_a_raw_pair(rt: HostRuntime) {
-    assert!(rt; is_right_or_out_of_memory(&made_raw(rt.alloc())));
+    assert!(rt; is_so_or_out_of_memory(made_raw(rt.alloc())));
 }
 
 #[test]
 fn writing_a_raw_pair(rt: HostRuntime) {
-    assert!(rt; is_right_or_unwritten(&wrote_raw(rt.alloc())));
+    assert!(rt; is_so_or_unwritten(wrote_raw(rt.alloc())));
 }
 
 #[test]
 fn making_a_sealed_pair(rt: HostRuntime) {
-    assert!(rt; is_right_or_out_of_memory(&made_sealed(rt.alloc())));
+    assert!(rt; is_so_or_out_of_memory(made_sealed(rt.alloc())));
 }
 
 #[test]
 fn writing_a_sealed_pair(rt: HostRuntime) {
-    assert!(rt; is_right_or_unwritten(&wrote_sealed(rt.alloc())));
+    assert!(rt; is_so_or_unwritten(wrote_sealed(rt.alloc())));
 }
 
 #[test]
 fn opening_with_every_third_row(rt: HostRuntime) {
-    assert!(rt; is_right_or_out_of_memory(&opened_in_less_memory(rt.alloc())));
+    assert!(rt; is_so_or_out_of_memory(opened_in_less_memory(rt.alloc())));
 }
 
 #[test]
 fn opening_in_many_parts(rt: HostRuntime) {
-    assert!(rt; is_right_or_out_of_memory(&opened_in_parts(rt.alloc())));
+    assert!(rt; is_so_or_out_of_memory(opened_in_parts(rt.alloc())));
 }
 
 #[test]
 fn texts_of_keys(rt: HostRuntime) {
-    assert!(rt; is_right_or_out_of_memory(&written_again(rt.alloc())));
+    assert!(rt; is_so_or_out_of_memory(public_written(rt.alloc())));
+    assert!(rt; is_so_or_out_of_memory(secret_written_again(rt.alloc())));
 }

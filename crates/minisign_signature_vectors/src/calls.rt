@@ -13,7 +13,7 @@ use minisign_base::toy::ToyScheme;
 use minisign_fixtures::devices::sinks::LimitedSink;
 use minisign_fixtures::devices::sources::OneByOne;
 use minisign_fixtures::keys::{CHECKSUM, IDENTIFIER, PUBLIC_BYTES, public_record, secret_record};
-use minisign_fixtures::outcomes::{Outcome, comes_to};
+use minisign_fixtures::outcomes::{Outcome, ends_in};
 use std::alloc::Global;
 
 /// The status is said, nothing is copied, and legacy signatures are refused.
@@ -54,10 +54,9 @@ pub fn ample(alloc: Global) -> Sinks {
 }
 
 /// Whether the sinks hold what was wanted, and the outcome is this one.
-fn is_wanted(answer: &Result<()>, sinks: &Sinks, wanted: Wanted) -> bool {
-    comes_to(answer, wanted.outcome)
-        && sinks.status.as_slice() == wanted.said
-        && sinks.out.as_slice() == wanted.copied
+fn is_wanted(answer: Result<()>, sinks: Sinks, wanted: Wanted) -> bool {
+    let came = ends_in(answer, wanted.outcome);
+    came && sinks.status.as_slice() == wanted.said && sinks.out.as_slice() == wanted.copied
 }
 
 /// Verifies the data with two texts.
@@ -105,7 +104,7 @@ pub fn texts_come_out<S: Scheme, R: Rereader>(
         &mut sinks.status,
         &mut sinks.out,
     );
-    is_wanted(&answer, &sinks, wanted)
+    is_wanted(answer, sinks, wanted)
 }
 
 /// Whether verifying these bytes with two texts comes out as wanted, at once and one byte a read.
@@ -150,7 +149,7 @@ pub fn box_comes_out<S: Scheme, R: Rereader>(
         &mut sinks.status,
         &mut sinks.out,
     );
-    is_wanted(&answer, &sinks, wanted)
+    is_wanted(answer, sinks, wanted)
 }
 
 /// Whether verifying these bytes with a box comes out as wanted, at once and one byte a read.
@@ -190,8 +189,8 @@ pub fn records_come_out<R: Rereader>(
             let toy = ToyScheme::new();
             box_comes_out(alloc, &toy, parts, data, options, sinks, wanted)
         }
-        (Err(fault), _) => comes_to::<()>(&Err(fault), wanted.outcome),
-        (_, Err(fault)) => comes_to::<()>(&Err(fault), wanted.outcome),
+        (Err(fault), _) => ends_in::<()>(Err(fault), wanted.outcome),
+        (_, Err(fault)) => ends_in::<()>(Err(fault), wanted.outcome),
     }
 }
 

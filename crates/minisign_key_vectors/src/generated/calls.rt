@@ -6,10 +6,12 @@ use minisign::{
 use minisign_base::devices::random_sources::{FixedRandom, RandomSource};
 use minisign_base::devices::sinks::{Sink, VecSink};
 use minisign_base::devices::sources::{Rereader, SliceSource, Source};
+use minisign_base::faults::NamedFault::EncryptedKeyRefused;
 use minisign_base::prompt::Prompt;
 use minisign_base::toy::ToyScheme;
 use minisign_fixtures::devices::sources::OneByOne;
-use minisign_fixtures::outcomes::{Outcome, comes_to, counted};
+use minisign_fixtures::outcomes::Outcome::{self, Accepted, Refused};
+use minisign_fixtures::outcomes::{counted, ends_in};
 use minisign_fixtures::prompts::{handed, typed, typed_at_once};
 use std::alloc::Global;
 
@@ -18,15 +20,21 @@ pub fn counted_pair() -> Result<KeyPair> {
     KeyPair::generate_unencrypted_keypair(&ToyScheme::new(), &mut FixedRandom::new(&counted()))
 }
 
-/// The same, sealed under the password.
-pub fn sealed_pair(alloc: Global, password: &str) -> Result<KeyPair> {
+/// The pair of these random bytes, sealed under the password.
+pub fn sealed_pair(alloc: Global, random: &[u8], password: &str) -> Result<KeyPair> {
     KeyPair::generate_encrypted_keypair(
         alloc,
         &ToyScheme::new(),
-        &mut FixedRandom::new(&counted()),
+        &mut FixedRandom::new(random),
         handed(alloc, Some(password))?,
         &mut typed_at_once(alloc, b""),
     )
+}
+
+/// The box of its secret key, sealed under `password`.
+pub fn sealed_box(alloc: Global, random: &[u8]) -> Result<SecretKeyBox> {
+    let pair = sealed_pair(alloc, random, "password")?;
+    pair.sk.to_box(alloc, None)
 }
 
 /// A sealed pair over these devices, with this comment and this password where they are passed in.
@@ -34,12 +42,11 @@ pub fn generate<R: Source, W: Sink, Z: RandomSource, P: Sink, K: Sink>(
     alloc: Global,
     random: &mut Z,
     comment: Option<&str>,
-    password: Option<&str>,
+    password: Option<String>,
     prompt: &mut Prompt<R, W>,
     pk_sink: &mut P,
     sk_sink: &mut K,
 ) -> Result<KeyPair> {
-    let password = handed(alloc, password)?;
     KeyPair::generate_and_write_encrypted_keypair(
         alloc,
         &ToyScheme::new(),
@@ -59,6 +66,11 @@ pub fn opened(alloc: Global, text: &str, password: &str) -> Result<SecretKey> {
         handed(alloc, Some(password))?,
         &mut typed(alloc, b""),
     )
+}
+
+/// The key of the text of one that was never sealed.
+pub fn unsealed(alloc: Global, text: &str) -> Result<SecretKey> {
+    SecretKeyBox::from_string(alloc, text)?.into_unencrypted_secret_key(alloc)
 }
 
 /// The text of a secret key with the comment by default.
@@ -95,12 +107,11 @@ fn signed_from<R: Source>(alloc: Global, sk: &SecretKey, data: &mut R) -> Result
 pub fn signed_text<P: Source, Q: Sink, R: Source, Z: RandomSource>(
     alloc: Global,
     text: &str,
-    password: Option<&str>,
+    password: Option<String>,
     prompt: &mut Prompt<P, Q>,
     data: &mut R,
     random: &mut Z,
 ) -> Result<String> {
-    let password = handed(alloc, password)?;
     sign_texts(
         alloc,
         &ToyScheme::new(),
@@ -151,5 +162,18 @@ fn is_judged_from<R: Rereader>(
         &mut VecSink::new(alloc),
         &mut VecSink::new(alloc),
     );
-    comes_to(&answer, expected)
+    ends_in(answer, expected)
+}
+
+/// Whether a sealed key does not sign.
+pub fn does_not_sign(alloc: Global, sk: &SecretKey) -> bool {
+    let refused = Refused(EncryptedKeyRefused);
+    ends_in(signed(alloc, sk, b"test"), refused) && sk.is_encrypted()
+}
+
+/// Whether a key that is not sealed, or no more, signs.
+pub fn does_sign(alloc: Global, sk: &SecretKey, pk: &PublicKey) -> Result<bool> {
+    let signature_box = signed_by_bytes(alloc, sk, b"test")?;
+    let judged = is_judged(alloc, pk, &signature_box, b"test", Accepted);
+    Ok(judged && !sk.is_encrypted())
 }

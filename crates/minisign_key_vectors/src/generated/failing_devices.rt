@@ -12,7 +12,7 @@ use minisign_base::toy::ToyScheme;
 use minisign_fixtures::devices::sinks::LimitedSink;
 use minisign_fixtures::devices::sources::FailsAfter;
 use minisign_fixtures::outcomes::Outcome::{self, Accepted, Refused};
-use minisign_fixtures::outcomes::{beginning, comes_to, counted};
+use minisign_fixtures::outcomes::{beginning, counted, ends_in};
 use minisign_fixtures::prompts::typed_at_once;
 use minisign_fixtures::texts::COUNTED_PUBLIC_TEXT;
 use std::alloc::Global;
@@ -57,8 +57,8 @@ fn takes(
     let (mut public, mut secret) = (public, secret);
     let mut prompt = typed_at_once(alloc, b"p\np\n");
     let answer = made(alloc, 72, &mut prompt, &mut public, &mut secret);
-    comes_to(&answer, expected)
-        && public.as_slice() == beginning(COUNTED_PUBLIC_TEXT, pk_took).as_bytes()
+    let came = ends_in(answer, expected);
+    came && public.as_slice() == beginning(COUNTED_PUBLIC_TEXT, pk_took).as_bytes()
         && secret.as_slice() == beginning(SECRET_TEXT, sk_took).as_bytes()
         && prompt.writer.as_slice() == SHOWN.as_bytes()
 }
@@ -72,39 +72,36 @@ fn key_sinks_that_take_one_byte_a_write(rt: HostRuntime) {
     assert!(rt; takes(alloc, public, secret, Accepted, 114, 259));
 }
 
-// The public text is written and flushed before the secret one is begun.
-#[test]
-fn public_sinks_that_fail(rt: HostRuntime) {
-    let alloc = rt.alloc();
-    for (row, room, flushes, took) in [
-        ("no byte", 0usize, 1usize, 0usize),
-        ("the last byte", 113, 1, 113),
-        ("the flush", 114, 0, 114),
-    ] {
-        let public = LimitedSink::new(alloc, room).by(300).flushed(flushes);
-        let secret = LimitedSink::new(alloc, 259).by(300).flushed(1);
-        assert!(rt;
-            takes(alloc, public, secret, UNWRITTEN, took, 0),
-            "at {row}"
-        );
-    }
+// Whether writing fails over two sinks with this room each, that are flushed so many times, with so
+// much of both texts taken.
+fn is_unwritten(
+    alloc: Global,
+    pk_room: (usize, usize),
+    sk_room: (usize, usize),
+    pk_took: usize,
+    sk_took: usize,
+) -> bool {
+    let public = LimitedSink::new(alloc, pk_room.0)
+        .by(300)
+        .flushed(pk_room.1);
+    let secret = LimitedSink::new(alloc, sk_room.0)
+        .by(300)
+        .flushed(sk_room.1);
+    takes(alloc, public, secret, UNWRITTEN, pk_took, sk_took)
 }
 
+// The public text is written and flushed before the secret one is begun. The public sink fails at
+// its first byte, at the last one and at the flush, and the secret one at its second byte, at the
+// last one and at the flush.
 #[test]
-fn secret_sinks_that_fail(rt: HostRuntime) {
+fn key_sinks_that_fail(rt: HostRuntime) {
     let alloc = rt.alloc();
-    for (row, room, flushes, took) in [
-        ("the second byte", 1usize, 1usize, 1usize),
-        ("the last byte", 258, 1, 258),
-        ("the flush", 259, 0, 259),
-    ] {
-        let public = LimitedSink::new(alloc, 114).by(300).flushed(1);
-        let secret = LimitedSink::new(alloc, room).by(300).flushed(flushes);
-        assert!(rt;
-            takes(alloc, public, secret, UNWRITTEN, 114, took),
-            "at {row}"
-        );
-    }
+    assert!(rt; is_unwritten(alloc, (0, 1), (259, 1), 0, 0));
+    assert!(rt; is_unwritten(alloc, (113, 1), (259, 1), 113, 0));
+    assert!(rt; is_unwritten(alloc, (114, 0), (259, 1), 114, 0));
+    assert!(rt; is_unwritten(alloc, (114, 1), (1, 1), 114, 1));
+    assert!(rt; is_unwritten(alloc, (114, 1), (258, 1), 114, 258));
+    assert!(rt; is_unwritten(alloc, (114, 1), (259, 0), 114, 259));
 }
 
 // Whether generation with so many random bytes over this prompt is refused so, with so much shown
@@ -120,8 +117,8 @@ fn is_refused<R: Source + Drop>(
     let mut public = VecSink::new(alloc);
     let mut secret = VecSink::new(alloc);
     let answer = made(alloc, draws, &mut prompt, &mut public, &mut secret);
-    comes_to(&answer, expected)
-        && prompt.writer.as_slice() == beginning(SHOWN, length).as_bytes()
+    let came = ends_in(answer, expected);
+    came && prompt.writer.as_slice() == beginning(SHOWN, length).as_bytes()
         && public.as_slice().is_empty()
         && secret.as_slice().is_empty()
 }
@@ -142,18 +139,19 @@ fn prompts_that_cannot_be_written_to(rt: HostRuntime) {
     }
 }
 
-// It fails at each flush before the derivation: the text before it is whole.
+// It fails at each flush before the derivation: the text before it is whole. It fails behind the
+// derivation too: the pair that was made is not written.
 #[test]
-fn prompts_that_cannot_be_flushed(rt: HostRuntime) {
-    for (flushes, length) in [(0usize, 51usize), (1, 61), (2, 87), (3, 158)] {
-        assert!(rt; shows(rt.alloc(), 300, flushes, length), "at {flushes}");
-    }
-}
-
-// It fails behind the derivation: the pair that was made is not written.
-#[test]
-fn prompts_that_cannot_be_told_that_it_is_done(rt: HostRuntime) {
-    for (room, flushes, length) in [(158usize, 9usize, 158usize), (162, 9, 162), (163, 4, 163)] {
+fn prompts_that_cannot_be_flushed_or_told_that_it_is_done(rt: HostRuntime) {
+    for (room, flushes, length) in [
+        (300usize, 0usize, 51usize),
+        (300, 1, 61),
+        (300, 2, 87),
+        (300, 3, 158),
+        (158, 9, 158),
+        (162, 9, 162),
+        (163, 4, 163),
+    ] {
         assert!(rt;
             shows(rt.alloc(), room, flushes, length),
             "at {room}, {flushes}"
@@ -192,9 +190,8 @@ fn is_drawn_raw(alloc: Global, draws: u64, expected: Outcome, written: bool) -> 
         &mut public,
         &mut secret,
     );
-    comes_to(&answer, expected)
-        && public.as_slice().is_empty() != written
-        && secret.as_slice().is_empty() != written
+    let came = ends_in(answer, expected);
+    came && public.as_slice().is_empty() != written && secret.as_slice().is_empty() != written
 }
 
 // The random source fails at each of its bytes.

@@ -4,9 +4,11 @@
 //! The sealed records were made with Python's hashlib, of random bytes that count up from 0.
 
 use crate::generated::calls::{
-    counted_pair, generate, is_judged, opened, sealed_pair, signed, signed_by_bytes, text_of,
+    counted_pair, does_not_sign, does_sign, generate, is_judged, opened, sealed_pair, signed,
+    text_of, unsealed,
 };
-use minisign::{KeyPair, PublicKey, Result, SecretKey, SecretKeyBox, SignatureBones, SignatureBox};
+use crate::texts::is_text_of;
+use minisign::{KeyPair, PublicKey, Result, SecretKey, SignatureBones, SignatureBox};
 use minisign_base::devices::random_sources::FixedRandom;
 use minisign_base::devices::sinks::VecSink;
 use minisign_base::faults::NamedFault::{
@@ -17,11 +19,10 @@ use minisign_base::toy::ToyScheme;
 use minisign_fixtures::devices::sinks::LimitedSink;
 use minisign_fixtures::keys::{CHECKSUM, IDENTIFIER, PUBLIC_BYTES, public_record, secret_record};
 use minisign_fixtures::outcomes::Outcome::{self, Accepted, Refused};
-use minisign_fixtures::outcomes::{comes_to, counted, front, holds, is_record};
-use minisign_fixtures::prompts::{typed, typed_at_once};
+use minisign_fixtures::outcomes::{counted, ends_in, front, gives_record, gives_text, is_so};
+use minisign_fixtures::prompts::{handed, typed, typed_at_once};
 use minisign_fixtures::texts::{COUNTED_PUBLIC_TEXT, COUNTED_SEALED_UNDER_NOTHING};
 use std::alloc::Global;
-use std::process::Abort;
 
 // Sealed under `password`.
 const SEALED_LINE: &str =
@@ -55,44 +56,25 @@ const MARKED: &str =
 // What is written until the first password was typed.
 const ONCE_ASKED: &str = "Please enter a password to protect the secret key.\nPassword: ";
 
-// Whether the bytes are a line of comment, and then this line.
-fn is_text_of(bytes: &[u8], comment: &str, line: &str) -> bool {
-    let label = b"untrusted comment: ".as_slice();
-    let parts = [
-        label,
-        comment.as_bytes(),
-        b"\n".as_slice(),
-        line.as_bytes(),
-        b"\n".as_slice(),
-    ];
-    let mut rest = bytes;
-    for part in parts {
-        match rest.strip_prefix(part) {
-            Some(more) => rest = more,
-            None => return false,
-        }
-    }
-    rest.is_empty()
-}
-
 // Whether the pair is the one of these records, and is not sealed.
 fn is_pair(alloc: Global, pair: &KeyPair, public: &[u8], secret: &[u8]) -> bool {
-    let pk_bytes = pair.pk.to_bytes(alloc);
-    let sk_bytes = pair.sk.to_bytes(alloc);
-    is_record(&pk_bytes, public) && is_record(&sk_bytes, secret) && !pair.sk.is_encrypted()
+    let public = gives_record(pair.pk.to_bytes(alloc), public);
+    let secret = gives_record(pair.sk.to_bytes(alloc), secret);
+    public && secret && !pair.sk.is_encrypted()
 }
 
 // Whether a pair that is not sealed is made so of this number of random bytes, over two sinks with
-// their room and flushes, and both took so many bytes of their records.
+// this room each, that are flushed so many times, and both took so many bytes of their records.
 fn is_written_raw(
     alloc: Global,
     random_bytes: usize,
-    public: LimitedSink,
-    secret: LimitedSink,
+    pk_room: (usize, usize),
+    sk_room: (usize, usize),
     expected: Outcome,
     took: (usize, usize),
 ) -> bool {
-    let (mut public, mut secret) = (public, secret);
+    let mut public = LimitedSink::new(alloc, pk_room.0).flushed(pk_room.1);
+    let mut secret = LimitedSink::new(alloc, sk_room.0).flushed(sk_room.1);
     let mut drawn = [0u8; 40];
     let (_, identifier) = drawn.split_at_mut(32);
     identifier.copy_from_slice(&IDENTIFIER);
@@ -109,26 +91,10 @@ fn is_written_raw(
         Ok(pair) => is_pair(alloc, pair, &pk_record, &sk_record),
         Err(_) => true,
     };
-    is_right
-        && comes_to(&answer, expected)
+    let came = ends_in(answer, expected);
+    came && is_right
         && public.as_slice() == front(&pk_record, took.0)
         && secret.as_slice() == front(&sk_record, took.1)
-}
-
-// Asserts it of sinks with this room each, that are flushed so many times.
-fn writes_raw<A: Abort>(
-    rt: &A,
-    alloc: Global,
-    random_bytes: usize,
-    pk_room: (usize, usize),
-    sk_room: (usize, usize),
-    expected: Outcome,
-    took: (usize, usize),
-) {
-    let public = LimitedSink::new(alloc, pk_room.0).flushed(pk_room.1);
-    let secret = LimitedSink::new(alloc, sk_room.0).flushed(sk_room.1);
-    let written = is_written_raw(alloc, random_bytes, public, secret, expected, took);
-    assert!(rt; written, "at {random_bytes} {pk_room:?} {sk_room:?}");
 }
 
 // The public sink gets 42 bytes and the secret one 158, and too few random bytes leave both alone.
@@ -137,13 +103,13 @@ fn writes_raw<A: Abort>(
 #[test]
 fn raw_pairs_are_written(rt: HostRuntime) {
     let alloc = rt.alloc();
-    writes_raw(&rt, alloc, 40, (42, 1), (158, 1), Accepted, (42, 158));
-    writes_raw(&rt, alloc, 39, (42, 1), (158, 1), UNDRAWN, (0, 0));
-    writes_raw(&rt, alloc, 0, (42, 1), (158, 1), UNDRAWN, (0, 0));
-    writes_raw(&rt, alloc, 40, (41, 1), (158, 1), UNWRITTEN, (41, 0));
-    writes_raw(&rt, alloc, 40, (42, 0), (158, 1), UNWRITTEN, (42, 0));
-    writes_raw(&rt, alloc, 40, (42, 1), (1, 1), UNWRITTEN, (42, 1));
-    writes_raw(&rt, alloc, 40, (42, 1), (158, 0), UNWRITTEN, (42, 158));
+    assert!(rt; is_written_raw(alloc, 40, (42, 1), (158, 1), Accepted, (42, 158)));
+    assert!(rt; is_written_raw(alloc, 39, (42, 1), (158, 1), UNDRAWN, (0, 0)));
+    assert!(rt; is_written_raw(alloc, 0, (42, 1), (158, 1), UNDRAWN, (0, 0)));
+    assert!(rt; is_written_raw(alloc, 40, (41, 1), (158, 1), UNWRITTEN, (41, 0)));
+    assert!(rt; is_written_raw(alloc, 40, (42, 0), (158, 1), UNWRITTEN, (42, 0)));
+    assert!(rt; is_written_raw(alloc, 40, (42, 1), (1, 1), UNWRITTEN, (42, 1)));
+    assert!(rt; is_written_raw(alloc, 40, (42, 1), (158, 0), UNWRITTEN, (42, 158)));
 }
 
 // Whether both sinks hold the texts of the pair, with the comment by default, or nothing where there
@@ -180,23 +146,9 @@ fn is_made(
         &mut public,
         &mut secret,
     );
-    comes_to(&answer, expected)
-        && prompt.writer.as_slice() == shown.as_bytes()
+    let came = ends_in(answer, expected);
+    came && prompt.writer.as_slice() == shown.as_bytes()
         && hold_texts(public.as_slice(), secret.as_slice(), line)
-}
-
-// Asserts it.
-fn makes<A: Abort>(
-    rt: &A,
-    alloc: Global,
-    random_bytes: usize,
-    bytes: &[u8],
-    expected: Outcome,
-    shown: &str,
-    line: &str,
-) {
-    let made = is_made(alloc, random_bytes, bytes, expected, shown, line);
-    assert!(rt; made, "at {random_bytes} {bytes:?}");
 }
 
 // What generation returns where the password is typed, what the prompt shows, and the secret key's
@@ -205,18 +157,12 @@ fn makes<A: Abort>(
 fn sealed_pairs_are_made_of_typed_passwords(rt: HostRuntime) {
     let alloc = rt.alloc();
     let under_nothing = COUNTED_SEALED_UNDER_NOTHING;
-    makes(&rt, alloc, 72, b"p\np\n", Accepted, SHOWN, SEALED_UNDER_P);
-    makes(&rt, alloc, 72, b"\r\n\nx", Accepted, MARKED, under_nothing);
-    makes(&rt, alloc, 72, b"a\nb\n", DIFFERENT, BOTH_ASKED, "");
-    makes(&rt, alloc, 72, b"a\n", ENDED, BOTH_ASKED, "");
-    makes(&rt, alloc, 72, b"\xff\n", NO_UTF8, ONCE_ASKED, "");
-    makes(&rt, alloc, 71, b"p\np\n", UNDRAWN, "", "");
-}
-
-// Whether a sealed key does not sign.
-fn does_not_sign(alloc: Global, sk: &SecretKey) -> bool {
-    let refused = signed(alloc, sk, b"test");
-    sk.is_encrypted() && refused.is_err()
+    assert!(rt; is_made(alloc, 72, b"p\np\n", Accepted, SHOWN, SEALED_UNDER_P));
+    assert!(rt; is_made(alloc, 72, b"\r\n\nx", Accepted, MARKED, under_nothing));
+    assert!(rt; is_made(alloc, 72, b"a\nb\n", DIFFERENT, BOTH_ASKED, ""));
+    assert!(rt; is_made(alloc, 72, b"a\n", ENDED, BOTH_ASKED, ""));
+    assert!(rt; is_made(alloc, 72, b"\xff\n", NO_UTF8, ONCE_ASKED, ""));
+    assert!(rt; is_made(alloc, 71, b"p\np\n", UNDRAWN, "", ""));
 }
 
 // What a sealed pair returns whose password is passed in, and what a public sink of this room and
@@ -227,13 +173,13 @@ fn is_written_sealed(
     expected: Outcome,
     public: &[u8],
     line: Option<&str>,
-) -> bool {
+) -> Result<bool> {
+    let password = handed(alloc, Some("password"))?;
     let mut prompt = typed_at_once(alloc, b"");
     let mut pk_sink = LimitedSink::new(alloc, room);
     let mut sk_sink = LimitedSink::new(alloc, 300);
     let drawn = counted();
     let mut random = FixedRandom::new(&drawn);
-    let password = Some("password");
     let answer = generate(
         alloc,
         &mut random,
@@ -251,97 +197,65 @@ fn is_written_sealed(
         Ok(pair) => does_not_sign(alloc, &pair.sk),
         Err(_) => true,
     };
-    comes_to(&answer, expected)
-        && prompt.writer.as_slice().is_empty()
-        && pk_sink.as_slice() == public
-        && secret
-        && sealed
+    let came = ends_in(answer, expected) && prompt.writer.as_slice().is_empty();
+    Ok(came && pk_sink.as_slice() == public && secret && sealed)
 }
 
 #[test]
 fn sealed_pairs_are_written(rt: HostRuntime) {
     let alloc = rt.alloc();
     let whole = COUNTED_PUBLIC_TEXT.as_bytes();
-    assert!(rt; is_written_sealed(alloc, 200, Accepted, whole, Some(SEALED_LINE)));
-    assert!(rt; is_written_sealed(alloc, 9, UNWRITTEN, b"untrusted", None));
-}
-
-// Whether the text is not that of an unsealed key.
-fn is_not_unsealed(alloc: Global, text: &str) -> bool {
-    let Ok(sk_box) = SecretKeyBox::from_string(alloc, text) else {
-        return false;
-    };
-    let plain = sk_box.into_unencrypted_secret_key(alloc);
-    comes_to(&plain, Refused(KeyMightBeEncrypted))
-}
-
-// Whether the text is not one that opens.
-fn is_closed(alloc: Global, text: &str) -> bool {
-    let sealed = opened(alloc, text, "");
-    comes_to(&sealed, Refused(WrongPassword))
+    assert!(rt; is_so(is_written_sealed(alloc, 200, Accepted, whole, Some(SEALED_LINE))));
+    assert!(rt; is_so(is_written_sealed(alloc, 9, UNWRITTEN, b"untrusted", None)));
 }
 
 // Whether the key is written as neither a sealed one nor one that was never sealed.
-fn is_written_as_none(alloc: Global, sk: &SecretKey) -> bool {
-    let Ok(again) = text_of(alloc, sk) else {
-        return false;
-    };
-    is_not_unsealed(alloc, again.as_str()) && is_closed(alloc, again.as_str())
+fn is_written_as_none(alloc: Global, sk: &SecretKey) -> Result<bool> {
+    let again = text_of(alloc, sk)?;
+    let raw = ends_in(
+        unsealed(alloc, again.as_str()),
+        Refused(KeyMightBeEncrypted),
+    );
+    let closed = ends_in(opened(alloc, again.as_str(), ""), Refused(WrongPassword));
+    Ok(raw && closed)
 }
 
-// Whether the counted pair accepts what the key signs.
-fn signs_as_counted(alloc: Global, sk: &SecretKey) -> Result<bool> {
+// Whether the text opens, and the opened key signs as the counted pair, and written again it is
+// neither a sealed key nor one that was never sealed.
+fn opens_and_signs(alloc: Global, text: &str) -> Result<bool> {
+    let sk = opened(alloc, text, "")?;
     let pair = counted_pair()?;
-    let signature_box = signed_by_bytes(alloc, sk, b"test")?;
-    let judged = is_judged(alloc, &pair.pk, &signature_box, b"test", Accepted);
-    Ok(judged && !sk.is_encrypted())
-}
-
-// Whether the text opens, and the opened key signs, and written again it is neither a sealed key
-// nor one that was never sealed.
-fn opens_and_signs(alloc: Global, text: &str) -> bool {
-    let Ok(sk) = opened(alloc, text, "") else {
-        return false;
-    };
-    let signs = signs_as_counted(alloc, &sk);
-    is_written_as_none(alloc, &sk) && holds(&signs)
-}
-
-// The text of a sealed pair's secret key.
-fn sealed_text(alloc: Global) -> Result<String> {
-    let sealed = sealed_pair(alloc, "")?;
-    text_of(alloc, &sealed.sk)
+    let signs = is_so(does_sign(alloc, &sk, &pair.pk));
+    let written = is_so(is_written_as_none(alloc, &sk));
+    Ok(signs && written)
 }
 
 // Whether the text of a sealed key is the one that was worked out, and opens under its password to
 // a key that signs.
-fn signs_once_it_is_opened(alloc: Global) -> bool {
-    let Ok(text) = sealed_text(alloc) else {
-        return false;
-    };
-    let bytes = text.as_str().as_bytes();
-    let comment = "rsign encrypted secret key";
-    is_text_of(bytes, comment, COUNTED_SEALED_UNDER_NOTHING)
-        && opens_and_signs(alloc, text.as_str())
+fn signs_once_it_is_opened(alloc: Global) -> Result<bool> {
+    let pair = sealed_pair(alloc, &counted(), "")?;
+    let text = text_of(alloc, &pair.sk)?;
+    let line = COUNTED_SEALED_UNDER_NOTHING;
+    let right = is_text_of(text.as_bytes(), "rsign encrypted secret key", line);
+    let opens = is_so(opens_and_signs(alloc, text.as_str()));
+    Ok(right && opens)
 }
 
 #[test]
 fn sealed_keys_sign_once_they_are_opened(rt: HostRuntime) {
-    assert!(rt; signs_once_it_is_opened(rt.alloc()));
+    assert!(rt; is_so(signs_once_it_is_opened(rt.alloc())));
 }
 
 // Whether the public key comes back from its bytes.
 fn public_comes_back(alloc: Global, pk: &PublicKey) -> Result<bool> {
     let bytes = pk.to_bytes(alloc)?;
-    let read = PublicKey::from_bytes(&bytes)?;
-    Ok(read == *pk)
+    Ok(PublicKey::from_bytes(&bytes)? == *pk)
 }
 
 // Whether the secret key comes back from its bytes.
 fn secret_comes_back(alloc: Global, sk: &SecretKey) -> Result<bool> {
     let bytes = sk.to_bytes(alloc)?;
-    let read = SecretKey::from_bytes(&bytes)?;
-    Ok(read == *sk)
+    Ok(SecretKey::from_bytes(&bytes)? == *sk)
 }
 
 // Whether a copy has both keys.
@@ -352,10 +266,10 @@ fn is_copied(pair: &KeyPair) -> Result<bool> {
 
 // Whether both keys of a pair that is not sealed come back from their bytes, and as a copy.
 fn comes_back(alloc: Global, pair: &KeyPair) -> bool {
-    let public = public_comes_back(alloc, &pair.pk);
-    let secret = secret_comes_back(alloc, &pair.sk);
-    let copied = is_copied(pair);
-    holds(&public) && holds(&secret) && holds(&copied) && !pair.sk.is_encrypted()
+    let public = is_so(public_comes_back(alloc, &pair.pk));
+    let secret = is_so(secret_comes_back(alloc, &pair.sk));
+    let copied = is_so(is_copied(pair));
+    public && secret && copied && !pair.sk.is_encrypted()
 }
 
 // Whether the box is accepted under the public key for the data alone.
@@ -371,60 +285,47 @@ fn signs(alloc: Global, key: &SecretKey, pk: &PublicKey) -> Result<bool> {
     let signature_box = signed(alloc, key, b"test")?;
     let whole = is_right(alloc, pk, &signature_box);
     let bare = SignatureBox::from_bones(SignatureBones::from(signature_box));
-    Ok(whole && is_right(alloc, pk, &bare))
-}
-
-// Whether no password opens the text.
-fn is_not_sealed(alloc: Global, text: &str) -> bool {
-    let asked = opened(alloc, text, "");
-    comes_to(&asked, Refused(KeyNotEncrypted))
+    Ok(is_right(alloc, pk, &bare) && whole)
 }
 
 // Whether the key of the text signs.
 fn signs_from_text(alloc: Global, text: &str, pk: &PublicKey) -> Result<bool> {
-    let sk_box = SecretKeyBox::from_string(alloc, text)?;
-    let sk = sk_box.into_unencrypted_secret_key(alloc)?;
+    let sk = unsealed(alloc, text)?;
     signs(alloc, &sk, pk)
 }
 
 // Whether the key is read again from its text, which no password opens.
-fn is_read_again(alloc: Global, pair: &KeyPair) -> bool {
-    let Ok(text) = text_of(alloc, &pair.sk) else {
-        return false;
-    };
-    let signs = signs_from_text(alloc, text.as_str(), &pair.pk);
-    is_not_sealed(alloc, text.as_str()) && holds(&signs)
+fn is_read_again(alloc: Global, pair: &KeyPair) -> Result<bool> {
+    let text = text_of(alloc, &pair.sk)?;
+    let signs = is_so(signs_from_text(alloc, text.as_str(), &pair.pk));
+    let asked = ends_in(opened(alloc, text.as_str(), ""), Refused(KeyNotEncrypted));
+    Ok(signs && asked)
 }
 
 // Whether both keys are encoded as one text.
 fn are_encoded_alike(alloc: Global, one: &PublicKey, other: &PublicKey) -> Result<bool> {
     let encoded = one.to_base64(alloc)?;
-    let own = other.to_base64(alloc)?;
-    Ok(encoded.as_str() == own.as_str())
+    Ok(gives_text(other.to_base64(alloc), encoded.as_str()))
 }
 
 // Whether the pair's public key is the one of its secret key, under which it signs.
-fn is_public_half(alloc: Global, pair: &KeyPair) -> bool {
-    let Ok(made) = PublicKey::from_secret_key(&pair.sk) else {
-        return false;
-    };
-    let alike = are_encoded_alike(alloc, &made, &pair.pk);
-    let signs = signs(alloc, &pair.sk, &made);
-    holds(&alike) && holds(&signs)
+fn is_public_half(alloc: Global, pair: &KeyPair) -> Result<bool> {
+    let made = PublicKey::from_secret_key(&pair.sk)?;
+    let alike = is_so(are_encoded_alike(alloc, &made, &pair.pk));
+    let signs = is_so(signs(alloc, &pair.sk, &made));
+    Ok(alike && signs)
 }
 
 // A pair that is not sealed: its bytes, its texts, and its signatures.
-fn is_used_unsealed(alloc: Global) -> bool {
-    let Ok(pair) = counted_pair() else {
-        return false;
-    };
-    let half = is_public_half(alloc, &pair);
+fn is_used_unsealed(alloc: Global) -> Result<bool> {
+    let pair = counted_pair()?;
+    let half = is_so(is_public_half(alloc, &pair));
     let back = comes_back(alloc, &pair);
-    let again = is_read_again(alloc, &pair);
-    half && back && again
+    let again = is_so(is_read_again(alloc, &pair));
+    Ok(half && back && again)
 }
 
 #[test]
 fn unsealed_pairs_sign_and_are_read_again(rt: HostRuntime) {
-    assert!(rt; is_used_unsealed(rt.alloc()));
+    assert!(rt; is_so(is_used_unsealed(rt.alloc())));
 }

@@ -1,66 +1,40 @@
 //! Pairs of keys as a caller uses them: made, written, read again, signing and verifying by texts.
 
 use crate::generated::calls::{
-    is_judged, opened, sealed_pair, signed, signed_by_bytes, signed_text, text_of,
+    does_not_sign, does_sign, is_judged, opened, sealed_pair, signed, signed_text, text_of,
 };
 use minisign::{PublicKey, PublicKeyBox, Result, SecretKey, SignatureBox};
 use minisign_base::devices::random_sources::{FixedRandom, RandomSource};
 use minisign_base::devices::sources::SliceSource;
-use minisign_base::faults::NamedFault::{
-    CorruptedKey, EncryptedKeyRefused, UnsupportedEncryptionAlgorithm,
-};
+use minisign_base::faults::NamedFault::{CorruptedKey, UnsupportedEncryptionAlgorithm};
 use minisign_fixtures::devices::sources::FailsAfter;
 use minisign_fixtures::keys::secret_record;
 use minisign_fixtures::outcomes::Outcome::{self, Accepted, Refused};
-use minisign_fixtures::outcomes::{comes_to, counted, holds, is_text};
-use minisign_fixtures::prompts::{bytes_left, typed};
+use minisign_fixtures::outcomes::{counted, ends_in, gives_text, is_so};
+use minisign_fixtures::prompts::{bytes_left, handed, typed};
 use std::alloc::Global;
 
-const SEALED: Outcome = Refused(EncryptedKeyRefused);
-
 const UNSUPPORTED: Outcome = Refused(UnsupportedEncryptionAlgorithm);
-
-// Whether a sealed key does not sign.
-fn does_not_sign(alloc: Global, sk: &SecretKey) -> bool {
-    let refused = signed(alloc, sk, b"test");
-    comes_to(&refused, SEALED) && sk.is_encrypted()
-}
-
-// Whether a key that is sealed no more signs.
-fn signs(alloc: Global, sk: &SecretKey, pk: &PublicKey) -> Result<bool> {
-    let signature_box = signed_by_bytes(alloc, sk, b"test")?;
-    let judged = is_judged(alloc, pk, &signature_box, b"test", Accepted);
-    Ok(judged && !sk.is_encrypted())
-}
 
 // Whether the text of the key opens under its password to a key that signs.
 fn opens_and_signs(alloc: Global, sk: &SecretKey, password: &str, pk: &PublicKey) -> Result<bool> {
     let text = text_of(alloc, sk)?;
     let sk = opened(alloc, text.as_str(), password)?;
-    signs(alloc, &sk, pk)
+    does_sign(alloc, &sk, pk)
 }
 
 // Whether a sealed key does not sign, and its text opens under its password to a key that signs.
 fn signs_once_it_is_opened(alloc: Global, password: &str) -> Result<bool> {
-    let pair = sealed_pair(alloc, password)?;
-    let opens = opens_and_signs(alloc, &pair.sk, password, &pair.pk);
-    Ok(does_not_sign(alloc, &pair.sk) && holds(&opens))
+    let pair = sealed_pair(alloc, &counted(), password)?;
+    let opens = is_so(opens_and_signs(alloc, &pair.sk, password, &pair.pk));
+    Ok(does_not_sign(alloc, &pair.sk) && opens)
 }
 
 #[test]
 fn a_sealed_pair_signs_once_its_text_is_opened(rt: HostRuntime) {
     for password in ["password", ""] {
-        let signs = signs_once_it_is_opened(rt.alloc(), password);
-        assert!(rt; holds(&signs));
+        assert!(rt; is_so(signs_once_it_is_opened(rt.alloc(), password)));
     }
-}
-
-// Whether the box has the comments by default.
-fn has_default_comments(alloc: Global, signature_box: &SignatureBox) -> bool {
-    let untrusted = signature_box.untrusted_comment(alloc);
-    let trusted = signature_box.trusted_comment(alloc);
-    let said = is_text(&untrusted, "signature from rsign secret key");
-    is_text(&trusted, "timestamp:0") && said
 }
 
 // The public key of a text.
@@ -73,8 +47,11 @@ fn read_public(alloc: Global, public: &str) -> Result<PublicKey> {
 fn is_vouched_for(alloc: Global, public: &str, text: &str) -> Result<bool> {
     let signature_box = SignatureBox::from_string(alloc, text)?;
     let pk = read_public(alloc, public)?;
+    let untrusted = signature_box.untrusted_comment(alloc);
+    let said = gives_text(untrusted, "signature from rsign secret key");
+    let trusted = gives_text(signature_box.trusted_comment(alloc), "timestamp:0");
     let judged = is_judged(alloc, &pk, &signature_box, b"lorem ipsum", Accepted);
-    Ok(judged && has_default_comments(alloc, &signature_box))
+    Ok(judged && said && trusted)
 }
 
 // The text of the signature by the key of a text, which is opened.
@@ -89,7 +66,7 @@ fn signed_by_text(alloc: Global, secret: &str) -> Result<String> {
     signed_text(
         alloc,
         secret,
-        Some("key password"),
+        handed(alloc, Some("key password"))?,
         &mut typed(alloc, b""),
         &mut SliceSource::new(b"lorem ipsum"),
         &mut FixedRandom::new(&counted()),
@@ -99,9 +76,9 @@ fn signed_by_text(alloc: Global, secret: &str) -> Result<String> {
 // Whether both are one text, which is vouched for.
 fn is_signed(alloc: Global, public: &str, secret: &str) -> Result<bool> {
     let text = signed_by_key(alloc, secret)?;
-    let again = signed_by_text(alloc, secret)?;
-    let vouched_for = is_vouched_for(alloc, public, text.as_str());
-    Ok(again.as_str() == text.as_str() && holds(&vouched_for))
+    let again = gives_text(signed_by_text(alloc, secret), text.as_str());
+    let vouched_for = is_so(is_vouched_for(alloc, public, text.as_str()));
+    Ok(again && vouched_for)
 }
 
 // The text of a public key.
@@ -111,7 +88,7 @@ fn public_text_of(alloc: Global, pk: &PublicKey) -> Result<String> {
 
 // Whether all that goes from one party to another goes as a text: both keys, and the signature.
 fn goes_through_texts(alloc: Global) -> Result<bool> {
-    let pair = sealed_pair(alloc, "key password")?;
+    let pair = sealed_pair(alloc, &counted(), "key password")?;
     let public = public_text_of(alloc, &pair.pk)?;
     let secret = text_of(alloc, &pair.sk)?;
     is_signed(alloc, public.as_str(), secret.as_str())
@@ -119,7 +96,7 @@ fn goes_through_texts(alloc: Global) -> Result<bool> {
 
 #[test]
 fn all_goes_through_texts(rt: HostRuntime) {
-    assert!(rt; holds(&goes_through_texts(rt.alloc())));
+    assert!(rt; is_so(goes_through_texts(rt.alloc())));
 }
 
 // Whether the text is refused so, and leaves the prompt, the data and the random bytes as they were.
@@ -129,7 +106,7 @@ fn is_refused_at_once(alloc: Global, text: &str, expected: Outcome) -> bool {
     let drawn = counted();
     let mut random = FixedRandom::new(&drawn);
     let answer = signed_text(alloc, text, None, &mut prompt, &mut data, &mut random);
-    let refused = comes_to(&answer, expected);
+    let refused = ends_in(answer, expected);
     let unread = (bytes_left(&mut prompt.reader), bytes_left(&mut data));
     let undrawn = random.fill(&mut [0; 128]).is_ok();
     refused && prompt.writer.as_slice().is_empty() && unread == (2, 1) && undrawn
@@ -149,7 +126,6 @@ fn what_gives_no_key_is_refused_at_once(rt: HostRuntime) {
         (b"SC", UNSUPPORTED),
         (b"\0\0", Refused(CorruptedKey)),
     ] {
-        let refused = is_refused(rt.alloc(), kdf, expected);
-        assert!(rt; holds(&refused), "at {kdf:?}");
+        assert!(rt; is_so(is_refused(rt.alloc(), kdf, expected)), "at {kdf:?}");
     }
 }

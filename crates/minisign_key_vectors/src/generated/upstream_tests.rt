@@ -3,7 +3,7 @@
 
 use crate::generated::calls::{counted_pair, opened, sealed_pair, text_of};
 use minisign::{Result, SecretKey};
-use minisign_fixtures::outcomes::holds;
+use minisign_fixtures::outcomes::{counted, is_so};
 use std::alloc::Global;
 
 // The 32 bytes of Blake2b of `Ed`, identifier and secret of the key whose random bytes count up from
@@ -29,17 +29,17 @@ fn end_alike(alloc: Global, one: &SecretKey, other: &SecretKey) -> Result<bool> 
 // Whether sealing changes what a record ends with, and opening, which xors once more, restores it.
 fn is_restored(alloc: Global) -> Result<bool> {
     let plain = counted_pair()?;
-    let sealed = sealed_pair(alloc, "password")?;
+    let sealed = sealed_pair(alloc, &counted(), "password")?;
     let text = text_of(alloc, &sealed.sk)?;
     let again = opened(alloc, text.as_str(), "password")?;
-    let is_changed = !end_alike(alloc, &plain.sk, &sealed.sk)?;
-    Ok(end_alike(alloc, &plain.sk, &again)? && is_changed)
+    let is_changed = matches!(end_alike(alloc, &plain.sk, &sealed.sk), Ok(false));
+    let is_alike = is_so(end_alike(alloc, &plain.sk, &again));
+    Ok(is_alike && is_changed)
 }
 
 #[test]
 fn xor_keynum(rt: HostRuntime) {
-    let right = is_restored(rt.alloc());
-    assert!(rt; holds(&right));
+    assert!(rt; is_so(is_restored(rt.alloc())));
 }
 
 // Whether the record of a new key ends with the checksum of what stands before it.
@@ -51,6 +51,5 @@ fn has_its_checksum(alloc: Global) -> Result<bool> {
 
 #[test]
 fn sk_checksum(rt: HostRuntime) {
-    let right = has_its_checksum(rt.alloc());
-    assert!(rt; holds(&right));
+    assert!(rt; is_so(has_its_checksum(rt.alloc())));
 }

@@ -1,10 +1,10 @@
 //! Opening sealed keys, called here for all tests: what is returned, and what becomes of the prompt.
 
 use minisign::{Result, SecretKey, SecretKeyBox};
-use minisign_base::devices::sinks::{Sink, VecSink};
+use minisign_base::devices::sinks::Sink;
 use minisign_base::devices::sources::Source;
 use minisign_base::prompt::Prompt;
-use minisign_fixtures::outcomes::{Outcome, comes_to, is_record};
+use minisign_fixtures::outcomes::{Outcome, ends_in, gives_record};
 use minisign_fixtures::prompts::{bytes_left, handed, typed};
 use std::alloc::Global;
 
@@ -17,39 +17,13 @@ pub enum Way {
     Keeping(u64),
 }
 
-/// What opening returned, what the prompt was told, and how many typed bytes are left, ten at most.
-#[derive(Drop)]
-pub struct Opening {
-    pub answer: Result<SecretKey>,
-    pub told: VecSink,
-    pub unread: usize,
-}
-
 /// What is wanted of an opening: the outcome, what the prompt is told, and how many of the typed
-/// bytes are left.
+/// bytes are left, ten at most.
 #[derive(Clone, Copy)]
 pub struct Wanted<'a> {
     pub outcome: Outcome,
     pub told: &'a str,
     pub unread: usize,
-}
-
-/// Opens the box, with the password where one is passed in, over these typed bytes.
-pub fn open(
-    alloc: Global,
-    sk_box: SecretKeyBox,
-    password: Option<&str>,
-    bytes: &[u8],
-    way: Way,
-) -> Opening {
-    let mut prompt = typed(alloc, bytes);
-    let answer = opened(alloc, sk_box, password, &mut prompt, way);
-    let (mut reader, told) = prompt.into_parts();
-    Opening {
-        answer,
-        told,
-        unread: bytes_left(&mut reader),
-    }
 }
 
 /// The key of the box that is opened with this prompt.
@@ -80,10 +54,11 @@ pub fn comes_out(
     let Ok(sk_box) = sk_box else {
         return false;
     };
-    let opening = open(alloc, sk_box, password, bytes, way);
-    comes_to(&opening.answer, wanted.outcome)
-        && opening.told.as_slice() == wanted.told.as_bytes()
-        && opening.unread == wanted.unread
+    let mut prompt = typed(alloc, bytes);
+    let answer = opened(alloc, sk_box, password, &mut prompt, way);
+    let came = ends_in(answer, wanted.outcome);
+    let left = bytes_left(&mut prompt.reader);
+    came && left == wanted.unread && prompt.writer.as_slice() == wanted.told.as_bytes()
 }
 
 /// Whether opening with a password that is passed in has this outcome, and leaves the prompt alone.
@@ -111,12 +86,9 @@ pub fn gives(
     bytes: &[u8],
     way: Way,
     record: &[u8],
-) -> bool {
-    let Ok(sk_box) = sk_box else {
-        return false;
-    };
-    match &open(alloc, sk_box, password, bytes, way).answer {
-        Ok(key) => !key.is_encrypted() && is_record(&key.to_bytes(alloc), record),
-        Err(_) => false,
-    }
+) -> Result<bool> {
+    let sk_box = sk_box?;
+    let mut prompt = typed(alloc, bytes);
+    let key = opened(alloc, sk_box, password, &mut prompt, way)?;
+    Ok(gives_record(key.to_bytes(alloc), record) && !key.is_encrypted())
 }

@@ -14,10 +14,9 @@ use minisign_fixtures::devices::sinks::LimitedSink;
 use minisign_fixtures::devices::sources::FailsAfter;
 use minisign_fixtures::keys::{CHECKSUM, secret_record};
 use minisign_fixtures::outcomes::Outcome::{self, Refused};
-use minisign_fixtures::outcomes::comes_to;
+use minisign_fixtures::outcomes::{ends_in, is_so};
 use minisign_fixtures::texts::{SEALED, SECRET_TEXT};
 use std::alloc::Global;
-use std::process::Abort;
 
 // A line without an end.
 const LONG: [u8; 1026] = [b'a'; 1026];
@@ -37,8 +36,7 @@ fn is_refused_by(
     };
     let reader = FailsAfter::new(typed.0, typed.1);
     let mut prompt = Prompt::new(reader, LimitedSink::new(alloc, room));
-    let answer = opened(alloc, copy, None, &mut prompt, way);
-    comes_to(&answer, expected)
+    ends_in(opened(alloc, copy, None, &mut prompt, way), expected)
 }
 
 // Whether each call does.
@@ -68,55 +66,39 @@ fn is_refused_text(
     is_refused(alloc, &sk_box, typed, room, expected)
 }
 
-// Asserts it.
-fn refuses<A: Abort>(
-    rt: &A,
-    alloc: Global,
-    text: &str,
-    typed: (&[u8], u64),
-    room: usize,
-    expected: Outcome,
-) {
-    let refused = is_refused_text(alloc, text, typed, room, expected);
-    assert!(rt; refused, "at {expected:?}");
-}
-
 // Each row: the text, what is typed and how many reads pass, the room of the writer, and the fault.
 #[test]
 fn faults_of_texts(rt: HostRuntime) {
     let alloc = rt.alloc();
     let no_comment = Refused(MissingSecretKeyComment);
     let no_key = Refused(MissingEncodedSecretKey);
+    let no_base64 = Refused(SecretKeyNotBase64);
     let too_short = Refused(RecordTooShort);
     let unsealed = Refused(KeyNotEncrypted);
-    refuses(&rt, alloc, "", (b"p\n", 9), 99, no_comment);
-    refuses(&rt, alloc, "c\n", (b"p\n", 9), 99, no_key);
-    refuses(
-        &rt,
-        alloc,
-        "c\n!\n",
-        (b"p\n", 9),
-        99,
-        Refused(SecretKeyNotBase64),
-    );
-    refuses(&rt, alloc, "c\nAAAA\n", (b"p\n", 9), 99, too_short);
-    refuses(&rt, alloc, SECRET_TEXT, (b"p\n", 9), 99, unsealed);
+    assert!(rt; is_refused_text(alloc, "", (b"p\n", 9), 99, no_comment));
+    assert!(rt; is_refused_text(alloc, "c\n", (b"p\n", 9), 99, no_key));
+    assert!(rt; is_refused_text(alloc, "c\n!\n", (b"p\n", 9), 99, no_base64));
+    assert!(rt; is_refused_text(alloc, "c\nAAAA\n", (b"p\n", 9), 99, too_short));
+    assert!(rt; is_refused_text(alloc, SECRET_TEXT, (b"p\n", 9), 99, unsealed));
 }
 
 #[test]
 fn faults_of_prompts(rt: HostRuntime) {
     let alloc = rt.alloc();
+    let sealed = SEALED;
     let ended = Refused(EndOfInput);
     let no_utf8 = Refused(NotUtf8);
     let too_long = Refused(PasswordTooLong);
+    let unread = Refused(ReadingFailed);
+    let unwritten = Refused(WritingFailed);
     let wrong = Refused(WrongPassword);
-    refuses(&rt, alloc, SEALED, (b"", 9), 99, ended);
-    refuses(&rt, alloc, SEALED, (b"\xff\n", 9), 99, no_utf8);
-    refuses(&rt, alloc, SEALED, (&LONG, 2000), 99, too_long);
-    refuses(&rt, alloc, SEALED, (b"p\n", 1), 99, Refused(ReadingFailed));
-    refuses(&rt, alloc, SEALED, (b"p\n", 9), 4, Refused(WritingFailed));
-    refuses(&rt, alloc, SEALED, (b"p\n", 9), 80, Refused(WritingFailed));
-    refuses(&rt, alloc, SEALED, (b"p\n", 9), 99, wrong);
+    assert!(rt; is_refused_text(alloc, sealed, (b"", 9), 99, ended));
+    assert!(rt; is_refused_text(alloc, sealed, (b"\xff\n", 9), 99, no_utf8));
+    assert!(rt; is_refused_text(alloc, sealed, (&LONG, 2000), 99, too_long));
+    assert!(rt; is_refused_text(alloc, sealed, (b"p\n", 1), 99, unread));
+    assert!(rt; is_refused_text(alloc, sealed, (b"p\n", 9), 4, unwritten));
+    assert!(rt; is_refused_text(alloc, sealed, (b"p\n", 9), 80, unwritten));
+    assert!(rt; is_refused_text(alloc, sealed, (b"p\n", 9), 99, wrong));
 }
 
 // Whether key A's record under this key derivation and these limits is refused so.
@@ -147,6 +129,6 @@ fn faults_of_records(rt: HostRuntime) {
         (b"Sc", 0, 1099511627776, invalid),
     ] {
         let refused = is_refused_record(rt.alloc(), kdf, memory, operations, expected);
-        assert!(rt; matches!(refused, Ok(true)), "at {expected:?}");
+        assert!(rt; is_so(refused), "at {kdf:?} {memory}");
     }
 }

@@ -1,15 +1,13 @@
 //! Keys that are sealed in many parts: both limits are 0, so that N is 2, r is 8 and p is 512. The
 //! tests seal them by the public calls of key derivation.
 
+use crate::generated::calls::sealed_box;
 use crate::sealed::calls::{Way, gives, has_outcome};
-use minisign::{KeyPair, Result, SecretKey, SecretKeyBox};
-use minisign_base::devices::random_sources::FixedRandom;
+use minisign::{Result, SecretKey, SecretKeyBox};
 use minisign_base::faults::NamedFault::WorkTooHigh;
-use minisign_base::toy::ToyScheme;
 use minisign_fixtures::keys::{CHECKSUM, secret_record};
 use minisign_fixtures::outcomes::Outcome::{self, Accepted, Refused};
-use minisign_fixtures::outcomes::counted;
-use minisign_fixtures::prompts::{handed, typed};
+use minisign_fixtures::outcomes::{counted, is_so};
 use minisign_kdf::{Params, scrypt};
 use std::alloc::Global;
 
@@ -38,7 +36,7 @@ fn a_key_in_many_parts_opens(rt: HostRuntime) {
         Way::Keeping(3),
     ] {
         let sk_box = sealed_in_parts(alloc);
-        assert!(rt; gives(alloc, sk_box, Some("password"), b"", way, &record));
+        assert!(rt; is_so(gives(alloc, sk_box, Some("password"), b"", way, &record)));
     }
 }
 
@@ -60,25 +58,14 @@ fn a_bound_on_parts_is_kept(rt: HostRuntime) {
     }
 }
 
-// The box of a pair that is made and sealed under `password`.
-fn made(alloc: Global) -> Result<SecretKeyBox> {
-    let pair = KeyPair::generate_encrypted_keypair(
-        alloc,
-        &ToyScheme::new(),
-        &mut FixedRandom::new(&counted()),
-        handed(alloc, Some("password"))?,
-        &mut typed(alloc, b""),
-    )?;
-    pair.sk.to_box(alloc, None)
-}
-
 // A key that is made is sealed in one part.
 #[test]
 fn a_bound_of_one_opens_what_is_made(rt: HostRuntime) {
     let alloc = rt.alloc();
     for (max_p, expected) in [(0u32, TOO_MUCH_WORK), (1, Accepted)] {
+        let sk_box = sealed_box(alloc, &counted());
         assert!(rt;
-            has_outcome(alloc, made(alloc), "password", Way::Within(max_p), expected),
+            has_outcome(alloc, sk_box, "password", Way::Within(max_p), expected),
             "at {max_p}"
         );
     }

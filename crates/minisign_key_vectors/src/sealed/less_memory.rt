@@ -1,13 +1,12 @@
 //! A sealed key that was generated, opened with every k-th row kept.
 
+use crate::generated::calls::sealed_box;
 use crate::sealed::calls::{Wanted, Way, comes_out, gives, has_outcome, opened};
-use minisign::{KeyPair, Result, SecretKeyBox};
-use minisign_base::devices::random_sources::FixedRandom;
+use minisign::{Result, SecretKeyBox};
 use minisign_base::faults::NamedFault::WrongPassword;
-use minisign_base::toy::ToyScheme;
 use minisign_fixtures::outcomes::Outcome::{self, Accepted, Refused};
-use minisign_fixtures::outcomes::holds;
-use minisign_fixtures::prompts::{handed, typed};
+use minisign_fixtures::outcomes::is_so;
+use minisign_fixtures::prompts::typed;
 use minisign_fixtures::texts::SEALED;
 use std::alloc::Global;
 
@@ -16,17 +15,8 @@ const WRONG: Outcome = Refused(WrongPassword);
 const TOLD: &str =
     "Password: Deriving a key from the password and decrypting the secret key... done\n";
 
-// The box of a key that is sealed under `password`, of random bytes that are all 9.
-fn sealed_box(alloc: Global) -> Result<SecretKeyBox> {
-    let pair = KeyPair::generate_encrypted_keypair(
-        alloc,
-        &ToyScheme::new(),
-        &mut FixedRandom::new(&[9; 72]),
-        handed(alloc, Some("password"))?,
-        &mut typed(alloc, b""),
-    )?;
-    pair.sk.to_box(alloc, None)
-}
+// Random bytes that are all 9.
+const NINES: [u8; 72] = [9; 72];
 
 // The record of the key that opens with all rows.
 fn opened_whole(alloc: Global, sk_box: &SecretKeyBox) -> Result<Vec<u8>> {
@@ -40,18 +30,18 @@ fn opened_whole(alloc: Global, sk_box: &SecretKeyBox) -> Result<Vec<u8>> {
 // a password that is passed in and with a typed one.
 fn is_the_same(alloc: Global, k: u64) -> Result<bool> {
     let way = Way::Keeping(k);
-    let sk_box = sealed_box(alloc)?;
+    let sk_box = sealed_box(alloc, &NINES)?;
     let whole = opened_whole(alloc, &sk_box)?;
     let copy = sk_box.try_clone(alloc);
-    let handed = gives(alloc, copy, Some("password"), b"", way, &whole);
-    let typed = gives(alloc, Ok(sk_box), None, b"password\n", way, &whole);
+    let handed = is_so(gives(alloc, copy, Some("password"), b"", way, &whole));
+    let typed = is_so(gives(alloc, Ok(sk_box), None, b"password\n", way, &whole));
     Ok(handed && typed)
 }
 
 #[test]
 fn opens_to_the_same_key(rt: HostRuntime) {
     for k in [1u64, 7, 16] {
-        assert!(rt; holds(&is_the_same(rt.alloc(), k)), "k {k}");
+        assert!(rt; is_so(is_the_same(rt.alloc(), k)), "k {k}");
     }
 }
 
@@ -83,8 +73,9 @@ fn opens_with_a_typed_password(rt: HostRuntime) {
 fn stays_closed_to_another_password(rt: HostRuntime) {
     let alloc = rt.alloc();
     for k in [1u64, 7, 16] {
+        let sk_box = sealed_box(alloc, &NINES);
         assert!(rt;
-            has_outcome(alloc, sealed_box(alloc), "Password", Way::Keeping(k), WRONG),
+            has_outcome(alloc, sk_box, "Password", Way::Keeping(k), WRONG),
             "k {k}"
         );
     }

@@ -16,10 +16,9 @@ use minisign_base::prompt::Prompt;
 use minisign_fixtures::devices::sinks::LimitedSink;
 use minisign_fixtures::keys::{CHECKSUM, secret_record};
 use minisign_fixtures::outcomes::Outcome::{self, Accepted, Refused};
-use minisign_fixtures::outcomes::{beginning, comes_to, holds};
+use minisign_fixtures::outcomes::{beginning, ends_in, is_so};
 use minisign_fixtures::texts::{SEALED, SEALED_AS_MINISIGN, SEALED_AS_USUAL, SEALED_WITH_NOTHING};
 use std::alloc::Global;
-use std::process::Abort;
 
 // What a prompt is told up to the password, up to the derivation, and in all.
 const ASKED: &str = "Password: ";
@@ -81,7 +80,7 @@ fn sealed_keys_open_with_their_password(rt: HostRuntime) {
     let record = opened_record(1048576, 0);
     for (text, password) in [(SEALED, "password"), (SEALED_WITH_NOTHING, "")] {
         let sk_box = SecretKeyBox::from_string(alloc, text);
-        assert!(rt; gives(alloc, sk_box, Some(password), b"", Way::AnyParts, &record));
+        assert!(rt; is_so(gives(alloc, sk_box, Some(password), b"", Way::AnyParts, &record)));
         let sk_box = SecretKeyBox::from_string(alloc, text);
         assert!(rt; has_outcome(alloc, sk_box, password, Way::AnyParts, Accepted));
     }
@@ -110,7 +109,7 @@ fn opened_with_nothing(alloc: Global) -> Result<SecretKey> {
 // Whether the box is not that of an unsealed key.
 fn is_not_unsealed(alloc: Global, sk_box: SecretKeyBox) -> bool {
     let plain = SecretKey::from_unencrypted_box(alloc, sk_box);
-    comes_to(&plain, Refused(KeyMightBeEncrypted))
+    ends_in(plain, Refused(KeyMightBeEncrypted))
 }
 
 // Whether an opened key is written in the clear, and is then neither an unsealed key nor one that
@@ -125,39 +124,31 @@ fn is_written_as_it_stands(alloc: Global) -> Result<bool> {
 
 #[test]
 fn an_opened_key_is_written_as_it_stands(rt: HostRuntime) {
-    assert!(rt; holds(&is_written_as_it_stands(rt.alloc())));
+    assert!(rt; is_so(is_written_as_it_stands(rt.alloc())));
 }
 
-// Asserts this outcome of opening with these limits and this bound.
-fn is_bounded<A: Abort>(
-    rt: &A,
-    alloc: Global,
-    memory: u64,
-    operations: u64,
-    max_p: u32,
-    expected: Outcome,
-) {
+// Whether opening with these limits and this bound has this outcome.
+fn is_bounded(alloc: Global, memory: u64, operations: u64, max_p: u32, expected: Outcome) -> bool {
     let sk_box = box_of(alloc, &limited_record(b"Sc", memory, operations));
-    let came = has_outcome(alloc, sk_box, "p", Way::Within(max_p), expected);
-    assert!(rt; came, "at {memory} {operations} {max_p}");
+    has_outcome(alloc, sk_box, "p", Way::Within(max_p), expected)
 }
 
 // Key A's record that is not sealed restores no checksum.
 #[test]
 fn limits_and_work_are_bounded(rt: HostRuntime) {
     let alloc = rt.alloc();
-    is_bounded(&rt, alloc, 0, u64::MAX, 16, TOO_MUCH_WORK);
-    is_bounded(&rt, alloc, 0, 0, 511, TOO_MUCH_WORK);
-    is_bounded(&rt, alloc, 0, 0, 512, WRONG);
-    is_bounded(&rt, alloc, 33554432, 1048576, 0, TOO_MUCH_WORK);
-    is_bounded(&rt, alloc, 1073741825, 0, 0, TOO_HIGH);
-    is_bounded(&rt, alloc, 0, 1099511627776, 0, INVALID);
-    is_bounded(&rt, alloc, 0, 1099511627776, u32::MAX, INVALID);
-    is_bounded(&rt, alloc, 1073741825, 0, u32::MAX, TOO_HIGH);
-    is_bounded(&rt, alloc, u64::MAX, 0, u32::MAX, TOO_HIGH);
-    is_bounded(&rt, alloc, 1073741824, 0, u32::MAX, WRONG);
-    is_bounded(&rt, alloc, 1073741824, 0, 1, WRONG);
-    is_bounded(&rt, alloc, 1073741824, 0, 0, TOO_MUCH_WORK);
+    assert!(rt; is_bounded(alloc, 0, u64::MAX, 16, TOO_MUCH_WORK));
+    assert!(rt; is_bounded(alloc, 0, 0, 511, TOO_MUCH_WORK));
+    assert!(rt; is_bounded(alloc, 0, 0, 512, WRONG));
+    assert!(rt; is_bounded(alloc, 33554432, 1048576, 0, TOO_MUCH_WORK));
+    assert!(rt; is_bounded(alloc, 1073741825, 0, 0, TOO_HIGH));
+    assert!(rt; is_bounded(alloc, 0, 1099511627776, 0, INVALID));
+    assert!(rt; is_bounded(alloc, 0, 1099511627776, u32::MAX, INVALID));
+    assert!(rt; is_bounded(alloc, 1073741825, 0, u32::MAX, TOO_HIGH));
+    assert!(rt; is_bounded(alloc, u64::MAX, 0, u32::MAX, TOO_HIGH));
+    assert!(rt; is_bounded(alloc, 1073741824, 0, u32::MAX, WRONG));
+    assert!(rt; is_bounded(alloc, 1073741824, 0, 1, WRONG));
+    assert!(rt; is_bounded(alloc, 1073741824, 0, 0, TOO_MUCH_WORK));
 }
 
 #[test]
@@ -165,16 +156,8 @@ fn a_key_with_the_usual_limits_opens_within_one_part(rt: HostRuntime) {
     let alloc = rt.alloc();
     let sk_box = SecretKeyBox::from_string(alloc, SEALED_AS_USUAL);
     let record = opened_record(33554432, 1048576);
-    assert!(rt;
-        gives(
-            alloc,
-            sk_box,
-            Some("password"),
-            b"",
-            Way::Within(1),
-            &record
-        )
-    );
+    let way = Way::Within(1);
+    assert!(rt; is_so(gives(alloc, sk_box, Some("password"), b"", way, &record)));
 }
 
 // The limits that the C program writes take 1 GiB of rows; with every 16th kept it is 64 MiB.
@@ -183,16 +166,8 @@ fn a_key_of_the_c_program_opens_in_less_memory(rt: HostRuntime) {
     let alloc = rt.alloc();
     let sk_box = SecretKeyBox::from_string(alloc, SEALED_AS_MINISIGN);
     let record = opened_record(1073741824, 33554432);
-    assert!(rt;
-        gives(
-            alloc,
-            sk_box,
-            None,
-            b"password\n",
-            Way::Keeping(16),
-            &record
-        )
-    );
+    let way = Way::Keeping(16);
+    assert!(rt; is_so(gives(alloc, sk_box, None, b"password\n", way, &record)));
 }
 
 // Whether what no password opens is refused so before one is asked for.
@@ -232,46 +207,37 @@ fn keys_of_other_derivations(rt: HostRuntime) {
     }
 }
 
-// Asserts that opening with what is typed comes out so.
-fn asks<A: Abort>(
-    rt: &A,
+// Whether opening with what is typed comes out so.
+fn asks(
     alloc: Global,
     text: &str,
     bytes: &[u8],
     outcome: Outcome,
     told: &str,
     unread: usize,
-) {
+) -> bool {
     let sk_box = SecretKeyBox::from_string(alloc, text);
     let wanted = Wanted {
         outcome,
         told,
         unread,
     };
-    let came = comes_out(alloc, sk_box, None, bytes, Way::AnyParts, wanted);
-    assert!(rt; came, "at {bytes:?}");
+    comes_out(alloc, sk_box, None, bytes, Way::AnyParts, wanted)
 }
 
 // Each row: the text, what is typed, the outcome, what the prompt is told, and what is left.
 #[test]
 fn a_password_is_asked_for(rt: HostRuntime) {
     let alloc = rt.alloc();
-    asks(&rt, alloc, SEALED, b"password\nmore", Accepted, DONE, 4);
-    asks(&rt, alloc, SEALED, b"password", Accepted, DONE, 0);
-    asks(&rt, alloc, SEALED, b"password\r\n", Accepted, DONE, 0);
-    asks(&rt, alloc, SEALED, b"pass\n", WRONG, DONE, 0);
-    asks(&rt, alloc, SEALED, b"password\r", WRONG, DONE, 0);
-    asks(
-        &rt,
-        alloc,
-        SEALED_WITH_NOTHING,
-        b"\n\n",
-        Accepted,
-        MARKED,
-        1,
-    );
-    asks(&rt, alloc, SEALED, b"", ENDED, ASKED, 0);
-    asks(&rt, alloc, SEALED, b"\xff\n", NO_UTF8, ASKED, 0);
+    let (sealed, with_nothing) = (SEALED, SEALED_WITH_NOTHING);
+    assert!(rt; asks(alloc, sealed, b"password\nmore", Accepted, DONE, 4));
+    assert!(rt; asks(alloc, sealed, b"password", Accepted, DONE, 0));
+    assert!(rt; asks(alloc, sealed, b"password\r\n", Accepted, DONE, 0));
+    assert!(rt; asks(alloc, sealed, b"pass\n", WRONG, DONE, 0));
+    assert!(rt; asks(alloc, sealed, b"password\r", WRONG, DONE, 0));
+    assert!(rt; asks(alloc, with_nothing, b"\n\n", Accepted, MARKED, 1));
+    assert!(rt; asks(alloc, sealed, b"", ENDED, ASKED, 0));
+    assert!(rt; asks(alloc, sealed, b"\xff\n", NO_UTF8, ASKED, 0));
 }
 
 // The limits and the bound are tested once the password is there, and before the derivation.
@@ -304,21 +270,8 @@ fn fills(alloc: Global, room: usize, memory: u64, bytes: &[u8], outcome: Outcome
     };
     let mut prompt = Prompt::new(SliceSource::new(bytes), LimitedSink::new(alloc, room));
     let answer = opened(alloc, sk_box, None, &mut prompt, Way::AnyParts);
-    let (_, writer) = prompt.into_parts();
-    comes_to(&answer, outcome) && writer.as_slice() == beginning(DONE, room).as_bytes()
-}
-
-// Asserts it.
-fn is_told<A: Abort>(
-    rt: &A,
-    alloc: Global,
-    room: usize,
-    memory: u64,
-    bytes: &[u8],
-    outcome: Outcome,
-) {
-    let filled = fills(alloc, room, memory, bytes, outcome);
-    assert!(rt; filled, "at {room} {memory}");
+    let came = ends_in(answer, outcome);
+    came && prompt.writer.as_slice() == beginning(DONE, room).as_bytes()
 }
 
 // A writer that fails at the line behind the derivation is told before a wrong password, and after
@@ -326,13 +279,13 @@ fn is_told<A: Abort>(
 #[test]
 fn failing_writers_are_told_in_their_place(rt: HostRuntime) {
     let alloc = rt.alloc();
-    is_told(&rt, alloc, 4, 1048576, b"p\n", UNWRITTEN);
-    is_told(&rt, alloc, 10, 1048576, b"p\n", UNWRITTEN);
-    is_told(&rt, alloc, 75, 1048576, b"p\n", UNWRITTEN);
-    is_told(&rt, alloc, 76, 1048576, b"p\n", UNWRITTEN);
-    is_told(&rt, alloc, 80, 1048576, b"p\n", UNWRITTEN);
-    is_told(&rt, alloc, 81, 1048576, b"p\n", WRONG);
-    is_told(&rt, alloc, 76, 1073741825, b"p\n", TOO_HIGH);
-    is_told(&rt, alloc, 75, 1073741825, b"p\n", UNWRITTEN);
-    is_told(&rt, alloc, 10, 1048576, b"", ENDED);
+    assert!(rt; fills(alloc, 4, 1048576, b"p\n", UNWRITTEN));
+    assert!(rt; fills(alloc, 10, 1048576, b"p\n", UNWRITTEN));
+    assert!(rt; fills(alloc, 75, 1048576, b"p\n", UNWRITTEN));
+    assert!(rt; fills(alloc, 76, 1048576, b"p\n", UNWRITTEN));
+    assert!(rt; fills(alloc, 80, 1048576, b"p\n", UNWRITTEN));
+    assert!(rt; fills(alloc, 81, 1048576, b"p\n", WRONG));
+    assert!(rt; fills(alloc, 76, 1073741825, b"p\n", TOO_HIGH));
+    assert!(rt; fills(alloc, 75, 1073741825, b"p\n", UNWRITTEN));
+    assert!(rt; fills(alloc, 10, 1048576, b"", ENDED));
 }

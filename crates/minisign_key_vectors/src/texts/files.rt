@@ -14,7 +14,7 @@ use minisign_base::faults::NamedFault::{
 use minisign_base::prompt::Prompt;
 use minisign_fixtures::keys::{IDENTIFIER, PUBLIC_BYTES, public_record};
 use minisign_fixtures::outcomes::Outcome::{self, Accepted, Refused};
-use minisign_fixtures::outcomes::{comes_to, is_record, is_text};
+use minisign_fixtures::outcomes::{ends_in, gives_record, gives_text, is_so};
 use minisign_fixtures::prompts::{handed, typed_at_once};
 use minisign_fixtures::texts::{COUNTED_SEALED_UNDER_NOTHING, KEY_TEXT, SIGNATURE_TEXT};
 use std::alloc::Global;
@@ -62,11 +62,7 @@ fn body_of(kind: Kind) -> &'static str {
     }
 }
 
-// The three readers of files.
-fn read_public(rt: &HostRuntime, path: &str) -> Result<PublicKey> {
-    PublicKey::from_file(rt, rt.alloc(), path)
-}
-
+// Reads a secret key with this password, or over the prompt.
 fn read_secret(
     rt: &HostRuntime,
     path: &str,
@@ -77,39 +73,31 @@ fn read_secret(
     SecretKey::from_file(rt, rt.alloc(), path, password, prompt)
 }
 
-fn read_signature(rt: &HostRuntime, path: &str) -> Result<SignatureBox> {
-    SignatureBox::from_file(rt, rt.alloc(), path)
-}
-
-// Whether reading the file as a public key has this outcome.
-fn gives_public(rt: &HostRuntime, path: &str, expected: Outcome) -> bool {
-    let answer = read_public(rt, path);
-    comes_to(&answer, expected)
-}
-
 // Whether reading the file as a secret key has this outcome where an empty password is typed.
 // Nothing is asked for a file that gives no key.
 fn gives_secret(rt: &HostRuntime, path: &str, expected: Outcome) -> bool {
-    let alloc = rt.alloc();
-    let mut prompt = typed_at_once(alloc, b"\n");
+    let mut prompt = typed_at_once(rt.alloc(), b"\n");
     let answer = read_secret(rt, path, None, &mut prompt);
     let told = if answer.is_ok() { OPENING } else { "" };
-    comes_to(&answer, expected) && prompt.writer.as_slice() == told.as_bytes()
-}
-
-// Whether reading the file as a signature has this outcome.
-fn gives_signature(rt: &HostRuntime, path: &str, expected: Outcome) -> bool {
-    let answer = read_signature(rt, path);
-    comes_to(&answer, expected)
+    let came = ends_in(answer, expected);
+    came && prompt.writer.as_slice() == told.as_bytes()
 }
 
 // Whether reading the file so has this outcome.
 fn gives(rt: &HostRuntime, kind: Kind, path: &str, expected: Outcome) -> bool {
     match kind {
-        Kind::Public => gives_public(rt, path, expected),
+        Kind::Public => ends_in(PublicKey::from_file(rt, rt.alloc(), path), expected),
         Kind::Secret => gives_secret(rt, path, expected),
-        Kind::Signature => gives_signature(rt, path, expected),
+        Kind::Signature => ends_in(SignatureBox::from_file(rt, rt.alloc(), path), expected),
     }
+}
+
+// Whether reading the file has this outcome for each kind.
+fn gives_each(rt: &HostRuntime, path: &str, outcomes: [Outcome; 3]) -> bool {
+    let [public, secret, signature] = outcomes;
+    gives(rt, Kind::Public, path, public)
+        && gives(rt, Kind::Secret, path, secret)
+        && gives(rt, Kind::Signature, path, signature)
 }
 
 // The path of a name in the folder.
@@ -176,8 +164,7 @@ fn put_texts(rt: &HostRuntime, folder: &str) -> bool {
 
 // Bytes that are UTF-8 but for the last one, behind more than is read at once.
 fn long_no_text(alloc: Global) -> Result<Vec<u8>> {
-    let mut long = KEY_TEXT.as_bytes().to_vec(alloc)?;
-    long.extend_from_slice(&vec![in alloc; b'x'; 70000]?)?;
+    let mut long = long_between(alloc, KEY_TEXT, "")?.into_bytes();
     long.push(0xff)?;
     Ok(long)
 }
@@ -191,52 +178,42 @@ fn put_no_texts(rt: &HostRuntime, folder: &str) -> bool {
 }
 
 // Whether the public key is read as it was written.
-fn is_public_read(rt: &HostRuntime, folder: &str) -> bool {
-    let Ok(path) = path_of(rt, folder, "key.pk") else {
-        return false;
-    };
-    let Ok(pk) = read_public(rt, path.as_str()) else {
-        return false;
-    };
-    let written = pk.to_bytes(rt.alloc());
-    is_record(&written, &public_record(&IDENTIFIER, &PUBLIC_BYTES))
+fn is_public_read(rt: &HostRuntime, folder: &str) -> Result<bool> {
+    let path = path_of(rt, folder, "key.pk")?;
+    let pk = PublicKey::from_file(rt, rt.alloc(), path.as_str())?;
+    let record = public_record(&IDENTIFIER, &PUBLIC_BYTES);
+    Ok(gives_record(pk.to_bytes(rt.alloc()), &record))
 }
 
 // Whether the signature is read as it was written.
-fn is_signature_read(rt: &HostRuntime, folder: &str) -> bool {
-    let Ok(path) = path_of(rt, folder, "abc.sig") else {
-        return false;
-    };
-    let Ok(made) = read_signature(rt, path.as_str()) else {
-        return false;
-    };
-    let written = made.to_string(rt.alloc());
-    is_text(&written, SIGNATURE_TEXT)
+fn is_signature_read(rt: &HostRuntime, folder: &str) -> Result<bool> {
+    let path = path_of(rt, folder, "abc.sig")?;
+    let made = SignatureBox::from_file(rt, rt.alloc(), path.as_str())?;
+    Ok(gives_text(made.to_string(rt.alloc()), SIGNATURE_TEXT))
 }
 
 // Whether this is the secret key of the counted pair, and is not sealed.
-fn is_counted(sk: &SecretKey) -> bool {
-    let Ok(pair) = counted_pair() else {
-        return false;
-    };
-    *sk == pair.sk && !sk.is_encrypted()
+fn is_counted(sk: &SecretKey) -> Result<bool> {
+    Ok(*sk == counted_pair()?.sk && !sk.is_encrypted())
 }
 
 // Whether the file is read as that key with the password that is passed in, or with an empty one
 // that is typed, and so much is asked.
-fn gives_counted(rt: &HostRuntime, path: &str, password: Option<&str>, told: &str) -> bool {
+fn gives_counted(rt: &HostRuntime, path: &str, password: Option<&str>, told: &str) -> Result<bool> {
     let mut prompt = typed_at_once(rt.alloc(), b"\n");
-    let Ok(sk) = read_secret(rt, path, password, &mut prompt) else {
-        return false;
-    };
-    is_counted(&sk) && prompt.writer.as_slice() == told.as_bytes()
+    let sk = read_secret(rt, path, password, &mut prompt)?;
+    let counted = is_so(is_counted(&sk));
+    Ok(counted && prompt.writer.as_slice() == told.as_bytes())
 }
 
 // The same of the secret key's file.
-fn is_secret_read(rt: &HostRuntime, folder: &str, password: Option<&str>, told: &str) -> bool {
-    let Ok(path) = path_of(rt, folder, "key.sk") else {
-        return false;
-    };
+fn is_secret_read(
+    rt: &HostRuntime,
+    folder: &str,
+    password: Option<&str>,
+    told: &str,
+) -> Result<bool> {
+    let path = path_of(rt, folder, "key.sk")?;
     gives_counted(rt, path.as_str(), password, told)
 }
 
@@ -244,14 +221,10 @@ fn is_secret_read(rt: &HostRuntime, folder: &str, password: Option<&str>, told: 
 fn keys_and_signatures_are_read_from_files(rt: HostRuntime) -> std::result::Result<(), Fail> {
     let folder = new_folder(&rt, "texts")?;
     assert!(rt; put_texts(&rt, folder.as_str()));
-    let public = is_public_read(&rt, folder.as_str());
-    assert!(rt; public);
-    let signature = is_signature_read(&rt, folder.as_str());
-    assert!(rt; signature);
-    let handed = is_secret_read(&rt, folder.as_str(), Some(""), "");
-    assert!(rt; handed);
-    let typed = is_secret_read(&rt, folder.as_str(), None, OPENING);
-    assert!(rt; typed);
+    assert!(rt; is_so(is_public_read(&rt, folder.as_str())));
+    assert!(rt; is_so(is_signature_read(&rt, folder.as_str())));
+    assert!(rt; is_so(is_secret_read(&rt, folder.as_str(), Some(""), "")));
+    assert!(rt; is_so(is_secret_read(&rt, folder.as_str(), None, OPENING)));
     fs::remove_dir_all(&rt, folder.as_str())?;
     Ok(())
 }
@@ -286,18 +259,6 @@ fn are_no_texts<A: Abort>(abort: &A, rt: &HostRuntime, folder: &str, kind: Kind)
     comes_out(abort, rt, folder, kind, "long", NOT_UTF8);
 }
 
-#[test]
-fn files_that_hold_no_text(rt: HostRuntime) -> std::result::Result<(), Fail> {
-    let folder = new_folder(&rt, "no_texts")?;
-    assert!(rt; put_texts(&rt, folder.as_str()));
-    assert!(rt; put_no_texts(&rt, folder.as_str()));
-    are_no_texts(&rt, &rt, folder.as_str(), Kind::Public);
-    are_no_texts(&rt, &rt, folder.as_str(), Kind::Secret);
-    are_no_texts(&rt, &rt, folder.as_str(), Kind::Signature);
-    fs::remove_dir_all(&rt, folder.as_str())?;
-    Ok(())
-}
-
 // Asserts that what holds another text is refused so.
 fn are_other_texts<A: Abort>(abort: &A, rt: &HostRuntime, folder: &str) {
     let no_public = Refused(MissingPublicKeyComment);
@@ -313,21 +274,33 @@ fn are_other_texts<A: Abort>(abort: &A, rt: &HostRuntime, folder: &str) {
     comes_out(abort, rt, folder, Kind::Signature, "key.pk", untrusted);
 }
 
-#[test]
-fn files_that_hold_another_text(rt: HostRuntime) -> std::result::Result<(), Fail> {
-    let folder = new_folder(&rt, "others")?;
-    assert!(rt; put_texts(&rt, folder.as_str()));
-    are_other_texts(&rt, &rt, folder.as_str());
-    fs::remove_dir_all(&rt, folder.as_str())?;
-    Ok(())
+// Writes a file of a label and a text of 70,000 letters, which is one line, whatever its reader takes
+// at once.
+fn put_long_line(rt: &HostRuntime, folder: &str) -> bool {
+    let Ok(text) = long_between(rt.alloc(), "untrusted comment: ", "") else {
+        return false;
+    };
+    put(rt, folder, "cut", text.as_bytes())
+}
+
+// Asserts that each reader misses the second line of that file.
+fn are_cut<A: Abort>(abort: &A, rt: &HostRuntime, folder: &str) {
+    let no_public = Refused(MissingEncodedPublicKey);
+    comes_out(abort, rt, folder, Kind::Public, "cut", no_public);
+    let no_secret = Refused(MissingEncodedSecretKey);
+    comes_out(abort, rt, folder, Kind::Secret, "cut", no_secret);
+    let unsigned = Refused(MissingSignature);
+    comes_out(abort, rt, folder, Kind::Signature, "cut", unsigned);
 }
 
 #[test]
 fn a_file_of_nothing(rt: HostRuntime) {
-    let path = "/dev/null";
-    assert!(rt; gives_public(&rt, path, Refused(MissingPublicKeyComment)));
-    assert!(rt; gives_secret(&rt, path, Refused(MissingSecretKeyComment)));
-    assert!(rt; gives_signature(&rt, path, Refused(MissingUntrustedComment)));
+    let outcomes = [
+        Refused(MissingPublicKeyComment),
+        Refused(MissingSecretKeyComment),
+        Refused(MissingUntrustedComment),
+    ];
+    assert!(rt; gives_each(&rt, "/dev/null", outcomes));
 }
 
 // Writes a file that its owner may not read.
@@ -341,27 +314,34 @@ fn write_closed(rt: &HostRuntime, path: &str) -> Result<()> {
     Ok(())
 }
 
-// Whether the file is read as nothing.
-fn gives_nothing(rt: &HostRuntime, path: &str) -> bool {
-    gives_public(rt, path, UNREADABLE)
-        && gives_secret(rt, path, UNREADABLE)
-        && gives_signature(rt, path, UNREADABLE)
-}
-
 // Whether the file is opened.
 fn is_opened(rt: &HostRuntime, path: &str) -> bool {
     let opened = fs::open(rt, path);
     opened.is_ok()
 }
 
-// Whoever may read every file, as root may, sees nothing of this.
+// Whether a file without rights is unreadable. Whoever may read every file, as root may, sees nothing
+// of this.
+fn is_unreadable(rt: &HostRuntime, folder: &str) -> Result<bool> {
+    let path = path_of(rt, folder, "closed")?;
+    write_closed(rt, path.as_str())?;
+    let path = path.as_str();
+    Ok(is_opened(rt, path) || gives_each(rt, path, [UNREADABLE; 3]))
+}
+
+// What gives no text, what holds another one, a line that is never ended, and what may not be read.
 #[test]
-fn files_without_rights_are_unreadable(rt: HostRuntime) -> std::result::Result<(), Fail> {
-    let folder = new_folder(&rt, "rights")?;
-    let path = path_of(&rt, folder.as_str(), "closed")?;
-    write_closed(&rt, path.as_str())?;
-    assert!(rt; is_opened(&rt, path.as_str()) || gives_nothing(&rt, path.as_str()));
-    fs::remove_dir_all(&rt, folder.as_str())?;
+fn files_that_give_no_key_and_no_signature(rt: HostRuntime) -> std::result::Result<(), Fail> {
+    let folder = new_folder(&rt, "no_keys")?;
+    let path = folder.as_str();
+    assert!(rt; put_texts(&rt, path) && put_no_texts(&rt, path) && put_long_line(&rt, path));
+    are_no_texts(&rt, &rt, path, Kind::Public);
+    are_no_texts(&rt, &rt, path, Kind::Secret);
+    are_no_texts(&rt, &rt, path, Kind::Signature);
+    are_other_texts(&rt, &rt, path);
+    are_cut(&rt, &rt, path);
+    assert!(rt; is_so(is_unreadable(&rt, path)));
+    fs::remove_dir_all(&rt, path)?;
     Ok(())
 }
 
@@ -384,16 +364,10 @@ fn long_text(alloc: Global) -> Result<String> {
     Ok(String::from_utf8(vec![in alloc; b'x'; 70000]?)?)
 }
 
-// A line feed and a line of that text.
-fn long_end(alloc: Global) -> Result<String> {
+// That text behind another, and before a third.
+fn long_between(alloc: Global, before: &str, behind: &str) -> Result<String> {
     let letters = long_text(alloc)?;
-    joined(alloc, "\n", letters.as_str(), "")
-}
-
-// A line of comment with that text.
-fn long_line(alloc: Global) -> Result<String> {
-    let letters = long_text(alloc)?;
-    joined(alloc, "untrusted comment: ", letters.as_str(), "\n")
+    joined(alloc, before, letters.as_str(), behind)
 }
 
 // Whether the body is read behind this line, with and without more behind it, and a letter behind
@@ -420,63 +394,13 @@ fn is_read_whole(
     kind: Kind,
     fed: Outcome,
     refused: (&str, Outcome),
-) -> bool {
-    let Ok(line) = long_line(rt.alloc()) else {
-        return false;
-    };
-    let Ok(more) = long_end(rt.alloc()) else {
-        return false;
-    };
+) -> Result<bool> {
+    let line = long_between(rt.alloc(), "untrusted comment: ", "\n")?;
+    let more = long_between(rt.alloc(), "\n", "")?;
     let (line, more) = (line.as_str(), more.as_str());
     let short = is_read_behind(rt, folder, kind, "untrusted comment: c\n", more, refused);
     let long = is_read_behind(rt, folder, kind, line, more, refused);
-    let behind = stands(rt, folder, kind, FED, "", fed);
-    short && long && behind
-}
-
-// Blanks at both ends, and more than is read at once, belong to a file's text.
-#[test]
-fn files_are_read_as_they_stand(rt: HostRuntime) -> std::result::Result<(), Fail> {
-    let folder = new_folder(&rt, "as_they_stand")?;
-    let path = folder.as_str();
-    let public = (" ", LENGTH);
-    assert!(rt; is_read_whole(&rt, path, Kind::Public, NOT_BASE64, public));
-    let secret = (" ", SECRET_NOT_BASE64);
-    assert!(rt; is_read_whole(&rt, path, Kind::Secret, SECRET_NOT_BASE64, secret));
-    let signature = ("!", Refused(SignatureNotBase64));
-    assert!(rt; is_read_whole(&rt, path, Kind::Signature, UNTRUSTED, signature));
-    fs::remove_dir_all(&rt, folder.as_str())?;
-    Ok(())
-}
-
-// Whether a file of a label and a text of 70,000 letters is written.
-fn put_long_line(rt: &HostRuntime, folder: &str) -> bool {
-    let Ok(long) = long_text(rt.alloc()) else {
-        return false;
-    };
-    put_parts(rt, folder, "cut", "untrusted comment: ", long.as_str(), "")
-}
-
-// A text of 70,000 letters is one line, whatever its reader takes at once.
-#[test]
-fn long_files_end_where_they_end(rt: HostRuntime) -> std::result::Result<(), Fail> {
-    let folder = new_folder(&rt, "long_files")?;
-    let path = folder.as_str();
-    let no_public = Refused(MissingEncodedPublicKey);
-    let no_secret = Refused(MissingEncodedSecretKey);
-    assert!(rt; put_long_line(&rt, path));
-    comes_out(&rt, &rt, path, Kind::Public, "cut", no_public);
-    comes_out(&rt, &rt, path, Kind::Secret, "cut", no_secret);
-    comes_out(
-        &rt,
-        &rt,
-        path,
-        Kind::Signature,
-        "cut",
-        Refused(MissingSignature),
-    );
-    fs::remove_dir_all(&rt, folder.as_str())?;
-    Ok(())
+    Ok(short && long && stands(rt, folder, kind, FED, "", fed))
 }
 
 // Whether a file under this name is read as it was written, and one under the other name is not
@@ -499,13 +423,20 @@ fn are_alone(rt: &HostRuntime, folder: &str, kind: Kind) -> bool {
         && is_alone(rt, folder, kind, "ended by one ", "ended by one")
 }
 
-// A path is taken as it stands.
+// Blanks at both ends, and more than is read at once, belong to a file's text, and blanks to a path.
 #[test]
-fn paths_are_taken_as_they_stand(rt: HostRuntime) -> std::result::Result<(), Fail> {
-    let folder = new_folder(&rt, "paths")?;
-    assert!(rt; are_alone(&rt, folder.as_str(), Kind::Public));
-    assert!(rt; are_alone(&rt, folder.as_str(), Kind::Secret));
-    assert!(rt; are_alone(&rt, folder.as_str(), Kind::Signature));
-    fs::remove_dir_all(&rt, folder.as_str())?;
+fn files_and_paths_are_taken_as_they_stand(rt: HostRuntime) -> std::result::Result<(), Fail> {
+    let folder = new_folder(&rt, "as_they_stand")?;
+    let path = folder.as_str();
+    let public = (" ", LENGTH);
+    assert!(rt; is_so(is_read_whole(&rt, path, Kind::Public, NOT_BASE64, public)));
+    let secret = (" ", SECRET_NOT_BASE64);
+    assert!(rt; is_so(is_read_whole(&rt, path, Kind::Secret, SECRET_NOT_BASE64, secret)));
+    let signature = ("!", Refused(SignatureNotBase64));
+    assert!(rt; is_so(is_read_whole(&rt, path, Kind::Signature, UNTRUSTED, signature)));
+    assert!(rt; are_alone(&rt, path, Kind::Public));
+    assert!(rt; are_alone(&rt, path, Kind::Secret));
+    assert!(rt; are_alone(&rt, path, Kind::Signature));
+    fs::remove_dir_all(&rt, path)?;
     Ok(())
 }

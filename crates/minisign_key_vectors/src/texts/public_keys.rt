@@ -2,6 +2,7 @@
 //!
 //! The texts hold the base64 of Python's base64 module, and what the upstream tool wrote.
 
+use crate::texts::boxes::is_public_text;
 use crate::texts::joined;
 use minisign::{PublicKey, PublicKeyBox, Result, SecretKey};
 use minisign_base::faults::NamedFault::{
@@ -10,10 +11,9 @@ use minisign_base::faults::NamedFault::{
 };
 use minisign_fixtures::keys::{IDENTIFIER, PUBLIC_BYTES, public_record, secret_record};
 use minisign_fixtures::outcomes::Outcome::{self, Accepted, Refused};
-use minisign_fixtures::outcomes::{beginning, comes_to, holds, is_record, is_text};
+use minisign_fixtures::outcomes::{beginning, ends_in, gives_record, gives_text, is_so};
 use minisign_fixtures::texts::KEY_TEXT;
 use std::alloc::Global;
-use std::process::Abort;
 
 // The second line of that text.
 const ENCODED: &str = "RWQBAgMEBQYHCFpaWlpaWlpaWlpaWlpaWlpaWlpaWlpaWlpaWlpaWlpa";
@@ -48,26 +48,15 @@ fn read(alloc: Global, text: &str) -> Result<PublicKey> {
 }
 
 // Whether the key of the text is that of the record.
-fn is_read(alloc: Global, text: &str, record: &[u8; 42]) -> bool {
-    let Ok(key) = read(alloc, text) else {
-        return false;
-    };
-    let bytes = key.to_bytes(alloc);
-    is_record(&bytes, record)
-}
-
-// The key of a bare text.
-fn bare(alloc: Global, encoded: &str) -> Result<PublicKey> {
-    PublicKey::from_base64(alloc, encoded)
+fn is_read(alloc: Global, text: &str, record: &[u8; 42]) -> Result<bool> {
+    let key = read(alloc, text)?;
+    Ok(gives_record(key.to_bytes(alloc), record))
 }
 
 // Whether the key of the bare text is that of the record.
-fn is_bare(alloc: Global, encoded: &str, record: &[u8; 42]) -> bool {
-    let Ok(key) = bare(alloc, encoded) else {
-        return false;
-    };
-    let bytes = key.to_bytes(alloc);
-    is_record(&bytes, record)
+fn is_bare(alloc: Global, encoded: &str, record: &[u8; 42]) -> Result<bool> {
+    let key = PublicKey::from_base64(alloc, encoded)?;
+    Ok(gives_record(key.to_bytes(alloc), record))
 }
 
 // The text of a key.
@@ -76,92 +65,55 @@ fn text_of(alloc: Global, key: &PublicKey) -> Result<String> {
 }
 
 // Whether a public key is written as it was worked out.
-fn is_written(alloc: Global, record: &[u8; 42]) -> bool {
-    let Ok(key) = PublicKey::from_bytes(record) else {
-        return false;
-    };
-    let encoded = key.to_base64(alloc);
-    let text = text_of(alloc, &key);
-    is_text(&encoded, ENCODED) && is_text(&text, KEY_TEXT)
+fn is_written(alloc: Global, record: &[u8; 42]) -> Result<bool> {
+    let key = PublicKey::from_bytes(record)?;
+    let encoded = gives_text(key.to_base64(alloc), ENCODED);
+    let text = gives_text(text_of(alloc, &key), KEY_TEXT);
+    Ok(encoded && text)
 }
 
 // Whether the identifier of the upstream tool's key is shown as that tool shows it.
-fn shows_its_identifier(alloc: Global) -> bool {
-    let Ok(upstream) = bare(alloc, UPSTREAM) else {
-        return false;
-    };
-    let Ok(text) = text_of(alloc, &upstream) else {
-        return false;
-    };
+fn shows_its_identifier(alloc: Global) -> Result<bool> {
+    let upstream = PublicKey::from_base64(alloc, UPSTREAM)?;
+    let text = text_of(alloc, &upstream)?;
     let first = "untrusted comment: minisign public key: E7620F1842B4E81F\n";
-    beginning(text.as_str(), 57) == first
+    Ok(beginning(text.as_str(), 57) == first)
 }
 
 #[test]
 fn a_public_key_is_written_and_read_back(rt: HostRuntime) {
     let alloc = rt.alloc();
     let record = public_record(&IDENTIFIER, &PUBLIC_BYTES);
-    assert!(rt; is_written(alloc, &record));
-    assert!(rt; is_read(alloc, KEY_TEXT, &record));
-    assert!(rt; is_bare(alloc, ENCODED, &record));
-    assert!(rt; shows_its_identifier(alloc));
+    assert!(rt; is_so(is_written(alloc, &record)));
+    assert!(rt; is_so(is_read(alloc, KEY_TEXT, &record)));
+    assert!(rt; is_so(is_bare(alloc, ENCODED, &record)));
+    assert!(rt; is_so(shows_its_identifier(alloc)));
 }
 
 // Whether this is the public half of key A's record under this key derivation.
 fn is_public_half(alloc: Global, kdf: &[u8; 2]) -> Result<bool> {
     let secret = SecretKey::from_bytes(&secret_record(kdf, &[0; 32]))?;
-    let public = PublicKey::from_secret_key(&secret)?;
-    let bytes = public.to_bytes(alloc);
-    Ok(is_record(&bytes, &public_record(&IDENTIFIER, &PUBLIC_BYTES)))
+    let bytes = PublicKey::from_secret_key(&secret)?.to_bytes(alloc);
+    Ok(gives_record(bytes, &public_record(&IDENTIFIER, &PUBLIC_BYTES)))
 }
 
 #[test]
 fn the_public_half_of_a_secret_key(rt: HostRuntime) {
-    let unsealed = is_public_half(rt.alloc(), b"\0\0");
-    assert!(rt; holds(&unsealed));
-    let sealed = is_public_half(rt.alloc(), b"Sc");
-    assert!(rt; holds(&sealed));
+    assert!(rt; is_so(is_public_half(rt.alloc(), b"\0\0")));
+    assert!(rt; is_so(is_public_half(rt.alloc(), b"Sc")));
 }
 
-// The box of that text.
-fn boxed(alloc: Global) -> Result<PublicKeyBox> {
-    Ok(PublicKeyBox::from(String::from_str(alloc, KEY_TEXT)?))
-}
-
-// Whether the box is shown as its text, and written as its bytes.
-fn is_shown(alloc: Global, pk_box: &PublicKeyBox) -> Result<bool> {
-    let shown = format!(in alloc; "{pk_box}")?;
-    let bytes = pk_box.to_bytes(alloc);
-    Ok(is_record(&bytes, KEY_TEXT.as_bytes()) && shown.as_str() == KEY_TEXT)
-}
-
-// Whether a copy of the box turns into its text.
-fn is_copied(alloc: Global, pk_box: &PublicKeyBox) -> Result<bool> {
-    let other = String::from(pk_box.try_clone(alloc)?);
-    Ok(other.as_str() == KEY_TEXT)
-}
-
-// Whether the box turns into its text.
+// Whether the box of that text is its text, whichever way it is asked, and turns into it.
 fn is_its_text(alloc: Global) -> Result<bool> {
-    let text = boxed(alloc)?.into_string();
-    Ok(text.as_str() == KEY_TEXT)
-}
-
-// Whether a box is its text, whichever way it is asked.
-fn is_its_text_in_all_ways(alloc: Global) -> bool {
-    let Ok(pk_box) = boxed(alloc) else {
-        return false;
-    };
-    let shown = is_shown(alloc, &pk_box);
-    let copied = is_copied(alloc, &pk_box);
-    holds(&shown) && holds(&copied)
+    let pk_box = PublicKeyBox::from(String::from_str(alloc, KEY_TEXT)?);
+    let asked = is_so(is_public_text(alloc, &pk_box, KEY_TEXT));
+    let text = String::from(pk_box);
+    Ok(asked && text.as_str() == KEY_TEXT)
 }
 
 #[test]
 fn a_public_box_is_its_text(rt: HostRuntime) {
-    assert!(rt; is_its_text_in_all_ways(rt.alloc()));
-    let text = is_its_text(rt.alloc());
-    assert!(rt; holds(&text));
+    assert!(rt; is_so(is_its_text(rt.alloc())));
 }
 
 #[test]
@@ -173,14 +125,13 @@ fn beginnings_of_a_public_text(rt: HostRuntime) {
 
 // Whether so many bytes of the text have their outcome.
 fn is_begun(alloc: Global, len: usize) -> bool {
-    let answer = read(alloc, beginning(KEY_TEXT, len));
     let expected = match len {
         0 => NO_COMMENT,
         1..=57 => NO_KEY,
         58..=112 => LENGTH,
         _ => Accepted,
     };
-    comes_to(&answer, expected)
+    ends_in(read(alloc, beginning(KEY_TEXT, len)), expected)
 }
 
 // The outcome of reading so many letters of the encoded key, and what stands before and behind them.
@@ -189,18 +140,9 @@ fn read_odd(alloc: Global, before: &str, letters: usize, behind: &str) -> Result
     read(alloc, text.as_str())
 }
 
-// Asserts that it is this one.
-fn is_read_odd<A: Abort>(
-    rt: &A,
-    alloc: Global,
-    before: &str,
-    letters: usize,
-    behind: &str,
-    expected: Outcome,
-) {
-    let answer = read_odd(alloc, before, letters, behind);
-    let came = comes_to(&answer, expected);
-    assert!(rt; came, "at {before:?} {letters} {behind:?}");
+// Whether it is this one.
+fn is_odd(alloc: Global, before: &str, letters: usize, behind: &str, expected: Outcome) -> bool {
+    ends_in(read_odd(alloc, before, letters, behind), expected)
 }
 
 // Each row: what stands before the encoded key, how many of its letters there are, and what stands
@@ -208,52 +150,50 @@ fn is_read_odd<A: Abort>(
 #[test]
 fn odd_public_texts(rt: HostRuntime) {
     let alloc = rt.alloc();
-    is_read_odd(&rt, alloc, "", 0, "", NO_COMMENT);
-    is_read_odd(&rt, alloc, "\n", 0, "", NO_KEY);
-    is_read_odd(&rt, alloc, "c", 0, "", NO_KEY);
-    is_read_odd(&rt, alloc, "c\r\n", 56, "\r\n", Accepted);
-    is_read_odd(&rt, alloc, "\n", 56, "\nmore\nlines", Accepted);
-    is_read_odd(&rt, alloc, "c\n", 56, "\r\r\n", LENGTH);
-    is_read_odd(&rt, alloc, "c\n", 56, "A\n", LENGTH);
-    is_read_odd(&rt, alloc, "c\n ", 56, "\n", LENGTH);
-    is_read_odd(&rt, alloc, "c\n", 55, "!\n", NOT_BASE64);
-    is_read_odd(&rt, alloc, "c\n ", 55, "\n", NOT_BASE64);
-    is_read_odd(&rt, alloc, "c\n ", 52, "   \n", TOO_SHORT);
-    is_read_odd(&rt, alloc, "c\n", 54, "o=\n", TOO_SHORT);
-    is_read_odd(&rt, alloc, "c\n", 55, "=\n", NOT_BASE64);
-    is_read_odd(&rt, alloc, FED, 56, "\n", NOT_BASE64);
+    assert!(rt; is_odd(alloc, "", 0, "", NO_COMMENT));
+    assert!(rt; is_odd(alloc, "\n", 0, "", NO_KEY));
+    assert!(rt; is_odd(alloc, "c", 0, "", NO_KEY));
+    assert!(rt; is_odd(alloc, "c\r\n", 56, "\r\n", Accepted));
+    assert!(rt; is_odd(alloc, "\n", 56, "\nmore\nlines", Accepted));
+    assert!(rt; is_odd(alloc, "c\n", 56, "\r\r\n", LENGTH));
+    assert!(rt; is_odd(alloc, "c\n", 56, "A\n", LENGTH));
+    assert!(rt; is_odd(alloc, "c\n ", 56, "\n", LENGTH));
+    assert!(rt; is_odd(alloc, "c\n", 55, "!\n", NOT_BASE64));
+    assert!(rt; is_odd(alloc, "c\n ", 55, "\n", NOT_BASE64));
+    assert!(rt; is_odd(alloc, "c\n ", 52, "   \n", TOO_SHORT));
+    assert!(rt; is_odd(alloc, "c\n", 54, "o=\n", TOO_SHORT));
+    assert!(rt; is_odd(alloc, "c\n", 55, "=\n", NOT_BASE64));
+    assert!(rt; is_odd(alloc, FED, 56, "\n", NOT_BASE64));
 }
 
 // The outcome of reading a bare key of three parts.
 fn read_bare(alloc: Global, before: &str, encoded: &str, behind: &str) -> Result<PublicKey> {
     let text = joined(alloc, before, encoded, behind)?;
-    bare(alloc, text.as_str())
+    PublicKey::from_base64(alloc, text.as_str())
 }
 
-// Asserts that it is this one.
-fn is_read_bare<A: Abort>(
-    rt: &A,
+// Whether it is this one.
+fn is_odd_bare(
     alloc: Global,
     before: &str,
     encoded: &str,
     behind: &str,
     expected: Outcome,
-) {
-    let answer = read_bare(alloc, before, encoded, behind);
-    let came = comes_to(&answer, expected);
-    assert!(rt; came, "at {before:?} {encoded} {behind:?}");
+) -> bool {
+    ends_in(read_bare(alloc, before, encoded, behind), expected)
 }
 
 #[test]
 fn bare_public_keys(rt: HostRuntime) {
     let alloc = rt.alloc();
+    let other = OTHER;
     let (most, but_one) = (beginning(ENCODED, 54), beginning(ENCODED, 55));
-    is_read_bare(&rt, alloc, "", OTHER, "", Accepted);
-    is_read_bare(&rt, alloc, " ", OTHER, "", BARE_NOT_BASE64);
-    is_read_bare(&rt, alloc, "", OTHER, "\n", BARE_NOT_BASE64);
-    is_read_bare(&rt, alloc, "", LONGER, "", BARE_LENGTH);
-    is_read_bare(&rt, alloc, "", "", "", BARE_LENGTH);
-    is_read_bare(&rt, alloc, "", most, "o=", TOO_SHORT);
-    is_read_bare(&rt, alloc, "", but_one, "=", BARE_NOT_BASE64);
-    is_read_bare(&rt, alloc, "", but_one, "!", BARE_NOT_BASE64);
+    assert!(rt; is_odd_bare(alloc, "", other, "", Accepted));
+    assert!(rt; is_odd_bare(alloc, " ", other, "", BARE_NOT_BASE64));
+    assert!(rt; is_odd_bare(alloc, "", other, "\n", BARE_NOT_BASE64));
+    assert!(rt; is_odd_bare(alloc, "", LONGER, "", BARE_LENGTH));
+    assert!(rt; is_odd_bare(alloc, "", "", "", BARE_LENGTH));
+    assert!(rt; is_odd_bare(alloc, "", most, "o=", TOO_SHORT));
+    assert!(rt; is_odd_bare(alloc, "", but_one, "=", BARE_NOT_BASE64));
+    assert!(rt; is_odd_bare(alloc, "", but_one, "!", BARE_NOT_BASE64));
 }

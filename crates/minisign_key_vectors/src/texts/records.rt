@@ -9,24 +9,16 @@ use minisign_fixtures::keys::{
     secret_record, signature_record,
 };
 use minisign_fixtures::outcomes::Outcome::{self, Refused};
-use minisign_fixtures::outcomes::{comes_to, front, holds, is_record, is_text};
+use minisign_fixtures::outcomes::{ends_in, front, gives_record, gives_text, is_so};
 use std::alloc::Global;
 
 const TOO_SHORT: Outcome = Refused(RecordTooShort);
 
 // Whether the public key of this record is read from these bytes.
-fn is_public_key(alloc: Global, bytes: &[u8], record: &[u8]) -> bool {
-    let Ok(key) = PublicKey::from_bytes(bytes) else {
-        return false;
-    };
-    let written = key.to_bytes(alloc);
-    key.keynum() == IDENTIFIER.as_slice() && is_record(&written, record)
-}
-
-// Whether these bytes are refused as too short for a public key.
-fn is_no_public_key(bytes: &[u8]) -> bool {
-    let short = PublicKey::from_bytes(bytes);
-    comes_to(&short, TOO_SHORT)
+fn is_public_key(alloc: Global, bytes: &[u8], record: &[u8]) -> Result<bool> {
+    let key = PublicKey::from_bytes(bytes)?;
+    let written = gives_record(key.to_bytes(alloc), record);
+    Ok(written && key.keynum() == IDENTIFIER.as_slice())
 }
 
 // A public key is read from its record and from a longer one, and not from a shorter one.
@@ -36,24 +28,16 @@ fn public_keys_are_read_back(rt: HostRuntime) {
     let record = public_record(&IDENTIFIER, &PUBLIC_BYTES);
     let mut longer = [b'!'; 43];
     longer[..42].copy_from_slice(&record);
-    assert!(rt; is_public_key(alloc, &record, &record));
-    assert!(rt; is_public_key(alloc, &longer, &record));
-    assert!(rt; is_no_public_key(front(&record, 41)));
+    assert!(rt; is_so(is_public_key(alloc, &record, &record)));
+    assert!(rt; is_so(is_public_key(alloc, &longer, &record)));
+    assert!(rt; ends_in(PublicKey::from_bytes(front(&record, 41)), TOO_SHORT));
 }
 
 // Whether the secret key of this record is read from these bytes.
-fn is_secret_key(alloc: Global, bytes: &[u8], record: &[u8]) -> bool {
-    let Ok(key) = SecretKey::from_bytes(bytes) else {
-        return false;
-    };
-    let written = key.to_bytes(alloc);
-    key.keynum() == IDENTIFIER.as_slice() && is_record(&written, record)
-}
-
-// Whether these bytes are refused as too short for a secret key.
-fn is_no_secret_key(bytes: &[u8]) -> bool {
-    let short = SecretKey::from_bytes(bytes);
-    comes_to(&short, TOO_SHORT)
+fn is_secret_key(alloc: Global, bytes: &[u8], record: &[u8]) -> Result<bool> {
+    let key = SecretKey::from_bytes(bytes)?;
+    let written = gives_record(key.to_bytes(alloc), record);
+    Ok(written && key.keynum() == IDENTIFIER.as_slice())
 }
 
 // The same of a secret key.
@@ -63,106 +47,68 @@ fn secret_keys_are_read_back(rt: HostRuntime) {
     let record = secret_record(&[0, 0], &CHECKSUM);
     let mut longer = [b'!'; 159];
     longer[..158].copy_from_slice(&record);
-    assert!(rt; is_secret_key(alloc, &record, &record));
-    assert!(rt; is_secret_key(alloc, &longer, &record));
-    assert!(rt; is_no_secret_key(front(&record, 157)));
+    assert!(rt; is_so(is_secret_key(alloc, &record, &record)));
+    assert!(rt; is_so(is_secret_key(alloc, &longer, &record)));
+    assert!(rt; ends_in(SecretKey::from_bytes(front(&record, 157)), TOO_SHORT));
 }
 
 // Whether the signature of this record is read from these bytes.
-fn is_signature(alloc: Global, bytes: &[u8], record: &[u8]) -> bool {
-    let Ok(stored) = Signature::from_bytes(bytes) else {
-        return false;
-    };
-    let written = stored.to_bytes(alloc);
-    let named = stored.sig_alg == *b"ED" && stored.keynum == IDENTIFIER;
-    is_record(&written, record) && named
-}
-
-// Whether these bytes are refused as too short for a signature.
-fn is_no_signature(bytes: &[u8]) -> bool {
-    let short = Signature::from_bytes(bytes);
-    comes_to(&short, TOO_SHORT)
-}
-
-// A signature is read from its record and from a longer one, and not from a shorter one.
-#[test]
-fn signatures_are_read_back(rt: HostRuntime) {
-    let alloc = rt.alloc();
-    let record = signature_record(b"ED", &IDENTIFIER, &TIED_TO_ABC);
-    let mut longer = [b'!'; 75];
-    longer[..74].copy_from_slice(&record);
-    assert!(rt; is_signature(alloc, &record, &record));
-    assert!(rt; is_signature(alloc, &longer, &record));
-    assert!(rt; is_no_signature(front(&record, 73)));
+fn is_signature(alloc: Global, bytes: &[u8], record: &[u8]) -> Result<bool> {
+    let stored = Signature::from_bytes(bytes)?;
+    let written = gives_record(stored.to_bytes(alloc), record);
+    Ok(written && stored.sig_alg == *b"ED" && stored.keynum == IDENTIFIER)
 }
 
 // Whether the bare bones of this record are read from these bytes.
-fn are_bones(alloc: Global, bytes: &[u8], record: &[u8]) -> bool {
-    let Ok(bones) = SignatureBones::from_bytes(bytes) else {
-        return false;
-    };
-    let written = bones.to_bytes(alloc);
-    is_record(&written, record)
+fn are_bones(alloc: Global, bytes: &[u8], record: &[u8]) -> Result<bool> {
+    let bones = SignatureBones::from_bytes(bytes)?;
+    Ok(gives_record(bones.to_bytes(alloc), record))
 }
 
-// Whether these bytes are refused as too short for bare bones.
-fn are_no_bones(bytes: &[u8]) -> bool {
-    let short = SignatureBones::from_bytes(bytes);
-    comes_to(&short, TOO_SHORT)
-}
-
-// The same of bare bones.
+// A signature and its bare bones are read from their record and from a longer one, and not from a
+// shorter one.
 #[test]
-fn bare_bones_are_read_back(rt: HostRuntime) {
+fn signatures_and_bare_bones_are_read_back(rt: HostRuntime) {
     let alloc = rt.alloc();
     let record = signature_record(b"ED", &IDENTIFIER, &TIED_TO_ABC);
     let mut longer = [b'!'; 75];
     longer[..74].copy_from_slice(&record);
-    assert!(rt; are_bones(alloc, &record, &record));
-    assert!(rt; are_bones(alloc, &longer, &record));
-    assert!(rt; are_no_bones(front(&record, 73)));
+    let shorter = front(&record, 73);
+    assert!(rt; is_so(is_signature(alloc, &record, &record)));
+    assert!(rt; is_so(is_signature(alloc, &longer, &record)));
+    assert!(rt; ends_in(Signature::from_bytes(shorter), TOO_SHORT));
+    assert!(rt; is_so(are_bones(alloc, &record, &record)));
+    assert!(rt; is_so(are_bones(alloc, &longer, &record)));
+    assert!(rt; ends_in(SignatureBones::from_bytes(shorter), TOO_SHORT));
 }
 
 #[test]
 fn signatures_of_zeros_and_their_sizes(rt: HostRuntime) {
-    let zeros = Signature::default().to_bytes(rt.alloc());
-    assert!(rt; is_record(&zeros, &[0; 74]));
+    assert!(rt; gives_record(Signature::default().to_bytes(rt.alloc()), &[0; 74]));
     assert!(rt; Signature::BYTES == 74 && SignatureBones::BYTES == 74);
 }
 
-// Whether the box has no comments.
-fn has_no_comments(alloc: Global, signature_box: &SignatureBox) -> bool {
-    let untrusted = signature_box.untrusted_comment(alloc);
-    let trusted = signature_box.trusted_comment(alloc);
-    let empty = is_text(&untrusted, "");
-    comes_to(&trusted, Refused(TrustedCommentAbsent)) && empty
-}
-
-// Whether the box gives the bones of this record.
-fn gives_bones(alloc: Global, signature_box: SignatureBox, record: &[u8]) -> bool {
-    let written = SignatureBones::from(signature_box).to_bytes(alloc);
-    is_record(&written, record)
-}
-
 // Whether the box of a record under this algorithm has its bytes, and no comments.
-fn is_bare(alloc: Global, algorithm: &[u8; 2], prehashed: bool) -> bool {
+fn is_bare(alloc: Global, algorithm: &[u8; 2], prehashed: bool) -> Result<bool> {
     let record = signature_record(algorithm, &OTHER_IDENTIFIER, &TIED_TO_ABC);
-    let Ok(bones) = SignatureBones::from_bytes(&record) else {
-        return false;
-    };
+    let bones = SignatureBones::from_bytes(&record)?;
     let told = bones.is_prehashed();
     let signature_box = SignatureBox::from_bones(bones);
     let told_again = signature_box.is_prehashed();
     let named = signature_box.keynum() == OTHER_IDENTIFIER.as_slice();
-    let bare = has_no_comments(alloc, &signature_box);
-    let given = gives_bones(alloc, signature_box, &record);
-    told == prehashed && told_again == prehashed && named && bare && given
+    let untrusted = gives_text(signature_box.untrusted_comment(alloc), "");
+    let absent = Refused(TrustedCommentAbsent);
+    let trusted = ends_in(signature_box.trusted_comment(alloc), absent);
+    let written = SignatureBones::from(signature_box).to_bytes(alloc);
+    let given = gives_record(written, &record);
+    let right = told == prehashed && told_again == prehashed;
+    Ok(right && named && untrusted && trusted && given)
 }
 
 #[test]
 fn bare_signatures_have_no_comments(rt: HostRuntime) {
-    assert!(rt; is_bare(rt.alloc(), b"ED", true));
-    assert!(rt; is_bare(rt.alloc(), b"Ed", false));
+    assert!(rt; is_so(is_bare(rt.alloc(), b"ED", true)));
+    assert!(rt; is_so(is_bare(rt.alloc(), b"Ed", false)));
 }
 
 // Whether the public keys of two records are equal.
@@ -269,5 +215,5 @@ fn is_shown(alloc: Global, expected: &str) -> Result<bool> {
 fn secrets_are_shown_in_hexadecimal(rt: HostRuntime) {
     let expected =
         "000000000000000000000000000000005a5a5a5a5a5a5a5a5a5a5a5a5a5a5a5a5a5a5a5a5a5a5a5a5a5a5a5a5a5a5a5a";
-    assert!(rt; holds(&is_shown(rt.alloc(), expected)));
+    assert!(rt; is_so(is_shown(rt.alloc(), expected)));
 }

@@ -18,7 +18,7 @@ use minisign_fixtures::devices::random::FailingRandom;
 use minisign_fixtures::devices::sinks::LimitedSink;
 use minisign_fixtures::devices::sources::{Changes, FailingSource};
 use minisign_fixtures::outcomes::Outcome::{self, Accepted, Refused};
-use minisign_fixtures::outcomes::{comes_to, front, holds, is_record, is_text};
+use minisign_fixtures::outcomes::{ends_in, front, gives_record, is_so, is_text};
 use minisign_fixtures::texts::{
     KEY_TEXT, LEGACY_TEXT, SAID, SEALED, SEALED_WITH_NOTHING, SIGNATURE_TEXT,
 };
@@ -80,40 +80,39 @@ fn signed<P: Source, Q: Sink, R: Source, Z: RandomSource>(
     signed_text(alloc, SEALED, None, prompt, data, ("t", "c"), random)
 }
 
-// Asserts that verifying with output over data that fails behind so many calls comes out so, and
-// that so much is said and copied.
-fn copies<A: Abort>(
-    rt: &A,
-    alloc: Global,
-    calls: usize,
-    outcome: Outcome,
-    (said, copied): (usize, usize),
-) {
+// Whether verifying with output over data that fails behind so many calls comes out so, and so much
+// is said and copied.
+fn copies(alloc: Global, calls: usize, outcome: Outcome, said: usize, copied: usize) -> bool {
     let mut data = FailingSource::new(b"abc", calls);
     let wanted = Wanted {
         outcome,
         said: front(SAID, said),
         copied: front(b"abc", copied),
     };
-    let came = comes_out(alloc, SIGNATURE_TEXT, &mut data, true, ample(alloc), wanted);
-    assert!(rt; came, "at {calls}");
+    comes_out(alloc, SIGNATURE_TEXT, &mut data, true, ample(alloc), wanted)
 }
 
 // Calls of the data in their order: the mark, four reads, going back, four reads.
 #[test]
 fn the_data_of_a_copy_fails(rt: HostRuntime) {
-    let alloc = rt.alloc();
-    copies(&rt, alloc, 0, NOT_BACK, (0, 0));
-    copies(&rt, alloc, 1, UNREAD, (0, 0));
-    copies(&rt, alloc, 2, UNREAD, (0, 0));
-    copies(&rt, alloc, 3, UNREAD, (0, 0));
-    copies(&rt, alloc, 4, UNREAD, (0, 0));
-    copies(&rt, alloc, 5, NOT_BACK, (60, 0));
-    copies(&rt, alloc, 6, UNREAD, (60, 0));
-    copies(&rt, alloc, 7, UNREAD, (60, 1));
-    copies(&rt, alloc, 8, UNREAD, (60, 2));
-    copies(&rt, alloc, 9, UNREAD, (60, 3));
-    copies(&rt, alloc, 10, Accepted, (60, 3));
+    for (calls, outcome, said, copied) in [
+        (0usize, NOT_BACK, 0usize, 0usize),
+        (1, UNREAD, 0, 0),
+        (2, UNREAD, 0, 0),
+        (3, UNREAD, 0, 0),
+        (4, UNREAD, 0, 0),
+        (5, NOT_BACK, 60, 0),
+        (6, UNREAD, 60, 0),
+        (7, UNREAD, 60, 1),
+        (8, UNREAD, 60, 2),
+        (9, UNREAD, 60, 3),
+        (10, Accepted, 60, 3),
+    ] {
+        assert!(rt;
+            copies(rt.alloc(), calls, outcome, said, copied),
+            "at {calls}"
+        );
+    }
 }
 
 // A mark that fails leaves all of the data.
@@ -127,7 +126,7 @@ fn a_failing_mark_leaves_the_data(rt: HostRuntime) {
         copied: b"",
     };
     assert!(rt; comes_out(alloc, SIGNATURE_TEXT, &mut data, true, ample(alloc), wanted));
-    assert!(rt; is_record(&read_to_end(alloc, &mut data), b"abc"));
+    assert!(rt; gives_record(read_to_end(alloc, &mut data), b"abc"));
 }
 
 // Whether verifying with the text over data that fails behind so many calls comes out so.
@@ -158,9 +157,10 @@ fn reads_four_times<A: Abort>(rt: &A, alloc: Global, text: &str, output: bool, c
 #[test]
 fn data_that_is_read_once_fails(rt: HostRuntime) {
     let alloc = rt.alloc();
+    let legacy = LEGACY_TEXT;
     reads_four_times(&rt, alloc, SIGNATURE_TEXT, false, b"");
-    reads_four_times(&rt, alloc, LEGACY_TEXT, false, b"");
-    reads_four_times(&rt, alloc, LEGACY_TEXT, true, b"abc");
+    reads_four_times(&rt, alloc, legacy, false, b"");
+    reads_four_times(&rt, alloc, legacy, true, b"abc");
 }
 
 // Whether verifying over a status that takes so many bytes a write, and fails behind so many calls,
@@ -194,8 +194,9 @@ fn tells<A: Abort>(rt: &A, alloc: Global, text: &str, most: usize, writes: usize
 #[test]
 fn the_status_fails(rt: HostRuntime) {
     let alloc = rt.alloc();
-    tells(&rt, alloc, SIGNATURE_TEXT, 1, 60);
-    tells(&rt, alloc, SIGNATURE_TEXT, 100, 1);
+    let text = SIGNATURE_TEXT;
+    tells(&rt, alloc, text, 1, 60);
+    tells(&rt, alloc, text, 100, 1);
     tells(&rt, alloc, LEGACY_TEXT, 1, 60);
 }
 
@@ -246,11 +247,12 @@ fn outputs<A: Abort>(
 #[test]
 fn the_output_fails(rt: HostRuntime) {
     let alloc = rt.alloc();
+    let (text, legacy) = (SIGNATURE_TEXT, LEGACY_TEXT);
     let same: (&[u8], &[u8]) = (b"abc", b"abc");
-    outputs(&rt, alloc, SIGNATURE_TEXT, same, 4, Accepted);
-    outputs(&rt, alloc, LEGACY_TEXT, same, 4, Accepted);
-    outputs(&rt, alloc, LEGACY_TEXT, (b"abd", b"abc"), 4, Accepted);
-    outputs(&rt, alloc, SIGNATURE_TEXT, (b"abd", b"abd"), 3, CHANGED);
+    outputs(&rt, alloc, text, same, 4, Accepted);
+    outputs(&rt, alloc, legacy, same, 4, Accepted);
+    outputs(&rt, alloc, legacy, (b"abd", b"abc"), 4, Accepted);
+    outputs(&rt, alloc, text, (b"abd", b"abd"), 3, CHANGED);
 }
 
 // Whether signing over data that fails behind so many reads and random bytes that fail behind so
@@ -265,28 +267,9 @@ fn is_signed(alloc: Global, reads: usize, draws: usize, expected: Outcome) -> Re
         moment: 0,
     };
     let answer = signed_from(alloc, None, &secret, &mut data, said, &mut random);
-    let came = comes_to(&answer, expected);
+    let came = ends_in(answer, expected);
     let undrawn = random.random.fill(&mut [0; 128]).is_ok();
     Ok(came && undrawn == (reads < 4 || draws == 0))
-}
-
-// Asserts it.
-fn signs<A: Abort>(rt: &A, alloc: Global, reads: usize, draws: usize, expected: Outcome) {
-    let came = is_signed(alloc, reads, draws, expected);
-    assert!(rt; holds(&came), "at {reads} {draws}");
-}
-
-// Signing reads four times and draws twice; a key that is passed in is tested after that.
-#[test]
-fn the_devices_of_signing_fail(rt: HostRuntime) {
-    let alloc = rt.alloc();
-    signs(&rt, alloc, 0, 0, UNREAD);
-    signs(&rt, alloc, 1, 0, UNREAD);
-    signs(&rt, alloc, 2, 0, UNREAD);
-    signs(&rt, alloc, 3, 0, UNREAD);
-    signs(&rt, alloc, 4, 0, UNDRAWN);
-    signs(&rt, alloc, 4, 1, UNDRAWN);
-    signs(&rt, alloc, 4, 2, Accepted);
 }
 
 // Whether signing with this prompt has this outcome, tells so much, and leaves so much of the data
@@ -302,10 +285,10 @@ fn is_signed_with<P: Source + Drop>(
     let mut data = SliceSource::new(b"abc");
     let mut random = FixedRandom::new(&ZEROS);
     let answer = signed(alloc, &mut prompt, &mut data, &mut random);
-    let came = comes_to(&answer, expected);
+    let came = ends_in(answer, expected);
     let told = prompt.writer.as_slice() == front(ASKED_AND_DONE, told);
     let left: &[u8] = if is_untouched { b"abc" } else { b"" };
-    let read = is_record(&read_to_end(alloc, &mut data), left);
+    let read = gives_record(read_to_end(alloc, &mut data), left);
     let undrawn = random.fill(&mut [0; 128]).is_ok();
     came && told && read && undrawn == is_untouched
 }
@@ -327,26 +310,24 @@ fn the_reader_of_signing_fails(rt: HostRuntime) {
     assert!(rt; is_signed_with(alloc, prompt, Accepted, 81, false));
 }
 
-// Asserts that signing with a writer that fails behind so many calls has this outcome, and tells so
-// much.
-fn writes<A: Abort>(rt: &A, alloc: Global, calls: usize, expected: Outcome, told: usize) {
+// Whether signing with a writer that fails behind so many calls has this outcome, and tells so much.
+fn writes(alloc: Global, calls: usize, expected: Outcome, told: usize) -> bool {
     let writer = LimitedSink::new(alloc, 100).failing_after(calls);
     let prompt = Prompt::new(SliceSource::new(b"password\n"), writer);
-    let came = is_signed_with(alloc, prompt, expected, told, calls < 6);
-    assert!(rt; came, "at {calls}");
+    is_signed_with(alloc, prompt, expected, told, calls < 6)
 }
 
 // The writer writes and flushes three texts.
 #[test]
 fn the_writer_of_signing_fails(rt: HostRuntime) {
     let alloc = rt.alloc();
-    writes(&rt, alloc, 0, UNWRITTEN, 0);
-    writes(&rt, alloc, 1, UNWRITTEN, 10);
-    writes(&rt, alloc, 2, UNWRITTEN, 10);
-    writes(&rt, alloc, 3, UNWRITTEN, 76);
-    writes(&rt, alloc, 4, UNWRITTEN, 76);
-    writes(&rt, alloc, 5, UNWRITTEN, 81);
-    writes(&rt, alloc, 6, Accepted, 81);
+    assert!(rt; writes(alloc, 0, UNWRITTEN, 0));
+    assert!(rt; writes(alloc, 1, UNWRITTEN, 10));
+    assert!(rt; writes(alloc, 2, UNWRITTEN, 10));
+    assert!(rt; writes(alloc, 3, UNWRITTEN, 76));
+    assert!(rt; writes(alloc, 4, UNWRITTEN, 76));
+    assert!(rt; writes(alloc, 5, UNWRITTEN, 81));
+    assert!(rt; writes(alloc, 6, Accepted, 81));
 }
 
 // Whether signing with a text over such data and random bytes has this outcome, and draws so; the
@@ -356,30 +337,32 @@ fn is_signed_by_text(alloc: Global, reads: usize, draws: usize, expected: Outcom
     let mut data = FailingSource::new(b"abc", reads);
     let mut random = FailingRandom::new(&ZEROS, draws);
     let answer = signed(alloc, &mut prompt, &mut data, &mut random);
-    let came = comes_to(&answer, expected);
     let text = answer.is_err() || is_text(&answer, SIGNATURE_TEXT);
+    let came = ends_in(answer, expected);
     let told = prompt.writer.as_slice() == ASKED_AND_DONE;
     let undrawn = random.random.fill(&mut [0; 128]).is_ok();
     came && text && told && undrawn == (reads < 4 || draws == 0)
 }
 
-// Asserts it.
-fn signs_by_text<A: Abort>(rt: &A, alloc: Global, reads: usize, draws: usize, expected: Outcome) {
-    let came = is_signed_by_text(alloc, reads, draws, expected);
-    assert!(rt; came, "at {reads} {draws}");
-}
-
-// Once the key is opened, the data is read four times and random bytes are drawn twice.
+// Signing reads four times and draws twice; a key that is passed in is tested after that, and a text
+// is opened before.
 #[test]
-fn the_devices_of_signing_with_a_text_fail(rt: HostRuntime) {
+fn the_devices_of_signing_fail(rt: HostRuntime) {
     let alloc = rt.alloc();
-    signs_by_text(&rt, alloc, 0, 0, UNREAD);
-    signs_by_text(&rt, alloc, 1, 0, UNREAD);
-    signs_by_text(&rt, alloc, 2, 0, UNREAD);
-    signs_by_text(&rt, alloc, 3, 0, UNREAD);
-    signs_by_text(&rt, alloc, 4, 0, UNDRAWN);
-    signs_by_text(&rt, alloc, 4, 1, UNDRAWN);
-    signs_by_text(&rt, alloc, 4, 2, Accepted);
+    for (reads, draws, expected) in [
+        (0usize, 0usize, UNREAD),
+        (1, 0, UNREAD),
+        (2, 0, UNREAD),
+        (3, 0, UNREAD),
+        (4, 0, UNDRAWN),
+        (4, 1, UNDRAWN),
+        (4, 2, Accepted),
+    ] {
+        let signed = is_so(is_signed(alloc, reads, draws, expected));
+        assert!(rt; signed, "at {reads} {draws}");
+        let signed = is_signed_by_text(alloc, reads, draws, expected);
+        assert!(rt; signed, "at {reads} {draws} of a text");
+    }
 }
 
 #[test]
@@ -392,11 +375,11 @@ fn a_prompt_that_takes_four_bytes_leaves_the_data(rt: HostRuntime) {
     let mut data = SliceSource::new(b"abc");
     let mut random = FixedRandom::new(&ZEROS);
     let answer = signed(alloc, &mut prompt, &mut data, &mut random);
-    assert!(rt; comes_to(&answer, UNWRITTEN));
+    assert!(rt; ends_in(answer, UNWRITTEN));
     let (mut reader, writer) = prompt.into_parts();
     assert!(rt; writer.as_slice() == b"Pass".as_slice());
-    assert!(rt; is_record(&read_to_end(alloc, &mut reader), b"password\n"));
-    assert!(rt; is_record(&read_to_end(alloc, &mut data), b"abc"));
+    assert!(rt; gives_record(read_to_end(alloc, &mut reader), b"password\n"));
+    assert!(rt; gives_record(read_to_end(alloc, &mut data), b"abc"));
 }
 
 // Whether opening the text with this prompt has this outcome, and tells this.
@@ -412,7 +395,8 @@ fn opens<P: Source + Drop>(
         return false;
     };
     let answer = SecretKey::from_box(alloc, sk_box, None, &mut prompt);
-    comes_to(&answer, expected) && prompt.writer.as_slice() == told
+    let came = ends_in(answer, expected);
+    came && prompt.writer.as_slice() == told
 }
 
 // Asserts that opening the text reads all that is typed, whichever of the reads fails.
@@ -458,36 +442,43 @@ fn opens_empty(alloc: Global, calls: usize, expected: Outcome, told: usize) -> b
     )
 }
 
-// The prompt's writer writes and flushes three texts where a password is typed, and four where an
-// empty one is.
+// The prompt's writer writes and flushes three texts where a password is typed. Behind its last call
+// the key opens.
 #[test]
 fn the_writer_of_opening_fails(rt: HostRuntime) {
-    let alloc = rt.alloc();
-    assert!(rt; opens_typed(alloc, 0, UNWRITTEN, 0));
-    assert!(rt; opens_typed(alloc, 1, UNWRITTEN, 10));
-    assert!(rt; opens_typed(alloc, 2, UNWRITTEN, 10));
-    assert!(rt; opens_typed(alloc, 3, UNWRITTEN, 76));
-    assert!(rt; opens_typed(alloc, 4, UNWRITTEN, 76));
-    assert!(rt; opens_typed(alloc, 5, UNWRITTEN, 81));
+    for (calls, expected, told) in [
+        (0usize, UNWRITTEN, 0usize),
+        (1, UNWRITTEN, 10),
+        (2, UNWRITTEN, 10),
+        (3, UNWRITTEN, 76),
+        (4, UNWRITTEN, 76),
+        (5, UNWRITTEN, 81),
+        (6, Accepted, 81),
+    ] {
+        assert!(rt;
+            opens_typed(rt.alloc(), calls, expected, told),
+            "at {calls}"
+        );
+    }
 }
 
+// The same where an empty one is typed: four texts.
 #[test]
 fn the_writer_of_opening_with_nothing_fails(rt: HostRuntime) {
-    let alloc = rt.alloc();
-    assert!(rt; opens_empty(alloc, 0, UNWRITTEN, 0));
-    assert!(rt; opens_empty(alloc, 1, UNWRITTEN, 10));
-    assert!(rt; opens_empty(alloc, 2, UNWRITTEN, 10));
-    assert!(rt; opens_empty(alloc, 3, UNWRITTEN, 18));
-    assert!(rt; opens_empty(alloc, 4, UNWRITTEN, 18));
-    assert!(rt; opens_empty(alloc, 5, UNWRITTEN, 84));
-    assert!(rt; opens_empty(alloc, 6, UNWRITTEN, 84));
-    assert!(rt; opens_empty(alloc, 7, UNWRITTEN, 89));
-}
-
-// Behind its last call the key opens.
-#[test]
-fn the_writer_of_opening_is_called_so_often(rt: HostRuntime) {
-    let alloc = rt.alloc();
-    assert!(rt; opens_typed(alloc, 6, Accepted, 81));
-    assert!(rt; opens_empty(alloc, 8, Accepted, 89));
+    for (calls, expected, told) in [
+        (0usize, UNWRITTEN, 0usize),
+        (1, UNWRITTEN, 10),
+        (2, UNWRITTEN, 10),
+        (3, UNWRITTEN, 18),
+        (4, UNWRITTEN, 18),
+        (5, UNWRITTEN, 84),
+        (6, UNWRITTEN, 84),
+        (7, UNWRITTEN, 89),
+        (8, Accepted, 89),
+    ] {
+        assert!(rt;
+            opens_empty(rt.alloc(), calls, expected, told),
+            "at {calls}"
+        );
+    }
 }

@@ -15,7 +15,7 @@ use minisign_base::toy::ToyScheme;
 use minisign_examples::example::sign_and_verify;
 use minisign_fixtures::devices::sinks::Counting;
 use minisign_fixtures::keys::{IDENTIFIER, TIED_TO_ABC, signature_record};
-use minisign_fixtures::outcomes::{is_right_or_out_of_memory, is_right_or_unwritten};
+use minisign_fixtures::outcomes::{is_so_or_out_of_memory, is_so_or_unwritten};
 use minisign_fixtures::texts::{KEY_TEXT, LEGACY_TEXT, SAID, SEALED, SECRET_TEXT, SIGNATURE_TEXT};
 use std::alloc::Global;
 
@@ -97,31 +97,23 @@ fn made_by_default(alloc: Global) -> Result<SignatureBox> {
 }
 
 // The box that is read from the text of a copy.
-fn read_again(alloc: Global, signature_box: &SignatureBox) -> Result<SignatureBox> {
-    let text = signature_box.try_clone(alloc)?.into_string(alloc)?;
+fn read_again(alloc: Global, made: Result<SignatureBox>) -> Result<SignatureBox> {
+    let text = made?.try_clone(alloc)?.into_string(alloc)?;
     read_box(alloc, text.as_str())
 }
 
-// Whether this is the trusted comment of the box.
-fn has_trusted(alloc: Global, signature_box: &SignatureBox, comment: &str) -> Result<bool> {
+// Whether this is the trusted comment of the box, and its untrusted one is that by default.
+fn has_comments(alloc: Global, signature_box: &SignatureBox, trusted: &str) -> Result<bool> {
     let shown = signature_box.trusted_comment(alloc)?;
-    Ok(shown.as_str() == comment)
-}
-
-// Whether its untrusted comment is the one by default.
-fn has_usual_comment(alloc: Global, signature_box: &SignatureBox) -> Result<bool> {
-    let shown = signature_box.untrusted_comment(alloc)?;
-    Ok(shown.as_str() == "signature from rsign secret key")
+    let below = signature_box.untrusted_comment(alloc)?;
+    Ok(shown.as_str() == trusted && below.as_str() == "signature from rsign secret key")
 }
 
 // Whether a box that is made with a public key to test, and with the comments by default, has its
 // own.
 fn made(alloc: Global) -> Result<bool> {
-    let signature_box = made_by_default(alloc)?;
-    let again = read_again(alloc, &signature_box)?;
-    let trusted = has_trusted(alloc, &again, "timestamp:7")?;
-    let untrusted = has_usual_comment(alloc, &again)?;
-    Ok(trusted && untrusted)
+    let again = read_again(alloc, made_by_default(alloc))?;
+    has_comments(alloc, &again, "timestamp:7")
 }
 
 // The text of the example of a caller, that is verified too.
@@ -155,10 +147,9 @@ fn has_record(alloc: Global, signature_box: SignatureBox) -> Result<bool> {
 // Whether signing and verifying with raw keys gives what was worked out.
 fn signed_and_verified(alloc: Global) -> Result<bool> {
     let signature_box = box_verified(alloc)?;
-    let trusted = has_trusted(alloc, &signature_box, "timestamp:1555779966")?;
-    let untrusted = has_usual_comment(alloc, &signature_box)?;
+    let commented = has_comments(alloc, &signature_box, "timestamp:1555779966")?;
     let recorded = has_record(alloc, signature_box)?;
-    Ok(trusted && untrusted && recorded)
+    Ok(commented && recorded)
 }
 
 // Whether signing with a sealed key tells a prompt over a buffer that grows, and gives the text.
@@ -179,41 +170,41 @@ fn copied_and_kept(alloc: Global) -> Result<bool> {
 
 #[test]
 fn verifying_with_texts(rt: HostRuntime) {
-    assert!(rt; is_right_or_out_of_memory(&copied(rt.alloc(), SIGNATURE_TEXT)));
+    assert!(rt; is_so_or_out_of_memory(copied(rt.alloc(), SIGNATURE_TEXT)));
 }
 
 #[test]
 fn verifying_a_legacy_text(rt: HostRuntime) {
-    assert!(rt; is_right_or_out_of_memory(&copied(rt.alloc(), LEGACY_TEXT)));
+    assert!(rt; is_so_or_out_of_memory(copied(rt.alloc(), LEGACY_TEXT)));
 }
 
 #[test]
 fn signing_with_an_unsealed_key(rt: HostRuntime) {
-    assert!(rt; is_right_or_out_of_memory(&signed(rt.alloc(), SECRET_TEXT)));
+    assert!(rt; is_so_or_out_of_memory(signed(rt.alloc(), SECRET_TEXT)));
 }
 
 #[test]
 fn signing_with_a_sealed_key(rt: HostRuntime) {
-    assert!(rt; is_right_or_out_of_memory(&signed(rt.alloc(), SEALED)));
+    assert!(rt; is_so_or_out_of_memory(signed(rt.alloc(), SEALED)));
 }
 
 #[test]
 fn signing_and_reading_again(rt: HostRuntime) {
-    assert!(rt; is_right_or_out_of_memory(&made(rt.alloc())));
+    assert!(rt; is_so_or_out_of_memory(made(rt.alloc())));
 }
 
 #[test]
 fn signing_and_verifying_with_raw_keys(rt: HostRuntime) {
-    assert!(rt; is_right_or_out_of_memory(&signed_and_verified(rt.alloc())));
+    assert!(rt; is_so_or_out_of_memory(signed_and_verified(rt.alloc())));
 }
 
 // The buffers that grow are sinks that fail where they cannot.
 #[test]
 fn signing_with_a_prompt_that_grows(rt: HostRuntime) {
-    assert!(rt; is_right_or_unwritten(&signed_and_told(rt.alloc())));
+    assert!(rt; is_so_or_unwritten(signed_and_told(rt.alloc())));
 }
 
 #[test]
 fn verifying_into_buffers_that_grow(rt: HostRuntime) {
-    assert!(rt; is_right_or_unwritten(&copied_and_kept(rt.alloc())));
+    assert!(rt; is_so_or_unwritten(copied_and_kept(rt.alloc())));
 }

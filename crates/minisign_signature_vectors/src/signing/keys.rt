@@ -23,11 +23,10 @@ use minisign_fixtures::keys::{
     secret_record, signature_record,
 };
 use minisign_fixtures::outcomes::Outcome::{self, Accepted, Refused};
-use minisign_fixtures::outcomes::{OTHER_KEY, comes_to, front, holds, is_record, is_text};
+use minisign_fixtures::outcomes::{OTHER_KEY, ends_in, front, gives_record, gives_text, is_so};
 use minisign_fixtures::texts::SAID;
 use minisign_fixtures::two_signatures::TwoSignatures;
 use std::alloc::Global;
-use std::process::Abort;
 
 const MOMENT: u64 = 1555779966;
 
@@ -157,70 +156,55 @@ fn is_accepted(alloc: Global, worked: Worked, parts: (&PublicKey, &SignatureBox)
 fn has_bones(alloc: Global, worked: Worked, pk: &PublicKey, signature_box: SignatureBox) -> bool {
     let bones = SignatureBones::from(signature_box);
     let record = signature_record(b"ED", &IDENTIFIER, &worked.tied);
-    let recorded = is_record(&bones.to_bytes(alloc), &record);
+    let recorded = gives_record(bones.to_bytes(alloc), &record);
     let bare = SignatureBox::from_bones(bones);
     let toy = ToyScheme::new();
     recorded && judges(alloc, &toy, (pk, &bare), worked.data, Accepted, SAID_BARE)
 }
 
 // Whether the box is as it was worked out.
-fn is_right(alloc: Global, worked: Worked, signature_box: SignatureBox) -> Result<bool> {
+fn is_right(alloc: Global, worked: Worked, made: Result<SignatureBox>) -> Result<bool> {
+    let signature_box = made?;
     let pk = public_a()?;
     let exact = is_exact(alloc, worked, (&pk, &signature_box));
     let accepted = is_accepted(alloc, worked, (&pk, &signature_box));
-    Ok(exact && accepted && has_bones(alloc, worked, &pk, signature_box))
+    let recorded = has_bones(alloc, worked, &pk, signature_box);
+    Ok(exact && accepted && recorded)
 }
 
 // Whether the box that key A signs with random bytes that are zeros is so, of data that is read at
-// once.
-fn is_worked_out(alloc: Global, worked: Worked) -> Result<bool> {
-    let made = signed(alloc, worked.data, worked.comments, &ZEROS)?;
-    is_right(alloc, worked, made)
-}
-
-// The same of data that is read one byte a read.
-fn is_worked_out_by_bytes(alloc: Global, worked: Worked) -> Result<bool> {
-    let made = signed_by_bytes(alloc, worked.data, worked.comments, &ZEROS)?;
-    is_right(alloc, worked, made)
+// once, and one byte a read.
+fn is_worked_out(alloc: Global, worked: Worked) -> bool {
+    let made = signed(alloc, worked.data, worked.comments, &ZEROS);
+    let at_once = is_so(is_right(alloc, worked, made));
+    let made = signed_by_bytes(alloc, worked.data, worked.comments, &ZEROS);
+    let by_bytes = is_so(is_right(alloc, worked, made));
+    at_once && by_bytes
 }
 
 // Each box has its comments, both signatures byte by byte, and is accepted for its data alone.
 #[test]
 fn signatures_are_as_worked_out(rt: HostRuntime) {
-    let alloc = rt.alloc();
-    assert!(rt; holds(&is_worked_out(alloc, OF_ABC)));
-    assert!(rt; holds(&is_worked_out_by_bytes(alloc, OF_ABC)));
-    assert!(rt; holds(&is_worked_out(alloc, OF_NOTHING)));
-    assert!(rt; holds(&is_worked_out_by_bytes(alloc, OF_NOTHING)));
-}
-
-// Whether these are the comments of the box.
-fn has_comments(
-    alloc: Global,
-    signature_box: &SignatureBox,
-    trusted: &str,
-    untrusted: &str,
-) -> bool {
-    let shown = is_text(&signature_box.trusted_comment(alloc), trusted);
-    let below = is_text(&signature_box.untrusted_comment(alloc), untrusted);
-    shown && below
+    assert!(rt; is_worked_out(rt.alloc(), OF_ABC));
+    assert!(rt; is_worked_out(rt.alloc(), OF_NOTHING));
 }
 
 // Whether the box that is signed with these comments shows those.
 fn shows(alloc: Global, said: Said, trusted: &str, untrusted: &str) -> Result<bool> {
     let signature_box = signed(alloc, b"abc", said, &ZEROS)?;
     let named = signature_box.is_prehashed() && signature_box.keynum() == IDENTIFIER.as_slice();
-    let commented = has_comments(alloc, &signature_box, trusted, untrusted);
-    Ok(named && commented)
+    let trusted = gives_text(signature_box.trusted_comment(alloc), trusted);
+    let untrusted = gives_text(signature_box.untrusted_comment(alloc), untrusted);
+    Ok(named && trusted && untrusted)
 }
 
 #[test]
 fn comments_are_kept_or_made(rt: HostRuntime) {
     let (timestamp, untrusted) = ("timestamp:1555779966", "signature from rsign secret key");
     let alloc = rt.alloc();
-    assert!(rt; holds(&shows(alloc, COMMENTED, "t", "c")));
-    assert!(rt; holds(&shows(alloc, EMPTY, "", "")));
-    assert!(rt; holds(&shows(alloc, BY_DEFAULT, timestamp, untrusted)));
+    assert!(rt; is_so(shows(alloc, COMMENTED, "t", "c")));
+    assert!(rt; is_so(shows(alloc, EMPTY, "", "")));
+    assert!(rt; is_so(shows(alloc, BY_DEFAULT, timestamp, untrusted)));
 }
 
 // Whether random byte number 95 is byte 31 of the comment signature of the box.
@@ -254,9 +238,9 @@ fn random_bytes_go_where_they_belong(rt: HostRuntime) {
     let mut drawn = [0u8; 128];
     drawn[95] = 0xf2;
     let mut whole = SourceRandom::new(SliceSource::new(&drawn));
-    assert!(rt; holds(&is_drawn(alloc, &mut SliceSource::new(b"abc"), &mut whole)));
+    assert!(rt; is_so(is_drawn(alloc, &mut SliceSource::new(b"abc"), &mut whole)));
     let mut bytes = SourceRandom::new(OneByOne::new(&drawn));
-    assert!(rt; holds(&is_drawn(alloc, &mut OneByOne::new(b"abc"), &mut bytes)));
+    assert!(rt; is_so(is_drawn(alloc, &mut OneByOne::new(b"abc"), &mut bytes)));
 }
 
 // Whether so many random bytes are left.
@@ -272,8 +256,7 @@ fn are_left(random: &mut FixedRandom<'_>, left: usize) -> bool {
 fn leaves(
     alloc: Global,
     record: &[u8; 158],
-    reads: u64,
-    random_bytes: usize,
+    (reads, random_bytes): (u64, usize),
     expected: Outcome,
     left: usize,
 ) -> Result<bool> {
@@ -282,21 +265,8 @@ fn leaves(
     let mut random = FixedRandom::new(front(&drawn, random_bytes));
     let mut source = FailsAfter::new(b"abc", reads);
     let answer = signed_from(alloc, None, &secret, &mut source, BY_DEFAULT, &mut random);
-    let came = comes_to(&answer, expected);
+    let came = ends_in(answer, expected);
     Ok(came && are_left(&mut random, left))
-}
-
-// Asserts it.
-fn leaving<A: Abort>(
-    rt: &A,
-    alloc: Global,
-    record: &[u8; 158],
-    (reads, random_bytes): (u64, usize),
-    expected: Outcome,
-    left: usize,
-) {
-    let came = leaves(alloc, record, reads, random_bytes, expected, left);
-    assert!(rt; holds(&came), "at {reads} {random_bytes}");
 }
 
 // What a refused or a good run leaves in the random source. Each row: key A's record by its key
@@ -306,18 +276,18 @@ fn leaving<A: Abort>(
 fn signing_is_refused_in_its_order(rt: HostRuntime) {
     let alloc = rt.alloc();
     let without_checksum = secret_record(b"\0\0", &[0; 32]);
-    leaving(&rt, alloc, &without_checksum, (4, 128), Accepted, 0);
+    assert!(rt; is_so(leaves(alloc, &without_checksum, (4, 128), Accepted, 0)));
     let opened = secret_record(b"Sc", &CHECKSUM);
-    leaving(&rt, alloc, &opened, (4, 128), Accepted, 0);
+    assert!(rt; is_so(leaves(alloc, &opened, (4, 128), Accepted, 0)));
     let sealed = secret_record(b"Sc", &[0; 32]);
-    leaving(&rt, alloc, &sealed, (4, 128), SEALED, 128);
-    leaving(&rt, alloc, &sealed, (0, 0), SEALED, 0);
+    assert!(rt; is_so(leaves(alloc, &sealed, (4, 128), SEALED, 128)));
+    assert!(rt; is_so(leaves(alloc, &sealed, (0, 0), SEALED, 0)));
     let unsealed = secret_record(b"\0\0", &CHECKSUM);
-    leaving(&rt, alloc, &unsealed, (4, 127), UNDRAWN, 63);
-    leaving(&rt, alloc, &unsealed, (4, 64), UNDRAWN, 0);
-    leaving(&rt, alloc, &unsealed, (4, 63), UNDRAWN, 63);
-    leaving(&rt, alloc, &unsealed, (1, 128), UNREAD, 128);
-    leaving(&rt, alloc, &unsealed, (3, 0), UNREAD, 0);
+    assert!(rt; is_so(leaves(alloc, &unsealed, (4, 127), UNDRAWN, 63)));
+    assert!(rt; is_so(leaves(alloc, &unsealed, (4, 64), UNDRAWN, 0)));
+    assert!(rt; is_so(leaves(alloc, &unsealed, (4, 63), UNDRAWN, 63)));
+    assert!(rt; is_so(leaves(alloc, &unsealed, (1, 128), UNREAD, 128)));
+    assert!(rt; is_so(leaves(alloc, &unsealed, (3, 0), UNREAD, 0)));
 }
 
 // Whether signing under this key derivation with no random bytes is refused, and leaves so much of
@@ -332,23 +302,20 @@ fn leaves_ahead<R: Source>(
     let mut random = FixedRandom::new(&[]);
     let answer = signed_from(alloc, None, &secret, data, BY_DEFAULT, &mut random);
     let refused = answer.is_err();
-    let left = is_record(&read_to_end(alloc, data), ahead);
+    let left = gives_record(read_to_end(alloc, data), ahead);
     Ok(refused && left)
-}
-
-// Asserts it of data that is read at once, and one byte a read.
-fn leaving_ahead<A: Abort>(rt: &A, alloc: Global, kdf: &[u8; 2], ahead: &[u8]) {
-    let whole = leaves_ahead(alloc, kdf, &mut SliceSource::new(b"abc"), ahead);
-    assert!(rt; holds(&whole), "at {kdf:?}");
-    let bytes = leaves_ahead(alloc, kdf, &mut OneByOne::new(b"abc"), ahead);
-    assert!(rt; holds(&bytes), "at {kdf:?}");
 }
 
 // A sealed key leaves all of the source, and too few random bytes leave none.
 #[test]
 fn sources_are_read_to_their_end_or_not_at_all(rt: HostRuntime) {
-    leaving_ahead(&rt, rt.alloc(), b"Sc", b"abc");
-    leaving_ahead(&rt, rt.alloc(), b"\0\0", b"");
+    let alloc = rt.alloc();
+    for (kdf, ahead) in [(b"Sc", b"abc".as_slice()), (b"\0\0", b"".as_slice())] {
+        let whole = leaves_ahead(alloc, kdf, &mut SliceSource::new(b"abc"), ahead);
+        assert!(rt; is_so(whole), "at {kdf:?}");
+        let bytes = leaves_ahead(alloc, kdf, &mut OneByOne::new(b"abc"), ahead);
+        assert!(rt; is_so(bytes), "at {kdf:?}");
+    }
 }
 
 // Whether signing with this public key to test has this outcome.
@@ -362,7 +329,7 @@ fn is_tested<R: Source>(
     let pk = PublicKey::from_bytes(record)?;
     let mut random = FixedRandom::new(&ZEROS);
     let answer = signed_from(alloc, Some(&pk), &sk, data, COMMENTED, &mut random);
-    Ok(comes_to(&answer, expected))
+    Ok(ends_in(answer, expected))
 }
 
 // The 32 bytes of a public key that is passed in are tested, and never its identifier: its own one,
@@ -377,15 +344,10 @@ fn a_given_public_key_is_tested_by_its_bytes(rt: HostRuntime) {
     ] {
         let record = public_record(&identifier, &bytes);
         let whole = is_tested(alloc, &record, &mut SliceSource::new(b"abc"), expected);
-        assert!(rt; holds(&whole), "at {expected:?}");
+        assert!(rt; is_so(whole), "at {expected:?}");
         let bytes = is_tested(alloc, &record, &mut OneByOne::new(b"abc"), expected);
-        assert!(rt; holds(&bytes), "at {expected:?}");
+        assert!(rt; is_so(bytes), "at {expected:?}");
     }
-}
-
-// The public key of key A's bytes under another identifier.
-fn renamed() -> Result<PublicKey> {
-    PublicKey::from_bytes(&public_record(&OTHER_IDENTIFIER, &PUBLIC_BYTES))
 }
 
 // Whether the box is refused under this key over `abc`, and over a source whose second read fails.
@@ -405,25 +367,20 @@ fn is_refused_under(alloc: Global, parts: (&PublicKey, &SignatureBox)) -> bool {
 // Whether the box of `abc` is refused so under another identifier.
 fn is_of_another_key(alloc: Global) -> Result<bool> {
     let made = signed(alloc, b"abc", COMMENTED, &ZEROS)?;
-    let pk = renamed()?;
+    let pk = PublicKey::from_bytes(&public_record(&OTHER_IDENTIFIER, &PUBLIC_BYTES))?;
     Ok(is_refused_under(alloc, (&pk, &made)))
 }
 
 #[test]
 fn signed_boxes_are_judged(rt: HostRuntime) {
-    assert!(rt; holds(&is_of_another_key(rt.alloc())));
+    assert!(rt; is_so(is_of_another_key(rt.alloc())));
 }
 
-// Whether verifying the box over a status with this room, that can't be flushed, has this outcome,
-// and says so much.
-fn is_told_of(
-    alloc: Global,
-    parts: (&PublicKey, &SignatureBox),
-    quiet: bool,
-    room: usize,
-    outcome: Outcome,
-    said: usize,
-) -> bool {
+// Whether verifying the box of `abc` over a status with this room, that can't be flushed, has this
+// outcome, and says so much.
+fn is_told(alloc: Global, quiet: bool, room: usize, outcome: Outcome, said: usize) -> Result<bool> {
+    let made = signed(alloc, b"abc", COMMENTED, &ZEROS)?;
+    let pk = public_a()?;
     let sinks = Sinks {
         status: LimitedSink::new(alloc, room).flushed(0),
         out: LimitedSink::new(alloc, 0),
@@ -440,14 +397,7 @@ fn is_told_of(
         said: front(SAID, said),
         copied: b"",
     };
-    box_comes_out(alloc, &toy, parts, &mut data, options, sinks, wanted)
-}
-
-// Whether it is so of the box of `abc`.
-fn is_told(alloc: Global, quiet: bool, room: usize, outcome: Outcome, said: usize) -> Result<bool> {
-    let made = signed(alloc, b"abc", COMMENTED, &ZEROS)?;
-    let pk = public_a()?;
-    Ok(is_told_of(alloc, (&pk, &made), quiet, room, outcome, said))
+    Ok(box_comes_out(alloc, &toy, (&pk, &made), &mut data, options, sinks, wanted))
 }
 
 #[test]
@@ -459,7 +409,7 @@ fn failing_status_of_signed_boxes_is_told(rt: HostRuntime) {
         (true, 0, Accepted, 0),
     ] {
         let told = is_told(rt.alloc(), quiet, room, expected, said);
-        assert!(rt; holds(&told), "room for {room}");
+        assert!(rt; is_so(told), "room for {room}");
     }
 }
 
@@ -482,18 +432,18 @@ fn example(alloc: Global, pk: &PublicKey) -> Result<String> {
 fn is_exemplary(alloc: Global) -> Result<bool> {
     let text = example(alloc, &public_a()?)?;
     let made = read_box(alloc, text.as_str())?;
-    Ok(is_text(&made.trusted_comment(alloc), "timestamp:1555779966"))
+    Ok(gives_text(made.trusted_comment(alloc), "timestamp:1555779966"))
 }
 
 // Whether the example refuses another public key.
 fn is_exemplary_of_another(alloc: Global) -> Result<bool> {
     let other = PublicKey::from_bytes(&public_record(&IDENTIFIER, &[0x5b; 32]))?;
-    Ok(comes_to(&example(alloc, &other), REFUSED))
+    Ok(ends_in(example(alloc, &other), REFUSED))
 }
 
 // The example of a caller, with its own public key and with another one.
 #[test]
 fn the_example_signs_and_verifies(rt: HostRuntime) {
-    assert!(rt; holds(&is_exemplary(rt.alloc())));
-    assert!(rt; holds(&is_exemplary_of_another(rt.alloc())));
+    assert!(rt; is_so(is_exemplary(rt.alloc())));
+    assert!(rt; is_so(is_exemplary_of_another(rt.alloc())));
 }

@@ -14,11 +14,10 @@ use minisign_base::prompt::Prompt;
 use minisign_base::toy::ToyScheme;
 use minisign_fixtures::devices::sources::{FailsAfter, OneByOne};
 use minisign_fixtures::outcomes::Outcome::{self, Refused};
-use minisign_fixtures::outcomes::{comes_to, holds};
+use minisign_fixtures::outcomes::{ends_in, is_so};
 use minisign_fixtures::prompts::{handed, typed};
 use minisign_fixtures::texts::{KEY_TEXT, SEALED, SECRET_TEXT, SIGNATURE_TEXT};
 use std::alloc::Global;
-use std::process::Abort;
 
 const SAID: &str =
     "Password: Deriving a key from the password and decrypting the secret key... done\n";
@@ -52,7 +51,7 @@ fn signs(alloc: Global, sk_text: &str, bytes: &[u8], told: &str) -> Result<bool>
 
 #[test]
 fn an_unsealed_key_signs_without_a_password(rt: HostRuntime) {
-    assert!(rt; holds(&signs(rt.alloc(), SECRET_TEXT, b"", "")));
+    assert!(rt; is_so(signs(rt.alloc(), SECRET_TEXT, b"", "")));
 }
 
 // Whether the text that the sealed key signs is accepted.
@@ -66,8 +65,8 @@ fn is_accepted(alloc: Global) -> Result<bool> {
 
 #[test]
 fn a_sealed_key_signs_once_it_is_opened(rt: HostRuntime) {
-    assert!(rt; holds(&signs(rt.alloc(), SEALED, b"password\n", SAID)));
-    assert!(rt; holds(&is_accepted(rt.alloc())));
+    assert!(rt; is_so(signs(rt.alloc(), SEALED, b"password\n", SAID)));
+    assert!(rt; is_so(is_accepted(rt.alloc())));
 }
 
 // Whether signing over data that fails behind so many reads is refused so where a password is
@@ -83,14 +82,8 @@ fn is_refused(
     let mut prompt = typed(alloc, b"password\n");
     let mut data = FailsAfter::new(b"abc", reads);
     let refused = signed(alloc, sk_text, password, &mut prompt, &mut data);
-    let came = comes_to(&refused, expected);
+    let came = ends_in(refused, expected);
     came && is_told(&prompt, told)
-}
-
-// Asserts that the text is refused so before anything is read.
-fn refuses<A: Abort>(rt: &A, alloc: Global, sk_text: &str, expected: Outcome) {
-    let came = is_refused(alloc, sk_text, None, 0, expected, "");
-    assert!(rt; came, "at {expected:?}");
 }
 
 // Whether a wrong password that is passed in is refused before anything is read.
@@ -103,14 +96,14 @@ fn is_wrong(alloc: Global) -> Result<bool> {
 #[test]
 fn a_text_is_refused_before_anything_is_read(rt: HostRuntime) {
     let alloc = rt.alloc();
-    refuses(&rt, alloc, "", Refused(MissingSecretKeyComment));
-    refuses(&rt, alloc, "c\n", Refused(MissingEncodedSecretKey));
-    refuses(&rt, alloc, "c\n!\n", Refused(SecretKeyNotBase64));
-    assert!(rt; holds(&is_wrong(alloc)));
+    assert!(rt; is_refused(alloc, "", None, 0, Refused(MissingSecretKeyComment), ""));
+    assert!(rt; is_refused(alloc, "c\n", None, 0, Refused(MissingEncodedSecretKey), ""));
+    assert!(rt; is_refused(alloc, "c\n!\n", None, 0, Refused(SecretKeyNotBase64), ""));
+    assert!(rt; is_so(is_wrong(alloc)));
 }
 
 #[test]
 fn a_failing_source_comes_after_the_prompt(rt: HostRuntime) {
-    let came = is_refused(rt.alloc(), SEALED, None, 2, Refused(ReadingFailed), SAID);
-    assert!(rt; came);
+    let unread = Refused(ReadingFailed);
+    assert!(rt; is_refused(rt.alloc(), SEALED, None, 2, unread, SAID));
 }

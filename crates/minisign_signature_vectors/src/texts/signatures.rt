@@ -16,10 +16,9 @@ use minisign_fixtures::keys::{
     IDENTIFIER, OTHER_IDENTIFIER, PUBLIC_BYTES, TIED_TO_ABC, public_record, signature_record,
 };
 use minisign_fixtures::outcomes::Outcome::{self, Accepted, Refused};
-use minisign_fixtures::outcomes::{OTHER_KEY, beginning, comes_to, holds, is_record, is_text};
+use minisign_fixtures::outcomes::{OTHER_KEY, beginning, ends_in, gives_record, gives_text, is_so};
 use minisign_fixtures::texts::{KEY_TEXT, SAID, SIGNATURE_TEXT};
 use std::alloc::Global;
-use std::process::Abort;
 
 // The second and the fourth line of that text.
 const SIGNED: &str =
@@ -67,12 +66,6 @@ fn is_judged(alloc: Global, sig_text: &str, expected: Outcome) -> bool {
     are_judged(alloc, (KEY_TEXT, sig_text), b"abc", expected)
 }
 
-// Asserts it.
-fn judges<A: Abort>(rt: &A, alloc: Global, sig_text: &str, expected: Outcome) {
-    let came = is_judged(alloc, sig_text, expected);
-    assert!(rt; came, "at {sig_text} {expected:?}");
-}
-
 // The comments of the worked text.
 const WORKED: Said<'static> = Said {
     trusted: Some("t"),
@@ -94,39 +87,27 @@ fn text_of_a_copy(alloc: Global, made: &SignatureBox) -> Result<String> {
 
 // Whether the box is its text, whichever way it is asked.
 fn is_its_text(alloc: Global, made: &SignatureBox) -> bool {
-    let copied = is_text(&text_of_a_copy(alloc, made), SIGNATURE_TEXT);
-    let shown = is_text(&made.to_string(alloc), SIGNATURE_TEXT);
-    let written = is_record(&made.to_bytes(alloc), SIGNATURE_TEXT.as_bytes());
+    let copied = gives_text(text_of_a_copy(alloc, made), SIGNATURE_TEXT);
+    let shown = gives_text(made.to_string(alloc), SIGNATURE_TEXT);
+    let written = gives_record(made.to_bytes(alloc), SIGNATURE_TEXT.as_bytes());
     copied && shown && written
 }
 
-// Whether the box that key A signs is the text that was worked out, at once and one byte a read.
-fn is_written(alloc: Global) -> Result<bool> {
-    let at_once = signed(alloc, b"abc", WORKED, &[0; 128])?;
-    let by_bytes = signed_by_bytes(alloc, b"abc", WORKED, &[0; 128])?;
-    let once = is_its_text(alloc, &at_once);
-    Ok(once && is_its_text(alloc, &by_bytes))
+// Whether the box that key A signs is the text that was worked out.
+fn is_written(alloc: Global, made: Result<SignatureBox>) -> Result<bool> {
+    let made = made?;
+    Ok(is_its_text(alloc, &made))
 }
 
-// The box that the text is read as.
-fn read_whole(alloc: Global) -> Result<SignatureBox> {
-    SignatureBox::try_from_string(alloc, String::from_str(alloc, SIGNATURE_TEXT)?)
-}
-
-// Whether the box has what the text holds.
-fn is_as_read(alloc: Global, read: &SignatureBox) -> bool {
-    let named = read.is_prehashed() && read.keynum() == IDENTIFIER.as_slice();
-    let untrusted = is_text(&read.untrusted_comment(alloc), "c");
-    let trusted = is_text(&read.trusted_comment(alloc), "t");
-    named && untrusted && trusted
-}
-
-// Whether the text is read back as the box that it was.
+// Whether the text is read back as the box that it was, and has what it holds.
 fn is_read_back(alloc: Global) -> Result<bool> {
-    let read = read_whole(alloc)?;
-    let held = is_as_read(alloc, &read);
-    let text = is_text(&read.into_string(alloc), SIGNATURE_TEXT);
-    Ok(held && text)
+    let text = String::from_str(alloc, SIGNATURE_TEXT)?;
+    let read = SignatureBox::try_from_string(alloc, text)?;
+    let named = read.is_prehashed() && read.keynum() == IDENTIFIER.as_slice();
+    let untrusted = gives_text(read.untrusted_comment(alloc), "c");
+    let trusted = gives_text(read.trusted_comment(alloc), "t");
+    let again = gives_text(read.into_string(alloc), SIGNATURE_TEXT);
+    Ok(named && untrusted && trusted && again)
 }
 
 // Whether a signature is shown as the second line.
@@ -138,9 +119,13 @@ fn is_shown(alloc: Global) -> Result<bool> {
 
 #[test]
 fn a_signature_is_written_and_read_back(rt: HostRuntime) {
-    assert!(rt; holds(&is_written(rt.alloc())));
-    assert!(rt; holds(&is_read_back(rt.alloc())));
-    assert!(rt; holds(&is_shown(rt.alloc())));
+    let alloc = rt.alloc();
+    let at_once = signed(alloc, b"abc", WORKED, &[0; 128]);
+    assert!(rt; is_so(is_written(alloc, at_once)));
+    let by_bytes = signed_by_bytes(alloc, b"abc", WORKED, &[0; 128]);
+    assert!(rt; is_so(is_written(alloc, by_bytes)));
+    assert!(rt; is_so(is_read_back(alloc)));
+    assert!(rt; is_so(is_shown(rt.alloc())));
 }
 
 // The trusted comment of a text.
@@ -149,50 +134,41 @@ fn trusted_of(alloc: Global, text: &str) -> Result<String> {
 }
 
 // Whether a trusted comment with blanks at both ends is written with them, and read without.
-fn loses_its_blanks(alloc: Global, made: SignatureBox) -> Result<bool> {
-    let text = made.into_string(alloc)?;
+fn loses_its_blanks(alloc: Global, made: Result<SignatureBox>) -> Result<bool> {
+    let text = made?.into_string(alloc)?;
     let written = text.as_str().contains("\ntrusted comment:  t \n");
-    let trimmed = is_text(&trusted_of(alloc, text.as_str()), "t");
+    let trimmed = gives_text(trusted_of(alloc, text.as_str()), "t");
     let refused = is_judged(alloc, text.as_str(), COMMENT_REFUSED);
     Ok(written && trimmed && refused)
 }
 
-// The same of the box that is signed at once, and of that one byte a read.
-fn do_not_survive(alloc: Global) -> Result<bool> {
-    let at_once = signed(alloc, b"abc", BLANK, &[0; 128])?;
-    let by_bytes = signed_by_bytes(alloc, b"abc", BLANK, &[0; 128])?;
-    let once = loses_its_blanks(alloc, at_once)?;
-    Ok(once && loses_its_blanks(alloc, by_bytes)?)
-}
-
 #[test]
 fn a_trusted_comment_with_spaces_does_not_survive(rt: HostRuntime) {
-    assert!(rt; holds(&do_not_survive(rt.alloc())));
+    let alloc = rt.alloc();
+    let at_once = signed(alloc, b"abc", BLANK, &[0; 128]);
+    assert!(rt; is_so(loses_its_blanks(alloc, at_once)));
+    let by_bytes = signed_by_bytes(alloc, b"abc", BLANK, &[0; 128]);
+    assert!(rt; is_so(loses_its_blanks(alloc, by_bytes)));
 }
 
 const INCOMPLETE: Outcome = Refused(SignatureBoxIncomplete);
 
 const ABSENT: Outcome = Refused(TrustedCommentAbsent);
 
-// Whether the box has no text, whichever way it is asked.
-fn is_without_text(alloc: Global, bare: &SignatureBox) -> bool {
-    let text = comes_to(&bare.to_string(alloc), INCOMPLETE);
-    let bytes = comes_to(&bare.to_bytes(alloc), INCOMPLETE);
-    let copy = comes_to(&text_of_a_copy(alloc, bare), INCOMPLETE);
-    text && bytes && copy
-}
-
-// Whether a box from bones has no trusted comment and no text.
+// Whether a box from bones has no trusted comment, and no text, whichever way it is asked.
 fn has_no_text(alloc: Global) -> Result<bool> {
     let record = signature_record(b"ED", &IDENTIFIER, &TIED_TO_ABC);
     let bare = SignatureBox::from_bones(SignatureBones::from_bytes(&record)?);
-    let comment = comes_to(&bare.trusted_comment(alloc), ABSENT);
-    Ok(comment && is_without_text(alloc, &bare))
+    let comment = ends_in(bare.trusted_comment(alloc), ABSENT);
+    let text = ends_in(bare.to_string(alloc), INCOMPLETE);
+    let bytes = ends_in(bare.to_bytes(alloc), INCOMPLETE);
+    let copy = ends_in(text_of_a_copy(alloc, &bare), INCOMPLETE);
+    Ok(comment && text && bytes && copy)
 }
 
 #[test]
 fn a_box_from_bones_has_no_text(rt: HostRuntime) {
-    assert!(rt; holds(&has_no_text(rt.alloc())));
+    assert!(rt; is_so(has_no_text(rt.alloc())));
 }
 
 #[test]
@@ -221,21 +197,15 @@ fn is_judged_by_lines(alloc: Global, second: &str, third: &str, expected: Outcom
     Ok(is_judged(alloc, text.as_str(), expected))
 }
 
-// Asserts it.
-fn judges_lines<A: Abort>(rt: &A, alloc: Global, second: &str, third: &str, expected: Outcome) {
-    let came = is_judged_by_lines(alloc, second, third, expected);
-    assert!(rt; holds(&came), "at {expected:?}");
-}
-
 #[test]
 fn texts_in_the_order_of_their_tests(rt: HostRuntime) {
     let alloc = rt.alloc();
-    judges(&rt, alloc, "", NO_FIRST);
-    judges(&rt, alloc, "a", NO_SECOND);
-    judges(&rt, alloc, "\n\n\n", NO_FOURTH);
-    judges(&rt, alloc, "a\nb\nc", NO_FOURTH);
-    judges(&rt, alloc, "Untrusted comment: c\n!\nt\n!", UNTRUSTED);
-    judges(&rt, alloc, "untrusted comment: c\n!\nt\n!", NOT_BASE64);
+    assert!(rt; is_judged(alloc, "", NO_FIRST));
+    assert!(rt; is_judged(alloc, "a", NO_SECOND));
+    assert!(rt; is_judged(alloc, "\n\n\n", NO_FOURTH));
+    assert!(rt; is_judged(alloc, "a\nb\nc", NO_FOURTH));
+    assert!(rt; is_judged(alloc, "Untrusted comment: c\n!\nt\n!", UNTRUSTED));
+    assert!(rt; is_judged(alloc, "untrusted comment: c\n!\nt\n!", NOT_BASE64));
 }
 
 // A second line that is too short, and one of an unknown algorithm.
@@ -249,10 +219,10 @@ const UNKNOWN: &str =
 fn lines_in_the_order_of_their_tests(rt: HostRuntime) {
     let alloc = rt.alloc();
     let labelled = "trusted comment: t";
-    judges_lines(&rt, alloc, CUT, "t", TOO_SHORT);
-    judges_lines(&rt, alloc, UNKNOWN, "t", TRUSTED);
-    judges_lines(&rt, alloc, UNKNOWN, labelled, UNSUPPORTED);
-    judges_lines(&rt, alloc, SIGNED, labelled, NOT_BASE64);
+    assert!(rt; is_so(is_judged_by_lines(alloc, CUT, "t", TOO_SHORT)));
+    assert!(rt; is_so(is_judged_by_lines(alloc, UNKNOWN, "t", TRUSTED)));
+    assert!(rt; is_so(is_judged_by_lines(alloc, UNKNOWN, labelled, UNSUPPORTED)));
+    assert!(rt; is_so(is_judged_by_lines(alloc, SIGNED, labelled, NOT_BASE64)));
 }
 
 // Whether an odd text has this outcome: what stands before the text, behind its first three lines,
@@ -271,36 +241,27 @@ fn is_odd(
     Ok(is_judged(alloc, text.as_str(), expected))
 }
 
-// Asserts that a text with this before it, these ends of its first three lines, and this before its
+// Whether a text with this before it, these ends of its first three lines, and this before its
 // trusted comment, has this outcome.
-fn judges_odd<A: Abort>(
-    rt: &A,
-    alloc: Global,
-    front: &str,
-    end: &str,
-    before: &str,
-    expected: Outcome,
-) {
-    let odd = is_odd(alloc, front, end, before, COMMENT_SIGNED, expected);
-    assert!(rt; holds(&odd), "at {front:?} {end:?} {before:?}");
+fn is_odd_before(alloc: Global, front: &str, end: &str, before: &str, expected: Outcome) -> bool {
+    is_so(is_odd(alloc, front, end, before, COMMENT_SIGNED, expected))
 }
 
-// Asserts that a text with this fourth line has this outcome.
-fn judges_fourth<A: Abort>(rt: &A, alloc: Global, comment_signed: &str, expected: Outcome) {
-    let odd = is_odd(alloc, "", "\n", "", comment_signed, expected);
-    assert!(rt; holds(&odd), "at {comment_signed:?}");
+// Whether a text with this fourth line has this outcome.
+fn is_odd_behind(alloc: Global, comment_signed: &str, expected: Outcome) -> bool {
+    is_so(is_odd(alloc, "", "\n", "", comment_signed, expected))
 }
 
 #[test]
 fn odd_signature_texts(rt: HostRuntime) {
     let alloc = rt.alloc();
-    judges_odd(&rt, alloc, "", "\n", "", Accepted);
-    judges_odd(&rt, alloc, "", "\r\n", "", Accepted);
-    judges_odd(&rt, alloc, "", "\r\r\n", "", Accepted);
-    judges_odd(&rt, alloc, "", " \t\n", " ", Accepted);
-    judges_odd(&rt, alloc, "\n", "\n", "", UNTRUSTED);
-    judges_odd(&rt, alloc, "", "\n", "\u{a0}", Accepted);
-    judges_odd(&rt, alloc, "", "\n", "\u{200b}", COMMENT_REFUSED);
+    assert!(rt; is_odd_before(alloc, "", "\n", "", Accepted));
+    assert!(rt; is_odd_before(alloc, "", "\r\n", "", Accepted));
+    assert!(rt; is_odd_before(alloc, "", "\r\r\n", "", Accepted));
+    assert!(rt; is_odd_before(alloc, "", " \t\n", " ", Accepted));
+    assert!(rt; is_odd_before(alloc, "\n", "\n", "", UNTRUSTED));
+    assert!(rt; is_odd_before(alloc, "", "\n", "\u{a0}", Accepted));
+    assert!(rt; is_odd_before(alloc, "", "\n", "\u{200b}", COMMENT_REFUSED));
 }
 
 #[test]
@@ -312,11 +273,11 @@ fn odd_fourth_lines(rt: HostRuntime) {
         "AAAAAAAAAAAAAAAAAAAAAAAAAAAAAAAAAAAAAAAAAPKzB2AGsrc0IKh1QmjaITp8VPKlvLOrVu3yMT2CD/87";
     let longer =
         "AAAAAAAAAAAAAAAAAAAAAAAAAAAAAAAAAAAAAAAAAPKzB2AGsrc0IKh1QmjaITp8VPKlvLOrVu3yMT2CD/87AAc=";
-    judges_fourth(&rt, alloc, changed, Accepted);
-    judges_fourth(&rt, alloc, cut, COMMENT_REFUSED);
-    judges_fourth(&rt, alloc, longer, Accepted);
-    judges_fourth(&rt, alloc, "", COMMENT_REFUSED);
-    judges_fourth(&rt, alloc, " \u{a0}", COMMENT_REFUSED);
+    assert!(rt; is_odd_behind(alloc, changed, Accepted));
+    assert!(rt; is_odd_behind(alloc, cut, COMMENT_REFUSED));
+    assert!(rt; is_odd_behind(alloc, longer, Accepted));
+    assert!(rt; is_odd_behind(alloc, "", COMMENT_REFUSED));
+    assert!(rt; is_odd_behind(alloc, " \u{a0}", COMMENT_REFUSED));
 }
 
 // Whether a second line of 75 bytes is accepted, and written again as one of 74.
@@ -328,58 +289,41 @@ fn is_cut(alloc: Global) -> Result<bool> {
     )?;
     let accepted = is_judged(alloc, text.as_str(), Accepted);
     let read = read_box(alloc, text.as_str())?;
-    let written = is_text(&read.to_string(alloc), SIGNATURE_TEXT);
+    let written = gives_text(read.to_string(alloc), SIGNATURE_TEXT);
     Ok(accepted && written)
 }
 
 #[test]
 fn a_longer_second_line_is_written_as_a_signature(rt: HostRuntime) {
-    assert!(rt; holds(&is_cut(rt.alloc())));
+    assert!(rt; is_so(is_cut(rt.alloc())));
 }
 
-// The text of key A's bytes under another identifier.
-fn other_text(alloc: Global) -> Result<String> {
-    let other = PublicKey::from_bytes(&public_record(&OTHER_IDENTIFIER, &PUBLIC_BYTES))?;
-    Ok(other.to_box(alloc)?.into_string())
-}
-
-// Whether the signature's text is refused under that text.
+// Whether the signature's text is refused under the text of key A's bytes under another identifier.
 fn is_of_another_key(alloc: Global) -> Result<bool> {
-    let text = other_text(alloc)?;
+    let other = PublicKey::from_bytes(&public_record(&OTHER_IDENTIFIER, &PUBLIC_BYTES))?;
+    let text = other.to_box(alloc)?.into_string();
     Ok(are_judged(alloc, (text.as_str(), SIGNATURE_TEXT), b"abc", OTHER_KEY))
-}
-
-// Asserts that the data with two texts has this outcome.
-fn judges_texts<A: Abort>(
-    rt: &A,
-    alloc: Global,
-    texts: (&str, &str),
-    data: &[u8],
-    expected: Outcome,
-) {
-    let judged = are_judged(alloc, texts, data, expected);
-    assert!(rt; judged, "at {expected:?}");
 }
 
 #[test]
 fn verdicts_of_two_texts(rt: HostRuntime) {
     let alloc = rt.alloc();
     let worked = (KEY_TEXT, SIGNATURE_TEXT);
-    judges_texts(&rt, alloc, worked, b"abc", Accepted);
-    judges_texts(&rt, alloc, worked, b"abd", REFUSED);
-    judges_texts(&rt, alloc, worked, b"", REFUSED);
+    assert!(rt; are_judged(alloc, worked, b"abc", Accepted));
+    assert!(rt; are_judged(alloc, worked, b"abd", REFUSED));
+    assert!(rt; are_judged(alloc, worked, b"", REFUSED));
     let no_comment = Refused(MissingPublicKeyComment);
-    judges_texts(&rt, alloc, ("", ""), b"abc", no_comment);
+    assert!(rt; are_judged(alloc, ("", ""), b"abc", no_comment));
     let no_key = Refused(MissingEncodedPublicKey);
-    judges_texts(&rt, alloc, ("a", ""), b"abc", no_key);
-    judges_texts(&rt, alloc, (KEY_TEXT, ""), b"abc", NO_FIRST);
-    assert!(rt; holds(&is_of_another_key(alloc)));
+    assert!(rt; are_judged(alloc, ("a", ""), b"abc", no_key));
+    assert!(rt; are_judged(alloc, (KEY_TEXT, ""), b"abc", NO_FIRST));
+    assert!(rt; is_so(is_of_another_key(alloc)));
 }
 
 // Whether checking the update with the worked texts comes out so.
 fn is_checked(alloc: Global, update: &[u8], expected: Outcome) -> bool {
     let told = verify_bytes(alloc, &ToyScheme::new(), KEY_TEXT, SIGNATURE_TEXT, update);
-    comes_to(&told, expected)
+    ends_in(told, expected)
 }
 
 #[test]

@@ -10,11 +10,10 @@ use minisign_base::devices::sources::SliceSource;
 use minisign_base::faults::NamedFault::SignatureRefused;
 use minisign_base::toy::ToyScheme;
 use minisign_fixtures::outcomes::Outcome::{self, Accepted, Refused};
-use minisign_fixtures::outcomes::{front, holds, is_text};
+use minisign_fixtures::outcomes::{front, gives_text, is_so};
 use minisign_fixtures::prompts::typed_at_once;
 use minisign_fixtures::texts::{KEY_TEXT, SAID, SECRET_TEXT};
 use std::alloc::Global;
-use std::process::Abort;
 
 const REFUSED: Outcome = Refused(SignatureRefused);
 
@@ -78,8 +77,8 @@ fn is_said(alloc: Global, texts: (&str, &str), comment: &str) -> Result<bool> {
 // Whether both comments of the text are this one.
 fn are_read_back(alloc: Global, text: &str, comment: &str) -> Result<bool> {
     let read = read_box(alloc, text)?;
-    let trusted = is_text(&read.trusted_comment(alloc), comment);
-    let untrusted = is_text(&read.untrusted_comment(alloc), comment);
+    let trusted = gives_text(read.trusted_comment(alloc), comment);
+    let untrusted = gives_text(read.untrusted_comment(alloc), comment);
     Ok(trusted && untrusted)
 }
 
@@ -104,7 +103,7 @@ fn comments_of_many_sizes(rt: HostRuntime) {
     for exponent in 0..18u32 {
         let power = 1usize << exponent;
         for size in [power.saturating_sub(1), power, power.saturating_add(1)] {
-            assert!(rt; holds(&come_back(rt.alloc(), size)), "at {size}");
+            assert!(rt; is_so(come_back(rt.alloc(), size)), "at {size}");
         }
     }
 }
@@ -155,7 +154,7 @@ fn texts_of_many_sizes_sign_and_verify(rt: HostRuntime) {
     for exponent in 0..18u32 {
         let power = 1usize << exponent;
         for size in [power.saturating_sub(1), power, power.saturating_add(1)] {
-            assert!(rt; holds(&are_used(rt.alloc(), size)), "at {size}");
+            assert!(rt; is_so(are_used(rt.alloc(), size)), "at {size}");
         }
     }
 }
@@ -194,7 +193,7 @@ fn data_of_many_sizes(rt: HostRuntime) {
     for exponent in 0..18u32 {
         let power = 1usize << exponent;
         for size in [power.saturating_sub(1), power, power.saturating_add(1)] {
-            assert!(rt; holds(&is_judged(rt.alloc(), size)), "at {size}");
+            assert!(rt; is_so(is_judged(rt.alloc(), size)), "at {size}");
         }
     }
 }
@@ -210,7 +209,7 @@ fn is_taken(alloc: Global, byte: u8) -> Result<bool> {
 #[test]
 fn data_of_every_byte(rt: HostRuntime) {
     for byte in 0..=255u8 {
-        assert!(rt; holds(&is_taken(rt.alloc(), byte)), "at {byte}");
+        assert!(rt; is_so(is_taken(rt.alloc(), byte)), "at {byte}");
     }
 }
 
@@ -227,15 +226,9 @@ fn is_dated(alloc: Global, moment: u64, expected: &str) -> Result<bool> {
         moment,
     };
     let text = tested(alloc, said)?;
-    let dated = is_text(&trusted_of(alloc, text.as_str()), expected);
+    let dated = gives_text(trusted_of(alloc, text.as_str()), expected);
     let accepted = is_said(alloc, (KEY_TEXT, text.as_str()), expected)?;
     Ok(dated && accepted)
-}
-
-// Asserts it.
-fn dates<A: Abort>(rt: &A, alloc: Global, moment: u64, expected: &str) {
-    let dated = is_dated(alloc, moment, expected);
-    assert!(rt; holds(&dated), "at {moment}");
 }
 
 // The last second of 32 bits with a sign and the one behind it, the same without a sign, and the
@@ -243,14 +236,10 @@ fn dates<A: Abort>(rt: &A, alloc: Global, moment: u64, expected: &str) {
 #[test]
 fn moments_after_2038_and_2106(rt: HostRuntime) {
     let alloc = rt.alloc();
-    dates(&rt, alloc, 2147483647, "timestamp:2147483647");
-    dates(&rt, alloc, 2147483648, "timestamp:2147483648");
-    dates(&rt, alloc, 4294967295, "timestamp:4294967295");
-    dates(&rt, alloc, 4294967296, "timestamp:4294967296");
-    dates(
-        &rt,
-        alloc,
-        18446744073709551615,
-        "timestamp:18446744073709551615",
-    );
+    assert!(rt; is_so(is_dated(alloc, 2147483647, "timestamp:2147483647")));
+    assert!(rt; is_so(is_dated(alloc, 2147483648, "timestamp:2147483648")));
+    assert!(rt; is_so(is_dated(alloc, 4294967295, "timestamp:4294967295")));
+    assert!(rt; is_so(is_dated(alloc, 4294967296, "timestamp:4294967296")));
+    let (last, shown) = (18446744073709551615, "timestamp:18446744073709551615");
+    assert!(rt; is_so(is_dated(alloc, last, shown)));
 }

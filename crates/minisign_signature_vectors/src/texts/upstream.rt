@@ -6,9 +6,8 @@ use minisign::{PublicKey, Result, Signature, VerifyOptions};
 use minisign_base::faults::NamedFault::{LegacyNotAccepted, SignatureRefused};
 use minisign_base::toy::{ToyScheme, Triple};
 use minisign_fixtures::outcomes::Outcome::{self, Accepted, Refused};
-use minisign_fixtures::outcomes::{holds, is_text};
+use minisign_fixtures::outcomes::{gives_text, is_so};
 use std::alloc::Global;
-use std::process::Abort;
 
 // The key of both signatures.
 pub const KEY: &str = "RWQf6LRCGA9i53mlYecO4IzT51TGPpvWucNSCh1CBM0QTaLn73Y7GFO3";
@@ -141,38 +140,26 @@ fn is_judged(
     Ok(texts_judge(alloc, &scheme, texts, data, options, wanted))
 }
 
-// Asserts it.
-fn judges<A: Abort>(
-    rt: &A,
-    alloc: Global,
-    text: &str,
-    data: &[u8],
-    allow_legacy: bool,
-    outcome: Outcome,
-) {
-    let judged = is_judged(alloc, text, data, allow_legacy, outcome);
-    assert!(rt; holds(&judged), "at {outcome:?} {allow_legacy}");
-}
-
 #[test]
 fn texts_of_the_upstream_tool(rt: HostRuntime) {
     let alloc = rt.alloc();
-    let legacy = Refused(LegacyNotAccepted);
+    let (legacy, prehashed) = (LEGACY_TEXT, PREHASHED_TEXT);
+    let not_accepted = Refused(LegacyNotAccepted);
     let refused = Refused(SignatureRefused);
-    judges(&rt, alloc, LEGACY_TEXT, b"test", true, Accepted);
-    judges(&rt, alloc, LEGACY_TEXT, b"test", false, legacy);
-    judges(&rt, alloc, LEGACY_TEXT, b"test2", true, refused);
-    judges(&rt, alloc, PREHASHED_TEXT, b"test", false, Accepted);
-    judges(&rt, alloc, PREHASHED_TEXT, b"test", true, Accepted);
-    judges(&rt, alloc, PREHASHED_TEXT, b"test2", false, refused);
+    assert!(rt; is_so(is_judged(alloc, legacy, b"test", true, Accepted)));
+    assert!(rt; is_so(is_judged(alloc, legacy, b"test", false, not_accepted)));
+    assert!(rt; is_so(is_judged(alloc, legacy, b"test2", true, refused)));
+    assert!(rt; is_so(is_judged(alloc, prehashed, b"test", false, Accepted)));
+    assert!(rt; is_so(is_judged(alloc, prehashed, b"test", true, Accepted)));
+    assert!(rt; is_so(is_judged(alloc, prehashed, b"test2", false, refused)));
 }
 
 // Whether the text holds the untrusted comment by default and this trusted one.
 fn has_comments(alloc: Global, text: &str, prehashed: bool, trusted: &str) -> Result<bool> {
     let made = read_box(alloc, text)?;
     let untrusted = "signature from minisign secret key";
-    let below = is_text(&made.untrusted_comment(alloc), untrusted);
-    let shown = is_text(&made.trusted_comment(alloc), trusted);
+    let below = gives_text(made.untrusted_comment(alloc), untrusted);
+    let shown = gives_text(made.trusted_comment(alloc), trusted);
     Ok(below && shown && made.is_prehashed() == prehashed)
 }
 
@@ -182,8 +169,8 @@ fn what_the_upstream_texts_hold(rt: HostRuntime) {
         "timestamp:1555779966\tfile:test",
         "timestamp:1556193335\tfile:test",
     );
-    assert!(rt; holds(&has_comments(rt.alloc(), LEGACY_TEXT, false, old)));
-    assert!(rt; holds(&has_comments(rt.alloc(), PREHASHED_TEXT, true, new)));
+    assert!(rt; is_so(has_comments(rt.alloc(), LEGACY_TEXT, false, old)));
+    assert!(rt; is_so(has_comments(rt.alloc(), PREHASHED_TEXT, true, new)));
 }
 
 // Whether a signature of the letters is shown by them, and by no blank.
@@ -200,5 +187,5 @@ fn shows_its_letters(alloc: Global) -> Result<bool> {
 
 #[test]
 fn the_letters_of_base64(rt: HostRuntime) {
-    assert!(rt; holds(&shows_its_letters(rt.alloc())));
+    assert!(rt; is_so(shows_its_letters(rt.alloc())));
 }

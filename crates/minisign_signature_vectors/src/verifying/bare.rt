@@ -18,7 +18,6 @@ use minisign_fixtures::outcomes::{OTHER_KEY, front};
 use std::alloc::Global;
 use std::io;
 use std::io::Read;
-use std::process::Abort;
 use std::test::Fail;
 
 const VERIFIED: &[u8] = b"Signature and comment signature verified\n";
@@ -107,76 +106,61 @@ fn key_record() -> [u8; 42] {
     public_record(&IDENTIFIER, &PUBLIC_BYTES)
 }
 
-// Asserts that the two records have this outcome over the data.
-fn judges<A: Abort>(
-    rt: &A,
-    alloc: Global,
-    records: (&[u8], &[u8]),
-    data: &[u8],
-    allow_legacy: bool,
-    outcome: Outcome,
-) {
-    let came = is_judged(alloc, records, data, allow_legacy, outcome);
-    assert!(rt; came, "at {data:?} {allow_legacy} {outcome:?}");
-}
-
-// Asserts that a signature under key A's identifier has this outcome under its key.
-fn judges_signature<A: Abort>(
-    rt: &A,
+// Whether a signature under key A's identifier has this outcome under its key.
+fn is_judged_under_its_key(
     alloc: Global,
     signature: &[u8],
     data: &[u8],
     allow_legacy: bool,
     outcome: Outcome,
-) {
-    judges(
-        rt,
+) -> bool {
+    is_judged(
         alloc,
         (&key_record(), signature),
         data,
         allow_legacy,
         outcome,
-    );
+    )
 }
 
 #[test]
 fn bare_signatures_are_judged(rt: HostRuntime) {
     let alloc = rt.alloc();
     let good = signature(b"ED", &TIED_TO_ABC);
-    judges_signature(&rt, alloc, &good, b"abc", false, Accepted);
-    judges_signature(&rt, alloc, &good, b"abc", true, Accepted);
-    judges_signature(&rt, alloc, &good, b"", false, REFUSED);
-    judges_signature(&rt, alloc, &good, b"abd", false, REFUSED);
+    assert!(rt; is_judged_under_its_key(alloc, &good, b"abc", false, Accepted));
+    assert!(rt; is_judged_under_its_key(alloc, &good, b"abc", true, Accepted));
+    assert!(rt; is_judged_under_its_key(alloc, &good, b"", false, REFUSED));
+    assert!(rt; is_judged_under_its_key(alloc, &good, b"abd", false, REFUSED));
     let mut changed = good;
     changed[73] = 0xa9;
-    judges_signature(&rt, alloc, &changed, b"abc", false, REFUSED);
+    assert!(rt; is_judged_under_its_key(alloc, &changed, b"abc", false, REFUSED));
     let of_nothing = signature(b"ED", &TIED_TO_NOTHING);
-    judges_signature(&rt, alloc, &of_nothing, b"", false, Accepted);
+    assert!(rt; is_judged_under_its_key(alloc, &of_nothing, b"", false, Accepted));
 }
 
 #[test]
 fn bare_legacy_signatures_are_judged(rt: HostRuntime) {
     let alloc = rt.alloc();
     let named = signature(b"Ed", &TIED_TO_ABC);
-    judges_signature(&rt, alloc, &named, b"abc", false, LEGACY);
-    judges_signature(&rt, alloc, &named, b"abc", true, REFUSED);
+    assert!(rt; is_judged_under_its_key(alloc, &named, b"abc", false, LEGACY));
+    assert!(rt; is_judged_under_its_key(alloc, &named, b"abc", true, REFUSED));
     let legacy = signature(b"Ed", &TIED_TO_LEGACY_ABC);
-    judges_signature(&rt, alloc, &legacy, b"abc", false, LEGACY);
-    judges_signature(&rt, alloc, &legacy, b"abc", true, Accepted);
-    judges_signature(&rt, alloc, &legacy, b"abd", true, REFUSED);
+    assert!(rt; is_judged_under_its_key(alloc, &legacy, b"abc", false, LEGACY));
+    assert!(rt; is_judged_under_its_key(alloc, &legacy, b"abc", true, Accepted));
+    assert!(rt; is_judged_under_its_key(alloc, &legacy, b"abd", true, REFUSED));
 }
 
 #[test]
 fn short_records_are_refused(rt: HostRuntime) {
     let alloc = rt.alloc();
     let good = signature(b"ED", &TIED_TO_ABC);
-    judges_signature(&rt, alloc, front(&good, 73), b"abc", false, TOO_SHORT);
+    assert!(rt; is_judged_under_its_key(alloc, front(&good, 73), b"abc", false, TOO_SHORT));
     let key = key_record();
     let short_key = (front(&key, 41), good.as_slice());
-    judges(&rt, alloc, short_key, b"abc", false, TOO_SHORT);
+    assert!(rt; is_judged(alloc, short_key, b"abc", false, TOO_SHORT));
     let unknown = signature(b"Ex", &TIED_TO_ABC);
-    judges_signature(&rt, alloc, &unknown, b"abc", false, UNSUPPORTED);
-    judges_signature(&rt, alloc, front(&unknown, 73), b"abc", false, TOO_SHORT);
+    assert!(rt; is_judged_under_its_key(alloc, &unknown, b"abc", false, UNSUPPORTED));
+    assert!(rt; is_judged_under_its_key(alloc, front(&unknown, 73), b"abc", false, TOO_SHORT));
 }
 
 #[test]
@@ -184,9 +168,9 @@ fn bare_signatures_of_another_key_are_refused(rt: HostRuntime) {
     let alloc = rt.alloc();
     let other_key = public_record(&OTHER_IDENTIFIER, &PUBLIC_BYTES);
     let good = signature(b"ED", &TIED_TO_ABC);
-    judges(&rt, alloc, (&other_key, &good), b"abc", false, OTHER_KEY);
+    assert!(rt; is_judged(alloc, (&other_key, &good), b"abc", false, OTHER_KEY));
     let legacy = signature(b"Ed", &TIED_TO_LEGACY_ABC);
-    judges(&rt, alloc, (&other_key, &legacy), b"abd", false, OTHER_KEY);
+    assert!(rt; is_judged(alloc, (&other_key, &legacy), b"abd", false, OTHER_KEY));
 }
 
 // What stands behind a record is not read.
@@ -225,18 +209,11 @@ fn a_long_message_is_judged(rt: HostRuntime) -> std::result::Result<(), Fail> {
     Ok(())
 }
 
-// Asserts that the two records have this outcome over data that fails behind so many reads, legacy
+// Whether the two records have this outcome over data that fails behind so many reads, legacy
 // signatures accepted.
-fn judges_failing<A: Abort>(
-    rt: &A,
-    alloc: Global,
-    records: (&[u8], &[u8]),
-    reads: u64,
-    outcome: Outcome,
-) {
+fn is_failed(alloc: Global, records: (&[u8], &[u8]), reads: u64, outcome: Outcome) -> bool {
     let mut data = FailsAfter::new(b"abc", reads);
-    let came = comes_to(alloc, records, &mut data, true, outcome);
-    assert!(rt; came, "at {reads}");
+    comes_to(alloc, records, &mut data, true, outcome)
 }
 
 // A failing source is told before any verdict: at the first read, at the second, and at that of the
@@ -247,16 +224,16 @@ fn failing_sources_are_told_from_verdicts(rt: HostRuntime) {
     let key = key_record();
     let other_key = public_record(&OTHER_IDENTIFIER, &PUBLIC_BYTES);
     let prehashed = signature(b"ED", &TIED_TO_ABC);
-    judges_failing(&rt, alloc, (&key, &prehashed), 0, UNREAD);
-    judges_failing(&rt, alloc, (&key, &prehashed), 1, UNREAD);
-    judges_failing(&rt, alloc, (&key, &prehashed), 3, UNREAD);
-    judges_failing(&rt, alloc, (&key, &prehashed), 4, Accepted);
-    judges_failing(&rt, alloc, (&other_key, &prehashed), 1, UNREAD);
-    judges_failing(&rt, alloc, (&other_key, &prehashed), 3, UNREAD);
-    judges_failing(&rt, alloc, (&other_key, &prehashed), 4, OTHER_KEY);
+    assert!(rt; is_failed(alloc, (&key, &prehashed), 0, UNREAD));
+    assert!(rt; is_failed(alloc, (&key, &prehashed), 1, UNREAD));
+    assert!(rt; is_failed(alloc, (&key, &prehashed), 3, UNREAD));
+    assert!(rt; is_failed(alloc, (&key, &prehashed), 4, Accepted));
+    assert!(rt; is_failed(alloc, (&other_key, &prehashed), 1, UNREAD));
+    assert!(rt; is_failed(alloc, (&other_key, &prehashed), 3, UNREAD));
+    assert!(rt; is_failed(alloc, (&other_key, &prehashed), 4, OTHER_KEY));
     let legacy = signature(b"Ed", &TIED_TO_LEGACY_ABC);
-    judges_failing(&rt, alloc, (&key, &legacy), 1, UNREAD);
-    judges_failing(&rt, alloc, (&key, &legacy), 4, Accepted);
+    assert!(rt; is_failed(alloc, (&key, &legacy), 1, UNREAD));
+    assert!(rt; is_failed(alloc, (&key, &legacy), 4, Accepted));
 }
 
 // A reader of std, which can't be marked, and one that breaks off.

@@ -20,10 +20,9 @@ use minisign_base::toy::{ToyScheme, Triple};
 use minisign_fixtures::devices::sinks::{BufferedSink, LimitedSink};
 use minisign_fixtures::devices::sources::{Changes, FailsAfter, OneByOne};
 use minisign_fixtures::outcomes::Outcome::{self, Accepted, Refused};
-use minisign_fixtures::outcomes::{OTHER_KEY, comes_to, holds, is_record};
+use minisign_fixtures::outcomes::{OTHER_KEY, ends_in, gives_record, is_so};
 use minisign_fixtures::texts::{KEY_TEXT, LEGACY_TEXT, SAID, SIGNATURE_TEXT};
 use std::alloc::Global;
-use std::process::Abort;
 
 // The two texts with the last bit of the comment signature turned.
 const CHANGED_COMMENT: &str =
@@ -78,7 +77,8 @@ fn comes_out<R: Rereader>(
     let left: &[u8] = if unread { whole } else { b"" };
     let toy = ToyScheme::new();
     let came = texts_come_out(alloc, &toy, texts, data, options, ample(alloc), wanted);
-    came && is_record(&read_to_end(alloc, data), left)
+    let rest = gives_record(read_to_end(alloc, data), left);
+    came && rest
 }
 
 // The same whatever the source gives a read, and whether the run is quiet and copies or not.
@@ -106,79 +106,32 @@ fn is_judged(
     true
 }
 
-// Asserts that the signature's text under key A has this outcome.
-fn judges<A: Abort>(
-    rt: &A,
-    alloc: Global,
-    sig_text: &str,
-    whole: &[u8],
-    allow_legacy: bool,
-    outcome: Outcome,
-) {
-    judges_texts(
-        rt,
-        alloc,
-        (KEY_TEXT, sig_text),
-        whole,
-        allow_legacy,
-        outcome,
-    );
-}
-
-// Asserts that two texts have this outcome.
-fn judges_texts<A: Abort>(
-    rt: &A,
-    alloc: Global,
-    texts: (&str, &str),
-    whole: &[u8],
-    allow_legacy: bool,
-    outcome: Outcome,
-) {
-    let came = is_judged(alloc, texts, whole, allow_legacy, outcome);
-    assert!(rt; came, "at {whole:?} {allow_legacy} {outcome:?}");
-}
-
-// Where several conditions fail, the first is named.
+// Where several conditions fail, the first is named: of the texts, of those with a changed comment
+// signature, of those under another identifier, and of those without a key.
 #[test]
 fn texts_are_judged_in_their_order(rt: HostRuntime) {
     let alloc = rt.alloc();
-    judges(&rt, alloc, SIGNATURE_TEXT, b"abc", false, Accepted);
-    judges(&rt, alloc, SIGNATURE_TEXT, b"abc", true, Accepted);
-    judges(&rt, alloc, LEGACY_TEXT, b"abc", true, Accepted);
-    judges(&rt, alloc, LEGACY_TEXT, b"abc", false, LEGACY);
-    judges(&rt, alloc, LEGACY_TEXT, b"abd", false, LEGACY);
-    judges(&rt, alloc, LEGACY_TEXT, b"abd", true, REFUSED);
-    judges(&rt, alloc, SIGNATURE_TEXT, b"abd", false, REFUSED);
-    judges(&rt, alloc, SIGNATURE_TEXT, b"", false, REFUSED);
-    judges(&rt, alloc, "", b"abc", false, NO_SIGNATURE);
-}
-
-// The same where the comment signature is changed.
-#[test]
-fn changed_comments_are_judged_in_their_order(rt: HostRuntime) {
-    let alloc = rt.alloc();
-    let changed = CHANGED_COMMENT;
-    judges(&rt, alloc, changed, b"abd", false, REFUSED);
-    judges(&rt, alloc, changed, b"abc", false, COMMENT_REFUSED);
-    let changed = CHANGED_LEGACY_COMMENT;
-    judges(&rt, alloc, changed, b"abc", false, LEGACY);
-    judges(&rt, alloc, changed, b"abc", true, COMMENT_REFUSED);
-}
-
-// The same under another identifier, and without a key.
-#[test]
-fn texts_of_another_key_are_judged_in_their_order(rt: HostRuntime) {
-    let alloc = rt.alloc();
-    let other = (RENAMED_KEY_TEXT, SIGNATURE_TEXT);
-    judges_texts(&rt, alloc, other, b"abc", false, OTHER_KEY);
-    let other = (RENAMED_KEY_TEXT, LEGACY_TEXT);
-    judges_texts(&rt, alloc, other, b"abd", false, OTHER_KEY);
-    let other = (RENAMED_KEY_TEXT, CHANGED_COMMENT);
-    judges_texts(&rt, alloc, other, b"", false, OTHER_KEY);
-    let other = (RENAMED_KEY_TEXT, "");
-    judges_texts(&rt, alloc, other, b"abc", false, NO_SIGNATURE);
-    judges_texts(&rt, alloc, ("", ""), b"abc", false, NO_KEY);
-    judges_texts(&rt, alloc, ("", SIGNATURE_TEXT), b"abc", false, NO_KEY);
+    let (text, legacy, changed) = (SIGNATURE_TEXT, LEGACY_TEXT, CHANGED_COMMENT);
+    let (key, other, changed_legacy) = (KEY_TEXT, RENAMED_KEY_TEXT, CHANGED_LEGACY_COMMENT);
+    assert!(rt; is_judged(alloc, (key, text), b"abc", false, Accepted));
+    assert!(rt; is_judged(alloc, (key, text), b"abc", true, Accepted));
+    assert!(rt; is_judged(alloc, (key, legacy), b"abc", true, Accepted));
+    assert!(rt; is_judged(alloc, (key, legacy), b"abc", false, LEGACY));
+    assert!(rt; is_judged(alloc, (key, legacy), b"abd", false, LEGACY));
+    assert!(rt; is_judged(alloc, (key, legacy), b"abd", true, REFUSED));
+    assert!(rt; is_judged(alloc, (key, text), b"abd", false, REFUSED));
+    assert!(rt; is_judged(alloc, (key, text), b"", false, REFUSED));
+    assert!(rt; is_judged(alloc, (key, ""), b"abc", false, NO_SIGNATURE));
+    assert!(rt; is_judged(alloc, (key, changed), b"abd", false, REFUSED));
+    assert!(rt; is_judged(alloc, (key, changed), b"abc", false, COMMENT_REFUSED));
+    assert!(rt; is_judged(alloc, (key, changed_legacy), b"abc", false, LEGACY));
+    assert!(rt; is_judged(alloc, (key, changed_legacy), b"abc", true, COMMENT_REFUSED));
+    assert!(rt; is_judged(alloc, (other, text), b"abc", false, OTHER_KEY));
+    assert!(rt; is_judged(alloc, (other, legacy), b"abd", false, OTHER_KEY));
+    assert!(rt; is_judged(alloc, (other, changed), b"", false, OTHER_KEY));
+    assert!(rt; is_judged(alloc, (other, ""), b"abc", false, NO_SIGNATURE));
+    assert!(rt; is_judged(alloc, ("", ""), b"abc", false, NO_KEY));
+    assert!(rt; is_judged(alloc, ("", text), b"abc", false, NO_KEY));
 }
 
 // Whether verifying over data that fails behind so many reads has this outcome.
@@ -193,27 +146,22 @@ fn is_failed(alloc: Global, texts: (&str, &str), reads: u64, outcome: Outcome) -
     texts_come_out(alloc, &toy, texts, &mut data, SAYING, ample(alloc), wanted)
 }
 
-// Asserts it.
-fn fails<A: Abort>(rt: &A, alloc: Global, texts: (&str, &str), reads: u64, outcome: Outcome) {
-    let came = is_failed(alloc, texts, reads, outcome);
-    assert!(rt; came, "at {outcome:?} {reads}");
-}
-
 // A source that fails is told before any verdict, and after a refused text.
 #[test]
 fn failing_data_comes_between_texts_and_verdicts(rt: HostRuntime) {
     let alloc = rt.alloc();
+    let (key, text) = (KEY_TEXT, SIGNATURE_TEXT);
     let unread = Refused(ReadingFailed);
-    let other = (RENAMED_KEY_TEXT, SIGNATURE_TEXT);
-    let changed = (KEY_TEXT, CHANGED_COMMENT);
-    fails(&rt, alloc, (KEY_TEXT, SIGNATURE_TEXT), 1, unread);
-    fails(&rt, alloc, other, 1, unread);
-    fails(&rt, alloc, (KEY_TEXT, LEGACY_TEXT), 1, unread);
-    fails(&rt, alloc, changed, 3, unread);
-    fails(&rt, alloc, changed, 4, COMMENT_REFUSED);
-    fails(&rt, alloc, other, 4, OTHER_KEY);
-    fails(&rt, alloc, ("", SIGNATURE_TEXT), 0, NO_KEY);
-    fails(&rt, alloc, (KEY_TEXT, ""), 0, NO_SIGNATURE);
+    let other = (RENAMED_KEY_TEXT, text);
+    let changed = (key, CHANGED_COMMENT);
+    assert!(rt; is_failed(alloc, (key, text), 1, unread));
+    assert!(rt; is_failed(alloc, other, 1, unread));
+    assert!(rt; is_failed(alloc, (key, LEGACY_TEXT), 1, unread));
+    assert!(rt; is_failed(alloc, changed, 3, unread));
+    assert!(rt; is_failed(alloc, changed, 4, COMMENT_REFUSED));
+    assert!(rt; is_failed(alloc, other, 4, OTHER_KEY));
+    assert!(rt; is_failed(alloc, ("", text), 0, NO_KEY));
+    assert!(rt; is_failed(alloc, (key, ""), 0, NO_SIGNATURE));
 }
 
 // Whether `abc` is copied of a source that was marked and of which two bytes were read.
@@ -248,23 +196,21 @@ fn unflushed(alloc: Global) -> Sinks {
     }
 }
 
-// Asserts that verifying data of which a second reading gives this comes out so, over sinks that
-// take all and over an output that cannot be flushed.
-fn tells<A: Abort>(rt: &A, alloc: Global, first: &[u8], second: &[u8], wanted: Wanted) {
-    let whole = is_told_by(alloc, first, second, ample(alloc), wanted);
-    assert!(rt; whole, "at {second:?}");
-    let flushed = is_told_by(alloc, first, second, unflushed(alloc), wanted);
-    assert!(rt; flushed, "at {second:?}, unflushed");
+// Whether verifying data of which a second reading gives this comes out so, over sinks that take all
+// and over an output that cannot be flushed.
+fn is_told_by_both(alloc: Global, first: &[u8], second: &[u8], wanted: Wanted) -> bool {
+    is_told_by(alloc, first, second, ample(alloc), wanted)
+        && is_told_by(alloc, first, second, unflushed(alloc), wanted)
 }
 
 // The same of `abc`, that changes: all that comes is copied.
-fn tells_a_change<A: Abort>(rt: &A, alloc: Global, second: &[u8]) {
+fn is_told_of_a_change(alloc: Global, second: &[u8]) -> bool {
     let wanted = Wanted {
         outcome: CHANGED,
         said: SAID,
         copied: second,
     };
-    tells(rt, alloc, b"abc", second, wanted);
+    is_told_by_both(alloc, b"abc", second, wanted)
 }
 
 // Whether verifying `abc` comes to this over an output with a buffer, where a second reading gives
@@ -291,7 +237,8 @@ fn is_buffered(
         &mut out,
     );
     let unsaid = status.passed_on().is_empty() && status.waiting() == SAID;
-    comes_to(&answer, outcome) && unsaid && out.passed_on() == passed_on && out.waiting() == waiting
+    let came = ends_in(answer, outcome);
+    came && unsaid && out.passed_on() == passed_on && out.waiting() == waiting
 }
 
 // The copy is flushed once the digests are compared, and the status never.
@@ -308,17 +255,17 @@ fn data_that_changed_is_not_flushed(rt: HostRuntime) {
 #[test]
 fn data_that_changes_is_told(rt: HostRuntime) {
     let alloc = rt.alloc();
-    tells_a_change(&rt, alloc, b"abd");
-    tells_a_change(&rt, alloc, b"xyz");
-    tells_a_change(&rt, alloc, b"ab");
-    tells_a_change(&rt, alloc, b"abcd");
-    tells_a_change(&rt, alloc, b"");
+    assert!(rt; is_told_of_a_change(alloc, b"abd"));
+    assert!(rt; is_told_of_a_change(alloc, b"xyz"));
+    assert!(rt; is_told_of_a_change(alloc, b"ab"));
+    assert!(rt; is_told_of_a_change(alloc, b"abcd"));
+    assert!(rt; is_told_of_a_change(alloc, b""));
     let refused = Wanted {
         outcome: REFUSED,
         said: b"",
         copied: b"",
     };
-    tells(&rt, alloc, b"abd", b"abc", refused);
+    assert!(rt; is_told_by_both(alloc, b"abd", b"abc", refused));
 }
 
 // Whether verifying data that cannot be read again comes out so, and leaves this.
@@ -329,7 +276,8 @@ fn is_read_once(alloc: Global, text: &str, output: bool, wanted: Wanted, left: &
     let toy = ToyScheme::new();
     let texts = (KEY_TEXT, text);
     let came = texts_come_out(alloc, &toy, texts, &mut data, options, ample(alloc), wanted);
-    came && is_record(&read_to_end(alloc, &mut data), left)
+    let rest = gives_record(read_to_end(alloc, &mut data), left);
+    came && rest
 }
 
 // What is wanted where the data is accepted and not copied.
@@ -344,15 +292,16 @@ const ACCEPTED: Wanted<'static> = Wanted {
 #[test]
 fn data_that_cannot_be_read_again(rt: HostRuntime) {
     let alloc = rt.alloc();
+    let (text, legacy) = (SIGNATURE_TEXT, LEGACY_TEXT);
     let mut refused = ACCEPTED;
     refused.outcome = NOT_BACK;
     refused.said = b"";
-    assert!(rt; is_read_once(alloc, SIGNATURE_TEXT, true, refused, b"abc"));
-    assert!(rt; is_read_once(alloc, SIGNATURE_TEXT, false, ACCEPTED, b""));
+    assert!(rt; is_read_once(alloc, text, true, refused, b"abc"));
+    assert!(rt; is_read_once(alloc, text, false, ACCEPTED, b""));
     let mut copied = ACCEPTED;
     copied.copied = b"abc";
-    assert!(rt; is_read_once(alloc, LEGACY_TEXT, true, copied, b""));
-    assert!(rt; is_read_once(alloc, LEGACY_TEXT, false, ACCEPTED, b""));
+    assert!(rt; is_read_once(alloc, legacy, true, copied, b""));
+    assert!(rt; is_read_once(alloc, legacy, false, ACCEPTED, b""));
 }
 
 // The table of the legacy text's two signatures.
@@ -443,9 +392,9 @@ fn texts_of_the_upstream_tool_are_told(rt: HostRuntime) {
     let alloc = rt.alloc();
     let (old, new) = (upstream::LEGACY_TEXT, upstream::PREHASHED_TEXT);
     let copied = is_told(alloc, &LEGACY_TABLE, old, (true, true), LEGACY_ACCEPTED);
-    assert!(rt; holds(&copied));
+    assert!(rt; is_so(copied));
     let refused = is_told(alloc, &LEGACY_TABLE, old, (false, false), LEGACY_REFUSED);
-    assert!(rt; holds(&refused));
+    assert!(rt; is_so(refused));
     let said = is_told(
         alloc,
         &PREHASHED_TABLE,
@@ -453,7 +402,7 @@ fn texts_of_the_upstream_tool_are_told(rt: HostRuntime) {
         (false, false),
         PREHASHED_ACCEPTED,
     );
-    assert!(rt; holds(&said));
+    assert!(rt; is_so(said));
     let unmarked = is_told(alloc, &PREHASHED_TABLE, new, (false, true), UNMARKED);
-    assert!(rt; holds(&unmarked));
+    assert!(rt; is_so(unmarked));
 }
