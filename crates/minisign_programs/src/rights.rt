@@ -18,8 +18,8 @@ pub const RIGHTS_OF_OTHERS: u32 = 0o007;
 /// the mode can tell. Of the special bits none is kept.
 #[tactic(auto, using(crate::proofs::Bits::sum_of_rights))]
 pub fn rights_after(older: u32) -> u32
-    // A new file has the older one's rights for the owner and for all others, and of those for the
-    // group just what all others have too.
+    // The rights that are told for a new file are the older mode's bits for the owner and for all
+    // others, and of those for the group just what all others have too; no other bit is among them.
     ensures kept { KeepsRights older result }
 {
     let others = older & RIGHTS_OF_OTHERS;
