@@ -1,0 +1,35 @@
+#!/usr/bin/env python3
+"""Has `minisign_compare`, as `rt ci` or `rt run` built it, answer the rows of this folder's modules, and compares.
+
+    tests/rows/rows.py [MODULE..]
+
+Each expected value comes from outside: from a standard, from Python's hashlib and base64, from the upstream tool, or
+worked out by hand from a definition. None is what a crate of this repository answered. A module has a function `rows`,
+which is given an empty folder that is its own and yields rows. The last line is `N passed, M failed`.
+"""
+
+import importlib
+import os
+import sys
+import tempfile
+
+from asking import run
+
+HERE = os.path.dirname(os.path.realpath(__file__))
+MODULES = sorted(it[:-3] for it in os.listdir(HERE) if it.endswith(".py") and it not in ("asking.py", "rows.py"))
+
+
+def main(names):
+    passed = failed = 0
+    for name in names or MODULES:
+        with tempfile.TemporaryDirectory(prefix="minisign-rows-") as folder:
+            well, badly = run([*importlib.import_module(name).rows(folder)], folder)
+        print(f"{name}: {well} passed, {badly} failed")
+        passed, failed = passed + well, failed + badly
+    print(f"{passed} passed, {failed} failed")
+    return 1 if failed or not passed else 0
+
+
+if __name__ == "__main__":
+    sys.path.append(os.path.join(HERE, "..", "shared"))
+    sys.exit(main(sys.argv[1:]))
