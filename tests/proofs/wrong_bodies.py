@@ -2,11 +2,13 @@
 """Tries the must-fail edits of crates/*/wrong-bodies/*.edit: the prover has to refuse each.
 
 An edit has the form of the kit's, a first line `why:`, and a line `fn:` with the function that has to be refused, as
-`rt check` prints it. `rt ci` would give each a check of its own, as it does with those of must-fail/; here edits of the
-bodies of different functions share one, and an edit that reaches beyond the body of its function is tried alone. All of
-it stands on what `rt check --only` prints in copies of the repository. First the functions that a crate's edits change
-are checked as they stand: each has to be proved. Then come the edits, a group at a time, over the work that this check
-kept. An edit that is not refused beside others is tried once more alone.
+`rt check` prints it. `rt ci` would give each a check of its own, as it does with those of must-fail/; here many share
+one: each is written into a copy of its function, which stands behind it under a name of its own, with the same contract
+and a copy of its written proof. So what calls the function is not proved again. A method of a trait's impl has no second
+name and is changed where it stands, and an edit that reaches beyond the body of its function is tried alone. All of it
+stands on what `rt check --only` prints in copies of the repository. First the functions that a crate's edits change are
+checked as they stand, unless the whole crate was just proved as a library: each has to be proved. Then come the edits, a
+group at a time, over the work that this check kept. An edit that is not refused beside others is tried once more alone.
 
 An edit passes if the search for a proof of one of the function's own goals came to its end and found none. It counts
 apart, and not as passed, if the search gave up at one of its limits, or if only the function's written proof no longer
@@ -15,7 +17,9 @@ function is proved, if the prover could not tell, and if all that is left is a l
 proof, so that the goal may hold. tests/proofs/wrong_bodies.txt says how many edits each crate has and how many of these
 are refused by a written proof alone at the most: it fails too on other numbers of edits, and on more of these.
 
-usage: wrong_bodies.py [--beside FILE] [--keep FOLDER] [CRATE[/NAME]..]
+usage: wrong_bodies.py [--unchanged] [--beside FILE] [--keep FOLDER] [CRATE[/NAME]..]
+  --unchanged    leaves the changes out and passes what is proved, so that a refusal comes from a change and not from the
+                 copying
   --beside FILE  runs beside `rt ci`. FILE is what that says, with the line ENDED behind it. The edits of a crate are
                  tried once `rt ci` has proved the crates that it depends on. What earlier checks kept is left alone.
                  Otherwise the checks begin with the work that is kept in the crates' folders out/
@@ -51,6 +55,8 @@ READY = "the libraries are ready"
 GROUP = 24
 # What a check of a crate reads.
 PARTS = ("src", "specs", "proofs")
+# What stands behind the name of a function in that of a copy with a wrong body, before the number of this.
+COPY = "_with_wrong_body_"
 # Where a function and its body begin.
 HEADER = re.compile(r'(?m)^( *)(?:pub(?:\(\w+\))? )?(?:const )?(?:unsafe )?(?:extern "C" )?fn (\w+)')
 BODY = re.compile(r"(?m)\{$")
@@ -65,10 +71,12 @@ STOPPED = re.compile(r"may hold\b|could not tell|stopped at its own limit|step l
 class WrongBody:
     """A wrong body: its name, its file, the function to be refused, and what stands in place of what."""
 
-    def __init__(self, crate, file):
+    def __init__(self, crate, file, number):
         self.label = f"{crate}/{os.path.basename(file)[: -len('.edit')]}"
         self.path = self.function = self.fault = ""
-        self.changes, self.is_alone, old = [], False, ""
+        self.changes, self.is_alone, self.is_unchanged, old = [], False, False, ""
+        # Where its function begins and ends in the file, where it is written into a copy of it, and what is added to the name.
+        self.copied, self.suffix = None, f"{COPY}{number}"
         with open(file, encoding="utf-8") as it:
             lines = it.read().splitlines()
         for line in lines:
@@ -84,6 +92,10 @@ class WrongBody:
         if not (file.endswith(".edit") and self.path and self.function and self.changes):
             self.fault = "it is no file .edit with the lines `file:`, `fn:`, `old:` and `new:`"
 
+    def leave_unchanged(self):
+        """Has its function stand as it is."""
+        self.changes, self.is_unchanged = [(old, old) for old, _ in self.changes], True
+
     def places(self, text):
         """Returns where in the text of its file each change begins and ends, with the new text."""
         found, left = [], text
@@ -92,16 +104,47 @@ class WrongBody:
                 self.fault = f"its old text stands in {self.path} {left.count(old)} times, and not once"
             at = left.find(old)
             left = left.replace(old, "\0" * len(old))
-            self.is_alone |= function_at(text, at) != self.function.rpartition("::")[2]
+            around = function_at(text, at)
+            self.is_alone |= not around or around[2] != self.function.rpartition("::")[2]
+            self.copied = around[:2] if around and not self.is_alone and not is_of_trait(text, around[0]) else None
             found.append((at, at + len(old), new))
         return found
 
+    def checked(self):
+        """Returns the function that is checked: the copy, or the function."""
+        return self.function + self.suffix if self.copied else self.function
+
+    def pieces(self, text):
+        """Returns what has to stand in place of what in the text of its file: the copy behind the function, or the changes."""
+        places = self.places(text)
+        if not self.copied:
+            return places
+        begin, end = self.copied
+        copy = replaced(text[begin:end], [(one - begin, other - begin, new) for one, other, new in places])
+        name = HEADER.match(copy).end()
+        return [(end, end, f"\n\n{copy[:name]}{self.suffix}{copy[name:]}")]
+
+    def copy_proof(self, folder):
+        """Copies the written proof of its function, where it has one and is copied, in a crate's folder."""
+        proof, copy = (f"{folder}/proofs/{it.replace('::', '/')}" for it in (self.function, self.checked()))
+        if not self.copied or not os.path.isdir(proof):
+            return
+        shutil.copytree(proof, copy)
+        named = re.compile(rf"\b{re.escape(self.function.replace('::', '.'))}\b")
+        for at, _, files in os.walk(copy):
+            for it in files:
+                with open(f"{at}/{it}", "r+", encoding="utf-8") as file:
+                    text = named.sub(self.checked().replace("::", "."), file.read())
+                    file.seek(0)
+                    file.write(text)
+
 
 class Verdict:
-    """What there is to say of a wrong body: it is refused, refused in a way that counts apart, or neither."""
+    """What there is to say of a wrong body: it is refused, refused in a way that counts apart, or neither; or, where it was
+    left unchanged, that it is proved."""
 
-    REFUSED, GAVE_UP, APART, FAILED = ("refused", "refused by a search that gave up at a limit",
-                                       "refused by its written proof alone", "FAILED")
+    REFUSED, GAVE_UP, APART, FAILED, PROVED = ("refused", "refused by a search that gave up at a limit",
+                                               "refused by its written proof alone", "FAILED", "proved, unchanged")
 
     def __init__(self, body, outcome, why):
         self.label, self.crate, self.outcome = body.label, body.label.partition("/")[0], outcome
@@ -132,7 +175,7 @@ def bodies_of(crate):
     """Returns the wrong bodies of a crate."""
     folder = f"crates/{crate}/wrong-bodies"
     files = sorted(os.listdir(folder)) if os.path.isdir(folder) else []
-    return [WrongBody(crate, f"{folder}/{it}") for it in files]
+    return [WrongBody(crate, f"{folder}/{it}", number) for number, it in enumerate(files)]
 
 
 def listed():
@@ -295,8 +338,11 @@ class Trial:
         return ""
 
     def lacks_proof(self, bodies):
-        """Checks the functions that these bodies change as they stand, and returns why they are not proved."""
-        said = self.check(self.folder, bodies)
+        """Checks the functions that these bodies change as they stand, unless they were proved with the library, and returns
+        why they are not proved."""
+        if self.crate in self.libraries.names:
+            return ""
+        said = self.check(self.folder, {it.function for it in bodies})
         is_proved = re.search(r"(?m)^only=(\d+) proved=\1$", said)
         return "" if is_proved else f"the crate as it stands is not proved: {first_of(said)}"
 
@@ -316,12 +362,14 @@ class Trial:
             for path, text in self.changed(group).items():
                 with open(f"{room}/crates/{self.crate}/{path}", "w", encoding="utf-8") as it:
                     it.write(text)
-            said = self.check(room, group)
+            for it in group:
+                it.copy_proof(f"{room}/crates/{self.crate}")
+            said = self.check(room, {it.checked() for it in group})
         return [self.judged(it, said) for it in group]
 
-    def check(self, repository, bodies):
-        """Checks the functions that these bodies change, in a copy of the repository, and returns what is said."""
-        words = [word for it in sorted({it.function for it in bodies}) for word in ("--only", it)]
+    def check(self, repository, functions):
+        """Checks these functions of the crate in a copy of the repository, and returns what is said."""
+        words = [word for it in sorted(functions) for word in ("--only", it)]
         with self.proofs.place():
             return run_rt(["check", "--jobs", "1", *words], f"{repository}/crates/{self.crate}", ("nice", "-n", "19")).stdout
 
@@ -329,27 +377,25 @@ class Trial:
         """Returns the texts of the files with the changes of a group in place."""
         texts = {}
         for path in {it.path for it in group}:
-            text = self.texts[path]
-            places = [place for it in group if it.path == path for place in it.places(text)]
-            for begin, end, new in sorted(places, reverse=True):
-                text = text[:begin] + new + text[end:]
-            texts[path] = text
+            pieces = [piece for it in group if it.path == path for piece in it.pieces(self.texts[path])]
+            texts[path] = replaced(self.texts[path], pieces)
         return texts
 
     def judged(self, body, said):
         """Judges a body by what a check said of its function: by its line, those above it that belong to it, and the
         errors in its written proof."""
         lines = said.split("\n")
-        mine = f"fn {self.crate}::{body.function}: "
+        mine = f"fn {self.crate}::{body.checked()}: "
         at = next((at for at, it in enumerate(lines) if it.startswith(mine)), None)
         if at is None or not re.search(r"(?m)^only=", said):
             return Verdict(body, Verdict.FAILED, f"bad edit: it did not reach the prover: {first_of(said)}")
         line = lines[at][len(mine):]
-        if line.startswith("proved"):
-            return Verdict(body, Verdict.FAILED, f"the function is {line}")
+        if line.startswith("proved") or body.is_unchanged:
+            is_well = line.startswith("proved") and body.is_unchanged
+            return Verdict(body, Verdict.PROVED if is_well else Verdict.FAILED, f"the function is {line}")
         begin = next((it for it in range(at - 1, -1, -1) if lines[it].startswith("fn ")), -1) + 1
         above = [it for it in lines[begin:at] if it.startswith("note: ") and SEARCHED.search(it)]
-        proof = f"./proofs/{body.function.replace('::', '/')}/"
+        proof = f"./proofs/{body.checked().replace('::', '/')}/"
         errors = [it for it in lines if it.startswith(proof) and ": error: " in it]
         is_searched = bool(above or SEARCHED.search(line))
         ended = [it for it in above if not GAVE_UP.search(it)]
@@ -375,11 +421,25 @@ def told_of(lines, proof):
 
 
 def function_at(text, at):
-    """Returns the name of the function in whose body a place of a source file lies, if it lies in one."""
+    """Returns where the function begins and ends in whose body a place of a source file lies, and its name, if it lies in
+    one."""
     headers = [*HEADER.finditer(text, 0, max(at, 0))]
     body = BODY.search(text, headers[-1].start()) if headers else None
     end = re.compile(rf"(?m)^{headers[-1][1]}\}}").search(text, body.end()) if body else None
-    return headers[-1][2] if end and body.start() < at < end.start() else None
+    return (headers[-1].start(), end.end(), headers[-1][2]) if end and body.start() < at < end.start() else None
+
+
+def is_of_trait(text, at):
+    """Returns whether the function that begins there is a method of a trait's impl."""
+    impls = re.findall(r"(?m)^impl\b[^{;]*", text[:at]) if text[at] == " " else []
+    return bool(impls) and " for " in impls[-1]
+
+
+def replaced(text, pieces):
+    """Returns the text with these pieces in place: where each begins and ends, and what stands there."""
+    for begin, end, new in sorted(pieces, reverse=True):
+        text = text[:begin] + new + text[end:]
+    return text
 
 
 def first_of(said):
@@ -389,10 +449,11 @@ def first_of(said):
 
 
 def groups_of(bodies):
-    """Returns the bodies in groups of about one size in which no function is changed twice, and alone what others see."""
+    """Returns the bodies in groups of about one size in which no function is changed twice where it stands, and alone what
+    others see."""
     alone = [[it] for it in bodies if it.is_alone]
     in_order = sorted((it for it in bodies if not it.is_alone), key=lambda it: it.function)
-    most = max(Counter(it.function for it in in_order).values(), default=0)
+    most = max(Counter(it.function for it in in_order if not it.copied).values(), default=0)
     number = max(most, -(-len(in_order) // GROUP))
     return [*alone, *(in_order[at::number] for at in range(number))]
 
@@ -437,7 +498,7 @@ def take(words, flag):
 
 
 def main(words):
-    names = [*words]
+    names = [it for it in words if it != "--unchanged"]
     proofs, folder = Proofs(take(names, "--beside")), take(names, "--keep")
     folder = folder and os.path.abspath(folder)
     os.chdir(ROOT)
@@ -448,6 +509,8 @@ def main(words):
     wrong += [f"no wrong body is named {it}" for it in names if it not in found]
     is_named = lambda it: not names or it.label in names or it.label.partition("/")[0] in names
     tasks = {crate: [it for it in bodies[crate] if is_named(it)] for crate in bodies}
+    for it in (it for crate in tasks for it in tasks[crate] if "--unchanged" in words):
+        it.leave_unchanged()
     tasks = {crate: tasks[crate] for crate in sorted(tasks, key=lambda it: len(crates[1][it])) if tasks[crate]}
     outcomes = {crate: Counter() for crate in tasks}
     with tempfile.TemporaryDirectory(prefix="wrong-bodies-") as room:
@@ -462,13 +525,14 @@ def main(words):
             outcomes[verdict.crate][verdict.outcome] += 1
     for crate, counted in outcomes.items():
         kinds = (Verdict.REFUSED, Verdict.GAVE_UP, Verdict.APART, Verdict.FAILED)
+        kinds = kinds if "--unchanged" not in words else (Verdict.PROVED, Verdict.FAILED)
         print(f"{crate}: " + ", ".join(f"{counted[it]} {it}" for it in kinds))
         if counted[Verdict.APART] > listed().get(crate, (0, 0))[1]:
             wrong.append(f"{crate}: {counted[Verdict.APART]} are refused by their written proof alone, which is more "
                          f"than {LIST} says")
     for it in wrong:
         print(f"FAILED: {it}")
-    passed = sum(it[Verdict.REFUSED] for it in outcomes.values())
+    passed = sum(it[Verdict.REFUSED] + it[Verdict.PROVED] for it in outcomes.values())
     failed = sum(it[Verdict.FAILED] for it in outcomes.values()) + len(wrong)
     print(f"{passed} passed, {failed} failed")
     return 1 if failed or not tasks else 0
