@@ -114,8 +114,9 @@ def bones_have_no_text():
 
 def outcome_of_beginning(length):
     """What comes of so many bytes of the worked text, of which the lines end behind 21, 122, 141 and 230."""
-    if length <= 141:
-        return (NO_FIRST if length == 0 else NO_SECOND if length <= 21 else NO_THIRD if length <= 122 else NO_FOURTH)
+    for end, fault in ((0, NO_FIRST), (21, NO_SECOND), (122, NO_THIRD), (141, NO_FOURTH)):
+        if length <= end:
+            return fault
     if length >= 229:
         return ACCEPTED
     return COMMENT_REFUSED if (length - 141) % 4 == 0 else NOT_BASE64
@@ -127,7 +128,7 @@ def beginnings():
         text = PREHASHED_TEXT[:length]
         outcome = outcome_of_beginning(length)
         answer = refused(outcome) if outcome not in (ACCEPTED, COMMENT_REFUSED) else holds(
-            PREHASHED_RECORD, PREHASHED_TEXT[:min(length, 229)] + b"\n")
+            PREHASHED_RECORD, text.rstrip(b"\n") + b"\n")
         yield read(f"beginning: {length} bytes, read", text, answer)
         yield from judged(f"beginning: {length} bytes, verified", text, outcome)
 

@@ -266,8 +266,8 @@ def failing_data_of_texts():
 
 
 def copies_of_texts():
-    """The copy begins where the source stood. What a second reading gives is copied as it comes, and told from the first
-    once it is whole."""
+    """The copy begins where the source stood. What a second reading gives is copied as it comes, and told from the
+    first once it is whole."""
     copying = texts(output=True, legacy=True)
     legacy = replace(copying, signature=LEGACY_TEXT, is_prehashed=False)
     yield from copying.from_place("texts: copied from the place that was reached", b"xx")

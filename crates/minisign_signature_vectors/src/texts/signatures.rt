@@ -46,18 +46,19 @@ fn is_its_text(alloc: Global) -> Result<bool> {
     let text = String::from_str(alloc, SIGNATURE_TEXT)?;
     let read = SignatureBox::try_from_string(alloc, text)?;
     let written = gives_record(read.to_bytes(alloc), SIGNATURE_TEXT.as_bytes());
-    let copied = read.try_clone(alloc)?.into_string(alloc);
-    Ok(written && gives_text(copied, SIGNATURE_TEXT))
+    let copied = gives_text(read.try_clone(alloc)?.into_string(alloc), SIGNATURE_TEXT);
+    Ok(written && copied)
 }
+
+const INCOMPLETE: Outcome = Refused(SignatureBoxIncomplete);
 
 // Whether a box from bones has no text as bytes or as a copy.
 fn has_no_text(alloc: Global) -> Result<bool> {
-    const INCOMPLETE: Outcome = Refused(SignatureBoxIncomplete);
     let record = signature_record(b"ED", &IDENTIFIER, &TIED_TO_ABC);
     let bare = SignatureBox::from_bones(SignatureBones::from_bytes(&record)?);
     let bytes = ends_in(bare.to_bytes(alloc), INCOMPLETE);
-    let copied = bare.try_clone(alloc)?.into_string(alloc);
-    Ok(bytes && ends_in(copied, INCOMPLETE))
+    let copied = ends_in(bare.try_clone(alloc)?.into_string(alloc), INCOMPLETE);
+    Ok(bytes && copied)
 }
 
 #[test]

@@ -20,6 +20,12 @@ fn signs(alloc: Global, size: usize) -> Result<bool> {
     let comment = String::from_utf8(vec![in alloc; b'x'; size]?)?;
     let comment = comment.as_str();
     let sk_text = format!(in alloc; "untrusted comment: {comment}\n{second}")?;
+    let said = Said {
+        trusted: Some(comment),
+        untrusted: Some(comment),
+        moment: 0,
+    };
+    let wanted = signed(alloc, b"abc", said, &ZEROS)?.into_string(alloc)?;
     let given = signed_text(
         alloc,
         sk_text.as_str(),
@@ -29,12 +35,6 @@ fn signs(alloc: Global, size: usize) -> Result<bool> {
         (comment, comment),
         &mut FixedRandom::new(&ZEROS),
     );
-    let said = Said {
-        trusted: Some(comment),
-        untrusted: Some(comment),
-        moment: 0,
-    };
-    let wanted = signed(alloc, b"abc", said, &ZEROS)?.into_string(alloc)?;
     Ok(gives_text(given, wanted.as_str()))
 }
 

@@ -96,19 +96,25 @@ fn readers_of_std_are_judged(rt: HostRuntime) {
 }
 
 // Whether verifying `abc`, of which a second reading gives this, comes out so over a status and an
-// output with room for so many bytes, neither of which can be flushed.
+// output with room for so many bytes, neither of which can be flushed: this outcome, with this said
+// and copied.
 fn is_told(
     alloc: Global,
     signature: Bare,
     second: &[u8],
     options: VerifyOptions,
     (status, out): (usize, usize),
-    wanted: Wanted,
+    (outcome, said, copied): (Outcome, &[u8], &[u8]),
 ) -> bool {
     let mut data = Changes::new(b"abc", second);
     let sinks = Sinks {
         status: LimitedSink::new(alloc, status).flushed(0),
         out: LimitedSink::new(alloc, out).flushed(0),
+    };
+    let wanted = Wanted {
+        outcome,
+        said,
+        copied,
     };
     comes_out(alloc, signature, &mut data, options, sinks, wanted)
 }
@@ -118,20 +124,27 @@ fn is_told(
 #[test]
 fn failing_status_is_told(rt: HostRuntime) {
     let alloc = rt.alloc();
-    for (options, rooms, outcome, said) in [
-        (SAYING, (5, 0), UNWRITTEN, front(VERIFIED, 5)),
-        (SAYING, (40, 0), UNWRITTEN, front(VERIFIED, 40)),
-        (SAYING, (41, 0), Accepted, VERIFIED),
-        (COPYING, (5, 3), UNWRITTEN, front(VERIFIED, 5)),
-    ] {
-        let wanted = Wanted {
-            outcome,
-            said,
-            copied: b"",
-        };
-        let told = is_told(alloc, PREHASHED, b"abc", options, rooms, wanted);
-        assert!(rt; told, "at {rooms:?}");
-    }
+    let cut = (UNWRITTEN, b"Signa".as_slice(), b"".as_slice());
+    let almost = (UNWRITTEN, front(VERIFIED, 40), b"".as_slice());
+    let whole = (Accepted, VERIFIED, b"".as_slice());
+    assert!(rt; is_told(alloc, PREHASHED, b"abc", SAYING, (5, 0), cut));
+    assert!(rt; is_told(alloc, PREHASHED, b"abc", SAYING, (40, 0), almost));
+    assert!(rt; is_told(alloc, PREHASHED, b"abc", SAYING, (41, 0), whole));
+    assert!(rt; is_told(alloc, PREHASHED, b"abc", COPYING, (5, 3), cut));
+}
+
+// Whether copying `abc`, of which a second reading gives this, comes to this over an output with
+// this room.
+fn is_copied(
+    alloc: Global,
+    signature: Bare,
+    second: &[u8],
+    room: usize,
+    outcome: Outcome,
+    copied: &[u8],
+) -> bool {
+    let told = (outcome, VERIFIED, copied);
+    is_told(alloc, signature, second, COPYING, (41, room), told)
 }
 
 // An output with room for three bytes takes all and fails at the flush, which comes after the
@@ -139,20 +152,9 @@ fn failing_status_is_told(rt: HostRuntime) {
 #[test]
 fn a_failing_output_holds_a_beginning(rt: HostRuntime) {
     let alloc = rt.alloc();
-    let rows: [(Bare, &[u8], usize, Outcome, &[u8]); 5] = [
-        (PREHASHED, b"abc", 2, UNWRITTEN, b"ab"),
-        (PREHASHED, b"abc", 3, UNWRITTEN, b"abc"),
-        (PREHASHED, b"abd", 3, CHANGED, b"abd"),
-        (LEGACY, b"abc", 1, UNWRITTEN, b"a"),
-        (LEGACY, b"abc", 3, UNWRITTEN, b"abc"),
-    ];
-    for (signature, second, room, outcome, copied) in rows {
-        let wanted = Wanted {
-            outcome,
-            said: VERIFIED,
-            copied,
-        };
-        let told = is_told(alloc, signature, second, COPYING, (41, room), wanted);
-        assert!(rt; told, "at {second:?} {room}");
-    }
+    assert!(rt; is_copied(alloc, PREHASHED, b"abc", 2, UNWRITTEN, b"ab"));
+    assert!(rt; is_copied(alloc, PREHASHED, b"abc", 3, UNWRITTEN, b"abc"));
+    assert!(rt; is_copied(alloc, PREHASHED, b"abd", 3, CHANGED, b"abd"));
+    assert!(rt; is_copied(alloc, LEGACY, b"abc", 1, UNWRITTEN, b"a"));
+    assert!(rt; is_copied(alloc, LEGACY, b"abc", 3, UNWRITTEN, b"abc"));
 }

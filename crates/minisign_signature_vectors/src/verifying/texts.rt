@@ -67,14 +67,24 @@ fn data_that_changed_is_not_flushed(rt: HostRuntime) {
 }
 
 // Whether verifying data of which a second reading gives this comes out so, over an output that
-// cannot be flushed.
-fn is_told(alloc: Global, first: &[u8], second: &[u8], wanted: Wanted) -> bool {
+// cannot be flushed: this outcome, with this said and copied.
+fn is_told(
+    alloc: Global,
+    first: &[u8],
+    second: &[u8],
+    (outcome, said, copied): (Outcome, &[u8], &[u8]),
+) -> bool {
     let toy = ToyScheme::new();
     let texts = (KEY_TEXT, SIGNATURE_TEXT);
     let mut data = Changes::new(first, second);
     let sinks = Sinks {
         status: LimitedSink::new(alloc, 60),
         out: LimitedSink::new(alloc, 10).flushed(0),
+    };
+    let wanted = Wanted {
+        outcome,
+        said,
+        copied,
     };
     texts_come_out(alloc, &toy, texts, &mut data, COPYING, sinks, wanted)
 }
@@ -84,21 +94,13 @@ fn is_told(alloc: Global, first: &[u8], second: &[u8], wanted: Wanted) -> bool {
 #[test]
 fn data_that_changes_is_told(rt: HostRuntime) {
     let alloc = rt.alloc();
-    let rows: [&[u8]; 5] = [b"abd", b"xyz", b"ab", b"abcd", b""];
-    for second in rows {
-        let wanted = Wanted {
-            outcome: CHANGED,
-            said: SAID,
-            copied: second,
-        };
-        assert!(rt; is_told(alloc, b"abc", second, wanted), "at {second:?}");
-    }
-    let refused = Wanted {
-        outcome: Refused(SignatureRefused),
-        said: b"",
-        copied: b"",
-    };
-    assert!(rt; is_told(alloc, b"abd", b"abc", refused));
+    assert!(rt; is_told(alloc, b"abc", b"abd", (CHANGED, SAID, b"abd")));
+    assert!(rt; is_told(alloc, b"abc", b"xyz", (CHANGED, SAID, b"xyz")));
+    assert!(rt; is_told(alloc, b"abc", b"ab", (CHANGED, SAID, b"ab")));
+    assert!(rt; is_told(alloc, b"abc", b"abcd", (CHANGED, SAID, b"abcd")));
+    assert!(rt; is_told(alloc, b"abc", b"", (CHANGED, SAID, b"")));
+    let refused = Refused(SignatureRefused);
+    assert!(rt; is_told(alloc, b"abd", b"abc", (refused, b"", b"")));
 }
 
 // Whether verifying data that cannot be read again comes out so, and leaves this.
@@ -152,17 +154,15 @@ fn data_that_cannot_be_read_again(rt: HostRuntime) {
 // A text that is refused, the key's before the signature's, leaves all of the data.
 #[test]
 fn a_refused_text_leaves_the_data(rt: HostRuntime) {
-    for (texts, fault) in [
-        (("", ""), MissingPublicKeyComment),
-        (("", SIGNATURE_TEXT), MissingPublicKeyComment),
-        ((KEY_TEXT, ""), MissingUntrustedComment),
-        ((RENAMED_KEY_TEXT, ""), MissingUntrustedComment),
-    ] {
-        let mut wanted = UNMARKED;
-        wanted.outcome = Refused(fault);
-        for output in [false, true] {
-            let left = is_read_once(rt.alloc(), texts, output, wanted, b"abc");
-            assert!(rt; left, "at {fault:?} {output}");
-        }
+    let alloc = rt.alloc();
+    let mut no_key = UNMARKED;
+    no_key.outcome = Refused(MissingPublicKeyComment);
+    let mut no_signature = UNMARKED;
+    no_signature.outcome = Refused(MissingUntrustedComment);
+    for output in [false, true] {
+        assert!(rt; is_read_once(alloc, ("", ""), output, no_key, b"abc"));
+        assert!(rt; is_read_once(alloc, ("", SIGNATURE_TEXT), output, no_key, b"abc"));
+        assert!(rt; is_read_once(alloc, (KEY_TEXT, ""), output, no_signature, b"abc"));
+        assert!(rt; is_read_once(alloc, (RENAMED_KEY_TEXT, ""), output, no_signature, b"abc"));
     }
 }
