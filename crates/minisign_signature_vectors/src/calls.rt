@@ -107,24 +107,6 @@ pub fn texts_come_out<S: Scheme, R: Rereader>(
     is_wanted(answer, sinks, wanted)
 }
 
-/// Whether verifying these bytes with two texts comes out as wanted, at once and one byte a read.
-pub fn texts_judge<S: Scheme>(
-    alloc: Global,
-    scheme: &S,
-    texts: (&str, &str),
-    data: &[u8],
-    options: VerifyOptions,
-    wanted: Wanted,
-) -> bool {
-    let mut whole = SliceSource::new(data);
-    let mut bytes = OneByOne::new(data);
-    let sinks = ample(alloc);
-    let at_once = texts_come_out(alloc, scheme, texts, &mut whole, options, sinks, wanted);
-    let sinks = ample(alloc);
-    let by_bytes = texts_come_out(alloc, scheme, texts, &mut bytes, options, sinks, wanted);
-    at_once && by_bytes
-}
-
 /// Whether verifying the data with a box comes out as wanted.
 pub fn box_comes_out<S: Scheme, R: Rereader>(
     alloc: Global,

@@ -1,5 +1,5 @@
-//! Texts of signatures.
+//! Texts of signatures, in ways that no request to `minisign_compare` goes. The others are rows of
+//! `tests/rows/signature_texts.py`.
 
 mod signatures;
 mod sizes;
-pub mod upstream;

@@ -1,5 +1,5 @@
-//! Verifying with keys and boxes and with texts.
+//! Verifying over devices that no request to `minisign_compare` describes. All else is rows of
+//! `tests/rows/verifying.py`.
 
 mod bare;
-mod output;
 mod texts;
