@@ -1,4 +1,4 @@
-//! Keys, run as tests: their records, texts and files, sealed ones, and pairs that are made.
+//! Keys, run as tests: their boxes and records, sealed ones, and pairs that are made.
 //!
 //! Each expected value comes from outside: from a standard, from Python's hashlib, from the
 //! upstream tool, or worked out by hand from a definition. None is what a crate of this repository
