@@ -20,6 +20,7 @@ use minisign_fixtures::devices::sinks::LimitedSink;
 use minisign_fixtures::devices::sources::{Changes, FailingSource};
 use minisign_fixtures::outcomes::Outcome::{self, Accepted, Refused};
 use minisign_fixtures::outcomes::{ends_in, front, gives_record, is_so, is_text};
+use minisign_fixtures::prompts::bytes_left;
 use minisign_fixtures::texts::{
     KEY_TEXT, LEGACY_TEXT, SAID, SEALED, SEALED_WITH_NOTHING, SIGNATURE_TEXT,
 };
@@ -137,15 +138,15 @@ fn the_output_fails(rt: HostRuntime) {
 }
 
 // Whether signing with a text and this prompt, over data that fails behind so many reads and random
-// bytes that fail behind so many draws, has this outcome, tells so much, leaves so much of what is
-// typed and of the data, and draws nothing.
+// bytes that fail behind so many draws, has this outcome, tells so much, leaves so many bytes of what
+// is typed and of the data, and draws nothing where that is said.
 fn is_signed(
     alloc: Global,
     prompt: Prompt<FailingSource<'_>, LimitedSink>,
     (reads, draws): (usize, usize),
     expected: Outcome,
     told: usize,
-    (typed_left, left): (&[u8], &[u8]),
+    (typed_left, left): (usize, usize),
     is_undrawn: bool,
 ) -> bool {
     let mut prompt = prompt;
@@ -164,43 +165,42 @@ fn is_signed(
     let text = answer.is_err() || is_text(&answer, SIGNATURE_TEXT);
     let came = ends_in(answer, expected);
     let told = prompt.writer.as_slice() == front(ASKED_AND_DONE, told);
-    let typed = gives_record(read_to_end(alloc, &mut prompt.reader), typed_left);
-    let read = gives_record(read_to_end(alloc, &mut data), left);
+    let typed = bytes_left(&mut prompt.reader) == typed_left;
+    let read = bytes_left(&mut data) == left;
     let undrawn = random.random.fill(&mut [0; 128]).is_ok();
     came && text && told && typed && read && undrawn == is_undrawn
 }
 
-// Until a sealed key is opened its prompt alone is used. The reader is read up to the line feed, and
-// the writer writes and flushes three texts.
+// Until a sealed key is opened its prompt alone is used. The reader is read up to the line feed, so
+// that an `x` behind it is left, and the writer writes and flushes three texts.
 #[test]
 fn the_prompt_of_signing_fails(rt: HostRuntime) {
     let alloc = rt.alloc();
-    let typed = b"password\n";
+    let typed = b"password\nx";
     for reads in 0..9usize {
         let reader = FailingSource::new(typed, reads);
         let prompt = Prompt::new(reader, LimitedSink::new(alloc, 100));
-        let left = (&typed[reads..], b"abc".as_slice());
+        let left = (10usize.saturating_sub(reads), 3);
         let came = is_signed(alloc, prompt, (ALL, ALL), UNREAD, 10, left, true);
         assert!(rt; came, "at {reads}");
     }
     for (calls, told, typed_left) in [
-        (0usize, 0usize, typed.as_slice()),
-        (1, 10, typed),
-        (2, 10, b""),
-        (3, 76, b""),
-        (4, 76, b""),
-        (5, 81, b""),
+        (0usize, 0usize, 10usize),
+        (1, 10, 10),
+        (2, 10, 1),
+        (3, 76, 1),
+        (4, 76, 1),
+        (5, 81, 1),
     ] {
         let writer = LimitedSink::new(alloc, 100).failing_after(calls);
-        let prompt = Prompt::new(FailingSource::new(typed, 9), writer);
-        let left = (typed_left, b"abc".as_slice());
+        let prompt = Prompt::new(FailingSource::new(typed, ALL), writer);
+        let left = (typed_left, 3);
         let came = is_signed(alloc, prompt, (ALL, ALL), UNWRITTEN, told, left, true);
         assert!(rt; came, "at {calls} of the writer");
     }
     let writer = LimitedSink::new(alloc, 4).flushed(0);
     let prompt = Prompt::new(FailingSource::new(typed, ALL), writer);
-    let left = (typed.as_slice(), b"abc".as_slice());
-    assert!(rt; is_signed(alloc, prompt, (ALL, ALL), UNWRITTEN, 4, left, true));
+    assert!(rt; is_signed(alloc, prompt, (ALL, ALL), UNWRITTEN, 4, (10, 3), true));
 }
 
 // Signing with a text reads four times and draws twice, once the text is opened.
@@ -208,17 +208,17 @@ fn the_prompt_of_signing_fails(rt: HostRuntime) {
 fn the_data_and_the_random_bytes_of_signing_fail(rt: HostRuntime) {
     let alloc = rt.alloc();
     for (reads, draws, expected, left, is_undrawn) in [
-        (0usize, 0usize, UNREAD, b"abc".as_slice(), true),
-        (1, 0, UNREAD, b"bc", true),
-        (2, 0, UNREAD, b"c", true),
-        (3, 0, UNREAD, b"", true),
-        (4, 0, UNDRAWN, b"", true),
-        (4, 1, UNDRAWN, b"", false),
-        (4, 2, Accepted, b"", false),
+        (0usize, 0usize, UNREAD, 3usize, true),
+        (1, 0, UNREAD, 2, true),
+        (2, 0, UNREAD, 1, true),
+        (3, 0, UNREAD, 0, true),
+        (4, 0, UNDRAWN, 0, true),
+        (4, 1, UNDRAWN, 0, false),
+        (4, 2, Accepted, 0, false),
     ] {
-        let reader = FailingSource::new(b"password\n", 9);
+        let reader = FailingSource::new(b"password\nx", ALL);
         let prompt = Prompt::new(reader, LimitedSink::new(alloc, 100).failing_after(6));
-        let left = (b"".as_slice(), left);
+        let left = (1, left);
         let came = is_signed(
             alloc,
             prompt,
