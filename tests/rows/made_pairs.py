@@ -116,8 +116,8 @@ def sealed_pairs_under_given_passwords():
 
 
 def sinks_that_fail():
-    """The public text is written and flushed before the secret one is begun. The public sink fails at its first byte, at
-    the last one and at the flush, and the secret one at its second byte, at the last one and at the flush. All of it is
+    """The public text is written and flushed before the secret one is begun. The public sink fails at its first byte,
+    at the last one and at the flush, and the secret one at its second byte, at the last one and at the flush. All is
     shown first."""
     public, secret = PUBLIC_TEXT, text_of(sealed("p"))
     whole = sink(114), sink(259)
@@ -136,7 +136,7 @@ def sinks_that_fail():
 
 
 def too_few_random_bytes():
-    """Random bytes end at each byte. Nothing is asked and nothing is written; a pair that is not sealed needs no salt."""
+    """Random bytes end at each byte. Nothing is asked or written; a pair that is not sealed needs no salt."""
     nothing = {"sink1": b"", "sink2": b""}
     raw = made(PAIR, PAIR.record(), False, drawn=DRAWN_RAW, sink1=PAIR.public_record, sink2=PAIR.record())
     for count in range(DRAWN):
@@ -147,15 +147,15 @@ def too_few_random_bytes():
         yield writing_raw(f"{count} random bytes", random, sink(), sink(), fails if count < DRAWN_RAW else raw)
 
 
-def signature_record(message):
-    """What the counted pair signs the message with, where random bytes count up from 0."""
-    return b"ED" + PAIR.keynum + toy_signature(0, toy.digest(message))
-
-
 def toy_signature(first, message):
     """The signature of a message with random bytes that count up from this one."""
     random = bytes(range(first, first + 32))
     return random + toy.xored(random, PAIR.public, toy.fold(message))
+
+
+def signature_record(message):
+    """What the counted pair signs the message with, where random bytes count up from 0."""
+    return b"ED" + PAIR.keynum + toy_signature(0, toy.digest(message))
 
 
 def signature_text(message):
