@@ -31,12 +31,12 @@ const SECRET_TEXT: &str =
 const SHOWN: &str =
     "Please enter a password to protect the secret key.\nPassword: Password (one more time): Deriving a key from the password in order to encrypt the secret key... done\n";
 
+type Typed<'a> = Prompt<FailsAfter<'a>, LimitedSink>;
+
 // A prompt that gives these bytes, one a read, until a read behind so many fails.
 fn prompt_of<'a>(typed: &'a [u8], reads: u64, writer: LimitedSink) -> Typed<'a> {
     Prompt::new(FailsAfter::new(typed, reads), writer)
 }
-
-type Typed<'a> = Prompt<FailsAfter<'a>, LimitedSink>;
 
 // Makes a sealed pair over a source of random bytes that fails after so many reads of one byte
 // each.
