@@ -1,4 +1,6 @@
-//! Secret keys that are sealed under a password.
+//! Secret keys that are sealed under a password. `tests/rows/sealed_keys.py` has what a request to
+//! the program `minisign_compare` can try of them; here is the rest: a bound on the work, rows that
+//! are not kept, and prompts that fail or are no lines of UTF-8.
 
 mod calls;
 mod faults;

@@ -4,7 +4,7 @@ use minisign::{Result, SecretKey, SecretKeyBox};
 use minisign_base::devices::sinks::Sink;
 use minisign_base::devices::sources::Source;
 use minisign_base::prompt::Prompt;
-use minisign_fixtures::outcomes::{Outcome, ends_in, gives_record};
+use minisign_fixtures::outcomes::{Outcome, ends_in};
 use minisign_fixtures::prompts::{bytes_left, handed, typed};
 use std::alloc::Global;
 
@@ -77,18 +77,19 @@ pub fn has_outcome(
     comes_out(alloc, sk_box, Some(password), b"typed\n", way, wanted)
 }
 
-/// Whether opening gives the key of this record, which is sealed no more. The password is passed in,
-/// or typed where none is.
+/// Whether opening gives a key that is sealed no more, and whose text is this one. The password is
+/// passed in, or typed where none is.
 pub fn gives(
     alloc: Global,
     sk_box: Result<SecretKeyBox>,
     password: Option<&str>,
     bytes: &[u8],
     way: Way,
-    record: &[u8],
+    text: &str,
 ) -> Result<bool> {
     let sk_box = sk_box?;
     let mut prompt = typed(alloc, bytes);
     let key = opened(alloc, sk_box, password, &mut prompt, way)?;
-    Ok(gives_record(key.to_bytes(alloc), record) && !key.is_encrypted())
+    let written = key.to_box(alloc, None)?.into_string();
+    Ok(written.as_str() == text && !key.is_encrypted())
 }

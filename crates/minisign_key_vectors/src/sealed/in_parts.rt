@@ -1,42 +1,39 @@
-//! Keys that are sealed in many parts: both limits are 0, so that N is 2, r is 8 and p is 512. The
-//! tests seal them by the public calls of key derivation.
+//! Keys that are sealed in many parts: both limits are 0, so that N is 2, r is 8 and p is 512.
 
-use crate::generated::calls::sealed_box;
 use crate::sealed::calls::{Way, gives, has_outcome};
-use minisign::{Result, SecretKey, SecretKeyBox};
+use minisign::{Result, SecretKeyBox};
 use minisign_base::faults::NamedFault::WorkTooHigh;
-use minisign_fixtures::keys::{CHECKSUM, secret_record};
 use minisign_fixtures::outcomes::Outcome::{self, Accepted, Refused};
-use minisign_fixtures::outcomes::{counted, is_so};
-use minisign_kdf::{Params, scrypt};
+use minisign_fixtures::outcomes::is_so;
 use std::alloc::Global;
 
 const TOO_MUCH_WORK: Outcome = Refused(WorkTooHigh);
 
-/// The text of key A, whose salt and limits are zeros, sealed under `password`.
+// Key A, whose salt and limits are zeros, sealed under `password` by Python's hashlib.
+const SEALED_IN_PARTS: &str =
+    "c\nRWRTY0IyAAAAAAAAAAAAAAAAAAAAAAAAAAAAAAAAAAAAAAAAAAAAAAAAAAAAAAAAAAAAAAAA2WJDahgPnk+50DhxreJRd9hoM2iVXjCf6NmwZwaGnlxvZz7Z3W9lublG1jeVK2pso+Uiu/bavTPvrJyAWS9J0ecRWRfUH3m9+qALBiU7o32H+PLLCuWUc0KaO1rrXxnq2f3DAMdo25o=\n";
+
+// The text of that key once it is opened.
+const OPENED: &str =
+    "untrusted comment: rsign encrypted secret key\nRWRTY0IyAAAAAAAAAAAAAAAAAAAAAAAAAAAAAAAAAAAAAAAAAAAAAAAAAAAAAAAAAAAAAAAAAQIDBAUGBwgAAAAAAAAAAAAAAAAAAAAAAAAAAAAAAAAAAAAAAAAAAFpaWlpaWlpaWlpaWlpaWlpaWlpaWlpaWlpaWlpaWlpazoeDdHm2Hr/pRluKO3DYzP11U/WDPdZWSdZKEnx6ifg=\n";
+
+// The pair that is made of random bytes that count up from 0, sealed under the empty password by
+// Python's hashlib.
+const MADE: &str =
+    "c\nRWRTY0IyKCkqKywtLi8wMTIzNDU2Nzg5Ojs8PT4/QEFCQ0RFRkcAABAAAAAAAAAAAAIAAAAAIoT8yd+PcQfH6lwE1U7O9qfndmpt7swxBoez0bsWiknOfDOOpFGbhjh5qsz72GDfpXvgyyaj1ApsXB8h6ndwyMLnkT37fS678tPzO+d7NuqTnl9nkchMiqeXIS9wInpMPH1nK9B1duY=\n";
+
+/// The box of key A, whose salt and limits are zeros, sealed under `password`.
 pub fn sealed_in_parts(alloc: Global) -> Result<SecretKeyBox> {
-    let params = Params::new(1, 8, 512)?;
-    let mut stream = [0u8; 104];
-    scrypt(alloc, b"password", &[0; 32], &params, &mut stream)?;
-    let mut record = secret_record(b"Sc", &CHECKSUM);
-    for i in 0..104 {
-        record[54 + i] ^= stream[i];
-    }
-    SecretKey::from_bytes(&record)?.to_box(alloc, None)
+    SecretKeyBox::from_string(alloc, SEALED_IN_PARTS)
 }
 
 #[test]
 fn a_key_in_many_parts_opens(rt: HostRuntime) {
     let alloc = rt.alloc();
-    let record = secret_record(b"Sc", &CHECKSUM);
-    for way in [
-        Way::AnyParts,
-        Way::Keeping(1),
-        Way::Keeping(2),
-        Way::Keeping(3),
-    ] {
+    for k in [1u64, 2, 3] {
         let sk_box = sealed_in_parts(alloc);
-        assert!(rt; is_so(gives(alloc, sk_box, Some("password"), b"", way, &record)));
+        let way = Way::Keeping(k);
+        assert!(rt; is_so(gives(alloc, sk_box, Some("password"), b"", way, OPENED)));
     }
 }
 
@@ -63,9 +60,9 @@ fn a_bound_on_parts_is_kept(rt: HostRuntime) {
 fn a_bound_of_one_opens_what_is_made(rt: HostRuntime) {
     let alloc = rt.alloc();
     for (max_p, expected) in [(0u32, TOO_MUCH_WORK), (1, Accepted)] {
-        let sk_box = sealed_box(alloc, &counted());
+        let sk_box = SecretKeyBox::from_string(alloc, MADE);
         assert!(rt;
-            has_outcome(alloc, sk_box, "password", Way::Within(max_p), expected),
+            has_outcome(alloc, sk_box, "", Way::Within(max_p), expected),
             "at {max_p}"
         );
     }

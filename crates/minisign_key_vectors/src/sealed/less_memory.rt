@@ -1,47 +1,42 @@
-//! A sealed key that was generated, opened with every k-th row kept.
+//! Sealed keys, opened with every k-th row kept.
 
-use crate::generated::calls::sealed_box;
-use crate::sealed::calls::{Wanted, Way, comes_out, gives, has_outcome, opened};
-use minisign::{Result, SecretKeyBox};
+use crate::sealed::calls::{Wanted, Way, comes_out, gives, has_outcome};
+use minisign::SecretKeyBox;
 use minisign_base::faults::NamedFault::WrongPassword;
 use minisign_fixtures::outcomes::Outcome::{self, Accepted, Refused};
 use minisign_fixtures::outcomes::is_so;
-use minisign_fixtures::prompts::typed;
 use minisign_fixtures::texts::SEALED;
-use std::alloc::Global;
 
 const WRONG: Outcome = Refused(WrongPassword);
 
 const TOLD: &str =
     "Password: Deriving a key from the password and decrypting the secret key... done\n";
 
-// Random bytes that are all 9.
-const NINES: [u8; 72] = [9; 72];
+// The pair of random bytes that are all 9, sealed under `password` by Python's hashlib. N is 32768
+// and p is 1.
+const MADE: &str =
+    "c\nRWRTY0IyCQkJCQkJCQkJCQkJCQkJCQkJCQkJCQkJCQkJCQkJCQkAABAAAAAAAAAAAAIAAAAAdY1HWKBn010LeW41YGMTziKGY5Pm20tfKSqKx1RaT1NVOm7mrYQStRXjCDlaDbjJt6my7s8HA1hNnc81ePgmYR40irkegWz1I4xX4mKUEhI8fTRSfYSEcdd1W1ItYg79QyqNCekYjxw=\n";
 
-// The record of the key that opens with all rows.
-fn opened_whole(alloc: Global, sk_box: &SecretKeyBox) -> Result<Vec<u8>> {
-    let copy = sk_box.try_clone(alloc)?;
-    let mut prompt = typed(alloc, b"");
-    let key = opened(alloc, copy, Some("password"), &mut prompt, Way::AnyParts)?;
-    key.to_bytes(alloc)
-}
+// The text of that key once it is opened.
+const OPENED: &str =
+    "untrusted comment: rsign encrypted secret key\nRWRTY0IyCQkJCQkJCQkJCQkJCQkJCQkJCQkJCQkJCQkJCQkJCQkAABAAAAAAAAAAAAIAAAAACQkJCQkJCQkJCQkJCQkJCQkJCQkJCQkJCQkJCQkJCQkJCQkJCQkJCVNTU1NTU1NTU1NTU1NTU1NTU1NTU1NTU1NTU1NTU1NTl01hHj4yTh1EA1233vng2mdcEMYAlvnZumxtDRWM800=\n";
 
-// Whether the key that opens with every k-th row kept is the one that opens with all of them, with
-// a password that is passed in and with a typed one.
-fn is_the_same(alloc: Global, k: u64) -> Result<bool> {
-    let way = Way::Keeping(k);
-    let sk_box = sealed_box(alloc, &NINES)?;
-    let whole = opened_whole(alloc, &sk_box)?;
-    let copy = sk_box.try_clone(alloc);
-    let handed = is_so(gives(alloc, copy, Some("password"), b"", way, &whole));
-    let typed = is_so(gives(alloc, Ok(sk_box), None, b"password\n", way, &whole));
-    Ok(handed && typed)
-}
-
+// With a password that is passed in and with a typed one.
 #[test]
 fn opens_to_the_same_key(rt: HostRuntime) {
+    let alloc = rt.alloc();
     for k in [1u64, 7, 16] {
-        assert!(rt; is_so(is_the_same(rt.alloc(), k)), "k {k}");
+        let way = Way::Keeping(k);
+        let sk_box = SecretKeyBox::from_string(alloc, MADE);
+        assert!(rt;
+            is_so(gives(alloc, sk_box, Some("password"), b"", way, OPENED)),
+            "k {k}"
+        );
+        let sk_box = SecretKeyBox::from_string(alloc, MADE);
+        assert!(rt;
+            is_so(gives(alloc, sk_box, None, b"password\n", way, OPENED)),
+            "k {k}"
+        );
     }
 }
 
@@ -73,7 +68,7 @@ fn opens_with_a_typed_password(rt: HostRuntime) {
 fn stays_closed_to_another_password(rt: HostRuntime) {
     let alloc = rt.alloc();
     for k in [1u64, 7, 16] {
-        let sk_box = sealed_box(alloc, &NINES);
+        let sk_box = SecretKeyBox::from_string(alloc, MADE);
         assert!(rt;
             has_outcome(alloc, sk_box, "Password", Way::Keeping(k), WRONG),
             "k {k}"
