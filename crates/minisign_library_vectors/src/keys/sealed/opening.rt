@@ -1,7 +1,7 @@
 //! Sealed secret keys, opened within a bound, in less memory, and over prompts that give no lines of
 //! UTF-8 or cannot be written to.
 
-use crate::sealed::calls::{Wanted, Way, comes_out, gives, has_outcome, opened};
+use crate::keys::sealed::calls::{Wanted, Way, comes_out, gives, has_outcome, opened};
 use minisign::{Result, SecretKey, SecretKeyBox};
 use minisign_base::devices::sources::SliceSource;
 use minisign_base::faults::NamedFault::{

@@ -1,7 +1,7 @@
 //! Signing with the text of a secret key: the text that is returned, what is refused before
 //! anything is read, and what the prompt is told.
 
-use crate::calls::signed_text;
+use crate::signatures::calls::signed_text;
 use minisign::{Result, verify_bytes};
 use minisign_base::devices::random_sources::FixedRandom;
 use minisign_base::faults::NamedFault::{

@@ -2,7 +2,7 @@
 //! a source, a scheme that is not the toy, a status that fails, and the example of a caller. All
 //! else is in `tests/rows/signing.py`.
 
-use crate::calls::{
+use crate::signatures::calls::{
     SAYING, Said, Sinks, Wanted, box_comes_out, box_judges, key_a, public_a, signed, signed_from,
 };
 use minisign::{PublicKey, Result, SignatureBox};

@@ -1,6 +1,6 @@
 //! Keys that are sealed in many parts: both limits are 0, so that N is 2, r is 8 and p is 512.
 
-use crate::sealed::calls::{Way, gives, has_outcome};
+use crate::keys::sealed::calls::{Way, gives, has_outcome};
 use minisign::{Result, SecretKeyBox};
 use minisign_base::faults::NamedFault::WorkTooHigh;
 use minisign_fixtures::outcomes::Outcome::{self, Accepted, Refused};

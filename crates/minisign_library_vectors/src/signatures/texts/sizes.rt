@@ -1,6 +1,6 @@
 //! Texts of many sizes that sign, with ample memory.
 
-use crate::calls::{Said, signed, signed_text};
+use crate::signatures::calls::{Said, signed, signed_text};
 use minisign::Result;
 use minisign_base::devices::random_sources::FixedRandom;
 use minisign_base::devices::sources::SliceSource;

@@ -1,6 +1,6 @@
 //! A copy of a pair, and signing by the text of a secret key and its password.
 
-use crate::generated::calls::counted_pair;
+use crate::keys::generated::calls::counted_pair;
 use minisign::{Result, sign_texts};
 use minisign_base::devices::random_sources::{FixedRandom, RandomSource};
 use minisign_base::devices::sinks::VecSink;

@@ -3,7 +3,7 @@
 //! refused in turn. A buffer that cannot grow is a sink that fails, so that a call with one may
 //! fail to write too.
 
-use crate::calls::{
+use crate::signatures::calls::{
     COPYING, Said, key_a, public_a, read_box, signed_from, signed_text, verified_texts,
 };
 use minisign::{PublicKey, Result, SignatureBones, SignatureBox};

@@ -3,8 +3,8 @@
 //! requests refused in turn. A buffer that cannot grow is a sink that fails, so that a call with
 //! one may fail to write too.
 
-use crate::sealed::in_parts::sealed_in_parts;
-use crate::texts::is_text_of;
+use crate::keys::sealed::in_parts::sealed_in_parts;
+use crate::keys::texts::is_text_of;
 use minisign::{KeyPair, PublicKey, Result, SecretKey, SecretKeyBox};
 use minisign_base::devices::random_sources::FixedRandom;
 use minisign_base::devices::sinks::VecSink;

@@ -3,7 +3,7 @@
 //! of its calls in turn, until a run meets no fault. Data that fails at a read, for `sign` and
 //! `verify_texts`, is in `tests/rows/failing_devices.py`.
 
-use crate::calls::{
+use crate::signatures::calls::{
     COPYING, Said, Sinks, Wanted, ample, key_a, signed_from, signed_text, texts_come_out,
 };
 use minisign::reading::read_to_end;

@@ -1,6 +1,6 @@
 //! Bare signatures verified over readers of std, and over sinks that fail.
 
-use crate::calls::{COPYING, SAYING, Sinks, Wanted, ample, records_come_out};
+use crate::signatures::calls::{COPYING, SAYING, Sinks, Wanted, ample, records_come_out};
 use minisign::VerifyOptions;
 use minisign_base::devices::sources::{ReaderSource, Rereader};
 use minisign_base::faults::NamedFault::{

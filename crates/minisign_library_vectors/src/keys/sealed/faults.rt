@@ -1,7 +1,7 @@
 //! Each fault of opening, by each of the calls that open a box: with ample memory none of them is
 //! reported as being out of memory.
 
-use crate::sealed::calls::{Way, opened};
+use crate::keys::sealed::calls::{Way, opened};
 use minisign::SecretKeyBox;
 use minisign_base::faults::NamedFault::{
     EndOfInput, InvalidParameters, KeyNotEncrypted, MissingEncodedSecretKey,

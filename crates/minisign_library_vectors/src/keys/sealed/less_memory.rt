@@ -1,6 +1,6 @@
 //! Sealed keys, opened with every k-th row kept.
 
-use crate::sealed::calls::{Wanted, Way, comes_out, gives, has_outcome};
+use crate::keys::sealed::calls::{Wanted, Way, comes_out, gives, has_outcome};
 use minisign::SecretKeyBox;
 use minisign_base::faults::NamedFault::WrongPassword;
 use minisign_fixtures::outcomes::Outcome::{self, Accepted, Refused};

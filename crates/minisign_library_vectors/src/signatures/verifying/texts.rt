@@ -1,7 +1,7 @@
 //! Two texts verified over data that cannot be read again, and over outputs that cannot be flushed
 //! or have a buffer; and what a refused text leaves of the data.
 
-use crate::calls::{COPYING, Sinks, Wanted, ample, texts_come_out, verified_texts};
+use crate::signatures::calls::{COPYING, Sinks, Wanted, ample, texts_come_out, verified_texts};
 use minisign::reading::read_to_end;
 use minisign_base::devices::sources::ReaderSource;
 use minisign_base::faults::NamedFault::{
