@@ -52,41 +52,31 @@ pub fn is_so(answer: Result<bool>) -> bool {
     holds(&answer)
 }
 
-/// Whether it was found out and holds, or memory ran out.
-pub fn is_right_or_out_of_memory(answer: &Result<bool>) -> bool {
+// Whether it was found out and holds, or memory ran out.
+fn is_right_or_out_of_memory(answer: &Result<bool>) -> bool {
     match answer {
         Ok(right) => *right,
         Err(fault) => fault.named() == Some(NamedFault::OutOfMemory),
     }
 }
 
-/// The same of an answer that is passed on.
+/// Whether it was found out and holds, or memory ran out.
 pub fn is_so_or_out_of_memory(answer: Result<bool>) -> bool {
     is_right_or_out_of_memory(&answer)
 }
 
 /// The same, or a sink could not grow, so that writing failed.
-pub fn is_right_or_unwritten(answer: &Result<bool>) -> bool {
-    is_right_or_out_of_memory(answer)
-        || comes_to(answer, Outcome::Refused(NamedFault::WritingFailed))
-}
-
-/// The same of an answer that is passed on.
 pub fn is_so_or_unwritten(answer: Result<bool>) -> bool {
-    is_right_or_unwritten(&answer)
+    is_right_or_out_of_memory(&answer)
+        || comes_to(&answer, Outcome::Refused(NamedFault::WritingFailed))
 }
 
 /// Whether these are the bytes of the record.
-pub fn is_record(bytes: &Result<Vec<u8>>, record: &[u8]) -> bool {
-    match bytes {
+pub fn gives_record(bytes: Result<Vec<u8>>, record: &[u8]) -> bool {
+    match &bytes {
         Ok(bytes) => bytes.as_slice() == record,
         Err(_) => false,
     }
-}
-
-/// The same of bytes of which nothing else is asked.
-pub fn gives_record(bytes: Result<Vec<u8>>, record: &[u8]) -> bool {
-    is_record(&bytes, record)
 }
 
 /// Whether this is the text.

@@ -67,11 +67,6 @@ impl LimitedSink {
     {
         self.taken.as_slice()
     }
-
-    /// Whether a call failed.
-    pub fn has_failed(&self) -> bool {
-        self.faults > 0
-    }
 }
 
 impl Sink for LimitedSink {

@@ -230,25 +230,6 @@ pub fn signed(alloc: Global, data: &[u8], said: Said, random: &[u8]) -> Result<S
     )
 }
 
-/// The same, one byte a read.
-pub fn signed_by_bytes(
-    alloc: Global,
-    data: &[u8],
-    said: Said,
-    random: &[u8],
-) -> Result<SignatureBox> {
-    let sk = key_a()?;
-    let mut random = FixedRandom::new(random);
-    signed_from(
-        alloc,
-        None,
-        &sk,
-        &mut OneByOne::new(data),
-        said,
-        &mut random,
-    )
-}
-
 /// Signs the data under the toy with the text of a secret key, with both comments and the moment 0.
 pub fn signed_text<P: Source, Q: Sink, R: Source, Z: RandomSource>(
     alloc: Global,
