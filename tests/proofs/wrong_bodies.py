@@ -12,12 +12,15 @@ group at a time, over the work that this check kept. An edit that is not refused
 
 An edit passes if the search for a proof of one of the function's own goals came to its end and found none. It counts
 apart, and not as passed, if the search gave up at one of its limits, or if only the function's written proof no longer
-fits: that happens to right bodies too, so what shows that the clause is false is the edit's line `why:`. It fails if the
-function is proved, if the prover could not tell, and if all that is left is a limit at which it stopped in a written
-proof, so that the goal may hold. tests/proofs/wrong_bodies.txt says how many edits each crate has and how many of these
-are refused by a written proof alone at the most: it fails too on other numbers of edits, and on more of these.
+fits: that happens to right bodies too, so what shows that the clause is false is the edit's line `why:`. A written proof
+that does not fit refuses a body whatever its contract says, so such an edit has a line `by hand:` and is tried only where
+it is named or --all is given. It fails if the function is proved, if the prover could not tell, and if all that is left
+is a limit at which it stopped in a written proof, so that the goal may hold; and if only a written proof refuses it and
+it has no line `by hand:`. tests/proofs/wrong_bodies.txt says how many edits each crate has and how many of these have
+that line: it fails too on other numbers.
 
-usage: wrong_bodies.py [--unchanged] [--beside FILE] [--keep FOLDER] [CRATE[/NAME]..]
+usage: wrong_bodies.py [--all] [--unchanged] [--beside FILE] [--keep FOLDER] [CRATE[/NAME]..]
+  --all          tries those too that have a line `by hand:`
   --unchanged    leaves the changes out and passes what is proved, so that a refusal comes from a change and not from the
                  copying
   --beside FILE  runs beside `rt ci`. FILE is what that says, with the line ENDED behind it. The edits of a crate are
@@ -57,8 +60,9 @@ GROUP = 24
 PARTS = ("src", "specs", "proofs")
 # What stands behind the name of a function in that of a copy with a wrong body, before the number of this.
 COPY = "_with_wrong_body_"
-# Where a function and its body begin.
-HEADER = re.compile(r'(?m)^( *)(?:pub(?:\(\w+\))? )?(?:const )?(?:unsafe )?(?:extern "C" )?fn (\w+)')
+# Where a function begins, with the attributes above it, and its body.
+HEADER = re.compile(r'(?m)^(?: *#\[.*\]\n)*(?P<indent> *)(?:pub(?:\(\w+\))? )?(?:const )?(?:unsafe )?(?:extern "C" )?(?P<fn>fn) '
+                    r'(?P<name>\w+)')
 BODY = re.compile(r"(?m)\{$")
 # A goal of the function for which a search found no proof.
 SEARCHED = re.compile(r"did not prove `|it is not proved that")
@@ -73,7 +77,7 @@ class WrongBody:
 
     def __init__(self, crate, file, number):
         self.label = f"{crate}/{os.path.basename(file)[: -len('.edit')]}"
-        self.path = self.function = self.fault = ""
+        self.path = self.function = self.by_hand = self.fault = ""
         self.changes, self.is_alone, self.is_unchanged, old = [], False, False, ""
         # Where its function begins and ends in the file, where it is written into a copy of it, and what is added to the name.
         self.copied, self.suffix = None, f"{COPY}{number}"
@@ -85,6 +89,8 @@ class WrongBody:
                 self.path = value
             elif key == "fn":
                 self.function = value
+            elif key == "by hand":
+                self.by_hand = value
             elif key == "old":
                 old = value
             elif key == "new":
@@ -148,6 +154,7 @@ class Verdict:
 
     def __init__(self, body, outcome, why):
         self.label, self.crate, self.outcome = body.label, body.label.partition("/")[0], outcome
+        self.by_hand = body.by_hand
         self.text = f"wrong body {body.label}: {outcome}: {why[:240]}"
 
 
@@ -179,10 +186,10 @@ def bodies_of(crate):
 
 
 def listed():
-    """Returns how many edits the list says each crate has, and how many of them count apart at the most."""
+    """Returns how many edits the list says each crate has, and how many of them are tried by hand."""
     with open(LIST, encoding="utf-8") as it:
-        found = re.findall(r"(?m)^(\w+): (\d+) edits, (\d+) apart$", it.read())
-    return {crate: (int(edits), int(apart)) for crate, edits, apart in found}
+        found = re.findall(r"(?m)^(\w+): (\d+) edits, (\d+) by hand$", it.read())
+    return {crate: (int(edits), int(by_hand)) for crate, edits, by_hand in found}
 
 
 def free_memory():
@@ -424,9 +431,9 @@ def function_at(text, at):
     """Returns where the function begins and ends in whose body a place of a source file lies, and its name, if it lies in
     one."""
     headers = [*HEADER.finditer(text, 0, max(at, 0))]
-    body = BODY.search(text, headers[-1].start()) if headers else None
-    end = re.compile(rf"(?m)^{headers[-1][1]}\}}").search(text, body.end()) if body else None
-    return (headers[-1].start(), end.end(), headers[-1][2]) if end and body.start() < at < end.start() else None
+    body = BODY.search(text, headers[-1].start("fn")) if headers else None
+    end = re.compile(rf"(?m)^{headers[-1]['indent']}\}}").search(text, body.end()) if body else None
+    return (headers[-1].start(), end.end(), headers[-1]["name"]) if end and body.start() < at < end.start() else None
 
 
 def is_of_trait(text, at):
@@ -485,8 +492,22 @@ def wrong_numbers(bodies, names):
     """Returns what is wrong with the numbers of edits, of the named crates or of all."""
     told, wanted = listed(), {it.partition("/")[0] for it in names}
     crates = {it for it in {*told, *bodies} if not wanted or it in wanted}
-    differ = [(it, told.get(it, (0, 0))[0], len(bodies.get(it, []))) for it in sorted(crates)]
-    return [f"{LIST} says that {it} has {said} edits, and it has {has}" for it, said, has in differ if said != has]
+    has = lambda it: (len(bodies.get(it, [])), sum(bool(one.by_hand) for one in bodies.get(it, [])))
+    differ = [(it, told.get(it, (0, 0)), has(it)) for it in sorted(crates)]
+    return [f"{LIST} says that {it} has {said[0]} edits, {said[1]} by hand, and it has {has[0]}, {has[1]} by hand"
+            for it, said, has in differ if said != has]
+
+
+def unfit(bodies):
+    """Returns what is wrong with bodies that are not tried now: their texts do not stand in the sources as they have to."""
+    found = []
+    for it in bodies:
+        crate = it.label.partition("/")[0]
+        if not it.fault:
+            with open(f"crates/{crate}/{it.path}", encoding="utf-8") as file:
+                it.places(file.read())
+        found += [f"bad edit {it.label}: {it.fault}"] * bool(it.fault)
+    return found
 
 
 def take(words, flag):
@@ -498,7 +519,7 @@ def take(words, flag):
 
 
 def main(words):
-    names = [it for it in words if it != "--unchanged"]
+    flags, names = {"--all", "--unchanged"} & {*words}, [it for it in words if it not in ("--all", "--unchanged")]
     proofs, folder = Proofs(take(names, "--beside")), take(names, "--keep")
     folder = folder and os.path.abspath(folder)
     os.chdir(ROOT)
@@ -507,9 +528,12 @@ def main(words):
     wrong = wrong_numbers(bodies, names)
     found = {name for crate in bodies for name in (crate, *(it.label for it in bodies[crate]))}
     wrong += [f"no wrong body is named {it}" for it in names if it not in found]
-    is_named = lambda it: not names or it.label in names or it.label.partition("/")[0] in names
-    tasks = {crate: [it for it in bodies[crate] if is_named(it)] for crate in bodies}
-    for it in (it for crate in tasks for it in tasks[crate] if "--unchanged" in words):
+    is_named = lambda it: not names or it.label.partition("/")[0] in names
+    is_tried = lambda it: it.label in names or is_named(it) and ("--all" in flags or not it.by_hand)
+    tasks = {crate: [it for it in bodies[crate] if is_tried(it)] for crate in bodies}
+    left = [it for crate in bodies for it in bodies[crate] if is_named(it) and not is_tried(it)]
+    wrong += unfit(left)
+    for it in (it for crate in tasks for it in tasks[crate] if "--unchanged" in flags):
         it.leave_unchanged()
     tasks = {crate: tasks[crate] for crate in sorted(tasks, key=lambda it: len(crates[1][it])) if tasks[crate]}
     outcomes = {crate: Counter() for crate in tasks}
@@ -523,13 +547,13 @@ def main(words):
         for verdict in try_all(tasks, crates, Libraries(folder, libraries, proofs), f"{room}/trials"):
             print(verdict.text, flush=True)
             outcomes[verdict.crate][verdict.outcome] += 1
+            if verdict.outcome == Verdict.APART and not verdict.by_hand:
+                wrong.append(f"{verdict.label} is refused by its written proof alone and has no line `by hand:`")
     for crate, counted in outcomes.items():
         kinds = (Verdict.REFUSED, Verdict.GAVE_UP, Verdict.APART, Verdict.FAILED)
-        kinds = kinds if "--unchanged" not in words else (Verdict.PROVED, Verdict.FAILED)
+        kinds = kinds if "--unchanged" not in flags else (Verdict.PROVED, Verdict.FAILED)
         print(f"{crate}: " + ", ".join(f"{counted[it]} {it}" for it in kinds))
-        if counted[Verdict.APART] > listed().get(crate, (0, 0))[1]:
-            wrong.append(f"{crate}: {counted[Verdict.APART]} are refused by their written proof alone, which is more "
-                         f"than {LIST} says")
+    print(f"{len(left)} are tried by hand")
     for it in wrong:
         print(f"FAILED: {it}")
     passed = sum(it[Verdict.REFUSED] + it[Verdict.PROVED] for it in outcomes.values())
