@@ -288,8 +288,8 @@ def check_edit(report, crate, edit):
             # The texts behind it are looked for in the text that it leaves.
             texts[path] = texts.get(path, "").replace(old, line[len("new:"):].removeprefix(" "))
             old, pairs = None, pairs + 1
-        elif line and line not in functions and not line.startswith("why: "):
-            report.check(False, where, f"neither why:, nor file:, nor old: and then new: but {line!r}")
+        elif line and line not in functions and not line.startswith(("why: ", "by hand: ")):
+            report.check(False, where, f"neither why:, nor by hand:, nor file:, nor old: and then new: but {line!r}")
     report.check(pairs and old is None, shown, "no pair of old: and new:")
 
 

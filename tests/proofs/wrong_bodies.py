@@ -3,26 +3,26 @@
 
 An edit has the form of the kit's, a first line `why:`, and a line `fn:` with the function that has to be refused, as
 `rt check` prints it. `rt ci` would give each a check of its own, as it does with those of must-fail/; here many share
-one: each is written into a copy of its function, which stands behind it under a name of its own, with the same contract
-and a copy of its written proof. So what calls the function is not proved again. A method of a trait's impl has no second
-name and is changed where it stands, and an edit that reaches beyond the body of its function is tried alone. All of it
-stands on what `rt check --only` prints in copies of the repository. First the functions that a crate's edits change are
-checked as they stand, unless the whole crate was just proved as a library: each has to be proved. Then come the edits, a
-group at a time, over the work that this check kept. An edit that is not refused beside others is tried once more alone.
+one: each is written into a copy of its function, which stands behind it under a name of its own, with the same
+contract and a copy of its written proof. So what calls the function is not proved again. A method of a trait's impl has
+no second name and is changed where it stands, and an edit that reaches beyond the body of its function is tried alone.
+All of it stands on what `rt check --only` prints in copies of the repository. First the functions that a crate's edits
+change are checked as they stand, unless the whole crate was just proved as a library: each has to be proved. Then come
+the edits, a group at a time, over the work that this check kept. An edit that is not refused beside others is tried
+once more alone.
 
 An edit passes if the search for a proof of one of the function's own goals came to its end and found none. It counts
 apart, and not as passed, if the search gave up at one of its limits, or if only the function's written proof no longer
-fits: that happens to right bodies too, so what shows that the clause is false is the edit's line `why:`. A written proof
-that does not fit refuses a body whatever its contract says, so such an edit has a line `by hand:` and is tried only where
-it is named or --all is given. It fails if the function is proved, if the prover could not tell, and if all that is left
-is a limit at which it stopped in a written proof, so that the goal may hold; and if only a written proof refuses it and
-it has no line `by hand:`. tests/proofs/wrong_bodies.txt says how many edits each crate has and how many of these have
-that line: it fails too on other numbers.
+fits: that happens to right bodies too, so what shows that the clause is false is the edit's line `why:`. A written
+proof that does not fit refuses a body whatever its contract says, so such an edit has a line `by hand:` and is tried
+only where it is named or --all is given. It fails if the function is proved, if the prover could not tell, and if all
+that is left is a limit at which it stopped in a written proof, so that the goal may hold; and if only a written proof
+refuses it and it has no line `by hand:`. tests/proofs/wrong_bodies.txt says how many edits each crate has and how many
+of these have that line: it fails too on other numbers.
 
 usage: wrong_bodies.py [--all] [--unchanged] [--beside FILE] [--keep FOLDER] [CRATE[/NAME]..]
   --all          tries those too that have a line `by hand:`
-  --unchanged    leaves the changes out and passes what is proved, so that a refusal comes from a change and not from the
-                 copying
+  --unchanged    leaves the changes out, and passes what is proved: so a refusal comes from a change and not from copying
   --beside FILE  runs beside `rt ci`. FILE is what that says, with the line ENDED behind it. The edits of a crate are
                  tried once `rt ci` has proved the crates that it depends on. What earlier checks kept is left alone.
                  Otherwise the checks begin with the work that is kept in the crates' folders out/
@@ -61,8 +61,8 @@ PARTS = ("src", "specs", "proofs")
 # What stands behind the name of a function in that of a copy with a wrong body, before the number of this.
 COPY = "_with_wrong_body_"
 # Where a function begins, with the attributes above it, and its body.
-HEADER = re.compile(r'(?m)^(?: *#\[.*\]\n)*(?P<indent> *)(?:pub(?:\(\w+\))? )?(?:const )?(?:unsafe )?(?:extern "C" )?(?P<fn>fn) '
-                    r'(?P<name>\w+)')
+HEADER = re.compile(r"(?m)^(?: *#\[.*\]\n)*(?P<indent> *)(?:pub(?:\(\w+\))? )?(?:const )?(?:unsafe )?"
+                    r'(?:extern "C" )?(?P<fn>fn) (?P<name>\w+)')
 BODY = re.compile(r"(?m)\{$")
 # A goal of the function for which a search found no proof.
 SEARCHED = re.compile(r"did not prove `|it is not proved that")
@@ -79,7 +79,7 @@ class WrongBody:
         self.label = f"{crate}/{os.path.basename(file)[: -len('.edit')]}"
         self.path = self.function = self.by_hand = self.fault = ""
         self.changes, self.is_alone, self.is_unchanged, old = [], False, False, ""
-        # Where its function begins and ends in the file, where it is written into a copy of it, and what is added to the name.
+        # Where its function begins and ends in the file, if it is written into a copy of it, and what the name gets.
         self.copied, self.suffix = None, f"{COPY}{number}"
         with open(file, encoding="utf-8") as it:
             lines = it.read().splitlines()
@@ -121,7 +121,7 @@ class WrongBody:
         return self.function + self.suffix if self.copied else self.function
 
     def pieces(self, text):
-        """Returns what has to stand in place of what in the text of its file: the copy behind the function, or the changes."""
+        """Returns what has to stand in place of what in the text of its file: a copy behind the function, or the changes."""
         places = self.places(text)
         if not self.copied:
             return places
@@ -146,8 +146,8 @@ class WrongBody:
 
 
 class Verdict:
-    """What there is to say of a wrong body: it is refused, refused in a way that counts apart, or neither; or, where it was
-    left unchanged, that it is proved."""
+    """What there is to say of a wrong body: it is refused, refused in a way that counts apart, or neither; or, where it
+    was left unchanged, that it is proved."""
 
     REFUSED, GAVE_UP, APART, FAILED, PROVED = ("refused", "refused by a search that gave up at a limit",
                                                "refused by its written proof alone", "FAILED", "proved, unchanged")
@@ -234,7 +234,7 @@ class Proofs:
     for checks, of which few are there beside it."""
 
     def __init__(self, file):
-        self.file, self.checks, self.builds, self.lock = file, 0, 0, threading.Lock()
+        self.file, self.checks, self.awaited, self.lock = file, 0, 0, threading.Lock()
         self.most = max(1, min(len(os.sched_getaffinity(0)), free_memory() // MEMORY))
 
     def said(self):
@@ -253,12 +253,12 @@ class Proofs:
         return self.has(crates) or not self.is_under_way()
 
     @contextmanager
-    def place(self, is_build=False):
-        """Waits until a check may begin: few run beside `rt ci`, and where they leave it its memory. The building of a
-        library, for which many checks wait, comes before them."""
+    def place(self, is_awaited=False):
+        """Waits until a check may begin: few run beside `rt ci`, and where they leave it its memory. One for which others
+        wait comes before them."""
         with self.lock:
-            self.builds += is_build
-        while not self.is_taken(is_build):
+            self.awaited += is_awaited
+        while not self.is_taken(is_awaited):
             time.sleep(1)
         try:
             yield
@@ -266,15 +266,15 @@ class Proofs:
             with self.lock:
                 self.checks -= 1
 
-    def is_taken(self, is_build):
+    def is_taken(self, is_awaited):
         """Takes a place, where there is one."""
         with self.lock:
             is_beside = self.is_under_way()
             is_room = not is_beside or free_memory() >= FREE + MEMORY * self.checks
-            is_next = is_build or not self.builds
+            is_next = is_awaited or not self.awaited
             is_one = is_room and is_next and self.checks < (BESIDE if is_beside else self.most)
             self.checks += is_one
-            self.builds -= is_one and is_build
+            self.awaited -= is_one and is_awaited
         return is_one
 
 
@@ -290,7 +290,7 @@ class Libraries:
         edits of the crates above wait for it, so it does not give way to others as the checks of edits do."""
         with self.locks[crate]:
             if crate not in self.built:
-                with self.proofs.place(is_build=True):
+                with self.proofs.place(is_awaited=True):
                     ran = run_rt(["lib", "--jobs", "1"], f"{self.folder}/crates/{crate}")
                 self.built[crate] = f"{crate}: {first_of(ran.stdout)}" if ran.returncode else ""
         return self.built[crate]
@@ -349,7 +349,7 @@ class Trial:
         why they are not proved."""
         if self.crate in self.libraries.names:
             return ""
-        said = self.check(self.folder, {it.function for it in bodies})
+        said = self.check(self.folder, {it.function for it in bodies}, is_awaited=True)
         is_proved = re.search(r"(?m)^only=(\d+) proved=\1$", said)
         return "" if is_proved else f"the crate as it stands is not proved: {first_of(said)}"
 
@@ -374,10 +374,10 @@ class Trial:
             said = self.check(room, {it.checked() for it in group})
         return [self.judged(it, said) for it in group]
 
-    def check(self, repository, functions):
+    def check(self, repository, functions, is_awaited=False):
         """Checks these functions of the crate in a copy of the repository, and returns what is said."""
         words = [word for it in sorted(functions) for word in ("--only", it)]
-        with self.proofs.place():
+        with self.proofs.place(is_awaited):
             return run_rt(["check", "--jobs", "1", *words], f"{repository}/crates/{self.crate}", ("nice", "-n", "19")).stdout
 
     def changed(self, group):
@@ -498,18 +498,6 @@ def wrong_numbers(bodies, names):
             for it, said, has in differ if said != has]
 
 
-def unfit(bodies):
-    """Returns what is wrong with bodies that are not tried now: their texts do not stand in the sources as they have to."""
-    found = []
-    for it in bodies:
-        crate = it.label.partition("/")[0]
-        if not it.fault:
-            with open(f"crates/{crate}/{it.path}", encoding="utf-8") as file:
-                it.places(file.read())
-        found += [f"bad edit {it.label}: {it.fault}"] * bool(it.fault)
-    return found
-
-
 def take(words, flag):
     """Takes a flag and its value out of the words, and returns the value or None."""
     at = words.index(flag) if flag in words else len(words)
@@ -531,8 +519,7 @@ def main(words):
     is_named = lambda it: not names or it.label.partition("/")[0] in names
     is_tried = lambda it: it.label in names or is_named(it) and ("--all" in flags or not it.by_hand)
     tasks = {crate: [it for it in bodies[crate] if is_tried(it)] for crate in bodies}
-    left = [it for crate in bodies for it in bodies[crate] if is_named(it) and not is_tried(it)]
-    wrong += unfit(left)
+    left = sum(is_named(it) and not is_tried(it) for crate in bodies for it in bodies[crate])
     for it in (it for crate in tasks for it in tasks[crate] if "--unchanged" in flags):
         it.leave_unchanged()
     tasks = {crate: tasks[crate] for crate in sorted(tasks, key=lambda it: len(crates[1][it])) if tasks[crate]}
@@ -553,7 +540,7 @@ def main(words):
         kinds = (Verdict.REFUSED, Verdict.GAVE_UP, Verdict.APART, Verdict.FAILED)
         kinds = kinds if "--unchanged" not in flags else (Verdict.PROVED, Verdict.FAILED)
         print(f"{crate}: " + ", ".join(f"{counted[it]} {it}" for it in kinds))
-    print(f"{len(left)} are tried by hand")
+    print(f"{left} are tried by hand")
     for it in wrong:
         print(f"FAILED: {it}")
     passed = sum(it[Verdict.REFUSED] + it[Verdict.PROVED] for it in outcomes.values())

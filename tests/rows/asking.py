@@ -1,7 +1,7 @@
 """Requests to the program `minisign_compare`, what it has to answer, and how rows of both are run.
 
-compare/oracle/README.md has the requests. A word of one is given as bytes or as a text, which are spelled in hexadecimal,
-as a number, a flag or None, or as one of the devices below.
+compare/oracle/README.md has the requests. A word of one is given as bytes or as a text, which are spelled in
+hexadecimal, as a number, a flag or None, or as one of the devices below.
 """
 
 import os
@@ -128,8 +128,8 @@ def answers_of(requests, folder):
                          stderr=subprocess.STDOUT, text=True, timeout=SECONDS)
     lines = ran.stdout.splitlines()
     if ran.returncode or len(lines) != len(requests):
-        raise SystemExit(f"{PROGRAM} ended with {ran.returncode} after {len(lines)} answers to {len(requests)} requests: "
-                         f"{lines[-1] if lines else 'it said nothing'}")
+        raise SystemExit(f"{PROGRAM} ended with {ran.returncode} after {len(lines)} answers to {len(requests)} "
+                         f"requests: {lines[-1] if lines else 'it said nothing'}")
     return lines
 
 
