@@ -55,7 +55,7 @@ ENDED = "rt ci has ended"
 # The line behind which the copy in which the libraries are proved and built is left alone.
 READY = "the libraries are ready"
 # How many wrong bodies share a check, about.
-GROUP = 24
+GROUP = 18
 # What a check of a crate reads.
 PARTS = ("src", "specs", "proofs")
 # What stands behind the name of a function in that of a copy with a wrong body, before the number of this.
@@ -255,7 +255,7 @@ class Proofs:
     @contextmanager
     def place(self, is_awaited=False):
         """Waits until a check may begin: few run beside `rt ci`, and where they leave it its memory. One for which others
-        wait comes before them."""
+        wait comes before them, and has a place more."""
         with self.lock:
             self.awaited += is_awaited
         while not self.is_taken(is_awaited):
@@ -272,7 +272,7 @@ class Proofs:
             is_beside = self.is_under_way()
             is_room = not is_beside or free_memory() >= FREE + MEMORY * self.checks
             is_next = is_awaited or not self.awaited
-            is_one = is_room and is_next and self.checks < (BESIDE if is_beside else self.most)
+            is_one = is_room and is_next and self.checks < (BESIDE if is_beside else self.most) + is_awaited
             self.checks += is_one
             self.awaited -= is_one and is_awaited
         return is_one
