@@ -6,26 +6,26 @@ An edit has the form of the kit's, a first line `why:`, and a line `fn:` with th
 one: each is written into a copy of its function, which stands behind it under a name of its own, with the same
 contract and a copy of its written proof. So what calls the function is not proved again. A method of a trait's impl has
 no second name and is changed where it stands, and an edit that reaches beyond the body of its function is tried alone.
-All of it stands on what `rt check --only` prints in copies of the repository. First the functions that a crate's edits
-change are checked as they stand, unless the whole crate was just proved as a library: each has to be proved. Then come
-the edits, a group at a time, over the work that this check kept. An edit that is not refused beside others is tried
-once more alone.
+All of it stands on what `rt check --only` prints in copies of the repository. A crate with its edits has to be proved as
+it stands: as a library that others are built over, by `rt ci` where this runs beside it, and else by a check of the
+functions that the edits change. The edits come a group at a time, over the work that was kept then. An edit that is not
+refused beside others is tried once more alone.
 
 An edit passes if the search for a proof of one of the function's own goals came to its end and found none. It counts
-apart, and not as passed, if the search gave up at one of its limits, or if only the function's written proof no longer
-fits: that happens to right bodies too, so what shows that the clause is false is the edit's line `why:`. A written
-proof that does not fit refuses a body whatever its contract says, so such an edit has a line `by hand:` and is tried
-only where it is named or --all is given. It fails if the function is proved, if the prover could not tell, and if all
-that is left is a limit at which it stopped in a written proof, so that the goal may hold; and if only a written proof
-refuses it and it has no line `by hand:`. tests/proofs/wrong_bodies.txt says how many edits each crate has and how many
-of these have that line: it fails too on other numbers.
+apart, and not as passed, if the search gave up at one of its limits, so that the goal may hold, or if only the
+function's written proof no longer fits: both happen to right bodies too, so what shows that the clause is false is the
+edit's line `why:`. Such an edit has a line `by hand:` and is tried only where it is named or --all is given; without
+that line it fails. It fails too if the function is proved, if the prover could not tell, and if all that is left is a
+limit at which it stopped in a written proof. tests/proofs/wrong_bodies.txt says how many edits each crate has and how
+many of these have that line: it fails too on other numbers.
 
 usage: wrong_bodies.py [--all] [--unchanged] [--beside FILE] [--keep FOLDER] [CRATE[/NAME]..]
   --all          tries those too that have a line `by hand:`
   --unchanged    leaves the changes out, and passes what is proved: so a refusal comes from a change and not from copying
   --beside FILE  runs beside `rt ci`. FILE is what that says, with the line ENDED behind it. The edits of a crate are
-                 tried once `rt ci` has proved the crates that it depends on. What earlier checks kept is left alone.
-                 Otherwise the checks begin with the work that is kept in the crates' folders out/
+                 tried once `rt ci` has proved the crates that it depends on, and have failed if it does not prove this
+                 one. What earlier checks kept is left alone. Otherwise the checks begin with the work that is kept in
+                 the crates' folders out/
   --keep FOLDER  a new folder for the copy of the repository in which the libraries are proved and built. It is not
                  removed. Behind the line READY nothing is read or written there any more
 """
@@ -54,8 +54,8 @@ BESIDE, FREE = 2, 5_000_000_000
 ENDED = "rt ci has ended"
 # The line behind which the copy in which the libraries are proved and built is left alone.
 READY = "the libraries are ready"
-# How many wrong bodies share a check, about.
-GROUP = 18
+# How many wrong bodies share a check at the most.
+GROUP = 48
 # What a check of a crate reads.
 PARTS = ("src", "specs", "proofs")
 # What stands behind the name of a function in that of a copy with a wrong body, before the number of this.
@@ -248,6 +248,12 @@ class Proofs:
         """Returns whether all of the crates are proved, in this run of `rt ci` or in an earlier one that it keeps."""
         return not self.file or all(re.search(rf"(?m)^rt: {it} (proved$|is kept: )", self.said()) for it in crates)
 
+    def lacking(self, crates):
+        """Returns those of the crates that are not proved, once the run has ended."""
+        while self.is_under_way():
+            time.sleep(1)
+        return [it for it in crates if not self.has([it])]
+
     def are_told(self, crates):
         """Returns whether it is known if all of the crates are proved."""
         return self.has(crates) or not self.is_under_way()
@@ -345,9 +351,9 @@ class Trial:
         return ""
 
     def lacks_proof(self, bodies):
-        """Checks the functions that these bodies change as they stand, unless they were proved with the library, and returns
-        why they are not proved."""
-        if self.crate in self.libraries.names:
+        """Checks the functions that these bodies change as they stand, unless they were proved with the library or `rt ci`
+        proves them, and returns why they are not proved."""
+        if self.crate in self.libraries.names or self.proofs.file:
             return ""
         said = self.check(self.folder, {it.function for it in bodies}, is_awaited=True)
         is_proved = re.search(r"(?m)^only=(\d+) proved=\1$", said)
@@ -534,8 +540,9 @@ def main(words):
         for verdict in try_all(tasks, crates, Libraries(folder, libraries, proofs), f"{room}/trials"):
             print(verdict.text, flush=True)
             outcomes[verdict.crate][verdict.outcome] += 1
-            if verdict.outcome == Verdict.APART and not verdict.by_hand:
-                wrong.append(f"{verdict.label} is refused by its written proof alone and has no line `by hand:`")
+            if verdict.outcome in (Verdict.GAVE_UP, Verdict.APART) and not verdict.by_hand:
+                wrong.append(f"{verdict.label} is {verdict.outcome} and has no line `by hand:`")
+        wrong += [f"`rt ci` did not prove {it} as it stands" for it in proofs.lacking(tasks)]
     for crate, counted in outcomes.items():
         kinds = (Verdict.REFUSED, Verdict.GAVE_UP, Verdict.APART, Verdict.FAILED)
         kinds = kinds if "--unchanged" not in flags else (Verdict.PROVED, Verdict.FAILED)
