@@ -11,15 +11,15 @@ use minisign_install::memory::{MemoryFolder, install_in_memory};
 use minisign_install::{InstallFault, Name, Numbering, Wanted};
 use std::alloc::Global;
 
-pub(crate) const KEY_TEXT: &str =
+const KEY_TEXT: &str =
     "untrusted comment: minisign public key: 0807060504030201\nRWQBAgMEBQYHCFpaWlpaWlpaWlpaWlpaWlpaWlpaWlpaWlpaWlpaWlpa\n";
 
 // Over `first`, with the comment `file:app`, a tab and `timestamp:5`.
-pub(crate) const FIRST: &str =
+const FIRST: &str =
     "untrusted comment: c\nRUQBAgMEBQYHCAAAAAAAAAAAAAAAAAAAAAAAAAAAAAAAAAAAAAAAAAAAMcIQHGXWJcA1g6g1LigQoA2eMt1IZlP3H6y1Xyf22iA=\ntrusted comment: file:app\ttimestamp:5\nAAAAAAAAAAAAAAAAAAAAAAAAAAAAAAAAAAAAAAAAAAAN8SYjBe0P6matmwIRAT6bOrRSshI8Ca1F9u8FfayAeg==\n";
 
 // Over `second`, with the comment `file:app`, a tab and `timestamp:6`.
-pub(crate) const SECOND: &str =
+const SECOND: &str =
     "untrusted comment: c\nRUQBAgMEBQYHCAAAAAAAAAAAAAAAAAAAAAAAAAAAAAAAAAAAAAAAAAAA/4bmf7Gc8IMqobS6xZ4S2sjS+HmqkH3Styw7qQa1i8M=\ntrusted comment: file:app\ttimestamp:6\nAAAAAAAAAAAAAAAAAAAAAAAAAAAAAAAAAAAAAAAAAADDtdBA0afaqXmPh436tzzh//iYFfDKJ4jtdmHzXO/RmQ==\n";
 
 // What is drawn for the names of two stages.

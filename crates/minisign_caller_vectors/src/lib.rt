@@ -1,5 +1,6 @@
 //! What callers do with the library, run as tests: the calls for callers and the examples over
-//! them, a scheme that stands outside, and installing over a folder in memory.
+//! them, and installing over a folder in memory. What stands over a scheme outside is called from C
+//! in `tests/c`.
 //!
 //! Each expected value comes from outside: from a standard, from Python's hashlib, from the
 //! upstream tool, or worked out by hand from a definition. None is what a crate of this repository
@@ -12,13 +13,7 @@ mod callers;
 #[cfg(test)]
 mod folders;
 #[cfg(test)]
-mod hosted;
-#[cfg(test)]
 mod installing;
-#[cfg(test)]
-mod made_keys;
-#[cfg(test)]
-mod questions;
 #[cfg(test)]
 mod reading;
 #[cfg(test)]
