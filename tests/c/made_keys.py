@@ -195,6 +195,18 @@ def other_limits(keys):
     keys.holds("the longest comment is read back", keys.opened(most, "pw")[0] == (KEY_ID, SEED + SALT))
 
 
+def sealed_as_hashlib_says(keys):
+    """A key is sealed by the stream of hashlib's scrypt, under the empty password too, which is one of its own."""
+    secret = SEED + SALT
+    plain = KEY_ID + secret + hashlib.blake2b(b"Ed" + KEY_ID + secret, digest_size=32).digest()
+    for password in ("password", ""):
+        text = keys.secret(KEY_ID, secret, password)
+        stream = hashlib.scrypt(password.encode(), salt=SALT, n=1024, r=8, p=1, dklen=len(plain))
+        keys.holds(f"the text under {password!r}", record_of(text)[54:] == bytes(a ^ b for a, b in zip(plain, stream)))
+        keys.holds(f"the key opens under {password!r}", keys.opened(text, password)[0] == (KEY_ID, secret))
+        keys.holds(f"another password than {password!r}", keys.opened(text, "another")[0] == 42)
+
+
 def comments(keys):
     """Minisign reads the longest comment that is taken, and none that is longer."""
     unsealed, public = keys.generated("commented", None)
@@ -228,6 +240,7 @@ def refusals(keys):
     for name, wanted, arguments in (
         ("a comment that is not UTF-8", 8, {"comment": b"\n\xff"}),
         ("a comment of two lines", 9, {"comment": "a\nb", "room": 0}),
+        ("a comment with a carriage return", 11, {"comment": "\r", "room": 77}),
         ("no room", 5, {"comment": "c", "room": 77}),
     ):
         answer = keys.public(KEY_ID, secret, **arguments)
@@ -245,7 +258,7 @@ def run_all(library, room):
         if ran.returncode != 0:
             return [f"{command[-2]} was not built: {ran.stdout.decode(errors='replace')[-1000:]}"], 0
     keys = Keys(program, minisign, known, room)
-    for part in (refusals, other_limits, comments, same_bytes, made_again):
+    for part in (refusals, other_limits, sealed_as_hashlib_says, comments, same_bytes, made_again):
         part(keys)
     return keys.failures, keys.count - len(keys.failures)
 

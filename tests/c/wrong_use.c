@@ -304,6 +304,7 @@ static void keys_made(void)
 {
     static const uint64_t little = 1 << 20;
     static const uint8_t key_id[8], secret_key[64], zeros[64];
+    static const minisign_sealing none;
     const size_t room = MINISIGN_SECRET_KEY_BYTES(1);
     minisign_state state, before;
     uint8_t sealed[MINISIGN_SECRET_KEY_BYTES(1)];
@@ -315,6 +316,10 @@ static void keys_made(void)
     CHECK(make_key(1, UINT64_MAX, "\n\xff", 0) == MINISIGN_NOT_UTF8);
     CHECK(make_key(1, UINT64_MAX, "\n\r", 0) == MINISIGN_BAD_COMMENT);
     CHECK(make_key(1, UINT64_MAX, "\r", 0) == MINISIGN_UNREADABLE_COMMENT);
+    CHECK(minisign_make_secret_key(key_id, secret_key, 0, NULL, 0, &none, 1, (const uint8_t *) "\0", 1, text, sizeof text, &text_len)
+          == MINISIGN_UNREADABLE_COMMENT);
+    CHECK(minisign_make_public_key(key_id, secret_key, (const uint8_t *) "\0", 1, text, sizeof text, &text_len)
+          == MINISIGN_UNREADABLE_COMMENT);
     CHECK(make_key(1, UINT64_MAX, "c", room - 1) == MINISIGN_NO_ROOM);
     CHECK(make_key(1, UINT64_MAX, "c", room) == MINISIGN_PARAMETERS_TOO_HIGH);
     CHECK(minisign_make_public_key(key_id, secret_key, (const uint8_t *) "c", 1, text, 77, &text_len) == MINISIGN_NO_ROOM);
