@@ -5,9 +5,9 @@ with the module in it, that loads nothing.
     page/build.py [OUT]
 
 OUT is the page, `page/minisign.html` where none is named. It has the script, the style and the module in it, and a policy
-that allows exactly these. The proof is made in a copy of the repository, whose crates.txt lists the crate for WebAssembly:
-`rt ci` takes no such crate. Libraries below it that stand proved are taken as they are, and the others proved first: those
-of the repository that MINISIGN_PROVED names, as in the tests, or of this one.
+that allows exactly these. `rt` proves the crate for this processor, as `rt ci` takes none for WebAssembly, so the prover is
+called for it here. Libraries below it that stand proved are taken as they are, and the others proved first
+(`tests/shared/proved.py`).
 
 Needs Python 3.9 or later and the kit.
 """
@@ -15,16 +15,13 @@ Needs Python 3.9 or later and the kit.
 import base64
 import hashlib
 import os
-import subprocess
 import sys
 import tempfile
 
 HERE = os.path.dirname(os.path.realpath(__file__))
-ROOT = os.path.dirname(HERE)
-sys.path += [os.path.join(ROOT, "tests", folder) for folder in ("shared", "proofs")]
+sys.path.append(os.path.join(HERE, "..", "tests", "shared"))
 
-from static_library import PROVED, NotBuilt
-from wrong_bodies import bring, crates_below, write_top
+import proved
 
 CRATE = "minisign_page"
 # A stack of 1 MiB, and 2 MiB for what the page copies in and out.
@@ -39,23 +36,13 @@ def read(name):
 
 
 def module():
-    """The module, proved and built in a copy of the repository."""
-    print("page: building its module by `rt lib`, which proves first what is not proved", flush=True)
-    proved = os.path.realpath(os.environ.get(PROVED) or ROOT)
-    os.chdir(ROOT)
-    lines, below = crates_below()
+    """The module, proved and built."""
+    print("page: building its module, and proving first what is not proved", flush=True)
     with tempfile.TemporaryDirectory(prefix="minisign-page-") as room:
-        of_page = lines[CRATE].replace("staticlib", f"wasm64 memory={MEMORY}")
-        write_top(room, [*(lines[it] for it in below[CRATE]), of_page])
-        for it in below[CRATE]:
-            bring(it, proved, room, ["rlib"])
-        bring(CRATE, ROOT, room, [])
-        ran = subprocess.run(["rt", "lib"], cwd=f"{room}/crates/{CRATE}", stdin=subprocess.DEVNULL, stdout=subprocess.PIPE,
-                             stderr=subprocess.STDOUT)
-        built = f"{room}/crates/{CRATE}/out/{CRATE}.wasm"
-        if ran.returncode != 0 or not os.path.exists(built):
-            raise NotBuilt(f"the page's module was not built: {ran.stdout.decode(errors='replace')[-1000:]}")
-        with open(built, "rb") as file:
+        archive, linked = f"{room}/lib{CRATE}.a", f"{room}/{CRATE}.wasm"
+        proved.build_archive(CRATE, archive, "--target", proved.WASM)
+        proved.link_module(archive, linked, MEMORY)
+        with open(linked, "rb") as file:
             return file.read()
 
 
@@ -88,7 +75,7 @@ def main(words):
     out = os.path.abspath(words[0]) if words else os.path.join(HERE, "minisign.html")
     try:
         wasm = module()
-    except NotBuilt as why:
+    except proved.NotBuilt as why:
         print(f"FAILED: {why}")
         return 1
     with open(out, "w", encoding="utf-8", newline="") as file:

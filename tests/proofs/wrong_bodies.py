@@ -6,10 +6,9 @@ An edit has the form of the kit's, a first line `why:`, and a line `fn:` with th
 one: each is written into a copy of its function, which stands behind it under a name of its own, with the same
 contract and a copy of its written proof. So what calls the function is not proved again. A method of a trait's impl has
 no second name and is changed where it stands, and an edit that reaches beyond the body of its function is tried alone.
-All of it stands on what `rt check --only` prints in copies of the repository. A crate with its edits has to be proved as
-it stands: as a library that others are built over, by `rt ci` where this runs beside it, and else by a check of the
-functions that the edits change. The edits come a group at a time, over the work that was kept then. An edit that is not
-refused beside others is tried once more alone.
+The crate has to be proved as it stands, by `rt ci` where this runs beside it (tests/shared/proved.py), and else by a check
+of the functions that the edits change. What is proved so is assumed in the copies: a hole stands in place of its proof,
+so that a check tries the wrong bodies alone. An edit that is not refused beside others is tried once more alone.
 
 An edit passes if the search for a proof of one of the function's own goals came to its end and found none. It counts
 apart, and not as passed, if the search gave up at one of its limits, so that the goal may hold, or if only the
@@ -19,47 +18,48 @@ that line it fails. It fails too if the function is proved, if the prover could 
 limit at which it stopped in a written proof. tests/proofs/wrong_bodies.txt says how many edits each crate has and how
 many of these have that line: it fails too on other numbers.
 
-usage: wrong_bodies.py [--all] [--unchanged] [--beside FILE] [--keep FOLDER] [CRATE[/NAME]..]
+usage: wrong_bodies.py [--all] [--unchanged] [CRATE[/NAME]..]
   --all          tries those too that have a line `by hand:`
   --unchanged    leaves the changes out, and passes what is proved: so a refusal comes from a change and not from copying
-  --beside FILE  runs beside `rt ci`. FILE is what that says, with the line ENDED behind it. The edits of a crate are
-                 tried once `rt ci` has proved the crates that it depends on, and have failed if it does not prove this
-                 one. What earlier checks kept is left alone. Otherwise the checks begin with the work that is kept in
-                 the crates' folders out/
-  --keep FOLDER  a new folder for the copy of the repository in which the libraries are proved and built. It is not
-                 removed. Behind the line READY nothing is read or written there any more
 """
 
 import os
 import queue
 import re
 import shutil
-import subprocess
 import sys
 import tempfile
 import threading
 import time
-from collections import Counter, defaultdict
+from collections import Counter
 from concurrent.futures import ThreadPoolExecutor
 from contextlib import contextmanager, suppress
 
-ROOT = os.path.dirname(os.path.dirname(os.path.dirname(os.path.abspath(__file__))))
+HERE = os.path.dirname(os.path.realpath(__file__))
+sys.path.append(os.path.join(HERE, "..", "shared"))
+
+import proved
+
 LIST = "tests/proofs/wrong_bodies.txt"
 # What a check of one of these crates takes at the most, in bytes.
 MEMORY = 3_000_000_000
 # How many checks run beside `rt ci`, and what has to be free for the first of them, in bytes; each further one needs
 # MEMORY more.
 BESIDE, FREE = 2, 5_000_000_000
-# The line behind what `rt ci` has said, once it has ended.
-ENDED = "rt ci has ended"
-# The line behind which the copy in which the libraries are proved and built is left alone.
-READY = "the libraries are ready"
 # How many wrong bodies share a check at the most.
 GROUP = 48
 # What a check of a crate reads.
 PARTS = ("src", "specs", "proofs")
 # What stands behind the name of a function in that of a copy with a wrong body, before the number of this.
 COPY = "_with_wrong_body_"
+# A proof that is a hole, so that what calls the function rests on its contract.
+HOLE = """use Rattle.{path}.Statement.{{statement}}
+
+pub {name}_spec : {{M : Type 1}} → statement M
+{name}_spec = ?
+"""
+# What is said of a function that is proved, where some of what it calls has a hole for its proof or none has.
+WELL = ("proved", "no holes", "depends on a hole in")
 # Where a function begins, with the attributes above it, and its body.
 HEADER = re.compile(r"(?m)^(?: *#\[.*\]\n)*(?P<indent> *)(?:pub(?:\(\w+\))? )?(?:const )?(?:unsafe )?"
                     r'(?:extern "C" )?(?P<fn>fn) (?P<name>\w+)')
@@ -158,26 +158,6 @@ class Verdict:
         self.text = f"wrong body {body.label}: {outcome}: {why[:240]}"
 
 
-def crates_below():
-    """Returns the crates of crates.txt with the lines that name them, and with all crates that each depends on."""
-    lines = {}
-    with open("crates.txt", encoding="utf-8") as it:
-        for line in it.read().splitlines():
-            if ":" in line.partition("#")[0]:
-                lines[line.split(":")[0].split()[0]] = line
-    below = {}
-
-    def find(crate):
-        if crate not in below:
-            near = [it for it in lines[crate].partition(":")[2].split() if it in lines]
-            below[crate] = list(dict.fromkeys([name for it in near for name in (*find(it), it)]))
-        return below[crate]
-
-    for crate in lines:
-        find(crate)
-    return lines, below
-
-
 def bodies_of(crate):
     """Returns the wrong bodies of a crate."""
     folder = f"crates/{crate}/wrong-bodies"
@@ -199,72 +179,32 @@ def free_memory():
     return 1024 * int(found[1]) if found else 0
 
 
-def link_or_copy(file, to):
-    """Has a file stand at a second place too. (A check makes what it keeps anew, and changes no file in place.)"""
-    try:
-        os.link(file, to)
-    except OSError:
-        shutil.copy2(file, to)
+def assume(folder, crate, functions):
+    """Puts a hole in place of the proof of each of these functions of a crate, whose files are in this folder."""
+    for it in functions:
+        *_, name = path = it.split("::")
+        if "fn" in path or "+" in it:
+            # (what a closure is proved to do has no contract of its own)
+            continue
+        proof = f"{folder}/proofs/{'/'.join(path)}"
+        os.makedirs(proof, exist_ok=True)
+        for file in [it for it in os.listdir(proof) if it.endswith(".antt")]:
+            os.remove(f"{proof}/{file}")
+        with open(f"{proof}/Proof.antt", "w", encoding="utf-8") as file:
+            file.write(HOLE.format(path=".".join([crate, "proofs", *path]), name=name))
 
 
-def bring(crate, source, to, outs):
-    """Brings what a check reads of a crate from one repository to another, with these parts of its out/."""
-    for part in (*PARTS, *(f"out/{it}" for it in outs)):
-        if os.path.isdir(f"{source}/crates/{crate}/{part}"):
-            copy = shutil.copy2 if part in PARTS else link_or_copy
-            shutil.copytree(f"{source}/crates/{crate}/{part}", f"{to}/crates/{crate}/{part}", copy_function=copy)
+class Places:
+    """The places for checks, of which few are there beside `rt ci`."""
 
-
-def run_rt(words, folder, before=()):
-    """Runs the kit's rt in a folder, with these words before it: its status, and all that it said."""
-    return subprocess.run([*before, "rt", *words], cwd=folder, stdin=subprocess.DEVNULL, stdout=subprocess.PIPE,
-                          stderr=subprocess.STDOUT, errors="replace")
-
-
-def write_top(folder, lines):
-    """Writes what stands at the top of a repository of these crates."""
-    os.makedirs(f"{folder}/crates", exist_ok=True)
-    shutil.copy2("HANDLES", f"{folder}/HANDLES")
-    with open(f"{folder}/crates.txt", "w", encoding="utf-8") as it:
-        it.write("\n".join(lines) + "\n")
-
-
-class Proofs:
-    """The run of `rt ci` that proves the crates, by the file of what it says; with no file, there is none. And the places
-    for checks, of which few are there beside it."""
-
-    def __init__(self, file):
-        self.file, self.checks, self.awaited, self.lock = file, 0, 0, threading.Lock()
+    def __init__(self):
+        self.checks, self.lock = 0, threading.Lock()
         self.most = max(1, min(len(os.sched_getaffinity(0)), free_memory() // MEMORY))
 
-    def said(self):
-        with open(self.file, encoding="utf-8", errors="replace") as it:
-            return it.read()
-
-    def is_under_way(self):
-        return bool(self.file) and not self.said().endswith(f"{ENDED}\n")
-
-    def has(self, crates):
-        """Returns whether all of the crates are proved, in this run of `rt ci` or in an earlier one that it keeps."""
-        return not self.file or all(re.search(rf"(?m)^rt: {it} (proved$|is kept: )", self.said()) for it in crates)
-
-    def lacking(self, crates):
-        """Returns those of the crates that are not proved, once the run has ended."""
-        while self.is_under_way():
-            time.sleep(1)
-        return [it for it in crates if not self.has([it])]
-
-    def are_told(self, crates):
-        """Returns whether it is known if all of the crates are proved."""
-        return self.has(crates) or not self.is_under_way()
-
     @contextmanager
-    def place(self, is_awaited=False):
-        """Waits until a check may begin: few run beside `rt ci`, and where they leave it its memory. One for which others
-        wait comes before them, and has a place more."""
-        with self.lock:
-            self.awaited += is_awaited
-        while not self.is_taken(is_awaited):
+    def place(self):
+        """Waits until a check may begin: few run beside `rt ci`, and where they leave it its memory."""
+        while not self.is_taken():
             time.sleep(1)
         try:
             yield
@@ -272,55 +212,26 @@ class Proofs:
             with self.lock:
                 self.checks -= 1
 
-    def is_taken(self, is_awaited):
+    def is_taken(self):
         """Takes a place, where there is one."""
         with self.lock:
-            is_beside = self.is_under_way()
+            is_beside = proved.is_under_way()
             is_room = not is_beside or free_memory() >= FREE + MEMORY * self.checks
-            is_next = is_awaited or not self.awaited
-            is_one = is_room and is_next and self.checks < (BESIDE if is_beside else self.most) + is_awaited
+            is_one = is_room and self.checks < (BESIDE if is_beside else self.most)
             self.checks += is_one
-            self.awaited -= is_one and is_awaited
         return is_one
 
 
-class Libraries:
-    """The copy of the repository in which the libraries of these names are proved and built, each once."""
-
-    def __init__(self, folder, names, proofs):
-        self.folder, self.names, self.proofs = folder, names, proofs
-        self.built, self.locks = {}, defaultdict(threading.Lock)
-
-    def build(self, crate):
-        """Proves and builds a library, those below which are built, and returns what is said if it is not proved. All
-        edits of the crates above wait for it, so it does not give way to others as the checks of edits do."""
-        with self.locks[crate]:
-            if crate not in self.built:
-                with self.proofs.place(is_awaited=True):
-                    ran = run_rt(["lib", "--jobs", "1"], f"{self.folder}/crates/{crate}")
-                self.built[crate] = f"{crate}: {first_of(ran.stdout)}" if ran.returncode else ""
-        return self.built[crate]
-
-    def bring(self, crate, to, part):
-        """Brings what a check reads of a crate to another copy, with this part of its out/, while nothing writes it."""
-        with self.locks[crate]:
-            bring(crate, self.folder, to, [part])
-
-
 class Trial:
-    """The trial of a crate's wrong bodies, in copies of the repository in which this crate stands with its edits."""
+    """The trial of a crate's wrong bodies, in copies of the crate."""
 
-    def __init__(self, crate, crates, libraries, folder, tell):
-        self.crate, self.libraries, self.proofs, self.tell = crate, libraries, libraries.proofs, tell
-        lines, below = crates
-        self.folder = f"{folder}/{crate}"
-        self.below, self.lines = below[crate], [lines[it] for it in (*below[crate], crate)]
-        self.texts = {}
-        # Whether it has all that it takes from the copy with the libraries.
-        self.is_supplied = False
+    def __init__(self, crate, places, tell):
+        self.crate, self.places, self.tell = crate, places, tell
+        # The texts of the files that are changed, and the functions that are proved as they stand.
+        self.texts, self.proved = {}, []
 
     def begin(self, bodies, submit):
-        """Checks the functions as they stand, and submits the groups. It tells of each body once, here or there."""
+        """Has the crate proved as it stands, and submits the groups. It tells of each body once, here or there."""
         for it in bodies:
             if not it.fault and it.path not in self.texts:
                 with open(f"crates/{self.crate}/{it.path}", encoding="utf-8") as file:
@@ -328,36 +239,24 @@ class Trial:
             if not it.fault:
                 it.places(self.texts[it.path])
         whole = [it for it in bodies if not it.fault]
-        why = self.lacks_library()
-        self.is_supplied = True
-        why = why or self.lacks_proof(whole)
+        why = proved.supply(proved.crates()[self.crate].below) or self.lacks_proof(whole)
         for it in bodies:
             if it.fault or why:
                 self.tell(Verdict(it, Verdict.FAILED, f"bad edit: {it.fault}" if it.fault else f"not tried: {why}"))
         for group in [] if why else groups_of(whole):
             submit(self.try_group, group)
 
-    def lacks_library(self):
-        """Brings the libraries that the crate depends on, and returns why one of them is not there. A crate that is one of
-        the libraries is built before, so that its checks begin with what was proved then."""
-        if not self.proofs.has(self.below):
-            return "`rt ci` did not prove what the crate depends on"
-        write_top(self.folder, self.lines)
-        for it in (*self.below, self.crate):
-            why = self.libraries.build(it) if it in self.libraries.names else ""
-            if why:
-                return f"a library is not proved: {why}"
-            self.libraries.bring(it, self.folder, "incremental" if it == self.crate else "rlib")
-        return ""
-
     def lacks_proof(self, bodies):
-        """Checks the functions that these bodies change as they stand, unless they were proved with the library or `rt ci`
-        proves them, and returns why they are not proved."""
-        if self.crate in self.libraries.names or self.proofs.file:
-            return ""
-        said = self.check(self.folder, {it.function for it in bodies}, is_awaited=True)
-        is_proved = re.search(r"(?m)^only=(\d+) proved=\1$", said)
-        return "" if is_proved else f"the crate as it stands is not proved: {first_of(said)}"
+        """Waits until `rt ci` has proved the crate, or checks the functions that these bodies change as they stand, and
+        returns why they are not proved."""
+        proved.wait_for([self.crate])
+        is_proved, said = proved.has([self.crate]), proved.said()
+        if not said:
+            words = [word for it in sorted({it.function for it in bodies}) for word in ("--only", it)]
+            said = proved.run(["rt", "check", *words], f"crates/{self.crate}").stdout
+            is_proved = re.search(r"(?m)^only=(\d+) proved=\1$", said)
+        self.proved = proved.functions_of(self.crate, said)
+        return "" if is_proved else f"the crate as it stands is not proved: {proved.first_of(said)}"
 
     def try_group(self, group):
         """Tries a group, and alone once more each of it that was not refused, and tells of each."""
@@ -366,25 +265,25 @@ class Trial:
             self.tell(was if is_final else self.tried([it])[0])
 
     def tried(self, group):
-        """Tries a group in a copy of the repository, and returns what there is to say of each body."""
+        """Tries a group in a copy of the crate, and returns what there is to say of each body."""
+        checked = {it.checked() for it in group}
         with tempfile.TemporaryDirectory(prefix="wrong-bodies-") as room:
-            write_top(room, self.lines)
-            for it in self.below:
-                bring(it, self.folder, room, ["rlib"])
-            bring(self.crate, self.folder, room, ["incremental"])
+            for part in [it for it in PARTS if os.path.isdir(f"crates/{self.crate}/{it}")]:
+                shutil.copytree(f"crates/{self.crate}/{part}", f"{room}/{part}")
             for path, text in self.changed(group).items():
-                with open(f"{room}/crates/{self.crate}/{path}", "w", encoding="utf-8") as it:
+                with open(f"{room}/{path}", "w", encoding="utf-8") as it:
                     it.write(text)
             for it in group:
-                it.copy_proof(f"{room}/crates/{self.crate}")
-            said = self.check(room, {it.checked() for it in group})
+                it.copy_proof(room)
+            assume(room, self.crate, [it for it in self.proved if it not in checked])
+            said = self.check(room, checked)
         return [self.judged(it, said) for it in group]
 
-    def check(self, repository, functions, is_awaited=False):
-        """Checks these functions of the crate in a copy of the repository, and returns what is said."""
+    def check(self, folder, functions):
+        """Checks these functions of the crate, whose files are in this folder, and returns what is said."""
         words = [word for it in sorted(functions) for word in ("--only", it)]
-        with self.proofs.place(is_awaited):
-            return run_rt(["check", "--jobs", "1", *words], f"{repository}/crates/{self.crate}", ("nice", "-n", "19")).stdout
+        with self.places.place():
+            return proved.rattle("check", self.crate, folder, "--allow-holes", *words, before=("nice", "-n", "19")).stdout
 
     def changed(self, group):
         """Returns the texts of the files with the changes of a group in place."""
@@ -401,10 +300,10 @@ class Trial:
         mine = f"fn {self.crate}::{body.checked()}: "
         at = next((at for at, it in enumerate(lines) if it.startswith(mine)), None)
         if at is None or not re.search(r"(?m)^only=", said):
-            return Verdict(body, Verdict.FAILED, f"bad edit: it did not reach the prover: {first_of(said)}")
+            return Verdict(body, Verdict.FAILED, f"bad edit: it did not reach the prover: {proved.first_of(said)}")
         line = lines[at][len(mine):]
-        if line.startswith("proved") or body.is_unchanged:
-            is_well = line.startswith("proved") and body.is_unchanged
+        if line.startswith(WELL) or body.is_unchanged:
+            is_well = line.startswith(WELL) and body.is_unchanged
             return Verdict(body, Verdict.PROVED if is_well else Verdict.FAILED, f"the function is {line}")
         begin = next((it for it in range(at - 1, -1, -1) if lines[it].startswith("fn ")), -1) + 1
         above = [it for it in lines[begin:at] if it.startswith("note: ") and SEARCHED.search(it)]
@@ -455,12 +354,6 @@ def replaced(text, pieces):
     return text
 
 
-def first_of(said):
-    """Returns the first error of what a check said, or its last line."""
-    lines = said.rstrip("\n").split("\n")
-    return next((it for it in lines if "error" in it), lines[-1])[:300]
-
-
 def groups_of(bodies):
     """Returns the bodies in groups of about one size in which no function is changed twice where it stands, and alone what
     others see."""
@@ -471,20 +364,14 @@ def groups_of(bodies):
     return [*alone, *(in_order[at::number] for at in range(number))]
 
 
-def try_all(tasks, crates, libraries, folder):
-    """Tries the wrong bodies of each crate once what it depends on is proved, and yields what there is to say of each.
-    Says READY once all have what they take from the libraries."""
-    told, left, works, trials = queue.SimpleQueue(), sum(len(bodies) for bodies in tasks.values()), [], []
-    tasks, proofs = dict(tasks), libraries.proofs
-    with ThreadPoolExecutor(proofs.most) as pool, ThreadPoolExecutor(len(tasks)) as beginning:
+def try_all(tasks):
+    """Tries the wrong bodies of each crate once it is proved as it stands, and yields what there is to say of each."""
+    told, left, works, places = queue.SimpleQueue(), sum(len(bodies) for bodies in tasks.values()), [], Places()
+    with ThreadPoolExecutor(places.most) as pool, ThreadPoolExecutor(max(1, len(tasks))) as beginning:
         submit = lambda call, *given: works.append(pool.submit(call, *given))
+        for crate, bodies in tasks.items():
+            works.append(beginning.submit(Trial(crate, places, told.put).begin, bodies, submit))
         while left:
-            for crate in [it for it in tasks if proofs.are_told(crates[1][it])]:
-                trials.append(Trial(crate, crates, libraries, folder, told.put))
-                works.append(beginning.submit(trials[-1].begin, tasks.pop(crate), submit))
-            if trials and not tasks and all(it.is_supplied for it in trials):
-                print(READY, flush=True)
-                trials.clear()
             with suppress(queue.Empty):
                 yield told.get(timeout=1)
                 left -= 1
@@ -504,21 +391,10 @@ def wrong_numbers(bodies, names):
             for it, said, has in differ if said != has]
 
 
-def take(words, flag):
-    """Takes a flag and its value out of the words, and returns the value or None."""
-    at = words.index(flag) if flag in words else len(words)
-    taken = words[at : at + 2]
-    del words[at : at + 2]
-    return taken[1] if len(taken) == 2 else None
-
-
 def main(words):
     flags, names = {"--all", "--unchanged"} & {*words}, [it for it in words if it not in ("--all", "--unchanged")]
-    proofs, folder = Proofs(take(names, "--beside")), take(names, "--keep")
-    folder = folder and os.path.abspath(folder)
-    os.chdir(ROOT)
-    crates = crates_below()
-    bodies = {it: found for it in crates[0] for found in [bodies_of(it)] if found}
+    os.chdir(proved.ROOT)
+    bodies = {it: found for it in proved.crates() for found in [bodies_of(it)] if found}
     wrong = wrong_numbers(bodies, names)
     found = {name for crate in bodies for name in (crate, *(it.label for it in bodies[crate]))}
     wrong += [f"no wrong body is named {it}" for it in names if it not in found]
@@ -528,21 +404,13 @@ def main(words):
     left = sum(is_named(it) and not is_tried(it) for crate in bodies for it in bodies[crate])
     for it in (it for crate in tasks for it in tasks[crate] if "--unchanged" in flags):
         it.leave_unchanged()
-    tasks = {crate: tasks[crate] for crate in sorted(tasks, key=lambda it: len(crates[1][it])) if tasks[crate]}
+    tasks = {crate: tasks[crate] for crate in tasks if tasks[crate]}
     outcomes = {crate: Counter() for crate in tasks}
-    with tempfile.TemporaryDirectory(prefix="wrong-bodies-") as room:
-        folder = folder or f"{room}/libraries"
-        libraries = {name for crate in tasks for name in crates[1][crate]}
-        wanted = {*tasks, *libraries}
-        write_top(folder, [line for crate, line in crates[0].items() if crate in wanted])
-        for it in wanted:
-            bring(it, ROOT, folder, [] if proofs.file else ["rlib", "incremental"])
-        for verdict in try_all(tasks, crates, Libraries(folder, libraries, proofs), f"{room}/trials"):
-            print(verdict.text, flush=True)
-            outcomes[verdict.crate][verdict.outcome] += 1
-            if verdict.outcome in (Verdict.GAVE_UP, Verdict.APART) and not verdict.by_hand:
-                wrong.append(f"{verdict.label} is {verdict.outcome} and has no line `by hand:`")
-        wrong += [f"`rt ci` did not prove {it} as it stands" for it in proofs.lacking(tasks)]
+    for verdict in try_all(tasks):
+        print(verdict.text, flush=True)
+        outcomes[verdict.crate][verdict.outcome] += 1
+        if verdict.outcome in (Verdict.GAVE_UP, Verdict.APART) and not verdict.by_hand:
+            wrong.append(f"{verdict.label} is {verdict.outcome} and has no line `by hand:`")
     for crate, counted in outcomes.items():
         kinds = (Verdict.REFUSED, Verdict.GAVE_UP, Verdict.APART, Verdict.FAILED)
         kinds = kinds if "--unchanged" not in flags else (Verdict.PROVED, Verdict.FAILED)

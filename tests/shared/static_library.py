@@ -1,46 +1,28 @@
 """Builds the library of `c/` over the static libraries of the crate minisign_c, which `rt ci` proves and does not build:
-one for x86-64-v2, and one for x86-64-v3.
-
-`rt lib` proves the crate, and anew each library below it that no check but `rt ci` has proved. So the gate names a copy
-of the repository in PROVED, in which the must-fail edits were tried and the libraries stand proved.
+one for x86-64-v2, and one for x86-64-v3. Both stand on the libraries that are built already (`proved.py`).
 """
 
 import os
 import subprocess
 
 import needs
+import proved
+from proved import NotBuilt
 
-HERE = os.path.dirname(os.path.realpath(__file__))
-# The environment's name for a copy of the repository in which the libraries stand proved.
-PROVED = "MINISIGN_PROVED"
-CRATE = os.path.realpath(os.path.join(os.environ.get(PROVED) or os.path.join(HERE, "..", ".."), "crates", "minisign_c"))
-FOLDER = os.path.realpath(os.path.join(HERE, "..", "..", "c"))
-V2 = os.path.join(CRATE, "out", "libminisign_c.a")
-V3 = os.path.join(CRATE, "out", "libminisign_c_v3.a")
+NAME = "minisign_c"
+CRATE = os.path.join(proved.ROOT, "crates", NAME)
+FOLDER = os.path.join(proved.ROOT, "c")
+V2 = os.path.join(CRATE, "out", f"lib{NAME}.a")
+V3 = os.path.join(CRATE, "out", f"lib{NAME}_v3.a")
 FOR_V3 = "--cpu=x86-64-v3"
-
-
-class NotBuilt(Exception):
-    """The library was not built, and what was said."""
-
-
-def build(flags):
-    """Builds the archive, which is left as V2 whatever it is built for."""
-    print("static library: building it by `rt lib`, which proves first what is not proved", flush=True)
-    ran = subprocess.run(["rt", "lib", *flags], cwd=CRATE, stdin=subprocess.DEVNULL, stdout=subprocess.PIPE,
-                         stderr=subprocess.STDOUT)
-    if ran.returncode != 0 or not os.path.exists(V2):
-        raise NotBuilt(f"the static library was not built: {ran.stdout.decode(errors='replace')[-1000:]}")
 
 
 def built():
     """The paths of the two archives, which are proved and built where they are not there."""
-    if not os.path.exists(V3):
-        build([FOR_V3])
-        os.rename(V2, V3)
-        build([])
-    if not os.path.exists(V2):
-        build([])
+    for archive, flags in ((V3, [FOR_V3]), (V2, [])):
+        if not os.path.exists(archive):
+            print("static library: building it, and proving first what is not proved", flush=True)
+            proved.build_archive(NAME, archive, *flags)
     return V2, V3
 
 

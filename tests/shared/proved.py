@@ -1,0 +1,162 @@
+"""The repository's libraries as they stand proved and built, and the kit's prover over them.
+
+The gate runs scripts beside `rt ci`, and names them in SAID the file of what that says: `rt ci` proves each library from
+nothing, and leaves it built for the crates above. No other command of `rt` takes what it built, and each would prove it
+anew; so the prover itself, `rattle`, is called over it, by flags that its `--help` tells. Where SAID names no file, or
+`rt ci` left nothing, `rt lib` builds the libraries, or finds them built.
+
+Needs Python 3.9 or later and the kit.
+"""
+
+import functools
+import os
+import re
+import subprocess
+import time
+
+ROOT = os.path.dirname(os.path.dirname(os.path.dirname(os.path.realpath(__file__))))
+# The environment's name for the file of what `rt ci` says, beside which scripts run.
+SAID = "MINISIGN_RT_CI"
+# The line behind that, once `rt ci` has ended.
+ENDED = "rt ci has ended"
+# What a static library is built for where it is to run in a page.
+WASM = "wasm64-unknown-unknown"
+
+
+class NotBuilt(Exception):
+    """Something was not built, and what was said."""
+
+
+class Crate:
+    """A crate of crates.txt: its words, the crates that it names, and all of the repository below it, lowest first."""
+
+    def __init__(self, line, crates):
+        (self.name, *self.words), named = line.partition(":")[0].split(), line.partition(":")[2].split()
+        self.near = [it for it in named if it in crates]
+        self.of_kit = ["std", *(it for it in named if it not in crates)]
+        below = [name for it in self.near for name in (*crates[it].below, it)]
+        self.below = list(dict.fromkeys(below))
+
+
+@functools.lru_cache(maxsize=None)
+def crates():
+    """The crates of the repository by their names, each behind those below it."""
+    with open(f"{ROOT}/crates.txt", encoding="utf-8") as it:
+        left = [line for line in it.read().splitlines() if ":" in line.partition("#")[0]]
+    found, names = {}, {line.partition(":")[0].split()[0] for line in left}
+    while left:
+        line = left.pop(0)
+        if {*line.partition(":")[2].split()} & names <= {*found}:
+            found[line.split()[0].rstrip(":")] = Crate(line, found)
+        else:
+            left.append(line)
+    return found
+
+
+@functools.lru_cache(maxsize=None)
+def kit():
+    """The folder of the kit."""
+    ran = subprocess.run(["rt", "doc"], stdout=subprocess.PIPE, check=True)
+    return os.path.dirname(os.path.realpath(ran.stdout.decode().strip()))
+
+
+def said():
+    """What `rt ci` has said, beside which this runs; nothing where there is none."""
+    if not os.environ.get(SAID):
+        return ""
+    with open(os.environ[SAID], encoding="utf-8", errors="replace") as it:
+        return it.read()
+
+
+def is_under_way():
+    """Whether `rt ci` runs beside this."""
+    return bool(os.environ.get(SAID)) and not said().endswith(f"{ENDED}\n")
+
+
+def has(names):
+    """Whether `rt ci` has proved all of these crates, in this run or in an earlier one that it keeps."""
+    words = said()
+    return all(re.search(rf"(?m)^rt: {it} (proved$|is kept: )", words) for it in names)
+
+
+def wait_for(names):
+    """Waits until `rt ci` has proved these crates, or has ended."""
+    while is_under_way() and not has(names):
+        time.sleep(1)
+
+
+def functions_of(crate, words):
+    """The functions of a crate that are proved by what a check said."""
+    return re.findall(rf"(?m)^fn {crate}::(\S+): proved$", words)
+
+
+def place_of(library):
+    """The folder of a built library."""
+    return f"{ROOT}/crates/{library}/out/rlib/{library}.rlib"
+
+
+def are_left(libraries):
+    """Whether `rt ci` has proved these libraries, and left them built."""
+    return has(libraries) and all(os.path.isdir(place_of(it)) for it in libraries)
+
+
+def supply(libraries):
+    """Has the libraries built, and returns what is said if one of them is not proved."""
+    while is_under_way() and not are_left(libraries):
+        time.sleep(1)
+    for it in [] if are_left(libraries) else libraries:
+        ran = run(["rt", "lib"], f"{ROOT}/crates/{it}")
+        if ran.returncode:
+            return f"{it}: {first_of(ran.stdout)}"
+    return ""
+
+
+def run(command, folder):
+    """Runs a command in a folder: its status, and all that it said."""
+    return subprocess.run(command, cwd=folder, stdin=subprocess.DEVNULL, stdout=subprocess.PIPE, stderr=subprocess.STDOUT,
+                          errors="replace")
+
+
+def first_of(words):
+    """The first error of what a check said, or its last line."""
+    lines = words.rstrip("\n").split("\n")
+    return next((it for it in lines if "error" in it), lines[-1])[:300]
+
+
+def rattle(verb, name, folder, *flags, before=()):
+    """Has the prover check or build a crate whose files are in this folder, over the libraries below it."""
+    crate = crates()[name]
+    root = next(it for it in ("src/main.rt", "src/lib.rt") if os.path.exists(f"{folder}/{it}"))
+    words = ["--crate-name", name, root, "-L", f"dependency={kit()}/rlibs"]
+    for it in crate.of_kit:
+        words += ["--extern", f"{it}={kit()}/rlibs/{it}.rlib"]
+    for it in crate.near:
+        words += ["--extern", f"{it}={place_of(it)}"]
+    for it in crate.below:
+        words += ["-L", f"dependency={os.path.dirname(place_of(it))}"]
+    if "staticlib" in crate.words:
+        words += ["--crate-type", "staticlib"]
+    words += ["--antt-project", f"{kit()}/rattle/logic/antt-project.json", "--logic-built", f"{kit()}/logic_built"]
+    return run([*before, f"{kit()}/bin/rattle", verb, *words, "--jobs", "1", *flags], folder)
+
+
+def build_archive(name, archive, *flags):
+    """Proves a static library over those below it, and builds its archive."""
+    why = supply(crates()[name].below)
+    if why:
+        raise NotBuilt(why)
+    os.makedirs(os.path.dirname(archive), exist_ok=True)
+    words = ["--toolchain", f"{kit()}/toolchain", "--backend", "llvm", *flags, "-o", archive]
+    hold(rattle("build", name, f"{ROOT}/crates/{name}", *words), name)
+
+
+def link_module(archive, module, memory):
+    """Links a static library that is built for WebAssembly, with so many bytes of memory."""
+    words = ["--target", WASM, "--toolchain", f"{kit()}/toolchain", "--memory", str(memory), "-o", module, archive]
+    hold(run([f"{kit()}/bin/rattle-link", *words], ROOT), module)
+
+
+def hold(ran, what):
+    """Stops where a command that was to build something failed."""
+    if ran.returncode:
+        raise NotBuilt(f"{what} was not built: {ran.stdout[-1000:]}")
