@@ -294,14 +294,14 @@ def check_edit(report, crate, edit):
 
 
 def check_version(report, documents):
-    """The version of the toolchain that a document names is the one that is here."""
+    """Each logic that a document names with a kit is that of the kit that is here: a kit is replaced more often than it."""
     if not sources.find_kit():
         return
     ran = subprocess.run(["rt", "version"], stdout=subprocess.PIPE, stderr=subprocess.STDOUT, timeout=60)
     said = ran.stdout.decode()
     for document, text in documents.items():
-        for version in re.findall(r"`(rattle-kit-[^`]+)`", text):
-            report.check(version in said, document, f"`rt version` does not say {version}")
+        for logic in re.findall(r"`rattle-kit-[^` ]+ (logic [^`]+)`", text):
+            report.check(logic in said, document, f"`rt version` does not say {logic}")
 
 
 def main():

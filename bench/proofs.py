@@ -1,0 +1,66 @@
+#!/usr/bin/env python3
+"""Lists what the functions of a crate take to prove, the dearest first.
+
+    bench/proofs.py CRATE [--test] [ROWS]
+
+The crate is proved from nothing, by one job, over the libraries below it, which are proved before where they were not. As
+the prover ends with a module it saves it, so the times of these files tell what each took: of a function mostly not the
+search for proofs, but what is made of its loans (`Lts`), its proof and its calls (`Tie`). These grow faster than the
+function: with its blocks and locals, with each `?`, and with each owned value that is let go on several paths. Seconds by
+the clock, so they mean something on a machine that has no other work.
+
+Needs Python 3.9 or later and the kit.
+"""
+
+import os
+import re
+import sys
+import tempfile
+from collections import Counter, defaultdict
+
+HERE = os.path.dirname(os.path.realpath(__file__))
+sys.path.append(os.path.join(HERE, "..", "tests", "shared"))
+
+import proved
+
+# What the prover makes of a function, a module for each.
+PARTS = {"Answers", "Code", "Given", "Goals", "Invariants", "Kinds", "Layout", "Lts", "Met", "Named", "Proof", "Reads", "Statement",
+         "Symbol", "TheLink", "Tie"}
+
+
+def saved(folder):
+    """The modules that the prover saved below a folder, in their order, with the seconds behind the one before."""
+    files = [(os.stat(f"{at}/{it}").st_mtime, it[: -len(".oantt")]) for at, _, names in os.walk(folder)
+             for it in names if it.endswith(".oantt") and not at.endswith("/records")]
+    files.sort()
+    return [(module, time - before) for (before, _), (time, module) in zip(files, files[1:])]
+
+
+def costs(modules):
+    """What each function and each other module took, by its parts."""
+    found = defaultdict(Counter)
+    for module, seconds in modules:
+        path = re.sub(r"^Rattle-\w+-(proofs\.)?", "", module).split(".")
+        at = next((at for at, it in enumerate(path) if it in PARTS), None)
+        found["::".join(path[:at])]["itself" if at is None else path[at]] += seconds
+    return found
+
+
+def main(words):
+    rows = next((int(it) for it in words if it.isdigit()), 30)
+    crate, flags = words[0], [it for it in words if it == "--test"]
+    why = proved.supply(proved.crates()[crate].below)
+    with tempfile.TemporaryDirectory(prefix="proofs-") as room:
+        ran = proved.rattle("check", crate, f"{proved.ROOT}/crates/{crate}", "--incremental", room, *flags)
+        found = costs(saved(room))
+    for name, parts in sorted(found.items(), key=lambda it: -sum(it[1].values()))[:rows]:
+        shown = ", ".join(f"{part} {seconds:.1f}" for part, seconds in parts.most_common(4) if seconds >= 0.1)
+        print(f"{sum(parts.values()):7.1f}  {name}: {shown}")
+    total = sum((parts for parts in found.values()), Counter())
+    print(f"{sum(total.values()):7.1f}  in all: {', '.join(f'{part} {seconds:.0f}' for part, seconds in total.most_common(8))}")
+    print(why or proved.first_of(ran.stdout))
+    return ran.returncode
+
+
+if __name__ == "__main__":
+    sys.exit(main(sys.argv[1:]))
