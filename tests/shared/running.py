@@ -1,5 +1,6 @@
 """How the built program is run on real files, and how all that it says is compared with what it has to say."""
 
+import errno
 import os
 import pty
 import resource
@@ -85,6 +86,13 @@ class FedPipe:
 
 
 @dataclass(frozen=True)
+class ReadPipe:
+    """A named pipe that somebody reads, and all that has to come in it."""
+
+    data: bytes
+
+
+@dataclass(frozen=True)
 class ReadLate:
     """A pipe as standard output that is read only once the program has made so many writes on the error
     stream and the folder that it runs in was changed. So a program that writes more than a pipe takes cannot
@@ -136,6 +144,15 @@ class Typed:
 
 
 @dataclass(frozen=True)
+class Sources:
+    """A device of so many random bytes, which count up from 0, and a clock that shows this moment, in seconds since
+    1970."""
+
+    random: int = 256
+    moment: int = 1555779966
+
+
+@dataclass(frozen=True)
 class OneOf:
     """Lines on the error stream that may be these or those."""
 
@@ -168,6 +185,10 @@ class Case:
     stderr: object = None
     # Each of its requests for memory is refused in turn; with `all`, all behind it too.
     refusing: str = ""
+    # Each of its calls of the system of this name fails in turn.
+    breaking: str = ""
+    # The `Sources` of what it draws and of what the clock shows, where these are not the system's.
+    sources: object = None
     # What looks at the folder that the run leaves, and raises a `Failure` where something is wrong there.
     left: object = None
     # The permission bits that files that are made do not get.
@@ -194,30 +215,45 @@ class Runner:
         os.chmod(self.program, 0o755)
         os.chmod(room, 0o711)
         self.nobody = runs_as_nobody(self.program)
-        self.preload = None
+        self.preloads = {}
 
     def run(self, case):
-        """Makes the run, or all runs of a case where memory is refused, and raises a `Failure` or a `Skip`."""
+        """Makes the run, or all runs of a case that is disturbed, and raises a `Failure` or a `Skip`."""
         if any(is_forbidding(it) for it in case.files.values()) and os.geteuid() == 0 and not self.nobody:
             raise Skip("root may read and write every file, and cannot become nobody here")
-        if not case.refusing:
+        if case.refusing:
+            rest = {"REFUSE_REST": "1"} if case.refusing == "all" else {}
+            self.run_each(case, "request for memory", "REFUSE", self.preloading("refuse_memory", **rest))
+        elif case.breaking:
+            broken = {"BREAK_CALLS": case.breaking, "BREAK_ERRNO": str(errno.EIO)}
+            self.run_each(case, f"call of {case.breaking}", "BREAK", self.preloading("break_calls", **broken))
+        elif case.sources:
+            given = {"FIXED_RANDOM": str(case.sources.random), "FIXED_MOMENT": str(case.sources.moment)}
+            self.run_once(case, self.preloading("fixed_sources", **given))
+        else:
             self.run_once(case)
-            return
-        if self.preload is None:
-            self.preload = build_preload(self.room)
-        for number in range(1, 1000):
-            if not self.run_refusing(case, number):
-                if number == 1:
-                    raise Failure("it asked for no memory")
-                return
-        raise Failure("it asked for memory 1000 times")
 
-    def run_refusing(self, case, number):
-        """Runs with one request for memory refused, and answers whether the run came to it."""
+    def preloading(self, name, **environment):
+        """An environment in which a library of `tests/shared` is preloaded."""
+        if name not in self.preloads:
+            self.preloads[name] = build_preload(self.room, name)
+        return {"LD_PRELOAD": self.preloads[name], **environment}
+
+    def run_each(self, case, what, word, environment):
+        """Runs with each such request or call refused in turn. By names that begin with this word the library is told its
+        number, and whom to tell."""
+        for number in range(1, 1000):
+            given = {**environment, f"{word}_AT": str(number)}
+            if not self.run_refused(case, f"{what} number {number}", given, f"{word}_SAYS"):
+                if number == 1:
+                    raise Failure(f"it made no {what}")
+                return
+        raise Failure(f"it came to {what} number 1000")
+
+    def run_refused(self, case, what, environment, says_name):
+        """Runs with one request or call refused, and answers whether the run came to it."""
         told, says = os.pipe()
-        environment = {"LD_PRELOAD": self.preload, "REFUSE_AT": str(number), "REFUSE_SAYS": str(says)}
-        if case.refusing == "all":
-            environment["REFUSE_REST"] = "1"
+        environment = {**environment, says_name: str(says)}
         try:
             try:
                 self.run_once(case, environment, [says])
@@ -232,7 +268,7 @@ class Runner:
             if says is not None:
                 os.close(says)
         if was_refused and failure:
-            raise Failure(f"with request {number} for memory refused: {failure}")
+            raise Failure(f"with {what} refused: {failure}")
         return was_refused
 
     def run_once(self, case, environment=None, passed=()):
@@ -312,10 +348,35 @@ class NamedPipe:
                 threading.Thread(target=feed, args=(self.writer, self.data), daemon=True).start()
                 self.writer = None
 
+    def check(self):
+        if self.has_to_open and not self.opened:
+            raise Failure(f"it never opened {self.name}")
+
     def close(self):
         if self.writer is not None:
             os.close(self.writer)
             self.writer = None
+
+
+class DrainedPipe:
+    """A named pipe beside the files that is read once the program has ended."""
+
+    def __init__(self, path, kind):
+        self.name = os.path.basename(path)
+        self.data = kind.data
+        os.mkfifo(path)
+        self.reader = os.open(path, os.O_RDONLY | os.O_NONBLOCK)
+
+    def poll(self):
+        """Leaves all in the pipe, which has room for more than a key."""
+
+    def check(self):
+        came = os.read(self.reader, 1 << 16)
+        if came != self.data:
+            raise Failure(f"in {self.name} came {came[:200]} in place of {self.data[:200]}")
+
+    def close(self):
+        os.close(self.reader)
 
 
 def wait(process, pipes):
@@ -331,8 +392,7 @@ def wait(process, pipes):
             raise Failure(f"it had not ended after {SECONDS} seconds")
         time.sleep(0.001)
     for pipe in pipes:
-        if pipe.has_to_open and not pipe.opened:
-            raise Failure(f"it never opened {pipe.name}")
+        pipe.check()
 
 
 class Streams:
@@ -344,13 +404,13 @@ class Streams:
         self.closed = [number for number, kind in enumerate((case.stdin, case.stdout, case.stderr)) if kind == CLOSED]
         self.terminal = Terminal(case.stdin) if isinstance(case.stdin, Typed) else None
         self.stdin = self.open_stdin(folder)
-        self.written = tempfile.TemporaryFile()
+        self.written = open_shared()
         self.early = []
         self.late = None
         self.stdout = self.open_stdout(folder, case.stdout)
         # Of such a pair of sockets each write is read by itself.
         self.said, said = socket.socketpair(socket.AF_UNIX, socket.SOCK_SEQPACKET)
-        self.told = tempfile.TemporaryFile() if isinstance(case.stderr, RoomFor) else None
+        self.told = open_shared() if isinstance(case.stderr, RoomFor) else None
         self.stderr = open_full(case.stderr) or os.dup((self.told or said).fileno())
         said.close()
         rooms = [kind.length for kind in (case.stdout, case.stderr) if isinstance(kind, RoomFor)]
@@ -497,6 +557,13 @@ class Terminal:
         os.close(self.person)
 
 
+def open_shared():
+    """A file without a name, which the program may open once more, as `/dev/stdout`."""
+    file = tempfile.TemporaryFile()
+    os.fchmod(file.fileno(), 0o666)
+    return file
+
+
 def open_full(kind):
     """What takes nothing that is written to it, where that is asked for."""
     if kind != FULL:
@@ -548,6 +615,8 @@ def make_files(folder, files):
             os.mkdir(path, 0o555 if kind == LOCKED else 0o755)
         elif isinstance(kind, (OpenedPipe, UnopenedPipe, FedPipe)):
             pipes.append(NamedPipe(path, kind))
+        elif isinstance(kind, ReadPipe):
+            pipes.append(DrainedPipe(path, kind))
         elif isinstance(kind, Link):
             os.symlink(kind.target, path)
         elif isinstance(kind, SecondName):

@@ -30,9 +30,9 @@ def xored(*lists):
     return bytes(a ^ b ^ c for a, b, c in zip(*lists))
 
 
-def signature_of(message):
-    """The signature of a message, with a first half of zeros."""
-    return bytes(32) + xored(bytes(32), KEY, fold(message))
+def signature_of(message, half=bytes(32)):
+    """The signature of a message, with this first half."""
+    return half + xored(half, KEY, fold(message))
 
 
 def is_accepted(message, signature):
@@ -52,8 +52,8 @@ def public_text(keynum=KEYNUM, key=KEY):
     return lines(b"untrusted comment: minisign public key: " + shown, base64.b64encode(b"Ed" + keynum + key))
 
 
-def signature_record(data, keynum=KEYNUM, algorithm=b"ED"):
-    return algorithm + keynum + signature_of(data if algorithm == b"Ed" else digest(data))
+def signature_record(data, keynum=KEYNUM, algorithm=b"ED", half=bytes(32)):
+    return algorithm + keynum + signature_of(data if algorithm == b"Ed" else digest(data), half)
 
 
 def signature_text(data, record=None, trusted=b"t", untrusted=b"c", comment_signature=None):
@@ -68,10 +68,11 @@ def checksum(keynum, secret):
     return hashlib.blake2b(b"Ed" + keynum + secret, digest_size=32).digest()
 
 
-def secret_text(kdf=bytes(2), last=None, keynum=KEYNUM):
-    """The text of a secret key that was never sealed, or of such a record with another key derivation or
-    another last byte."""
-    record = b"Ed" + kdf + b"B2" + bytes(48) + keynum + SEED + KEY + checksum(keynum, SEED + KEY)
+def secret_text(kdf=bytes(2), last=None, keynum=KEYNUM, operations=0, memory=0):
+    """The text of a secret key that was never sealed, or of such a record with another key derivation, another
+    last byte or other limits."""
+    limits = operations.to_bytes(8, "little") + memory.to_bytes(8, "little")
+    record = b"Ed" + kdf + b"B2" + bytes(32) + limits + keynum + SEED + KEY + checksum(keynum, SEED + KEY)
     if last is not None:
         record = record[:-1] + bytes([record[-1] ^ last])
     return lines(b"untrusted comment: rsign encrypted secret key", base64.b64encode(record))

@@ -20,7 +20,10 @@ from running import (
     NO_READER,
     OneOf,
     Pieces,
+    ReadPipe,
+    RoomFor,
     SecondName,
+    Sources,
     Typed,
     WithList,
     WithMode,
@@ -34,6 +37,7 @@ NOT_UTF8 = "error: stream did not contain valid UTF-8\n"
 END_OF_INPUT = "error: unexpected end of input\n"
 TOO_LONG = "error: passphrase can't exceed 1024 bytes length\n"
 DIFFERENT = "error: passwords don't match!\n"
+RANDOM_FAILED = "error: random source failed\n"
 
 PURPOSE = b"Please enter a password to protect the secret key.\n"
 ONCE = PURPOSE + b"Password: "
@@ -44,6 +48,14 @@ EMPTY = PURPOSE + b"Password: <empty>\nPassword (one more time): <empty>\n" + TO
 
 PK, SK = "key.pk", "key.sk"
 FULL_DEVICE = "/dev/full"
+
+# The pair that random bytes make that count up from 0, sealed under `p` by Python's hashlib.
+COUNTED_PUBLIC = b"""untrusted comment: minisign public key: 2726252423222120
+RWQgISIjJCUmJ1pbWFleX1xdUlNQUVZXVFVKS0hJTk9MTUJDQEFGR0RF
+"""
+COUNTED_SECRET = b"""untrusted comment: rsign encrypted secret key
+RWRTY0IyKCkqKywtLi8wMTIzNDU2Nzg5Ojs8PT4/QEFCQ0RFRkcAABAAAAAAAAAAAAIAAAAAXsrUPdVfRwB5KzWs1gxMpeWRV1NwSl+wvS3yfJHSuB4R/Pz7fjWZ0NuIvbOTYzc06tcjZcma8YW35LizX+hn4HmrLBaZfd3HwOv+fYOu+VKlFvoXb5KyfQcAcM++/0OlXTsF5mCWdJA=
+"""
 
 # The identifiers of all keys that were made: each run draws its own.
 MADE_BEFORE = set()
@@ -203,11 +215,13 @@ def keygen_cases():
     return [
         *password_cases(),
         *refused_cases(),
+        *source_cases(),
         *terminal_cases(),
         *file_cases(),
         *link_cases(),
         *one_file_cases(),
         *unwritten_cases(),
+        *pipe_cases(),
         *stream_cases(),
         *memory_cases(),
     ]
@@ -255,6 +269,19 @@ def refused_cases():
                output=TWICE, files=older, left=Left(older)),
         keygen("an input that cannot be read", 1, WARNING, READING_FAILED, typed=WRITE_ONLY, output=ONCE),
         keygen("a folder as input", 1, WARNING, READING_FAILED, typed=FOLDER, output=ONCE),
+    ]
+
+
+def source_cases():
+    """With known random bytes both texts are known. The device of random bytes ends before anything is asked."""
+    known = Left({PK: COUNTED_PUBLIC, SK: COUNTED_SECRET})
+    older = {PK: b"older public", SK: b"older secret"}
+    return [
+        made("random bytes that count up", sources=Sources(), left=known),
+        made("72 random bytes", sources=Sources(random=72), left=known),
+        *(keygen(f"{count} random bytes", 1, WARNING, RANDOM_FAILED, output=b"", sources=Sources(random=count),
+                 files=older, left=Left(older))
+          for count in (0, 32, 40, 71)),
     ]
 
 
@@ -385,6 +412,28 @@ def unwritten_cases():
     return [
         keygen(name, 1, WARNING, WRITING_FAILED, arguments=arguments, files=files, left=Left(kept))
         for name, arguments, files, kept in rows
+    ]
+
+
+def pipe_cases():
+    """Named pipes are written as they are, the public key's first. A failed one ends that, and what is said changes
+    nothing."""
+    public, secret = {PK: ReadPipe(COUNTED_PUBLIC)}, {SK: ReadPipe(COUNTED_SECRET)}
+    nothing = {SK: ReadPipe(b"")}
+    how = {"sources": Sources(), "left": None}
+    terminal = Typed((b"p\n", b"p\n"))
+    return [
+        made("keys into pipes", files={**public, **secret}, **how),
+        made("keys into pipes, and for errors room for five bytes", lines=["warni"], files={**public, **secret}, typed=terminal,
+             stderr=RoomFor(5), **how),
+        keygen("no room for the public key, and the secret key into a pipe", 1, WARNING, WRITING_FAILED, files=nothing,
+               arguments=(FULL_DEVICE, SK), **how),
+        keygen("the public key into a pipe, and no room for the secret key", 1, WARNING, WRITING_FAILED, files=public,
+               arguments=(PK, FULL_DEVICE), **how),
+        keygen("the public key for errors with room for nine bytes, and the secret key into a pipe", 1, "untrusted",
+               files=nothing, arguments=("/dev/stderr", SK), typed=terminal, stderr=RoomFor(9), **how),
+        keygen("the public key into a pipe, and the secret key for errors with room for a byte", 1, "u",
+               files=public, arguments=(PK, "/dev/stderr"), typed=terminal, stderr=RoomFor(1), **how),
     ]
 
 

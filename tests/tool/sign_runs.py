@@ -23,6 +23,8 @@ from running import (
     OneOf,
     OpenedPipe,
     Pieces,
+    RoomFor,
+    Sources,
     Typed,
     UnopenedPipe,
     Unreadable,
@@ -38,6 +40,10 @@ NO_SECRET_KEY = "error: Missing comment in secret key\n"
 NO_ENCODED_KEY = "error: Missing encoded key in secret key\n"
 END_OF_INPUT = "error: unexpected end of input\n"
 TOO_LONG = "error: passphrase can't exceed 1024 bytes length\n"
+RANDOM_FAILED = "error: random source failed\n"
+CLOCK_INCORRECT = "error: system clock is incorrect\n"
+TOO_HIGH = "error: scrypt parameters too high\n"
+INVALID = "error: invalid scrypt parameters\n"
 
 VERIFIED_BARE = "Signature and comment signature verified\n"
 
@@ -51,6 +57,11 @@ FULL_DEVICE = "/dev/full"
 OPEN_KEY = toy.secret_text()
 SEALED_KEY = toy.sealed_text(b"p")
 NO_TEXT = b"untrusted comment: \xff\n"
+
+# Sealed under `p` by Python's hashlib, with limits of zero.
+KEY_WITHOUT_LIMITS = b"""untrusted comment: rsign encrypted secret key
+RWRTY0IyAAECAwQFBgcICQoLDA0ODxAREhMUFRYXGBkaGxwdHh8AAAAAAAAAAAAAAAAAAAAAkLDGRytH/ki8dY+Q5je0C9jfdx7n76zQRxvsZKZ0Fou++Z02AkxRjNVsWWumnYT7ABUataSp7ivlTRMrlTDLYg6EjCuPjlUWYHcwVczVclt7S3fAKbQEA3z1Q0c0lxyTawUSIuL2KtY=
+"""
 
 # The first random bytes of all signatures that were made: each run draws its own.
 DRAWN_BEFORE = set()
@@ -124,6 +135,15 @@ def check_signature(data, text):
     DRAWN_BEFORE.update(drawn)
 
 
+def signed_at(moment):
+    """What `abc` is signed as at this moment, with random bytes that count up from 0: 64 for each signature, whose half
+    they begin with."""
+    record = toy.signature_record(b"abc", half=bytes(range(32)))
+    trusted = b"timestamp:%d" % moment
+    comment_signature = toy.signature_of(record[10:] + trusted, bytes(range(64, 96)))
+    return toy.signature_text(b"abc", record, trusted, b"signature from rsign secret key", comment_signature)
+
+
 def sign(name, status, *lines, files=None, arguments=(SK, FILE, SIG), left=None, **how):
     """A case of `sign`, with a key that was never sealed and `abc` where it says nothing else. Where it fails no
     signature is left."""
@@ -142,6 +162,7 @@ def sign_cases():
         *data_cases(),
         *password_cases(),
         *key_cases(),
+        *source_cases(),
         *opening_cases(),
         *signature_file_cases(),
         *stream_cases(),
@@ -214,6 +235,30 @@ def key_cases():
         sign("a folder as key", 1, WARNING, READING_FAILED, files={SK: FOLDER}),
         sign("a folder as key before a folder as data", 1, WARNING, READING_FAILED, files={SK: FOLDER, FILE: FOLDER}),
         sign("a key that is no UTF-8 before a folder as data", 1, WARNING, NOT_UTF8, files={SK: NO_TEXT, FILE: FOLDER}),
+        sealed("a key whose derivation takes too much memory", 1, WARNING, TOO_HIGH,
+               key=toy.secret_text(kdf=b"Sc", memory=(1 << 30) + 1), output=ASKED + DERIVING),
+        sealed("a key whose derivation has too many parts", 1, WARNING, INVALID,
+               key=toy.secret_text(kdf=b"Sc", operations=1 << 40), output=ASKED + DERIVING),
+    ]
+
+
+def source_cases():
+    """With known random bytes at a known moment the whole text is known. The device of random bytes ends, and the clock
+    shows a moment before 1970."""
+    moments = (0, 1555779966)
+    older = {SIG: b"older"}
+    same = Left(b"older")
+    return [
+        *(sign(f"at the moment {moment}", 0, WARNING, sources=Sources(moment=moment), left=Left(signed_at(moment)))
+          for moment in moments),
+        *(sealed(f"{name} at the moment {moment}", 0, WARNING, key=key, sources=Sources(moment=moment), left=Left(signed_at(moment)))
+          for moment in moments
+          for name, key in (("a sealed key", SEALED_KEY), ("a key that is sealed without limits", KEY_WITHOUT_LIMITS))),
+        sign("128 random bytes", 0, WARNING, sources=Sources(random=128), left=Left(signed_at(Sources.moment))),
+        *(sign(f"{count} random bytes", 1, WARNING, RANDOM_FAILED, sources=Sources(random=count), files=older, left=same)
+          for count in (0, 63, 64, 127)),
+        sign("a moment before 1970", 1, WARNING, CLOCK_INCORRECT, sources=Sources(moment=-1), files=older, left=same),
+        sign("a moment before 1970 before an empty key", 1, WARNING, CLOCK_INCORRECT, sources=Sources(moment=-1), files={SK: b""}),
     ]
 
 
@@ -265,6 +310,10 @@ def signature_file_cases():
           for name, path, files, kept in rows),
         sealed("a wrong password before a folder as signature", 1, WARNING, WRONG_PASSWORD, typed=b"q\n",
                files={SIG: FOLDER}, left=Left(FOLDER)),
+        sign("the signature into standard output", 0, WARNING, arguments=(SK, FILE, "/dev/stdout"), sources=Sources(),
+             output=signed_at(Sources.moment), left=Left()),
+        sign("the signature into standard output with room for nine bytes", 1, WARNING, WRITING_FAILED,
+             arguments=(SK, FILE, "/dev/stdout"), stdout=RoomFor(9), output=b"untrusted"),
     ]
 
 

@@ -52,6 +52,7 @@ def verify_raw_cases():
         *record_cases(),
         *opening_cases(),
         *reading_cases(),
+        *broken_cases(),
         *name_cases(),
         *input_cases(),
         *stream_cases(),
@@ -153,6 +154,17 @@ def reading_cases():
         verify_raw("an unknown algorithm before a folder as data", 1, WARNING, UNSUPPORTED,
                    files={"abc.sig": b"Ex" + SIGNATURE[2:]}, stdin=FOLDER),
         verify_raw("data that cannot be read", 1, WARNING, READING_FAILED, stdin=WRITE_ONLY),
+    ]
+
+
+def broken_cases():
+    """Each read fails in turn, also the one that finds the end: of the key, of the signature and of data that comes
+    byte by byte. That comes before any verdict, and with a short key before the bytes of the two files are tested."""
+    rows = [("good data", KEY), ("another identifier", OTHER_KEY), ("a short key", KEY[:41])]
+    return [
+        verify_raw(f"{name}, and a read fails", 1, WARNING, READING_FAILED, files={"key.pk": key},
+                   stdin=Pieces((b"a", b"b", b"c")), breaking="read")
+        for name, key in rows
     ]
 
 

@@ -129,6 +129,8 @@ def length_cases():
 def text_cases():
     """The texts: both are read whole and have to be UTF-8, the key's first, and then they are judged."""
     windows = {name: GOOD[name].replace(b"\n", b"\r\n") for name in (PK, SIG)}
+    first, second, third, fourth = GOOD[SIG].splitlines(keepends=True)
+    unknown = toy.signature_record(b"abc", algorithm=b"Ex")
     rows = [
         ("an empty key", {PK: b""}, NO_PUBLIC_KEY),
         ("an empty signature", {SIG: b""}, NO_SIGNATURE),
@@ -145,6 +147,18 @@ def text_cases():
         ("a byte that is no UTF-8 as signature before an empty key", {PK: b"", SIG: b"\xff"}, NOT_UTF8),
         ("key and signature swapped", {PK: GOOD[SIG], SIG: GOOD[PK]},
          "error: Base64 conversion failed - was an actual public key given?\n"),
+        ("a key that is no base64", {PK: GOOD[PK][:-2] + b"!\n"},
+         "error: Base64 conversion failed - was an actual public key given?: invalid base64\n"),
+        ("a signature of one line", {SIG: first}, "error: Missing signature\n"),
+        ("a signature of two lines", {SIG: first + second}, "error: Missing trusted comment\n"),
+        ("a signature of three lines", {SIG: first + second + third}, "error: Missing global signature\n"),
+        ("a signature without the label of its comment", {SIG: b"c\n" + second + third + fourth},
+         "error: Untrusted comment must start with: untrusted comment: \n"),
+        ("a signature that is no base64", {SIG: first + b"!" + second[1:] + third + fourth}, "error: invalid base64\n"),
+        ("a signature without the label of its trusted comment", {SIG: first + second + b"t\n" + fourth},
+         "error: Trusted comment should start with: trusted comment: \n"),
+        ("a signature of an unknown algorithm", {SIG: toy.signature_text(b"abc", record=unknown)},
+         "error: Unsupported signature algorithm\n"),
     ]
     return [
         *(verify(name, 1, WARNING, line, files=files) for name, files, line in rows),

@@ -11,23 +11,13 @@ mod cat;
 mod commands;
 mod files;
 mod keygen;
-#[cfg(test)]
-mod keygen_tests;
 mod replacing;
 mod report;
-#[cfg(test)]
-mod report_tests;
-#[cfg(test)]
-mod rooms;
 mod sign;
-#[cfg(test)]
-mod sign_tests;
 mod streams;
 mod text_files;
 mod verify;
 mod verify_raw;
-#[cfg(test)]
-mod verify_raw_tests;
 
 use commands::{Command, command_of};
 use files::{cat_files, keygen_files, sign_files, verify_files, verify_raw_files};

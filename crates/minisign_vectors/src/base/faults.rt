@@ -22,6 +22,7 @@ use minisign_base::faults::NamedFault::{
     UnsupportedSignatureAlgorithm, UntrustedCommentPrefix, WorkTooHigh, WritingFailed,
     WrongPassword,
 };
+use minisign_base::faults::TEXT_ROOM;
 use minisign_fixtures::keys::{IDENTIFIER, OTHER_IDENTIFIER};
 use minisign_fixtures::outcomes::Outcome::Refused;
 use minisign_fixtures::outcomes::comes_to;
@@ -224,11 +225,20 @@ fn is_row(alloc: Global, row: &Row) -> bool {
     says(alloc, fault, text) && fault.number() == *number && fault.kind() == kind
 }
 
+// Whether this is its text, without memory.
+fn is_text(fault: &PError, text: &str) -> bool {
+    let mut room = [0u8; TEXT_ROOM];
+    fault.text(&mut room) == text.as_bytes()
+}
+
 // Whether the fault that calls return says the same of it, and tells its name.
 fn is_returned(alloc: Global, row: &Row) -> bool {
     let (named, _, kind, text) = row;
     let fault = PError::from(*named);
-    says(alloc, &fault, text) && fault.kind() == kind && fault.named() == Some(*named)
+    says(alloc, &fault, text)
+        && is_text(&fault, text)
+        && fault.kind() == kind
+        && fault.named() == Some(*named)
 }
 
 #[test]
