@@ -55,18 +55,18 @@ struct FilePlace {
 
 // A new file, whole and brought to the disk, beside the path that it is to take. It is removed
 // again where it is let go of before it took that.
-struct Stage<'a> {
-    rt: &'a HostRuntime,
+struct Stage {
+    rt: HostRuntime,
     staged: String,
     path: String,
     folder: Option<File>,
     is_installed: bool,
 }
 
-impl Drop for Stage<'_> {
+impl Drop for Stage {
     fn drop(self) {
         if !self.is_installed {
-            let _removed = fs::remove_file(self.rt, self.staged.as_str());
+            let _removed = fs::remove_file(&self.rt, self.staged.as_str());
         }
         let Stage {
             rt: _rt,
@@ -78,12 +78,12 @@ impl Drop for Stage<'_> {
     }
 }
 
-impl Stage<'_> {
+impl Stage {
     // Takes the path, in one step.
     fn install(&mut self) -> Result<()>
         ensures { IfErr result IsWriteFault }
     {
-        written(fs::rename(self.rt, self.staged.as_str(), self.path.as_str()))?;
+        written(fs::rename(&self.rt, self.staged.as_str(), self.path.as_str()))?;
         self.is_installed = true;
         Ok(())
     }
@@ -147,31 +147,24 @@ pub fn replace_both(rt: &HostRuntime, public: Contents<'_>, secret: Contents<'_>
     install_both(&mut public_stage, &mut secret_stage)
 }
 
-// Makes both new files, where the places are regular files.
-fn make_both<'a>(
-    rt: &'a HostRuntime,
+// Makes both new files, where the places are regular files. Where that is one file, its rights are
+// kept for the public key alone.
+fn make_both(
+    rt: &HostRuntime,
     public: Contents<'_>,
     secret: Contents<'_>,
-) -> Result<(Option<Stage<'a>>, Option<Stage<'a>>)>
+) -> Result<(Option<Stage>, Option<Stage>)>
     ensures { IfErr result IsWriteFault }
 {
-    let (public_place, secret_place) = find_both(rt, public.path, secret.path)?;
+    let public_place = find_place(rt, public.path)?;
+    let secret_place = find_place(rt, secret.path)?.apart_from(&public_place);
     let public_stage = make_stage(rt, &public_place, public)?;
     let secret_stage = make_stage(rt, &secret_place, secret)?;
     Ok((public_stage, secret_stage))
 }
 
-// What the two paths lead to. Where that is one file, its rights are kept for the public key alone.
-fn find_both(rt: &HostRuntime, public: &str, secret: &str) -> Result<(Place, Place)>
-    ensures { IfErr result IsWriteFault }
-{
-    let public_place = find_place(rt, public)?;
-    let secret_place = find_place(rt, secret)?.apart_from(&public_place);
-    Ok((public_place, secret_place))
-}
-
 // Lets both stages take their paths, and then brings the new names to the disk.
-fn install_both(public: &mut Option<Stage<'_>>, secret: &mut Option<Stage<'_>>) -> Result<()>
+fn install_both(public: &mut Option<Stage>, secret: &mut Option<Stage>) -> Result<()>
     ensures { IfErr result IsWriteFault }
 {
     install(public)?;
@@ -181,7 +174,7 @@ fn install_both(public: &mut Option<Stage<'_>>, secret: &mut Option<Stage<'_>>) 
 }
 
 // Takes the path of a stage, where there is one.
-fn install(stage: &mut Option<Stage<'_>>) -> Result<()>
+fn install(stage: &mut Option<Stage>) -> Result<()>
     ensures { IfErr result IsWriteFault }
 {
     match stage {
@@ -191,7 +184,7 @@ fn install(stage: &mut Option<Stage<'_>>) -> Result<()>
 }
 
 // Brings the new name of a stage to the disk, where there is one.
-fn settle(stage: &Option<Stage<'_>>) -> Result<()>
+fn settle(stage: &Option<Stage>) -> Result<()>
     ensures { IfErr result IsWriteFault }
 {
     match stage {
@@ -286,11 +279,7 @@ fn is_of_processes(rt: &HostRuntime, link: &Metadata) -> bool {
 }
 
 // Makes the new file of a place beside it and writes it; none where the place is no regular file.
-fn make_stage<'a>(
-    rt: &'a HostRuntime,
-    place: &Place,
-    contents: Contents<'_>,
-) -> Result<Option<Stage<'a>>>
+fn make_stage(rt: &HostRuntime, place: &Place, contents: Contents<'_>) -> Result<Option<Stage>>
     ensures { IfErr result IsWriteFault }
 {
     let Place::File(place) = place else {
@@ -308,7 +297,7 @@ fn make_stage<'a>(
     let folder = fs::open(rt, folder_of(&path)).ok();
     let (file, staged) = create_beside(rt, &path, mode)?;
     let stage = Stage {
-        rt,
+        rt: *rt,
         staged,
         path,
         folder,

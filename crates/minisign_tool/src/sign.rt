@@ -19,7 +19,7 @@ use minisign::{Result, default_comments_are_read_back, sign_texts};
 use std::alloc::Global;
 
 /// What the command `sign` takes its input from.
-#[derive(Debug, Drop)]
+#[derive(Drop)]
 pub struct SigningDevices<K, R, Z, A, B> {
     /// Holds the text of the secret key.
     pub sk_file: K,

@@ -16,7 +16,7 @@ use minisign::{Result, verify_texts};
 use std::alloc::Global;
 
 /// What the commands `verify` and `cat` take their input from.
-#[derive(Debug, Drop)]
+#[derive(Drop)]
 pub struct VerifyingDevices<P, Q, R> {
     /// Holds the text of the public key.
     pub pk_file: P,
