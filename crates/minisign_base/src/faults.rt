@@ -178,7 +178,7 @@ impl NamedFault {
     pub fn kind(&self) -> &'static ErrorKind
         ensures { result.now ≡ (fault_row self.now).kind }
     {
-        self.row().1
+        &self.row().1
     }
 
     /// The number by which a program in another language knows the fault.
@@ -223,100 +223,100 @@ impl NamedFault {
     }
 
     // The number, the kind and the summary.
-    fn row(&self) -> (u32, &'static ErrorKind, &'static str)
-        ensures { record { number = result.0; kind = result.1.now; summary = result.2.now } ≡ fault_row self.now }
+    fn row(&self) -> &'static (u32, ErrorKind, &'static str)
+        ensures { record { number = result.now.0; kind = result.now.1; summary = result.now.2.now } ≡ fault_row self.now }
     {
         use NamedFault::*;
         match self {
-            OutOfMemory => (7, &ErrorKind::OutOfMemory, "out of memory"),
-            ReadingFailed => (64, &Io, "reading failed"),
-            WritingFailed => (65, &Io, "writing failed"),
-            GoingBackFailed => (66, &Io, "going back failed"),
-            RandomSourceFailed => (67, &RNG, "random source failed"),
-            RecordTooShort => (20, &Io, "failed to fill whole buffer"),
-            NotUtf8 => (8, &Io, "stream did not contain valid UTF-8"),
-            EndOfInput => (68, &Io, "unexpected end of input"),
-            PasswordTooLong => (69, &Misc, "passphrase can't exceed 1024 bytes length"),
-            PasswordsDiffer => (70, &Generate, "passwords don't match!"),
-            ParametersTooHigh => (40, &KDF, "scrypt parameters too high"),
-            InvalidParameters => (41, &KDF, "invalid scrypt parameters"),
-            WorkTooHigh => (43, &KDF, "scrypt work too high"),
-            MissingUntrustedComment => (21, &Io, "Missing untrusted comment"),
-            MissingSignature => (22, &Io, "Missing signature"),
-            MissingTrustedComment => (23, &Io, "Missing trusted comment"),
-            MissingGlobalSignature => (24, &Io, "Missing global signature"),
-            UntrustedCommentPrefix => (
+            OutOfMemory => &(7, ErrorKind::OutOfMemory, "out of memory"),
+            ReadingFailed => &(64, Io, "reading failed"),
+            WritingFailed => &(65, Io, "writing failed"),
+            GoingBackFailed => &(66, Io, "going back failed"),
+            RandomSourceFailed => &(67, RNG, "random source failed"),
+            RecordTooShort => &(20, Io, "failed to fill whole buffer"),
+            NotUtf8 => &(8, Io, "stream did not contain valid UTF-8"),
+            EndOfInput => &(68, Io, "unexpected end of input"),
+            PasswordTooLong => &(69, Misc, "passphrase can't exceed 1024 bytes length"),
+            PasswordsDiffer => &(70, Generate, "passwords don't match!"),
+            ParametersTooHigh => &(40, KDF, "scrypt parameters too high"),
+            InvalidParameters => &(41, KDF, "invalid scrypt parameters"),
+            WorkTooHigh => &(43, KDF, "scrypt work too high"),
+            MissingUntrustedComment => &(21, Io, "Missing untrusted comment"),
+            MissingSignature => &(22, Io, "Missing signature"),
+            MissingTrustedComment => &(23, Io, "Missing trusted comment"),
+            MissingGlobalSignature => &(24, Io, "Missing global signature"),
+            UntrustedCommentPrefix => &(
                 25,
-                &Verify,
+                Verify,
                 "Untrusted comment must start with: untrusted comment: ",
             ),
-            SignatureNotBase64 => (26, &Io, "invalid base64"),
-            TrustedCommentPrefix => (
+            SignatureNotBase64 => &(26, Io, "invalid base64"),
+            TrustedCommentPrefix => &(
                 27,
-                &Verify,
+                Verify,
                 "Trusted comment should start with: trusted comment: ",
             ),
-            UnsupportedSignatureAlgorithm => (28, &Verify, "Unsupported signature algorithm"),
-            MissingPublicKeyComment => (16, &Io, "Missing comment in public key"),
-            MissingEncodedPublicKey => (17, &Io, "Missing encoded key in public key"),
-            PublicKeyLineLength => (
+            UnsupportedSignatureAlgorithm => &(28, Verify, "Unsupported signature algorithm"),
+            MissingPublicKeyComment => &(16, Io, "Missing comment in public key"),
+            MissingEncodedPublicKey => &(17, Io, "Missing encoded key in public key"),
+            PublicKeyLineLength => &(
                 18,
-                &Io,
+                Io,
                 "Base64 conversion failed - was an actual public key given?",
             ),
-            PublicKeyLineNotBase64 => (
+            PublicKeyLineNotBase64 => &(
                 19,
-                &Io,
+                Io,
                 "Base64 conversion failed - was an actual public key given?: invalid base64",
             ),
-            BarePublicKeyLength => (
+            BarePublicKeyLength => &(
                 44,
-                &Io,
+                Io,
                 "base64 conversion failed - was an actual public key given?",
             ),
-            BarePublicKeyNotBase64 => (
+            BarePublicKeyNotBase64 => &(
                 45,
-                &Io,
+                Io,
                 "base64 conversion failed - was an actual public key given?: invalid base64",
             ),
-            MissingSecretKeyComment => (33, &Io, "Missing comment in secret key"),
-            MissingEncodedSecretKey => (34, &Io, "Missing encoded key in secret key"),
-            SecretKeyNotBase64 => (35, &Encoding, "invalid base64"),
-            KeyMightBeEncrypted => (36, &Io, "Key might be encrypted"),
-            KeyNotEncrypted => (38, &Io, "Key is not encrypted"),
-            UnsupportedEncryptionAlgorithm => (39, &Io, "Unsupported encryption algorithm"),
-            WrongPassword => (42, &Verify, "Wrong password for that key"),
-            CorruptedKey => (37, &Verify, "Corrupted key"),
-            EncryptedKeyRefused => (
+            MissingSecretKeyComment => &(33, Io, "Missing comment in secret key"),
+            MissingEncodedSecretKey => &(34, Io, "Missing encoded key in secret key"),
+            SecretKeyNotBase64 => &(35, Encoding, "invalid base64"),
+            KeyMightBeEncrypted => &(36, Io, "Key might be encrypted"),
+            KeyNotEncrypted => &(38, Io, "Key is not encrypted"),
+            UnsupportedEncryptionAlgorithm => &(39, Io, "Unsupported encryption algorithm"),
+            WrongPassword => &(42, Verify, "Wrong password for that key"),
+            CorruptedKey => &(37, Verify, "Corrupted key"),
+            EncryptedKeyRefused => &(
                 71,
-                &EncryptedKey,
+                EncryptedKey,
                 "Cannot sign with an encrypted secret key.",
             ),
-            RefusedByGivenKey { .. } => (
+            RefusedByGivenKey { .. } => &(
                 72,
-                &Verify,
+                Verify,
                 "Could not verify signature with the provided public key ID",
             ),
-            DifferentKeyIds { .. } => (
+            DifferentKeyIds { .. } => &(
                 29,
-                &Verify,
+                Verify,
                 "Signature key id is different from public key",
             ),
-            LegacyNotAccepted => (30, &Verify, "Legacy signatures are not accepted"),
-            SignatureRefused => (31, &Verify, "Signature verification failed"),
-            CommentSignatureRefused => (32, &Verify, "Comment signature verification failed"),
-            TrustedCommentAbsent => (73, &Misc, "trusted comment is not present"),
-            SignatureBoxIncomplete => (
+            LegacyNotAccepted => &(30, Verify, "Legacy signatures are not accepted"),
+            SignatureRefused => &(31, Verify, "Signature verification failed"),
+            CommentSignatureRefused => &(32, Verify, "Comment signature verification failed"),
+            TrustedCommentAbsent => &(73, Misc, "trusted comment is not present"),
+            SignatureBoxIncomplete => &(
                 74,
-                &Misc,
+                Misc,
                 "Incomplete SignatureBox: trusted comment is missing",
             ),
-            ClockIncorrect => (75, &Misc, "system clock is incorrect"),
-            DataChanged => (76, &Verify, "Data changed between verification and output"),
-            InvalidOutputLength => (77, &KDF, "invalid output length"),
-            InputOrOutputFailed => (78, &Io, "input or output failed"),
-            FormattingFailed => (79, &Io, "an error occurred when formatting an argument"),
-            InvalidUtf8 => (80, &Encoding, "invalid UTF-8"),
+            ClockIncorrect => &(75, Misc, "system clock is incorrect"),
+            DataChanged => &(76, Verify, "Data changed between verification and output"),
+            InvalidOutputLength => &(77, KDF, "invalid output length"),
+            InputOrOutputFailed => &(78, Io, "input or output failed"),
+            FormattingFailed => &(79, Io, "an error occurred when formatting an argument"),
+            InvalidUtf8 => &(80, Encoding, "invalid UTF-8"),
         }
     }
 }
