@@ -6,7 +6,7 @@ ghost use Rattle.std.specs.Int.{from_le_bytes, to_le_bytes, w64};
 ghost use Rattle.std.specs.Time.{system_time_nanos};
 ghost use Rattle.minisign_base.specs.Fault.{Named};
 ghost use Rattle.minisign_base.specs.declared.faults.NamedFault.TheVariants.{ClockIncorrect, OutOfMemory};
-ghost use Rattle.minisign_base.specs.Limits.{IsCostLog2, cost_log2, greatest_cost, limits, numbers, parallelization};
+ghost use Rattle.minisign_base.specs.Limits.{IsCostLog2, checked_numbers, cost_log2, greatest_cost, limits, numbers, parallelization};
 ghost use Rattle.minisign_base.specs.DeviceCalls.{prompt_call};
 ghost use Rattle.minisign_base.specs.Prompts.{ConversationEnds, asking};
 ghost use Rattle.minisign_base.specs.Passwords.{password_of};
@@ -125,7 +125,9 @@ pub fn unix_timestamp(clock: &impl Clock) -> Result<u64>
     // contract.
     ensures { IfErr result (λ e. e ≡ Named ClockIncorrect) }
 {
-    let now = SystemTime::now(clock).map_err(|_| NamedFault::ClockIncorrect)?;
+    let Ok(now) = SystemTime::now(clock) else {
+        return Err(NamedFault::ClockIncorrect.into());
+    };
     seconds_since_1970(now)
 }
 
@@ -158,12 +160,18 @@ pub fn raw_scrypt_params(memlimit: u64, opslimit: u64, n_log2_max: u8) -> Result
         (numbers memlimit opslimit).n_log2 }
 {
     let operations = opslimit.max(32768);
-    let (n_log2, p) = if operations < memlimit / 32 {
-        (cost_log2(operations / 32), 1)
-    } else {
-        let n_log2 = cost_log2(memlimit / 1024);
-        (n_log2, parallelization(operations, n_log2))
-    };
+    if operations < memlimit / 32 {
+        return checked_params(cost_log2(operations / 32), 1, n_log2_max);
+    }
+    let n_log2 = cost_log2(memlimit / 1024);
+    checked_params(n_log2, parallelization(operations, n_log2), n_log2_max)
+}
+
+// The parameters with this cost and this parallelization, unless the cost is above the allowed one
+// or scrypt does not take them.
+fn checked_params(n_log2: u8, p: u32, n_log2_max: u8) -> Result<Params>
+    ensures { result ≡ checked_numbers (record { n_log2 = n_log2; r = 8; p = p }) n_log2_max }
+{
     if n_log2 > n_log2_max {
         return Err(NamedFault::ParametersTooHigh.into());
     }

@@ -113,7 +113,10 @@ fn put_text<W: Sink>(writer: &mut W, text: &str) -> Result<()>
     ensures failed { IfErr result (λ e. (e ≡ Named WritingFailed)
         × FailsAtPart (sink_call W.Sink writer.old writer.new) text.now) }
 {
-    put_and_flush(writer, text.as_bytes()).map_err(|_| NamedFault::WritingFailed.into())
+    match put_and_flush(writer, text.as_bytes()) {
+        Ok(()) => Ok(()),
+        Err(_) => Err(NamedFault::WritingFailed.into()),
+    }
 }
 
 // Moves a line into the buffer and returns how long it is: the line feed and one carriage return

@@ -92,11 +92,15 @@ impl<'a> Scheme for ToyScheme<'a> {
 fn is_listed(table: &[Triple], message: &[u8], public_key: &[u8; 32], signature: &[u8; 64]) -> bool
     ensures { result ≡ is_listed table.now message.now public_key.now signature.now }
 {
-    table.iter().any(|triple| {
-        triple.message == message
+    'triples: for triple in table {
+        if triple.message == message
             && triple.public_key == *public_key
             && triple.signature == *signature
-    })
+        {
+            return true;
+        }
+    }
+    false
 }
 
 // Whether the second half of the signature is tied to the first.
