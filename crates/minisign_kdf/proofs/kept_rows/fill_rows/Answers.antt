@@ -1,8 +1,8 @@
-use Rattle.std.proofs.Common.{◌≡◌, ℕ, List, ◌+◌, ◌-◌, ◌*◌, ◌++◌, length, sym, ap, ◌∙◌, refl, arith}
+use Rattle.std.proofs.Common.{◌≡◌, ℕ, List, ◌+◌, ◌-◌, ◌*◌, ◌≤◌, ◌++◌, length, sym, ap, ◌∙◌, refl, arith}
 use Rattle.minisign_kdf.specs.Blocks.{block}
 use Rattle.minisign_kdf.specs.Diagonal.{diagonal_bytes}
 use Rattle.minisign_kdf.specs.Scrypt.{row_at}
-use Rattle.minisign_kdf.proofs.Blocks.{block_end, length_end}
+use Rattle.minisign_kdf.proofs.Blocks.{block_end, length_end, row_before}
 use Rattle.minisign_kdf.proofs.Remade.{kept_first, kept_next}
 use Rattle.minisign_kdf.proofs.kept_rows.fill_rows.Goals as goal
 
@@ -15,6 +15,22 @@ rows-init c =
       rows = λ j lt. kept_first c.args.r c.args.k j c.push_row.new.rows.items x items c.requires.x_len lt;
       room = omega arith;
     }
+
+-- the row before lies within the rows that were made
+row_made : (r i : ℕ) → 1 ≤ i → 32 * r * (i - 1) + 32 * r ≤ 32 * r * i
+row_made r i some = row_before (32 * r) i (i - 1) (omega arith)
+
+pub overflow_mul-len-in-rows : goal.overflow_mul-len-in-rows
+overflow_mul-len-in-rows c = omega (arith, row_made c.args.r c.rows.i (omega arith))
+
+pub offset_bounds-deref-len : goal.offset_bounds-deref-len
+offset_bounds-deref-len c = omega (arith, row_made c.args.r c.rows.i (omega arith))
+
+pub slice_bounds-mix_times-start : goal.slice_bounds-mix_times-start
+slice_bounds-mix_times-start c = omega (arith, row_made c.args.r c.rows.i (omega arith))
+
+pub push_row-requires-in-rows : goal.push_row-requires-in-rows
+push_row-requires-in-rows c = omega (arith, row_before (32 * c.args.r) c.args.count c.rows.i (omega arith))
 
 pub mix_times-requires-clause-from_len : goal.mix_times-requires-clause-from_len
 mix_times-requires-clause-from_len c =

@@ -6,6 +6,16 @@ use Rattle.minisign_kdf.specs.Scrypt.{row_at}
 use Rattle.minisign_kdf.proofs.Remade.{kept_rows_of}
 use Rattle.minisign_kdf.proofs.kept_rows.keep_rows.Goals as goal
 
+pub fill_rows-requires-clause-room : goal.fill_rows-requires-clause-room
+fill_rows-requires-clause-room c =
+    let size : length c.args.block.now / 4 / 32 ≡ length c.args.block.now / 128 = omega arith in
+    rw (size, c.kept_count.ensures) c.requires.room
+
+pub returns-clause-len : goal.returns-clause-len
+returns-clause-len c =
+    let size : length c.args.block.now / 4 / 32 ≡ length c.args.block.now / 128 = omega arith in
+    rw (size, c.kept_count.ensures) at c.fill_rows.ensures.len
+
 pub returns-clause-rows : goal.returns-clause-rows
 returns-clause-rows c =
     let b : List ℕ = c.args.block.now in

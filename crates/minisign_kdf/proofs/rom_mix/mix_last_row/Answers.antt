@@ -1,19 +1,39 @@
-use Rattle.std.proofs.Common.{◌≡◌, ℕ, ◌-◌, ◌*◌, ◌^◌, ◌<◌, ap, ◌∙◌, List, refl, arith, pow_pos}
+use Rattle.std.proofs.Common.{◌≡◌, ℕ, ◌+◌, ◌-◌, ◌*◌, ◌^◌, ◌<◌, ◌≤◌, ap, ◌∙◌, List, refl, arith, pow_pos}
 use Rattle.std.specs.Int.{div_ceil}
 use Rattle.minisign_kdf.specs.Blocks.{block}
 use Rattle.minisign_kdf.specs.Diagonal.{diagonal_bytes}
 use Rattle.minisign_kdf.specs.Scrypt.{row_at}
-use Rattle.minisign_kdf.proofs.Blocks.{block_end, length_end}
+use Rattle.minisign_kdf.proofs.Blocks.{block_end, length_end, row_before}
 use Rattle.minisign_kdf.proofs.Kept.{last_before, some_kept}
 use Rattle.minisign_kdf.proofs.rom_mix.mix_last_row.Goals as goal
 
+-- the last kept row is one of the N, and lies within the words
+last_below : (n k count : ℕ) → 1 ≤ k → 0 < n → count ≡ div_ceil n k → k * (count - 1) < n
+last_below n k count some rows e = rw e (last_before n k some rows)
+
+last_within : (r n k count : ℕ) → 1 ≤ k → 0 < n → count ≡ div_ceil n k → 32 * r * (count - 1) + 32 * r ≤ 32 * r * div_ceil n k
+last_within r n k count some rows e = rw e (row_before (32 * r) (div_ceil n k) (div_ceil n k - 1) (omega (arith, some_kept n k some rows)))
+
+pub overflow_sub-last : goal.overflow_sub-last
+overflow_sub-last c = omega (arith, some_kept (2 ^ c.args.n_log2) c.args.k c.requires.kept (pow_pos c.args.n_log2))
+
+pub overflow_mul-times : goal.overflow_mul-times
+overflow_mul-times c = omega (arith, last_below (2 ^ c.args.n_log2) c.args.k c.kept_count-last.result c.requires.kept (pow_pos c.args.n_log2) c.kept_count-last.ensures)
+
+pub overflow_sub-times : goal.overflow_sub-times
+overflow_sub-times c = omega (arith, last_below (2 ^ c.args.n_log2) c.args.k c.kept_count-last.result c.requires.kept (pow_pos c.args.n_log2) c.kept_count-last.ensures)
+
 pub mix_times-requires-clause-times : goal.mix_times-requires-clause-times
-mix_times-requires-clause-times c =
-    let n : ℕ = 2 ^ c.args.n_log2 in
-    let some : 0 < n = pow_pos c.args.n_log2 in
-    let before : c.args.k * (div_ceil n c.args.k - 1) < n = last_before n c.args.k c.requires.kept (omega arith) in
-    let count : c.args.k * (c.kept_count-last.result - 1) ≡ c.args.k * (div_ceil n c.args.k - 1) = ap (λ (m : ℕ). c.args.k * (m - 1)) c.kept_count-last.ensures in
-    omega arith
+mix_times-requires-clause-times c = omega (arith, last_below (2 ^ c.args.n_log2) c.args.k c.kept_count-last.result c.requires.kept (pow_pos c.args.n_log2) c.kept_count-last.ensures)
+
+pub overflow_mul-r-2 : goal.overflow_mul-r-2
+overflow_mul-r-2 c = omega (arith, last_within c.args.r (2 ^ c.args.n_log2) c.args.k c.kept_count-last.result c.requires.kept (pow_pos c.args.n_log2) c.kept_count-last.ensures)
+
+pub offset_bounds-rows-r : goal.offset_bounds-rows-r
+offset_bounds-rows-r c = omega (arith, last_within c.args.r (2 ^ c.args.n_log2) c.args.k c.kept_count-last.result c.requires.kept (pow_pos c.args.n_log2) c.kept_count-last.ensures)
+
+pub slice_bounds-mix_times-start : goal.slice_bounds-mix_times-start
+slice_bounds-mix_times-start c = omega (arith, last_within c.args.r (2 ^ c.args.n_log2) c.args.k c.kept_count-last.result c.requires.kept (pow_pos c.args.n_log2) c.kept_count-last.ensures)
 
 pub mix_times-requires-clause-from_len : goal.mix_times-requires-clause-from_len
 mix_times-requires-clause-from_len c =

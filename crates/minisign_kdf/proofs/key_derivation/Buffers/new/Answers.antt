@@ -1,9 +1,25 @@
-use Rattle.std.proofs.Common.{◌<◌, arith}
+use Rattle.std.proofs.Common.{ℕ, ◌*◌, ◌^◌, ◌<◌, arith}
 use Rattle.minisign_kdf.proofs.ParamsFacts.{n_log2_small}
 use Rattle.minisign_kdf.proofs.key_derivation.Buffers.new.Goals as goal
+
+-- the parts have a number of bytes that 64 bits can count
+part_bytes : (r p : ℕ) → r * p < 2 ^ 30 → 128 * r * p < 2 ^ 37
+part_bytes r p small = grind (arith, small)
 
 pub room_for_rows-requires-clause-cost : goal.room_for_rows-requires-clause-cost
 room_for_rows-requires-clause-cost c =
     let p = c.args.params.now in
     let small : p.n_log2 < 64 = n_log2_small p c.r-r.ensures.accepted in
     omega arith
+
+pub overflow_mul-r-3 : goal.overflow_mul-r-3
+overflow_mul-r-3 c = omega (arith, part_bytes c.r-r.result c.p-p.result (rw (c.r-r.ensures.number, c.p-p.ensures.number) c.r-r.ensures.accepted.product))
+
+pub returns-clause-room : goal.returns-clause-room
+returns-clause-room c = rw (← c.r-r.ensures.number, ← c.n_log2.ensures.number) c.in_ok-rows.ensures.room
+
+pub returns-clause-fits : goal.returns-clause-fits
+returns-clause-fits c = rw (← c.r-r.ensures.number, ← c.n_log2.ensures.number) c.in_ok-rows.ensures.fits
+
+pub returns-clause-parts : goal.returns-clause-parts
+returns-clause-parts c = rw (← c.r-r.ensures.number, ← c.p-p.ensures.number) c.in_ok-parts.ensures
