@@ -1,4 +1,4 @@
-use Rattle.std.proofs.Common.{◌≡◌, ◌-◌, false, length, take}
+use Rattle.std.proofs.Common.{◌≡◌, false, take}
 use Rattle.minisign_base.specs.Toy.{is_listed}
 use Rattle.minisign_base.proofs.toy.is_listed.Given as goal
 

@@ -1,4 +1,4 @@
-use Rattle.std.proofs.Common.{◌≡◌, ℕ, ◌+◌, ◌-◌, ◌*◌, ◌/◌, ◌^◌, ◌≤◌, List, length, take, drop, ap, ◌∙◌, arith, length-drop}
+use Rattle.std.proofs.Common.{◌≡◌, ℕ, ◌+◌, ◌-◌, ◌*◌, ◌/◌, ◌^◌, ◌<◌, ◌≤◌, List, length, take, drop, ap, ◌∙◌, arith, length-drop}
 use Rattle.std.proofs.lemmas.List.{length-take-le}
 use Rattle.std.specs.Int.{div_ceil}
 use Rattle.minisign_kdf.specs.Scrypt.{rom_mix}
@@ -9,17 +9,35 @@ use Rattle.minisign_kdf.proofs.key_derivation.mix_parts.Goals as goal
 pub parts-init : goal.parts-init
 parts-init c = (changed_none _ _ _, omega arith, λ some. absurd (omega arith))
 
+-- a part lies within the parts, and has their length
+part_size : (len i p : ℕ) (parts : List ℕ) → length parts ≡ len * p → i < p → length (take (len * i + len - len * i) (drop (len * i) parts)) ≡ len
+part_size len i p parts whole lt =
+    length-take-le (len * i + len - len * i) (drop (len * i) parts) (omega (arith, row_before len p i lt, length-drop (len * i) parts)) ∙ omega arith
+
 pub overflow_mul-at : goal.overflow_mul-at
-overflow_mul-at c =
-    let len : ℕ = 128 * c.args.r in
-    let room : len * c.parts.i + len ≤ len * c.args.p = row_before len c.args.p c.parts.i c.parts-test.true in
-    omega arith
+overflow_mul-at c = omega (arith, row_before (128 * c.args.r) c.args.p c.parts.i (omega arith))
 
 pub overflow_add-at : goal.overflow_add-at
-overflow_add-at c =
+overflow_add-at c = omega (arith, row_before (128 * c.args.r) c.args.p c.parts.i (omega arith))
+
+pub slice_bounds-rom_mix-end : goal.slice_bounds-rom_mix-end
+slice_bounds-rom_mix-end c = omega (arith, row_before (128 * c.args.r) c.args.p c.parts.i (omega arith))
+
+pub rom_mix-requires-clause-some : goal.rom_mix-requires-clause-some
+rom_mix-requires-clause-some c = omega (arith, part_size (128 * c.args.r) c.parts.i c.args.p c.parts.parts (omega arith) (omega arith))
+
+pub rom_mix-requires-clause-whole : goal.rom_mix-requires-clause-whole
+rom_mix-requires-clause-whole c = omega (arith, part_size (128 * c.args.r) c.parts.i c.args.p c.parts.parts (omega arith) (omega arith))
+
+pub rom_mix-requires-clause-work_len : goal.rom_mix-requires-clause-work_len
+rom_mix-requires-clause-work_len c = omega (arith, part_size (128 * c.args.r) c.parts.i c.args.p c.parts.parts (omega arith) (omega arith))
+
+pub rom_mix-requires-clause-room : goal.rom_mix-requires-clause-room
+rom_mix-requires-clause-room c =
     let len : ℕ = 128 * c.args.r in
-    let room : len * c.parts.i + len ≤ len * c.args.p = row_before len c.args.p c.parts.i c.parts-test.true in
-    omega arith
+    let size : length (take (len * c.parts.i + len - len * c.parts.i) (drop (len * c.parts.i) c.parts.parts)) / 128 ≡ c.args.r =
+    omega (arith, part_size len c.parts.i c.args.p c.parts.parts (omega arith) (omega arith)) in
+    rw size (omega arith)
 
 pub parts-preserved : goal.parts-preserved
 parts-preserved c =
@@ -30,8 +48,7 @@ parts-preserved c =
     let width : len * i + len - len * i ≡ len = omega arith in
     let room : len * i + len ≤ len * c.args.p = row_before len c.args.p i (omega arith) in
     let this : List ℕ = take (len * i + len - len * i) (drop (len * i) c.parts.parts) in
-    let size : length this ≡ len =
-    length-take-le (len * i + len - len * i) (drop (len * i) c.parts.parts) (omega (arith, length-drop (len * i) c.parts.parts)) ∙ width in
+    let size : length this ≡ len = part_size len i c.args.p c.parts.parts (omega arith) (omega arith) in
     let block_size : length this / 128 ≡ r = omega arith in
     let (changed, _, _) = c.parts.invariant in (
       changed_next (rom_mix r n) len i (len * i + len - len * i) c.args.parts.now c.parts.parts c.rom_mix.new.part changed width (omega arith)
