@@ -139,7 +139,7 @@ def misuses():
 def faults():
     """The named faults that calls of the header answer."""
     comments = comments_of(FAULTS, "NamedFault")
-    rows = match_arms((FAULTS, "NamedFault", "row"), r"(\w+)(?: \{ \.\. \})? => \(\s*(\d+),\s*&[\w:]+,\s*" + TEXT)
+    rows = match_arms((FAULTS, "NamedFault", "row"), r"(\w+)(?: \{ \.\. \})? => &\(\s*(\d+),\s*[\w:]+,\s*" + TEXT)
     return [Number(int(rows[variant][0]), variant, comment, rows[variant][1])
             for variant, comment in comments.items() if int(rows[variant][0]) < UNANSWERED or variant in TOLD_BY_HOSTS]
 
