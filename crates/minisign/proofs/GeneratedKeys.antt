@@ -1,10 +1,11 @@
 -- What the keys that are generated are good for.
-use Rattle.std.proofs.Common.{◌≡◌, ◌⊎◌, ℕ, true, false, not, List, Option, None, Some, Ok, inl, inr, refl, sym, ap, ◌∙◌, arith}
+use Rattle.std.proofs.Common.{◌≡◌, ◌⊎◌, ℕ, true, false, not, List, length, Option, None, Some, Ok, inl, inr, refl, sym, ap, ◌∙◌, arith}
 use Rattle.std.specs.Int.{w64, to_le_bytes}
 use Rattle.std.specs.Str.{bytes_eq}
 use Rattle.std.proofs.lemmas.Slice.Eq.{bytes_eq-Decides}
 use Rattle.minisign_base.specs.Fault.{Fault, Named}
 use Rattle.minisign_base.specs.DeviceCalls.{RandomCall}
+use Rattle.minisign_base.specs.Scheme.{IsBytes}
 use Rattle.minisign_base.specs.declared.faults.NamedFault.TheVariants.{OutOfMemory}
 use Rattle.minisign_kdf.specs.Params.{Numbers}
 use Rattle.minisign_base.specs.Limits.{cost_log2, limits}
@@ -14,6 +15,11 @@ use Rattle.minisign.specs.SecretKeyText.{SecretKeyText}
 use Rattle.minisign.specs.Generation.{AreSeedAndKeynum, IsGenuinePair, IsSealedOf, IsSealedPair, OpensOnlyTo, OpensToPair, key_to_seal, opened_key, public_key_of, sealed_key, sealing_memory, sealing_operations, secret_of, unsealed_key}
 use Rattle.minisign.proofs.SecretKeyTexts.{one_key_text}
 use Rattle.minisign.proofs.SealingLimits.{allowed_numbers, within_bound}
+
+-- 32 random bytes, and then 8
+pub seed_and_keynum : (seed keynum : List ℕ) → IsBytes seed × (length seed ≡ 32) → IsBytes keynum × (length keynum ≡ 8) → AreSeedAndKeynum seed keynum
+seed_and_keynum seed keynum (seed_bytes, seed_length) (keynum_bytes, keynum_length) =
+    record { seed_length = seed_length; seed_bytes = seed_bytes; keynum_length = keynum_length; keynum_bytes = keynum_bytes }
 
 -- the key that is not to be sealed is none that has to be opened
 pub unsealed_is_unencrypted : (keynum secret : List ℕ) → IsUnencrypted (unsealed_key keynum secret)

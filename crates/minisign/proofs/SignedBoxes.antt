@@ -1,11 +1,15 @@
 -- The box that signing makes, and why it is accepted.
-use Rattle.std.proofs.Common.{◌≡◌, ℕ, true, List, ◌++◌, length, Option, Some, inl, refl, sym, ◌∙◌, arith}
+use Rattle.std.proofs.Common.{◌≡◌, ℕ, true, false, List, ◌++◌, length, Option, None, Some, inl, refl, sym, ◌∙◌, arith}
 use Rattle.std.proofs.lemmas.List.{take_all}
+use Rattle.std.specs.Option.{IsSomeAnd}
 use Rattle.minisign_hash.specs.Blake2b.{blake2b_digest}
+use Rattle.minisign_base.specs.DeviceCalls.{RandomCall}
+use Rattle.minisign_base.specs.Fault.{Fault, Named}
+use Rattle.minisign_base.specs.declared.faults.NamedFault.TheVariants.{RefusedByGivenKey}
 use Rattle.minisign_base.specs.Scheme.{IsBytes, AreRandomBytes}
-use Rattle.minisign.specs.Records.{SecretKeyRecord, SignatureBoxRecord, prehashed_algorithm}
-use Rattle.minisign.specs.Acceptance.{Verifier}
-use Rattle.minisign.specs.Signing.{Signer, ChosenComments, signed_box, VouchesWhereGenuine}
+use Rattle.minisign.specs.Records.{PublicKeyRecord, SecretKeyRecord, SignatureBoxRecord, prehashed_algorithm}
+use Rattle.minisign.specs.Acceptance.{Verifier, accepts_comments}
+use Rattle.minisign.specs.Signing.{Signer, ChosenComments, GivenKeyRefuses, IsSigned, signed_box, VouchesWhereGenuine}
 
 -- a box of these parts
 abbrev pub box_of : List ℕ → List ℕ → ChosenComments → List ℕ → SignatureBoxRecord
@@ -44,3 +48,12 @@ genuine_box accepts sign public_of own sk message chosen first second keynum sig
       signed = rw (key, same_signature, genuine.secret) digest_accepted;
       comment_signed = record { long_enough = omega (arith, long); signed = rw (take_all 64 global (omega (arith, long)), key, same_global, genuine.secret) comment_accepted };
     }
+
+-- a public key that is given and refuses the box that was made is the reason
+pub refused_by_given : {Z : Type 0} (accepts : Verifier) (sign : Signer) (pk : Option PublicKeyRecord) (sk : SecretKeyRecord) (message : List ℕ)
+    (chosen : ChosenComments) (z : RandomCall Z) (x : SignatureBoxRecord) (e : Fault) → IsSigned sign sk message chosen z x
+    → IsSomeAnd pk (λ p. (e ≡ Named (RefusedByGivenKey p.keynum)) × (accepts_comments accepts p x ≡ false))
+    → IsSomeAnd pk (λ p. GivenKeyRefuses accepts sign p sk message chosen z e)
+refused_by_given accepts sign None sk message chosen z x e signed refused = absurd refused
+refused_by_given accepts sign (Some p) sk message chosen z x e signed (fault, refused) =
+    record { fault = fault; made = x; signed = signed; refused = refused }

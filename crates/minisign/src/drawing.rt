@@ -1,8 +1,9 @@
 //! Random bytes, drawn a field at a time.
 
-ghost use Rattle.std.specs.Prelude.{◌≡◌, IfOk, IfErr, OnOk};
+ghost use Rattle.std.specs.Prelude.{◌≡◌, ◌++◌, length, IfOk, IfErr, OnOk};
 ghost use Rattle.minisign_base.specs.Devices.{HasGiven};
 ghost use Rattle.minisign_base.specs.DeviceCalls.{random_call};
+ghost use Rattle.minisign_base.specs.Scheme.{IsBytes};
 ghost use Rattle.minisign.specs.Signing.{DrawFails, HasDrawn};
 
 use minisign_base::devices::random_sources::RandomSource;
@@ -22,4 +23,22 @@ pub(crate) fn draw<const N: usize, Z: RandomSource>(random: &mut Z) -> Result<[u
         .fill(&mut bytes)
         .map_err(|_| NamedFault::RandomSourceFailed)?;
     Ok(bytes)
+}
+
+// The next `N` random bytes, and `M` more.
+pub(crate) fn draw_two<const N: usize, const M: usize, Z: RandomSource>(
+    random: &mut Z,
+) -> Result<([u8; N], [u8; M])>
+    ensures drawn { IfOk result
+        (λ z. HasDrawn (random_call Z.RandomSource random.old random.new) (z.0 ++ z.1)) }
+    ensures first { IfOk result (λ z. IsBytes z.0 × (length z.0 ≡ N)) }
+    ensures second { IfOk result (λ z. IsBytes z.1 × (length z.1 ≡ M)) }
+    ensures no_new_fault { OnOk result (Z.random_faults random.new ≡ Z.random_faults random.old) }
+    ensures refused { IfErr result
+        (DrawFails (random_call Z.RandomSource random.old random.new)) }
+    ensures given { HasGiven (Z.random_ahead random.old) (Z.random_ahead random.new) }
+{
+    let first = draw(random)?;
+    let second = draw(random)?;
+    Ok((first, second))
 }

@@ -15,11 +15,11 @@ ghost use Rattle.minisign_base.specs.Passwords.{password_of};
 ghost use Rattle.minisign.specs.NewPassword.{IsSealing, choosing, sealing};
 ghost use Rattle.minisign.specs.PublicKeyText.{public_key_text};
 ghost use Rattle.minisign.specs.SecretKeyText.{SecretKeyText, secret_key_text};
-ghost use Rattle.minisign.specs.Generation.{AreSeedAndKeynum, HasSealed, IsGenuinePair, IsSealedOf, IsUnsealedPair, OpensOnlyTo, OpensToPair, RawPairFails, SealedPairFails, SealedTextsFail, WritingFails, public_key_of, secret_of, unsealed_key};
+ghost use Rattle.minisign.specs.Generation.{AreSeedAndKeynum, HasSealed, IsGenuinePair, IsSealedOf, IsUnsealedPair, OpensOnlyTo, OpensToPair, PartsFail, RawPairFails, SealedPairFails, SealedTextsFail, WritingFails, public_key_of, secret_of, unsealed_key};
 ghost use Rattle.minisign.specs.OpenedTexts.{IsUnencryptedText};
 
 use crate::constants::SIGALG;
-use crate::drawing::draw;
+use crate::drawing::{draw, draw_two};
 use crate::keynum::KeynumPK;
 use crate::public_key::PublicKey;
 use crate::secret_key::SecretKey;
@@ -86,7 +86,7 @@ impl KeyPair {
         // Whatever the result, the random source lost at most some bytes at its front.
         ensures given { HasGiven (Z.random_ahead random.old) (Z.random_ahead random.new) }
     {
-        let (seed, keynum) = draw_seed_and_keynum(random)?;
+        let (seed, keynum) = draw_two(random)?;
         Ok(make_pair(scheme, &seed, keynum))
     }
 
@@ -137,9 +137,7 @@ impl KeyPair {
         ensures given { HasGiven (Z.random_ahead random.old) (Z.random_ahead random.new) }
     {
         let pair = KeyPair::generate_unencrypted_keypair(scheme, random)?;
-        let public = pair.pk.to_bytes(alloc)?;
-        let secret = pair.sk.to_bytes(alloc)?;
-        write_parts(pk_sink, sk_sink, &public, &secret)?;
+        write_bytes(alloc, pk_sink, sk_sink, &pair)?;
         Ok(pair)
     }
 
@@ -260,9 +258,7 @@ impl KeyPair {
         ensures given { HasGiven (Z.random_ahead random.old) (Z.random_ahead random.new) }
     {
         let pair = KeyPair::generate_encrypted_keypair(alloc, scheme, random, password, prompt)?;
-        let public = pair.pk.to_box(alloc)?.into_string();
-        let secret = pair.sk.to_box(alloc, comment)?.into_string();
-        write_parts(pk_sink, sk_sink, public.as_bytes(), secret.as_bytes())?;
+        write_texts(alloc, pk_sink, sk_sink, &pair, comment)?;
         Ok(pair)
     }
 }
@@ -349,6 +345,50 @@ fn seal_aloud<S: Scheme, R: Source, W: Sink>(
     Ok(pair)
 }
 
+// Writes the raw bytes of both keys.
+fn write_bytes<P: Sink, K: Sink>(
+    alloc: Global,
+    pk_sink: &mut P,
+    sk_sink: &mut K,
+    pair: &KeyPair,
+) -> Result<()>
+    ensures public { OnOk result
+        (TakesPart (sink_call P.Sink pk_sink.old pk_sink.new) (public_key_bytes pair.now.pk)) }
+    ensures secret { OnOk result
+        (TakesPart (sink_call K.Sink sk_sink.old sk_sink.new) (secret_key_bytes pair.now.sk)) }
+    ensures refused { IfErr result (PartsFail (sink_call P.Sink pk_sink.old pk_sink.new)
+        (sink_call K.Sink sk_sink.old sk_sink.new)
+        (public_key_bytes pair.now.pk) (secret_key_bytes pair.now.sk)) }
+{
+    let public = pair.pk.to_bytes(alloc)?;
+    let secret = pair.sk.to_bytes(alloc)?;
+    write_parts(pk_sink, sk_sink, &public, &secret)
+}
+
+// Writes the texts of both keys.
+fn write_texts<P: Sink, K: Sink>(
+    alloc: Global,
+    pk_sink: &mut P,
+    sk_sink: &mut K,
+    pair: &KeyPair,
+    comment: Option<&str>,
+) -> Result<()>
+    ensures public { OnOk result
+        (TakesPart (sink_call P.Sink pk_sink.old pk_sink.new) (public_key_text pair.now.pk)) }
+    ensures secret { OnOk result
+        (TakesPart (sink_call K.Sink sk_sink.old sk_sink.new)
+        (secret_key_text (option_copied comment.entry) pair.now.sk)) }
+    ensures reads_back { IfSome comment.entry (λ s. LacksByte 10 s.now)
+        → OnOk result (SecretKeyText (secret_key_text (option_copied comment.entry) pair.now.sk) pair.now.sk) }
+    ensures refused { IfErr result (PartsFail (sink_call P.Sink pk_sink.old pk_sink.new)
+        (sink_call K.Sink sk_sink.old sk_sink.new)
+        (public_key_text pair.now.pk) (secret_key_text (option_copied comment.entry) pair.now.sk)) }
+{
+    let public = pair.pk.to_box(alloc)?.into_string();
+    let secret = pair.sk.to_box(alloc, comment)?.into_string();
+    write_parts(pk_sink, sk_sink, public.as_bytes(), secret.as_bytes())
+}
+
 // Writes both parts: the public one is passed on before the secret one is begun.
 fn write_parts<P: Sink, K: Sink>(
     pk_sink: &mut P,
@@ -404,24 +444,9 @@ pub(crate) fn draw_with_salt<Z: RandomSource>(random: &mut Z) -> Result<Drawn>
         (DrawFails (random_call Z.RandomSource random.old random.new)) }
     ensures given { HasGiven (Z.random_ahead random.old) (Z.random_ahead random.new) }
 {
-    let (seed, keynum) = draw_seed_and_keynum(random)?;
+    let (seed, keynum) = draw_two(random)?;
     let salt = draw(random)?;
     Ok(Drawn { seed, keynum, salt })
-}
-
-// Draws 32 bytes of a seed, and then 8 of an identifier.
-fn draw_seed_and_keynum<Z: RandomSource>(random: &mut Z) -> Result<([u8; 32], [u8; 8])>
-    ensures drawn { IfOk result
-        (λ z. HasDrawn (random_call Z.RandomSource random.old random.new) (z.0 ++ z.1)) }
-    ensures lengths { IfOk result (λ z. AreSeedAndKeynum z.0 z.1) }
-    ensures no_new_fault { OnOk result (Z.random_faults random.new ≡ Z.random_faults random.old) }
-    ensures refused { IfErr result
-        (DrawFails (random_call Z.RandomSource random.old random.new)) }
-    ensures given { HasGiven (Z.random_ahead random.old) (Z.random_ahead random.new) }
-{
-    let seed = draw(random)?;
-    let keynum = draw(random)?;
-    Ok((seed, keynum))
 }
 
 // The pair of a seed under an identifier, not sealed.

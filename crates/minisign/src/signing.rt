@@ -1,21 +1,20 @@
 //! Signing with an opened secret key.
 
-ghost use Rattle.std.specs.Prelude.{◌≡◌, ℕ, true, false, List, ◌++◌, None, Some, ◌⊎◌, string_bytes, IfOk, IfErr, OnOk, IfSome};
+ghost use Rattle.std.specs.Prelude.{◌≡◌, ℕ, true, false, List, None, Some, ◌⊎◌, string_bytes, IfOk, IfErr, OnOk, IfSome, IsSomeAnd};
 ghost use Rattle.std.specs.Option.{option_copied, unwrap_or};
 ghost use Rattle.minisign_hash.specs.Blake2b.{blake2b_digest};
 ghost use Rattle.minisign_base.specs.Devices.{HasGiven};
 ghost use Rattle.minisign_base.specs.DeviceCalls.{random_call, source_call};
-ghost use Rattle.minisign_base.specs.Scheme.{AreRandomBytes};
 ghost use Rattle.minisign_base.specs.Fault.{Named};
-ghost use Rattle.minisign_base.specs.declared.faults.NamedFault.TheVariants.{OutOfMemory};
+ghost use Rattle.minisign_base.specs.declared.faults.NamedFault.TheVariants.{OutOfMemory, RefusedByGivenKey};
 ghost use Rattle.minisign.specs.Reading.{ReadsWhole};
 ghost use Rattle.minisign.specs.Sealing.{is_encrypted};
 ghost use Rattle.minisign.specs.Acceptance.{accepts_comments};
-ghost use Rattle.minisign.specs.Signing.{AreChosenReadBack, DrawFails, HasDrawn, IsSigned, SigningFails, VouchesWhereGenuine, comments_or_defaults, default_trusted_comment, default_untrusted_comment, given_comments};
+ghost use Rattle.minisign.specs.Signing.{AreChosenReadBack, DrawFails, IsSigned, OpenedSigningFails, SigningFails, VouchesWhereGenuine, chosen_of, comments_or_defaults, default_trusted_comment, default_untrusted_comment, given_comments};
 
 use crate::comment_signature::accepts_comments;
 use crate::constants::{DEFAULT_COMMENT, SIGALG_PREHASHED};
-use crate::drawing::draw;
+use crate::drawing::draw_two;
 use crate::public_key::PublicKey;
 use crate::reading::prehash;
 use crate::secret_key::SecretKey;
@@ -100,18 +99,13 @@ pub fn sign<S: Scheme, R: Source, Z: RandomSource>(
     if sk.is_encrypted() {
         return Err(NamedFault::EncryptedKeyRefused.into());
     }
-    let digest = prehash(alloc, data_reader)?;
-    let trusted = trusted_or_default(alloc, trusted_comment, moment)?;
-    let untrusted = untrusted_or_default(alloc, untrusted_comment)?;
-    let signature_box = make_box(alloc, scheme, sk, &digest, trusted, untrusted, random)?;
-    if let Some(pk) = pk {
-        if !accepts_comments(alloc, scheme, pk, &signature_box)? {
-            return Err(NamedFault::RefusedByGivenKey {
-                key: pk.keynum_pk.keynum,
-            }
-            .into());
-        }
-    }
+    let comments = GivenComments {
+        trusted: trusted_comment,
+        untrusted: untrusted_comment,
+        moment,
+    };
+    let signature_box = sign_data(alloc, scheme, sk, data_reader, comments, random)?;
+    test_given_key(alloc, scheme, pk, &signature_box)?;
     Ok(signature_box)
 }
 
@@ -121,6 +115,59 @@ pub fn default_comments_are_read_back(moment: u64)
     // The default comments are read back as they were written.
     ensures { AreChosenReadBack (comments_or_defaults None None moment) }
 {}
+
+// Signs all the data ahead with an opened key.
+pub(crate) fn sign_data<S: Scheme, R: Source, Z: RandomSource>(
+    alloc: Global,
+    scheme: &S,
+    sk: &SecretKey,
+    data_reader: &mut R,
+    comments: GivenComments<'_>,
+    random: &mut Z,
+) -> Result<SignatureBox>
+    ensures signed { IfOk result
+        (λ x. (message : List ℕ) × ReadsWhole R.Source data_reader.old data_reader.new message
+        × IsSigned (S.signature_of scheme.now) sk.now message (chosen_of comments.entry)
+        (random_call Z.RandomSource random.old random.new) x
+        × VouchesWhereGenuine (S.accepts scheme.now) (S.public_of scheme.now) sk.now message x) }
+    ensures no_new_fault { OnOk result (Z.random_faults random.new ≡ Z.random_faults random.old) }
+    ensures refused { IfErr result
+        (OpenedSigningFails (source_call R.Source data_reader.old data_reader.new)
+        (random_call Z.RandomSource random.old random.new)) }
+    ensures given { HasGiven (R.ahead data_reader.old) (R.ahead data_reader.new) }
+    ensures drawn { HasGiven (Z.random_ahead random.old) (Z.random_ahead random.new) }
+{
+    let digest = prehash(alloc, data_reader)?;
+    let trusted = trusted_or_default(alloc, comments.trusted, comments.moment)?;
+    let untrusted = untrusted_or_default(alloc, comments.untrusted)?;
+    make_box(alloc, scheme, sk, &digest, trusted, untrusted, random)
+}
+
+// Tests the comment signature of a box with the public key that is given, if one is.
+fn test_given_key<S: Scheme>(
+    alloc: Global,
+    scheme: &S,
+    pk: Option<&PublicKey>,
+    signature_box: &SignatureBox,
+) -> Result<()>
+    ensures accepted { OnOk result
+        (IfSome pk.entry (λ p. accepts_comments (S.accepts scheme.now) p.now signature_box.now ≡ true)) }
+    ensures refused { IfErr result
+        (λ e. (e ≡ Named OutOfMemory)
+        ⊎ IsSomeAnd (option_copied pk.entry) (λ p. (e ≡ Named (RefusedByGivenKey p.keynum))
+        × (accepts_comments (S.accepts scheme.now) p signature_box.now ≡ false))) }
+{
+    let Some(pk) = pk else {
+        return Ok(());
+    };
+    if accepts_comments(alloc, scheme, pk, signature_box)? {
+        return Ok(());
+    }
+    Err(NamedFault::RefusedByGivenKey {
+        key: pk.keynum_pk.keynum,
+    }
+    .into())
+}
 
 // The box over a digest with both comments: signs the digest with 64 random bytes, and then that
 // signature followed by the trusted comment with 64 more.
@@ -145,7 +192,7 @@ fn make_box<S: Scheme, Z: RandomSource>(
 {
     let secret = sk.keynum_sk.sk;
     let keynum = sk.keynum_sk.keynum;
-    let (first, second) = draw_twice(random)?;
+    let (first, second) = draw_two(random)?;
     let sig = scheme.signature(digest, &secret, Some(&first));
     let signature = Signature {
         sig_alg: SIGALG_PREHASHED,
@@ -163,22 +210,6 @@ fn make_box<S: Scheme, Z: RandomSource>(
         signature,
         comments: Some(comments),
     })
-}
-
-// Twice 64 random bytes.
-fn draw_twice<Z: RandomSource>(random: &mut Z) -> Result<([u8; 64], [u8; 64])>
-    ensures drawn { IfOk result
-        (λ z. HasDrawn (random_call Z.RandomSource random.old random.new) (z.0 ++ z.1)) }
-    ensures no_new_fault { OnOk result (Z.random_faults random.new ≡ Z.random_faults random.old) }
-    ensures first { IfOk result (λ z. AreRandomBytes (Some z.0)) }
-    ensures second { IfOk result (λ z. AreRandomBytes (Some z.1)) }
-    ensures refused { IfErr result
-        (DrawFails (random_call Z.RandomSource random.old random.new)) }
-    ensures given { HasGiven (Z.random_ahead random.old) (Z.random_ahead random.new) }
-{
-    let first = draw(random)?;
-    let second = draw(random)?;
-    Ok((first, second))
 }
 
 // The comment, or else the moment in decimal.

@@ -14,7 +14,7 @@ ghost use Rattle.minisign.specs.SigningTexts.{GivesKey, IsKeyOf, IsSignedText, T
 
 use crate::constants::KDF_NONE;
 use crate::secret_key::SecretKey;
-use crate::signing::{GivenComments, sign};
+use crate::signing::{GivenComments, sign_data};
 use minisign_base::Result;
 use minisign_base::devices::random_sources::RandomSource;
 use minisign_base::devices::sinks::Sink;
@@ -125,17 +125,7 @@ pub(crate) fn sign_opened<S: Scheme, R: Source, Z: RandomSource>(
     ensures given { HasGiven (R.ahead data_reader.old) (R.ahead data_reader.new) }
     ensures drawn { HasGiven (Z.random_ahead random.old) (Z.random_ahead random.new) }
 {
-    let signature_box = sign(
-        alloc,
-        scheme,
-        None,
-        sk,
-        data_reader,
-        comments.trusted,
-        comments.untrusted,
-        random,
-        comments.moment,
-    )?;
+    let signature_box = sign_data(alloc, scheme, sk, data_reader, comments, random)?;
     signature_box.to_string(alloc)
 }
 

@@ -1,11 +1,19 @@
+use Rattle.std.proofs.Common.{◌≡◌, false, inl, inr}
+use Rattle.std.specs.Option.{option_copied}
+use Rattle.minisign.specs.Sealing.{is_encrypted}
+use Rattle.minisign.proofs.Beginnings.{passed_up}
+use Rattle.minisign.proofs.SignedBoxes.{refused_by_given}
 use Rattle.minisign.proofs.signing.sign.Goals as goal
 
-pub returns-clause-signed : goal.returns-clause-signed
-returns-clause-signed g c =
-    let (message, read, same) = c.in_ok-digest.ensures.digest in
-    let (signed, genuine) = c.in_ok-signature_box.ensures.signed message same in (
-      message,
-      read,
-      rw (← c.in_ok-trusted.ensures.comment, ← c.in_ok-untrusted.ensures.comment) signed,
-      genuine,
-    )
+pub returns-in_err-test_given_key-clause-refused : goal.returns-in_err-test_given_key-clause-refused
+returns-in_err-test_given_key-clause-refused g c =
+    let (message, read, signed, genuine) = c.in_ok-signature_box.ensures.signed in
+    let opened : is_encrypted c.args.sk.now ≡ false = cc in
+    passed_up c.from_residual-in_err-test_given_key.result c.in_err-test_given_key.field-0.0 _ c.from_residual-in_err-test_given_key.ensures.1
+    (inr (
+      opened,
+      elim c.in_err-test_given_key.ensures.refused [
+        | inl out_of_memory ↦ inl out_of_memory
+        | inr refused ↦ inr (inr (message, read, inr (refused_by_given _ _ (option_copied c.args.pk) _ _ _ _ _ _ signed refused)))
+      ],
+    ))

@@ -1,5 +1,5 @@
 use Rattle.minisign.proofs.Beginnings.{given_behind}
-use Rattle.minisign.proofs.signing.draw_twice.Goals as goal
+use Rattle.minisign.proofs.drawing.draw_two.Goals as goal
 
 pub returns-in_err-second-clause-given : goal.returns-in_err-second-clause-given
 returns-in_err-second-clause-given g c =
