@@ -1,5 +1,5 @@
 -- Base64 in pieces: all but the last are whole groups of four letters without padding.
-use Rattle.std.proofs.Common.{◌≡◌, ℕ, zero, suc, ◌+◌, ◌*◌, ◌/◌, ◌%◌, ◌<◌, ◌≤◌, Bool, true, false, List, [], ◌∷◌, ◌++◌, length, take, drop, refl, sym, ap, subst, ◌∙◌, arith, is_some, IfSome, IfNone}
+use Rattle.std.proofs.Common.{◌≡◌, ℕ, zero, suc, ◌+◌, ◌*◌, ◌/◌, ◌%◌, ◌<◌, ◌≤◌, Bool, true, false, List, [], ◌∷◌, ◌++◌, length, take, drop, refl, sym, ap, subst, ◌∙◌, arith, is_some, MatchOption}
 use Rattle.std.proofs.lemmas.List.{length-append, length-replicate, length-take-le, take-append-drop}
 use Rattle.std.proofs.Math.Seq.{take-append_seam, drop-append_seam}
 use Rattle.std.specs.declared.option.Option.{Option}
@@ -158,7 +158,7 @@ pub rejoined : (text s t : List ℕ) (n : ℕ) → s ≡ take n text → t ≡ d
 rejoined text s t n front back = sym ((λ i. front i ++ back i) ∙ take-append-drop n text)
 
 -- whether the last piece was decoded
-pub judged : (t room : List ℕ) (r : Option ℕ) → IfSome r (λ n. (bytes : List ℕ) × IsBase64Of t bytes × (n ≡ length bytes) × (n ≤ length room) × (take n room ≡ bytes))
-    → IfNone r (is_base64 t ≡ false) → is_some r ≡ is_base64 t
-judged t room None h none = sym none
-judged t room (Some n) h none = sym (is_read t h.0 h.1)
+pub judged : (t room : List ℕ) (r : Option ℕ) → MatchOption r (is_base64 t ≡ false) (λ n. (bytes : List ℕ) × IsBase64Of t bytes × (n ≡ length bytes) × (n ≤ length room) × (take n room ≡ bytes))
+    → is_some r ≡ is_base64 t
+judged t room None none = sym none
+judged t room (Some n) h = sym (is_read t h.0 h.1)

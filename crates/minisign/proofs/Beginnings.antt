@@ -1,5 +1,5 @@
 -- What follows after a refusal, and after one draw and then another.
-use Rattle.std.proofs.Common.{◌≡◌, ℕ, List, ◌++◌, Option, None, Some, Result, Ok, Err, IsErrAnd, IfErr, OnErr, append_assoc, ap, sym, subst, ◌∙◌}
+use Rattle.std.proofs.Common.{◌≡◌, ℕ, List, ◌++◌, Option, None, Some, Result, Ok, Err, IsErrAnd, MatchResult, IfErr, OnErr, append_assoc, ap, sym, subst, ◌∙◌}
 use Rattle.std.specs.Io.KnownBytes.{Consumes}
 use Rattle.minisign_base.specs.Devices.{HasGiven}
 
@@ -12,6 +12,11 @@ on_err_of (Err e) P h = h
 pub passed_up : {T E : Type 0} (r : Result T E) (e : E) (P : E → Type 0) → IsErrAnd r (λ y. y ≡ e) → P e → IfErr r P
 passed_up (Ok x) e P is h = tt
 passed_up (Err y) e P is h = subst P (sym is) h
+
+-- and whatever would hold of a value
+pub passed_on : {T E : Type 0} (r : Result T E) (e : E) (P : T → Type 0) (Q : E → Type 0) → IsErrAnd r (λ y. y ≡ e) → Q e → MatchResult r P Q
+passed_on (Ok x) e P Q is h = absurd is
+passed_on (Err y) e P Q is h = subst Q (sym is) h
 
 -- what was given of the front, and then more of it
 pub given_behind : (old mid new : Option (List ℕ)) (a : List ℕ) → Consumes old mid a → HasGiven mid new → HasGiven old new

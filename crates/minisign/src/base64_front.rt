@@ -1,6 +1,6 @@
 //! Base64 that is decoded without memory: the bytes at the front are kept, and all of the text is judged.
 
-ghost use Rattle.std.specs.Prelude.{◌≡◌, ◌+◌, ◌*◌, ◌/◌, ◌%◌, ◌≤◌, List, ℕ, true, false, length, min, take, IfSome, IfNone, OnSome};
+ghost use Rattle.std.specs.Prelude.{◌≡◌, ◌+◌, ◌*◌, ◌/◌, ◌%◌, ◌≤◌, List, ℕ, true, false, length, min, take, MatchOption};
 ghost use Rattle.minisign.specs.Texts.{IsBase64Of, is_base64};
 
 use base64::engine::general_purpose::STANDARD;
@@ -14,9 +14,9 @@ const PIECE_BYTES: usize = 48;
 // or as many as there is room for; nothing where the text is not base64.
 pub(crate) fn decode_front(text: &[u8], room: &mut [u8]) -> Option<usize>
     requires { length room.old % 3 ≡ 0 }
-    ensures front { IfSome result (λ n. (bytes : List ℕ) × IsBase64Of text.now bytes
+    ensures { MatchOption result (is_base64 text.now ≡ false)
+        (λ n. (bytes : List ℕ) × IsBase64Of text.now bytes
         × (n ≡ min (length bytes) (length room.old)) × (n ≤ length room.new) × (take n room.new ≡ take n bytes)) }
-    ensures none { IfNone result (is_base64 text.now ≡ false) }
 {
     let fitting = room.len() / 3 * 4;
     if text.len() <= fitting {
@@ -54,9 +54,9 @@ fn is_base64(text: &[u8]) -> bool
 // Decodes base64 that there is room for: returns how many bytes; nothing where the text is not base64.
 fn decode_piece(text: &[u8], room: &mut [u8]) -> Option<usize>
     requires { (length text.now + 3) / 4 * 3 ≤ length room.old }
-    ensures bytes { IfSome result (λ n. (bytes : List ℕ) × IsBase64Of text.now bytes
+    ensures { MatchOption result (is_base64 text.now ≡ false)
+        (λ n. (bytes : List ℕ) × IsBase64Of text.now bytes
         × (n ≡ length bytes) × (n ≤ length room.new) × (take n room.new ≡ bytes)) }
-    ensures none { IfNone result (is_base64 text.now ≡ false) }
 {
     match STANDARD.decode_slice(text, room) {
         Ok(count) => Some(count),

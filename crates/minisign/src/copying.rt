@@ -1,22 +1,22 @@
 //! Copying the data of a box that was accepted: the data that was kept, or a second pass over the
 //! source that has to give the digest of the first.
 
-ghost use Rattle.std.specs.Prelude.{◌≡◌, ℕ, ◌<◌, ◌++◌, ◌⊎◌, List, false, length, Ok, Err, IfOk, IfErr, OnOk, OnErr};
+ghost use Rattle.std.specs.Prelude.{◌≡◌, ℕ, ◌<◌, ◌++◌, List, false, length, Ok, Err, MatchResult, IfErr, OnOk, OnErr};
 ghost use Rattle.std.specs.Io.KnownBytes.{Appends};
 ghost use Rattle.minisign_hash.specs.Blake2b.{blake2b_digest};
 ghost use Rattle.minisign_hash.specs.Fed.{IsFed, has_finalized, output_length};
-ghost use Rattle.minisign_base.specs.Devices.{HasGiven, AppendsFront, BeginsAnew};
+ghost use Rattle.minisign_base.specs.Devices.{AppendsFront, BeginsAnew};
 ghost use Rattle.minisign_base.specs.Fault.{Named};
 ghost use Rattle.minisign_base.specs.declared.faults.NamedFault.TheVariants.{GoingBackFailed, WritingFailed};
 ghost use Rattle.minisign_base.specs.DeviceCalls.{Flushes, GoesBack, IsWritingFault, rereader_call, sink_call, unused};
-ghost use Rattle.minisign.specs.Reading.{IsAhead, IsReadFault, ReadsWhole, WereGiven};
+ghost use Rattle.minisign.specs.Reading.{Copies};
 ghost use Rattle.minisign.specs.Stages.{StagesEnd, copying_again};
 ghost use Rattle.minisign.specs.SignedData.{copying_held};
 
-use crate::reading::piece_buffer;
+use crate::reading::{finished, piece_buffer};
 use crate::signed_data::SignedData;
 use minisign_base::devices::sinks::{Sink, put_all};
-use minisign_base::devices::sources::{Rereader, Source};
+use minisign_base::devices::sources::Rereader;
 use minisign_base::{NamedFault, Result};
 use minisign_hash::blake2b::Blake2b;
 use std::alloc::Global;
@@ -69,56 +69,44 @@ fn copy_again<R: Rereader, O: Sink>(
 }
 
 // Copies all that is ahead, and returns its Blake2b digest of 64 bytes. Nothing is flushed.
-fn copy_hashed<S: Source, O: Sink>(alloc: Global, source: &mut S, out: &mut O) -> Result<[u8; 64]>
-    requires { BeginsAnew (S.since source.old) }
-    ensures copied { IfOk result (λ d. (message : List ℕ) × ReadsWhole S.Source source.old source.new message
-        × Appends (O.taken out.old) (O.taken out.new) message × (d ≡ blake2b_digest 64 message)
-        × WereGiven (S.since source.new) message) }
-    ensures no_new_fault { OnOk result (O.sink_faults out.new ≡ O.sink_faults out.old) }
-    ensures refused { IfErr result (λ e. IsReadFault S.Source source.old source.new e ⊎ IsWritingFault (sink_call O.Sink out.old out.new) e) }
-    ensures front { OnErr result ((message : List ℕ) × IsAhead (S.ahead source.old) message
-        × AppendsFront (O.taken out.old) (O.taken out.new) message) }
-    ensures read_front { OnErr result ((read : List ℕ) × WereGiven (S.since source.new) read
-        × AppendsFront (O.taken out.old) (O.taken out.new) read) }
-    ensures given { HasGiven (S.ahead source.old) (S.ahead source.new) }
-    ensures marked { S.is_marked source.new ≡ S.is_marked source.old }
-    ensures unflushed { O.flushed out.new ≡ O.flushed out.old }
+fn copy_hashed<R: Rereader, O: Sink>(
+    alloc: Global,
+    data_reader: &mut R,
+    out: &mut O,
+) -> Result<[u8; 64]>
+    requires { BeginsAnew (R.since data_reader.old) }
+    ensures { MatchResult result
+        (λ d. (message : List ℕ) × Copies (rereader_call R.Source R.steady data_reader.old data_reader.new)
+        (sink_call O.Sink out.old out.new) message (Ok tt) × (d ≡ blake2b_digest 64 message))
+        (λ e. (message : List ℕ) × Copies (rereader_call R.Source R.steady data_reader.old data_reader.new)
+        (sink_call O.Sink out.old out.new) message (Err e)) }
 {
     let mut buf = piece_buffer(alloc)?;
     let mut hasher = Blake2b::new(64);
-    copy_pieces(source, &mut buf, &mut hasher, out)?;
-    let mut digest = [0u8; 64];
-    hasher.finalize(&mut digest);
-    Ok(digest)
+    copy_pieces(data_reader, &mut buf, &mut hasher, out)?;
+    Ok(finished(&mut hasher))
 }
 
 // Copies all that is ahead through the buffer, and feeds it to the hash. Nothing is flushed.
-fn copy_pieces<S: Source, O: Sink>(
-    source: &mut S,
+fn copy_pieces<R: Rereader, O: Sink>(
+    data_reader: &mut R,
     buf: &mut [u8],
     hasher: &mut Blake2b,
     out: &mut O,
 ) -> Result<()>
     requires some { 0 < length buf.old }
     requires open { has_finalized hasher.old ≡ false }
-    requires anew { BeginsAnew (S.since source.old) }
-    ensures fed { OnOk result ((message : List ℕ) × ReadsWhole S.Source source.old source.new message
-        × Appends (O.taken out.old) (O.taken out.new) message
-        × ((m : List ℕ) → IsFed hasher.old m → IsFed hasher.new (m ++ message))
-        × WereGiven (S.since source.new) message) }
+    requires anew { BeginsAnew (R.since data_reader.old) }
+    ensures copied { MatchResult result
+        (λ _. (message : List ℕ) × Copies (rereader_call R.Source R.steady data_reader.old data_reader.new)
+        (sink_call O.Sink out.old out.new) message (Ok tt)
+        × ((m : List ℕ) → IsFed hasher.old m → IsFed hasher.new (m ++ message)))
+        (λ e. (message : List ℕ) × Copies (rereader_call R.Source R.steady data_reader.old data_reader.new)
+        (sink_call O.Sink out.old out.new) message (Err e)) }
     ensures length { output_length hasher.new ≡ output_length hasher.old }
-    ensures no_new_fault { OnOk result (O.sink_faults out.new ≡ O.sink_faults out.old) }
-    ensures refused { IfErr result (λ e. IsReadFault S.Source source.old source.new e ⊎ IsWritingFault (sink_call O.Sink out.old out.new) e) }
-    ensures front { OnErr result ((message : List ℕ) × IsAhead (S.ahead source.old) message
-        × AppendsFront (O.taken out.old) (O.taken out.new) message) }
-    ensures read_front { OnErr result ((read : List ℕ) × WereGiven (S.since source.new) read
-        × AppendsFront (O.taken out.old) (O.taken out.new) read) }
-    ensures given { HasGiven (S.ahead source.old) (S.ahead source.new) }
-    ensures marked { S.is_marked source.new ≡ S.is_marked source.old }
-    ensures unflushed { O.flushed out.new ≡ O.flushed out.old }
 {
     'pieces: loop {
-        match source.read(buf) {
+        match data_reader.read(buf) {
             Ok(n) => {
                 if n == 0 {
                     return Ok(());

@@ -16,25 +16,16 @@ pub(crate) fn split_three<const A: usize, const B: usize, const C: usize>(
     ensures third { IfOk result (λ fields. length fields.2 ≡ C) }
     ensures short { IfErr result (λ e. (e ≡ Named RecordTooShort) × (length bytes.now < A + B + C)) }
 {
-    let (first, rest) = split_field(bytes)?;
-    let (second, rest) = split_field(rest)?;
-    let (third, rest) = split_field(rest)?;
-    Ok((first, second, third, rest))
-}
-
-// The first `N` bytes, and the bytes behind them.
-fn split_field<const N: usize>(bytes: &[u8]) -> Result<([u8; N], &[u8])>
-    ensures cut { IfOk result (λ field. bytes.now ≡ field.0 ++ field.1.now) }
-    ensures len { IfOk result (λ field. length field.0 ≡ N) }
-    ensures short { IfErr result (λ e. (e ≡ Named RecordTooShort) × (length bytes.now < N)) }
-{
-    if bytes.len() < N {
+    let Some((first, rest)) = bytes.split_first_chunk() else {
         return Err(NamedFault::RecordTooShort.into());
-    }
-    let (front, rest) = bytes.split_at(N);
-    let mut field = [0u8; N];
-    field.copy_from_slice(front);
-    Ok((field, rest))
+    };
+    let Some((second, rest)) = rest.split_first_chunk() else {
+        return Err(NamedFault::RecordTooShort.into());
+    };
+    let Some((third, rest)) = rest.split_first_chunk() else {
+        return Err(NamedFault::RecordTooShort.into());
+    };
+    Ok((*first, *second, *third, rest))
 }
 
 // Puts three fields behind the bytes.

@@ -1,7 +1,7 @@
 //! Reading the texts of public keys and signatures where they lie, without memory: what is decoded stands in arrays,
 //! and the comments stay in the text.
 
-ghost use Rattle.std.specs.Prelude.{◌≡◌, ◌⊎◌, ◌+◌, ◌≤◌, ◌<◌, List, ℕ, true, false, Ok, Some, length, MatchResult, IfOk, IfErr, IfSome, IfNone};
+ghost use Rattle.std.specs.Prelude.{◌≡◌, ◌⊎◌, ◌+◌, ◌≤◌, ◌<◌, List, ℕ, true, false, Ok, Some, length, MatchOption, MatchResult, IfOk, IfErr};
 ghost use Rattle.std.specs.Str.{trim};
 ghost use Rattle.minisign_base.specs.Fault.{Named};
 ghost use Rattle.minisign_base.specs.declared.faults.NamedFault.TheVariants.{RecordTooShort, SignatureNotBase64};
@@ -160,10 +160,9 @@ fn read_bare(text: &str) -> Result<PublicKey>
 
 // The key that a text is the base64 of; nothing where the text is not base64.
 fn decode_key(text: &str) -> Result<Option<PublicKey>>
-    ensures key { IfOk result (λ o. IfSome o (EncodesPublicKey text.now)) }
-    ensures none { IfOk result (λ o. IfNone o (is_base64 text.now ≡ false)) }
-    ensures refused { IfErr result (λ e. (e ≡ Named RecordTooShort) × (is_base64 text.now ≡ true)
-        × (length (base64_bytes text.now) < 42)) }
+    ensures { MatchResult result
+        (λ o. MatchOption o (is_base64 text.now ≡ false) (EncodesPublicKey text.now))
+        (λ e. (e ≡ Named RecordTooShort) × (is_base64 text.now ≡ true) × (length (base64_bytes text.now) < 42)) }
 {
     let mut record = [0u8; 42];
     let Some(count) = decode_front(text.as_bytes(), &mut record) else {
@@ -184,14 +183,14 @@ fn read_box(text: &str) -> Result<SignatureView<'_>>
 
 // What stands in the first four lines.
 fn read_lines(lines: TextLines<'_>) -> Result<SignatureView<'_>>
-    ensures read { IfOk result (λ v. (text : List ℕ) → HasFourLines text lines.entry.untrusted_comment.now
+    ensures { MatchResult result
+        (λ v. ((text : List ℕ) → HasFourLines text lines.entry.untrusted_comment.now
         lines.entry.signature.now lines.entry.trusted_comment.now lines.entry.global_sig.now
-        → (x : SignatureBoxRecord) × SignatureText text x × IsViewOf v x) }
-    ensures size { IfOk result (λ v. 64 + length v.trusted
-        ≤ length lines.entry.signature.now + length lines.entry.trusted_comment.now) }
-    ensures refused { IfErr result (λ e. (text : List ℕ) → HasFourLines text
-        lines.entry.untrusted_comment.now lines.entry.signature.now lines.entry.trusted_comment.now
-        lines.entry.global_sig.now → signature_refusal text ≡ Some e) }
+        → (x : SignatureBoxRecord) × SignatureText text x × IsViewOf v x)
+        × (64 + length v.trusted ≤ length lines.entry.signature.now + length lines.entry.trusted_comment.now))
+        (λ e. (text : List ℕ) → HasFourLines text lines.entry.untrusted_comment.now
+        lines.entry.signature.now lines.entry.trusted_comment.now lines.entry.global_sig.now
+        → signature_refusal text ≡ Some e) }
 {
     let untrusted_comment = untrusted_comment_in(lines.untrusted_comment)?;
     let signature = decode_signature(lines.signature.trim())?;
@@ -208,8 +207,8 @@ fn read_lines(lines: TextLines<'_>) -> Result<SignatureView<'_>>
 
 // The signature that a text is the base64 of.
 fn decode_signature(text: &str) -> Result<Signature>
-    ensures signature { IfOk result (EncodesSignature text.now) }
-    ensures refused { IfErr result (λ e. ((e ≡ Named SignatureNotBase64) × (is_base64 text.now ≡ false))
+    ensures { MatchResult result (EncodesSignature text.now)
+        (λ e. ((e ≡ Named SignatureNotBase64) × (is_base64 text.now ≡ false))
         ⊎ ((e ≡ Named RecordTooShort) × (is_base64 text.now ≡ true)
         × (length (base64_bytes text.now) < 74))) }
 {
@@ -217,13 +216,14 @@ fn decode_signature(text: &str) -> Result<Signature>
     let Some(count) = decode_front(text.as_bytes(), &mut record) else {
         return Err(NamedFault::SignatureNotBase64.into());
     };
-    Ok(Signature::from_bytes(&record[..count])?)
+    Signature::from_bytes(&record[..count])
 }
 
 // The first 64 bytes of what a text is the base64 of, if it has so many.
 fn decode_comment_signature(text: &str) -> Result<Option<[u8; 64]>>
-    ensures first { IfOk result (λ s. (bytes : List ℕ) × IsBase64Of text.now bytes × (s ≡ first_64 bytes)) }
-    ensures refused { IfErr result (λ e. (e ≡ Named SignatureNotBase64) × (is_base64 text.now ≡ false)) }
+    ensures { MatchResult result
+        (λ s. (bytes : List ℕ) × IsBase64Of text.now bytes × (s ≡ first_64 bytes))
+        (λ e. (e ≡ Named SignatureNotBase64) × (is_base64 text.now ≡ false)) }
 {
     let mut front = [0u8; 66];
     let Some(count) = decode_front(text.as_bytes(), &mut front) else {

@@ -1,6 +1,6 @@
 //! Reading data to its end: hashed as it comes, kept whole, or taken as a text.
 
-ghost use Rattle.std.specs.Prelude.{◌≡◌, ℕ, ◌<◌, List, ◌++◌, false, length, string_bytes, vec_len, IfOk, IfErr, OnOk, OnErr};
+ghost use Rattle.std.specs.Prelude.{◌≡◌, ℕ, ◌<◌, List, ◌++◌, false, length, string_bytes, vec_len, MatchResult, IfOk, IfErr};
 ghost use Rattle.minisign_hash.specs.Blake2b.{blake2b_digest};
 ghost use Rattle.minisign_hash.specs.Fed.{IsFed, has_finalized, output_length};
 ghost use Rattle.minisign_base.specs.Devices.{Rose, HasGiven};
@@ -76,13 +76,19 @@ pub(crate) fn prehash<S: Source>(alloc: Global, source: &mut S) -> Result<[u8; 6
     let mut buf = piece_buffer(alloc)?;
     let mut hasher = Blake2b::new(64);
     match feed(source, &mut buf, &mut hasher) {
-        Ok(()) => {
-            let mut digest = [0u8; 64];
-            hasher.finalize(&mut digest);
-            Ok(digest)
-        }
+        Ok(()) => Ok(finished(&mut hasher)),
         Err(_) => Err(NamedFault::ReadingFailed.into()),
     }
+}
+
+// The digest of 64 bytes of what the hash was fed.
+pub(crate) fn finished(hasher: &mut Blake2b) -> [u8; 64]
+    requires { output_length hasher.old ≡ 64 }
+    ensures { (message : List ℕ) → IsFed hasher.old message → result ≡ blake2b_digest 64 message }
+{
+    let mut digest = [0u8; 64];
+    hasher.finalize(&mut digest);
+    digest
 }
 
 // Feeds all that is ahead to the hash, through the buffer.
@@ -93,10 +99,11 @@ fn feed<S: Source>(
 ) -> std::result::Result<(), DeviceFault>
     requires some { 0 < length buf.old }
     requires open { has_finalized hasher.old ≡ false }
-    ensures fed { OnOk result ((message : List ℕ) × ReadsWhole S.Source source.old source.new message
-        × ((m : List ℕ) → IsFed hasher.old m → IsFed hasher.new (m ++ message))) }
+    ensures fed { MatchResult result
+        (λ _. (message : List ℕ) × ReadsWhole S.Source source.old source.new message
+        × ((m : List ℕ) → IsFed hasher.old m → IsFed hasher.new (m ++ message)))
+        (λ _. Rose (S.faults source.old) (S.faults source.new)) }
     ensures length { output_length hasher.new ≡ output_length hasher.old }
-    ensures refused { OnErr result (Rose (S.faults source.old) (S.faults source.new)) }
     ensures given { HasGiven (S.ahead source.old) (S.ahead source.new) }
     ensures marked { S.is_marked source.new ≡ S.is_marked source.old }
 {
@@ -112,9 +119,10 @@ fn feed<S: Source>(
 // Adds all that is ahead, through the buffer.
 fn keep<S: Source>(source: &mut S, buf: &mut [u8], kept: &mut Vec<u8>) -> Result<()>
     requires { 0 < length buf.old }
-    ensures kept { OnOk result ((message : List ℕ) × ReadsWhole S.Source source.old source.new message
-        × (kept.new.items ≡ kept.old.items ++ message)) }
-    ensures refused { IfErr result (IsReadFault S.Source source.old source.new) }
+    ensures kept { MatchResult result
+        (λ _. (message : List ℕ) × ReadsWhole S.Source source.old source.new message
+        × (kept.new.items ≡ kept.old.items ++ message))
+        (IsReadFault S.Source source.old source.new) }
     ensures given { HasGiven (S.ahead source.old) (S.ahead source.new) }
     ensures marked { S.is_marked source.new ≡ S.is_marked source.old }
 {

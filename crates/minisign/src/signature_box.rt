@@ -296,10 +296,10 @@ fn read_text(alloc: Global, text: &str) -> Result<SignatureBox>
 }
 
 pub(crate) fn four_lines(text: &str) -> Result<TextLines<'_>>
-    ensures lines { IfOk result (λ l. HasFourLines text.now l.untrusted_comment.now l.signature.now
-        l.trusted_comment.now l.global_sig.now) }
-    ensures size { IfOk result (λ l. length l.signature.now + length l.trusted_comment.now ≤ length text.now) }
-    ensures refused { IfErr result (λ e. signature_refusal text.now ≡ Some e) }
+    ensures { MatchResult result
+        (λ l. HasFourLines text.now l.untrusted_comment.now l.signature.now l.trusted_comment.now l.global_sig.now
+        × (length l.signature.now + length l.trusted_comment.now ≤ length text.now))
+        (λ e. signature_refusal text.now ≡ Some e) }
 {
     let mut lines = text.lines();
     let Some(untrusted_comment) = next_line(&mut lines) else {
@@ -324,11 +324,11 @@ pub(crate) fn four_lines(text: &str) -> Result<TextLines<'_>>
 
 // What stands in the first four lines.
 fn read_lines(alloc: Global, lines: TextLines) -> Result<SignatureBox>
-    ensures read { IfOk result
+    ensures { MatchResult result
         (λ x. (text : List ℕ) → HasFourLines text lines.entry.untrusted_comment.now
         lines.entry.signature.now lines.entry.trusted_comment.now lines.entry.global_sig.now
-        → SignatureText text x) }
-    ensures refused { IfErr result (λ e. (e ≡ Named OutOfMemory) ⊎ ((text : List ℕ) → HasFourLines text
+        → SignatureText text x)
+        (λ e. (e ≡ Named OutOfMemory) ⊎ ((text : List ℕ) → HasFourLines text
         lines.entry.untrusted_comment.now lines.entry.signature.now lines.entry.trusted_comment.now
         lines.entry.global_sig.now → signature_refusal text ≡ Some e)) }
 {
@@ -376,14 +376,14 @@ pub(crate) fn trusted_comment_in(line: &str) -> Result<&str>
 
 // The signature that a text is the base64 of.
 fn decode_signature(alloc: Global, text: &str) -> Result<Signature>
-    ensures signature { IfOk result (EncodesSignature text.now) }
-    ensures refused { IfErr result (λ e. (e ≡ Named OutOfMemory)
+    ensures { MatchResult result (EncodesSignature text.now)
+        (λ e. (e ≡ Named OutOfMemory)
         ⊎ ((e ≡ Named SignatureNotBase64) × (is_base64 text.now ≡ false))
         ⊎ ((e ≡ Named RecordTooShort) × (is_base64 text.now ≡ true)
         × (length (base64_bytes text.now) < 74))) }
 {
     match decode(alloc, text)? {
-        Some(bytes) => Ok(Signature::from_bytes(&bytes)?),
+        Some(bytes) => Signature::from_bytes(&bytes),
         None => Err(NamedFault::SignatureNotBase64.into()),
     }
 }

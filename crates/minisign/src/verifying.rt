@@ -1,6 +1,6 @@
 //! Whether a signature box vouches for data under a public key.
 
-ghost use Rattle.std.specs.Prelude.{◌≡◌, ℕ, Bool, List, true, false, ◌⊎◌, Ok, Err, IfOk, IfErr, OnOk, OnErr};
+ghost use Rattle.std.specs.Prelude.{◌≡◌, ℕ, Bool, List, true, false, ◌⊎◌, Ok, Err, MatchResult, IfOk, IfErr, OnOk, OnErr};
 ghost use Rattle.minisign_base.specs.Devices.{HasGiven};
 ghost use Rattle.minisign_base.specs.Fault.{Named};
 ghost use Rattle.minisign_base.specs.declared.faults.NamedFault.TheVariants.{GoingBackFailed, OutOfMemory};
@@ -210,9 +210,10 @@ fn judge<S: Scheme>(
     signed: &[u8],
     allow_legacy: bool,
 ) -> Result<()>
-    ensures accepted { OnOk result ((message : List ℕ) → AreSigned signed.now signature_box.now allow_legacy message →
-        Vouches (S.accepts scheme.now) pk.now signature_box.now message allow_legacy) }
-    ensures refused { IfErr result (λ e. (e ≡ Named OutOfMemory)
+    ensures { MatchResult result
+        (λ _. (message : List ℕ) → AreSigned signed.now signature_box.now allow_legacy message →
+        Vouches (S.accepts scheme.now) pk.now signature_box.now message allow_legacy)
+        (λ e. (e ≡ Named OutOfMemory)
         ⊎ ((message : List ℕ) → AreSigned signed.now signature_box.now allow_legacy message →
         Refuses (S.accepts scheme.now) pk.now signature_box.now message allow_legacy e)) }
 {

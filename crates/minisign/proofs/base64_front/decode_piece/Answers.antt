@@ -5,8 +5,8 @@ use Rattle.base64.specs.GeneralPurpose.{decoded_bytes_of}
 use Rattle.minisign.proofs.Base64Pieces.{piece_read, piece_unread}
 use Rattle.minisign.proofs.base64_front.decode_piece.Goals as goal
 
-pub returns-in-Ok-clause-bytes : goal.returns-in-Ok-clause-bytes
-returns-in-Ok-clause-bytes c =
+pub returns-in-Ok : goal.returns-in-Ok
+returns-in-Ok c =
     let (read, count) = piece_read c.args.text.now _ _ c.decode_slice.result c.requires (λ i. let f = c.type_inv.text i in omega arith) c.in-Ok.ensures.bytes c.decode_slice.ensures.value c.in-Ok.is in
     let written = c.in-Ok.ensures.written in (
       _,
@@ -16,5 +16,5 @@ returns-in-Ok-clause-bytes c =
       ap (take c.in-Ok.count) written ∙ take_at (decoded_bytes_of standard c.args.text.now) (drop (length (decoded_bytes_of standard c.args.text.now)) c.args.room.now) c.in-Ok.count count,
     )
 
-pub returns-in-Err-clause-none : goal.returns-in-Err-clause-none
-returns-in-Err-clause-none c = piece_unread c.args.text.now _ _ c.decode_slice.result c.requires c.decode_slice.ensures.value c.in-Err.is
+pub returns-in-Err : goal.returns-in-Err
+returns-in-Err c = piece_unread c.args.text.now _ _ c.decode_slice.result c.requires c.decode_slice.ensures.value c.in-Err.is

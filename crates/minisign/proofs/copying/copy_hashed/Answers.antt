@@ -1,11 +1,25 @@
-use Rattle.std.proofs.Common.{[]}
+use Rattle.std.proofs.Common.{[], refl, rules}
 use Rattle.minisign_base.specs.SinkLaws.{AppendsFront-keeps}
-use Rattle.minisign.proofs.Beginnings.{on_err_of}
+use Rattle.minisign.proofs.Beginnings.{passed_on}
 use Rattle.minisign.proofs.Copies.{front_of_given, front_of_nothing, keeps_same}
 use Rattle.minisign.proofs.copying.copy_hashed.Goals as goal
 
-pub returns-in_err-buf-clause-front : goal.returns-in_err-buf-clause-front
-returns-in_err-buf-clause-front g c = on_err_of _ _ (front_of_nothing (g.S.Source.ahead c.args.source.now) (g.O.Sink.taken c.args.out.now) _ (keeps_same _))
-
-pub returns-in_err-buf-clause-read_front : goal.returns-in_err-buf-clause-read_front
-returns-in_err-buf-clause-read_front g c = on_err_of _ _ (front_of_given _ _ _ [] c.requires (AppendsFront-keeps _ _ _ (keeps_same _)))
+pub returns-in_err-buf : goal.returns-in_err-buf
+returns-in_err-buf g c =
+    let (message, ahead, front) = front_of_nothing (g.R.Source.ahead c.args.data_reader.now) (g.O.Sink.taken c.args.out.now) _ (keeps_same _) in
+    passed_on _ _ _ _ c.from_residual.ensures.1 (
+      message,
+      record {
+        read = tt;
+        since = tt;
+        all = tt;
+        no_new_fault = tt;
+        failed = search rules;
+        ahead = ahead;
+        left = search rules;
+        front = front;
+        given_front = front_of_given _ _ _ [] c.requires (AppendsFront-keeps _ _ _ (keeps_same _));
+        marked = refl;
+        unflushed = refl;
+      },
+    )

@@ -1,7 +1,8 @@
-use Rattle.std.proofs.Common.{◌∙◌, append_assoc}
+use Rattle.std.proofs.Common.{◌∙◌, ℕ, append_assoc, inr, rules, subst}
 use Rattle.std.proofs.KnownBytes.{Appends-trans, Consumes-trans}
+use Rattle.minisign_base.specs.Devices.{Rose}
 use Rattle.minisign_base.specs.SinkLaws.{AppendsFront-after}
-use Rattle.minisign.proofs.Beginnings.{consumed, on_err_of}
+use Rattle.minisign.proofs.Beginnings.{consumed, passed_on}
 use Rattle.minisign.proofs.Copies.{front_of_ahead, front_of_all, front_of_given, given_more, given_still, keeps_same}
 use Rattle.minisign.proofs.copying.copy_pieces.Goals as goal
 
@@ -25,33 +26,67 @@ pieces-preserved g c =
       );
     }
 
-pub returns-in_err-put_bytes-in-Ok-clause-front : goal.returns-in_err-put_bytes-in-Ok-clause-front
-returns-in_err-put_bytes-in-Ok-clause-front g c =
-    let (done, given, taken, fed, since) = c.pieces.invariant.given in
-    on_err_of _ _ (front_of_ahead _ (g.S.Source.ahead c.read.new.self) _ _ _
-    (Consumes-trans _ _ _ _ _ given c.in-Ok.ensures.bytes)
-    (AppendsFront-after _ _ _ _ _ taken c.in_err-put_bytes-in-Ok.ensures.front))
-
-pub returns-in_err-put_bytes-in-Ok-clause-given : goal.returns-in_err-put_bytes-in-Ok-clause-given
-returns-in_err-put_bytes-in-Ok-clause-given g c =
-    let (done, given, taken, fed, since) = c.pieces.invariant.given in
-    consumed _ _ _ (Consumes-trans _ _ _ _ _ given c.in-Ok.ensures.bytes)
-
-pub returns-in-Err-clause-front : goal.returns-in-Err-clause-front
-returns-in-Err-clause-front g c =
-    let (done, given, taken, fed, since) = c.pieces.invariant.given in
-    front_of_ahead _ (g.S.Source.ahead c.pieces.source) _ _ done given (front_of_all _ (g.O.Sink.taken c.pieces.out) _ done taken (keeps_same _))
-
-pub returns-in_err-put_bytes-in-Ok-clause-read_front : goal.returns-in_err-put_bytes-in-Ok-clause-read_front
-returns-in_err-put_bytes-in-Ok-clause-read_front g c =
-    let (done, given, taken, fed, since) = c.pieces.invariant.given in
-    on_err_of _ _ (front_of_given _ _ _ _ (given_more _ _ _ _ since c.in-Ok.ensures.since)
-    (AppendsFront-after _ _ _ _ _ taken c.in_err-put_bytes-in-Ok.ensures.front))
-
-pub returns-in-Err-clause-read_front : goal.returns-in-Err-clause-read_front
-returns-in-Err-clause-read_front g c =
+pub returns-then-n-eq0-clause-copied : goal.returns-then-n-eq0-clause-copied
+returns-then-n-eq0-clause-copied g c =
     let (done, given, taken, fed, since) = c.pieces.invariant.given in (
       done,
-      given_still _ _ done since c.in-Err.ensures.since_kept,
-      front_of_all _ (g.O.Sink.taken c.pieces.out) _ done taken (keeps_same _),
+      record {
+        read = search rules;
+        since = search rules;
+        all = taken;
+        no_new_fault = c.pieces.invariant.out_no_new_fault;
+        failed = tt;
+        ahead = tt;
+        left = tt;
+        front = tt;
+        given_front = tt;
+        marked = c.in-Ok.ensures.marked ∙ c.pieces.invariant.marked;
+        unflushed = c.pieces.invariant.unflushed;
+      },
+      fed,
+    )
+
+pub returns-in_err-put_bytes-in-Ok-clause-copied : goal.returns-in_err-put_bytes-in-Ok-clause-copied
+returns-in_err-put_bytes-in-Ok-clause-copied g c =
+    let (done, given, taken, fed, since) = c.pieces.invariant.given in
+    let more = Consumes-trans _ _ _ _ _ given c.in-Ok.ensures.bytes in
+    let put = AppendsFront-after _ _ _ _ _ taken c.in_err-put_bytes-in-Ok.ensures.front in
+    let (message, ahead, front) = front_of_ahead _ (g.R.Source.ahead c.read.new.self) _ _ _ more put in
+    let (fault, rose) = c.in_err-put_bytes-in-Ok.ensures.refused in
+    passed_on _ _ _ _ c.from_residual.ensures.1 (
+      message,
+      record {
+        read = tt;
+        since = tt;
+        all = tt;
+        no_new_fault = tt;
+        failed = inr (fault, subst (λ (n : ℕ). Rose n (g.O.Sink.sink_faults c.put_bytes.new.out)) c.pieces.invariant.out_no_new_fault rose);
+        ahead = ahead;
+        left = consumed _ _ _ more;
+        front = front;
+        given_front = front_of_given _ _ _ _ (given_more _ _ _ _ since c.in-Ok.ensures.since) put;
+        marked = c.in-Ok.ensures.marked ∙ c.pieces.invariant.marked;
+        unflushed = c.put_bytes.ensures.unflushed ∙ c.pieces.invariant.unflushed;
+      },
+    )
+
+pub returns-in-Err-clause-copied : goal.returns-in-Err-clause-copied
+returns-in-Err-clause-copied g c =
+    let (done, given, taken, fed, since) = c.pieces.invariant.given in
+    let put = front_of_all _ (g.O.Sink.taken c.pieces.out) _ done taken (keeps_same _) in
+    let (message, ahead, front) = front_of_ahead _ (g.R.Source.ahead c.pieces.data_reader) _ _ done given put in (
+      message,
+      record {
+        read = tt;
+        since = tt;
+        all = tt;
+        no_new_fault = tt;
+        failed = search rules;
+        ahead = ahead;
+        left = search rules;
+        front = front;
+        given_front = (done, given_still _ _ done since c.in-Err.ensures.since_kept, put);
+        marked = c.in-Err.ensures.marked ∙ c.pieces.invariant.marked;
+        unflushed = c.pieces.invariant.unflushed;
+      },
     )

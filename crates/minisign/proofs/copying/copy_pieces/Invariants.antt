@@ -6,18 +6,18 @@ use Rattle.minisign.proofs.copying.copy_pieces.Given as goal
 
 abbrev pub invariant-pieces : goal.invariant-pieces
 invariant-pieces g l = record {
-  no_new_fault : g.S.Source.faults l.source ≡ g.S.Source.faults l.fn.source;
+  no_new_fault : g.R.Source.faults l.data_reader ≡ g.R.Source.faults l.fn.data_reader;
   out_no_new_fault : g.O.Sink.sink_faults l.out ≡ g.O.Sink.sink_faults l.fn.out;
   unflushed : g.O.Sink.flushed l.out ≡ g.O.Sink.flushed l.fn.out;
-  marked : g.S.Source.is_marked l.source ≡ g.S.Source.is_marked l.fn.source;
-  mark : g.S.Source.behind l.source ≡ g.S.Source.behind l.fn.source;
+  marked : g.R.Source.is_marked l.data_reader ≡ g.R.Source.is_marked l.fn.data_reader;
+  mark : g.R.Source.behind l.data_reader ≡ g.R.Source.behind l.fn.data_reader;
   unfinished : has_finalized l.hasher ≡ false;
   size : output_length l.hasher ≡ output_length l.fn.hasher;
-  given : (done : List ℕ) × Consumes (g.S.Source.ahead l.fn.source) (g.S.Source.ahead l.source) done
+  given : (done : List ℕ) × Consumes (g.R.Source.ahead l.fn.data_reader) (g.R.Source.ahead l.data_reader) done
       × Appends (g.O.Sink.taken l.fn.out) (g.O.Sink.taken l.out) done
       × ((m : List ℕ) → IsFed l.fn.hasher m → IsFed l.hasher (m ++ done))
-      × WereGiven (g.S.Source.since l.source) done;
+      × WereGiven (g.R.Source.since l.data_reader) done;
 }
 
 abbrev pub decreases-pieces : goal.decreases-pieces
-decreases-pieces g l = g.S.Source.left l.source
+decreases-pieces g l = g.R.Source.left l.data_reader

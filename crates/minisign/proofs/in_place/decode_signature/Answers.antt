@@ -1,20 +1,13 @@
 use Rattle.std.proofs.Common.{List, ℕ, subst, inr, arith}
-use Rattle.std.proofs.lemmas.Result.{err_from_is_err_and}
+use Rattle.std.proofs.lemmas.Result.{MatchResult-weaker}
 use Rattle.minisign.specs.Texts.{IsBase64Of}
 use Rattle.minisign.proofs.InPlace.{encoded_signature, short_front}
 use Rattle.minisign.proofs.in_place.decode_signature.Goals as goal
 
-pub returns-in_err-from_bytes-clause-refused : goal.returns-in_err-from_bytes-clause-refused
-returns-in_err-from_bytes-clause-refused c =
-    let p = err_from_is_err_and c.from_residual.result c.from_residual.ensures.1 in
-    let (bytes, base64, count, fits, front) = c.in-Some.ensures.front in
+pub returns : goal.returns
+returns c =
+    let (bytes, base64, count, fits, front) = c.in-Some.ensures in
     let read = subst (λ (t : List ℕ). IsBase64Of t bytes) c.as_bytes.ensures.value base64 in
-    let refused = c.in_err-from_bytes.ensures in
+    MatchResult-weaker c.from_bytes.result c.from_bytes.ensures (encoded_signature c.args.text.now _ bytes _ read front) (λ e refused.
     let short = short_front c.args.text.now _ bytes _ 75 74 read count fits (omega arith) refused.1 in
-    rw (p.1, p.2) (inr (refused.0, short.0, short.1))
-
-pub returns-clause-signature : goal.returns-clause-signature
-returns-clause-signature c =
-    let (bytes, base64, count, fits, front) = c.in-Some.ensures.front in
-    let read = subst (λ (t : List ℕ). IsBase64Of t bytes) c.as_bytes.ensures.value base64 in
-    encoded_signature c.args.text.now _ bytes _ read front _ c.in_ok-from_bytes.ensures
+    inr (refused.0, short.0, short.1))

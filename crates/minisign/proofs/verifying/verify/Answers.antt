@@ -28,7 +28,7 @@ returns-in_err-judge-clause-refused g c =
     (unjudged (g.S.Scheme.accepts c.args.scheme.now) c.args.pk.now c.args.signature_box.now c.args.quiet c.args.output c.args.allow_legacy
     g.R.Source g.R.Rereader.steady g.W.Sink g.O.Sink c.args.data_reader.now c.read_data.new.data_reader c.read_data.new.data_reader
     c.args.status.now c.args.status.now c.args.out.now c.args.out.now _ message read
-    (⊎_elim inl (λ refuses. inr (refuses message same)) c.in_err-judge.ensures.refused))
+    (⊎_elim inl (λ refuses. inr (refuses message same)) c.in_err-judge.ensures))
 
 pub returns-in_err-say-clause-refused : goal.returns-in_err-say-clause-refused
 returns-in_err-say-clause-refused g c =
@@ -37,7 +37,7 @@ returns-in_err-say-clause-refused g c =
     passed_up _ _ _ c.from_residual-in_err-say.ensures.1
     (unsaid (g.S.Scheme.accepts c.args.scheme.now) c.args.pk.now c.args.signature_box.now c.args.quiet c.args.output c.args.allow_legacy
     g.R.Source g.R.Rereader.steady g.W.Sink g.O.Sink c.args.data_reader.now c.read_data.new.data_reader c.read_data.new.data_reader
-    c.args.status.now c.say.new.status c.args.out.now c.args.out.now _ message read (c.in_ok-judge.ensures.accepted message same)
+    c.args.status.now c.say.new.status c.args.out.now c.args.out.now _ message read (c.in_ok-judge.ensures message same)
     c.in_err-say.ensures.refused c.in_err-say.ensures.front c.say.ensures.unflushed)
 
 pub returns-clause-accepted : goal.returns-clause-accepted
@@ -47,7 +47,7 @@ returns-clause-accepted g c =
     let (pass, status_same, out_same) = first_pass (rereader_call g.R.Source g.R.Rereader.steady c.args.data_reader.now c.read_data.new.data_reader) unused unused _ message read in
     copying_succeeds (g.S.Scheme.accepts c.args.scheme.now) c.args.pk.now c.args.signature_box.now c.args.quiet c.args.allow_legacy
     g.R.Source g.R.Rereader.steady c.args.data_reader.now c.read_data.new.data_reader c.copy_out.new.data_reader _ _ message
-    c.args.output c.in_ok-signed.signed holds read pass (c.in_ok-judge.ensures.accepted message same) c.in_ok-say.ensures.said
+    c.args.output c.in_ok-signed.signed holds read pass (c.in_ok-judge.ensures message same) c.in_ok-say.ensures.said
     c.copy_out.result c.in_ok-say.ensures.no_new_fault c.say.ensures.unflushed c.copy_out.ensures.copied
 
 pub returns-clause-refused : goal.returns-clause-refused
@@ -57,7 +57,7 @@ returns-clause-refused g c =
     IfErr-weaker c.copy_out.result _ _ (λ e stopped.
     uncopied (g.S.Scheme.accepts c.args.scheme.now) c.args.pk.now c.args.signature_box.now c.args.quiet c.args.output c.args.allow_legacy
     g.R.Source g.R.Rereader.steady g.W.Sink g.O.Sink c.args.data_reader.now c.read_data.new.data_reader c.copy_out.new.data_reader
-    c.args.status.now c.say.new.status c.args.out.now c.copy_out.new.out e message read (c.in_ok-judge.ensures.accepted message same)
+    c.args.status.now c.say.new.status c.args.out.now c.copy_out.new.out e message read (c.in_ok-judge.ensures message same)
     c.in_ok-signed.signed holds c.say.ensures.quiet c.in_ok-say.ensures.said c.in_ok-say.ensures.no_new_fault c.say.ensures.unflushed stopped
     ) c.copy_out.ensures.refused
 
