@@ -1,6 +1,6 @@
 //! Calls for callers: verifying with texts, and the comment that was signed.
 
-ghost use Rattle.std.specs.Prelude.{◌≡◌, ◌⊎◌, ℕ, List, true, false, string_bytes, IfOk, IfErr, OnOk};
+ghost use Rattle.std.specs.Prelude.{◌≡◌, ◌⊎◌, ℕ, List, true, false, string_bytes, MatchResult, IfOk, IfErr, OnOk};
 ghost use Rattle.minisign_base.specs.Fault.{Named};
 ghost use Rattle.minisign_base.specs.declared.faults.NamedFault.TheVariants.{OutOfMemory};
 ghost use Rattle.minisign_base.specs.DeviceCalls.{rereader_call, sink_call};
@@ -86,9 +86,10 @@ fn read_texts(
     pk_text: &str,
     sig_text: &str,
 ) -> Result<(PublicKey, SignatureBox, String)>
-    ensures read { IfOk result (λ all. ReadTexts pk_text.now sig_text.now all.0 all.1) }
+    ensures read { MatchResult result
+        (λ all. ReadTexts pk_text.now sig_text.now all.0 all.1)
+        (TextsFail pk_text.now sig_text.now) }
     ensures comment { IfOk result (λ all. IsCommentOf sig_text.now (string_bytes all.2)) }
-    ensures refused { IfErr result (TextsFail pk_text.now sig_text.now) }
 {
     let pk = PublicKeyBox::from_string(alloc, pk_text)?.into_public_key(alloc)?;
     let signature_box = SignatureBox::from_string(alloc, sig_text)?;

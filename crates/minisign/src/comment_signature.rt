@@ -1,6 +1,6 @@
 //! Whether the comment signature of a box is accepted, which signing and verifying both ask.
 
-ghost use Rattle.std.specs.Prelude.{◌≡◌, IfOk, IfErr};
+ghost use Rattle.std.specs.Prelude.{◌≡◌, MatchResult};
 ghost use Rattle.minisign_base.specs.Fault.{Named};
 ghost use Rattle.minisign_base.specs.declared.faults.NamedFault.TheVariants.{OutOfMemory};
 ghost use Rattle.minisign.specs.Acceptance.{accepts_comment, accepts_comments};
@@ -20,9 +20,9 @@ pub(crate) fn accepts_comments<S: Scheme>(
     pk: &PublicKey,
     signature_box: &SignatureBox,
 ) -> Result<bool>
-    ensures answer { IfOk result
-        (λ b. b ≡ accepts_comments (S.accepts scheme.now) pk.now signature_box.now) }
-    ensures refused { IfErr result (λ e. e ≡ Named OutOfMemory) }
+    ensures { MatchResult result
+        (λ b. b ≡ accepts_comments (S.accepts scheme.now) pk.now signature_box.now)
+        (λ e. e ≡ Named OutOfMemory) }
 {
     match &signature_box.comments {
         Some(comments) => accepts_comment(alloc, scheme, pk, &signature_box.signature, comments),
@@ -39,9 +39,9 @@ fn accepts_comment<S: Scheme>(
     signature: &Signature,
     comments: &Comments,
 ) -> Result<bool>
-    ensures answer { IfOk result
-        (λ b. b ≡ accepts_comment (S.accepts scheme.now) pk.now signature.now comments.now) }
-    ensures refused { IfErr result (λ e. e ≡ Named OutOfMemory) }
+    ensures { MatchResult result
+        (λ b. b ≡ accepts_comment (S.accepts scheme.now) pk.now signature.now comments.now)
+        (λ e. e ≡ Named OutOfMemory) }
 {
     if comments.global_sig.len() < 64 {
         return Ok(false);

@@ -30,9 +30,10 @@ pub(crate) fn copy_out<R: Rereader, O: Sink>(
     output: bool,
     out: &mut O,
 ) -> Result<()>
-    ensures copied { OnOk result ((second : List ℕ) × StagesEnd (rereader_call R.Source R.steady data_reader.old data_reader.new)
-        unused (sink_call O.Sink out.old out.new) (copying_held output signed.now second) (Ok tt)) }
-    ensures refused { IfErr result (λ e. (second : List ℕ) × StagesEnd (rereader_call R.Source R.steady data_reader.old data_reader.new)
+    ensures { MatchResult result
+        (λ _. (second : List ℕ) × StagesEnd (rereader_call R.Source R.steady data_reader.old data_reader.new)
+        unused (sink_call O.Sink out.old out.new) (copying_held output signed.now second) (Ok tt))
+        (λ e. (second : List ℕ) × StagesEnd (rereader_call R.Source R.steady data_reader.old data_reader.new)
         unused (sink_call O.Sink out.old out.new) (copying_held output signed.now second) (Err e)) }
 {
     if !output {
@@ -55,9 +56,10 @@ fn copy_again<R: Rereader, O: Sink>(
     data_reader: &mut R,
     out: &mut O,
 ) -> Result<()>
-    ensures copied { OnOk result ((second : List ℕ) × StagesEnd (rereader_call R.Source R.steady data_reader.old data_reader.new)
-        unused (sink_call O.Sink out.old out.new) (copying_again digest.now second) (Ok tt)) }
-    ensures refused { IfErr result (λ e. (second : List ℕ) × StagesEnd (rereader_call R.Source R.steady data_reader.old data_reader.new)
+    ensures { MatchResult result
+        (λ _. (second : List ℕ) × StagesEnd (rereader_call R.Source R.steady data_reader.old data_reader.new)
+        unused (sink_call O.Sink out.old out.new) (copying_again digest.now second) (Ok tt))
+        (λ e. (second : List ℕ) × StagesEnd (rereader_call R.Source R.steady data_reader.old data_reader.new)
         unused (sink_call O.Sink out.old out.new) (copying_again digest.now second) (Err e)) }
 {
     go_back(data_reader)?;
@@ -121,9 +123,9 @@ fn copy_pieces<R: Rereader, O: Sink>(
 
 // Returns to the mark.
 fn go_back<R: Rereader>(data_reader: &mut R) -> Result<()>
-    ensures returned { OnOk result (GoesBack (rereader_call R.Source R.steady data_reader.old data_reader.new) (Ok tt)) }
-    ensures refused { IfErr result (λ e. (e ≡ Named GoingBackFailed)
-        × GoesBack (rereader_call R.Source R.steady data_reader.old data_reader.new) (Err tt)) }
+    ensures { MatchResult result
+        (λ _. GoesBack (rereader_call R.Source R.steady data_reader.old data_reader.new) (Ok tt))
+        (λ e. (e ≡ Named GoingBackFailed) × GoesBack (rereader_call R.Source R.steady data_reader.old data_reader.new) (Err tt)) }
 {
     match data_reader.back() {
         Ok(()) => Ok(()),
@@ -147,8 +149,9 @@ fn put_bytes<O: Sink>(out: &mut O, bytes: &[u8]) -> Result<()>
 
 // Passes on what was written.
 fn flush<O: Sink>(out: &mut O) -> Result<()>
-    ensures flushed { OnOk result (Flushes (sink_call O.Sink out.old out.new) (Ok tt)) }
-    ensures refused { IfErr result (λ e. (e ≡ Named WritingFailed) × Flushes (sink_call O.Sink out.old out.new) (Err tt)) }
+    ensures { MatchResult result
+        (λ _. Flushes (sink_call O.Sink out.old out.new) (Ok tt))
+        (λ e. (e ≡ Named WritingFailed) × Flushes (sink_call O.Sink out.old out.new) (Err tt)) }
 {
     match out.flush() {
         Ok(()) => Ok(()),

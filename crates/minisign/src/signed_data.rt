@@ -1,6 +1,6 @@
 //! What a signature is over, as it is held once the data was read: its digest, or the data itself.
 
-ghost use Rattle.std.specs.Prelude.{◌≡◌, List, ℕ, IfOk, IfErr};
+ghost use Rattle.std.specs.Prelude.{◌≡◌, List, ℕ, MatchResult};
 ghost use Rattle.minisign_base.specs.Devices.{HasGiven};
 ghost use Rattle.minisign.specs.Reading.{IsReadFault, ReadsWhole};
 ghost use Rattle.minisign.specs.SignedData.{HoldsSigned, held_bytes};
@@ -46,9 +46,10 @@ pub(crate) fn read_signed_data<R: Source>(
     data_reader: &mut R,
     allow_legacy: bool,
 ) -> Result<SignedData>
-    ensures held { IfOk result (λ d. (message : List ℕ) × ReadsWhole R.Source data_reader.old data_reader.new message
-        × HoldsSigned d signature_box.now allow_legacy message) }
-    ensures refused { IfErr result (IsReadFault R.Source data_reader.old data_reader.new) }
+    ensures held { MatchResult result
+        (λ d. (message : List ℕ) × ReadsWhole R.Source data_reader.old data_reader.new message
+        × HoldsSigned d signature_box.now allow_legacy message)
+        (IsReadFault R.Source data_reader.old data_reader.new) }
     ensures given { HasGiven (R.ahead data_reader.old) (R.ahead data_reader.new) }
     ensures marked { R.is_marked data_reader.new ≡ R.is_marked data_reader.old }
 {

@@ -165,10 +165,11 @@ fn read_data<R: Rereader>(
     output: bool,
     allow_legacy: bool,
 ) -> Result<SignedData>
-    ensures held { IfOk result (λ d. (message : List ℕ) × HoldsSigned d signature_box.now allow_legacy message
+    ensures held { MatchResult result
+        (λ d. (message : List ℕ) × HoldsSigned d signature_box.now allow_legacy message
         × StagesEnd (rereader_call R.Source R.steady data_reader.old data_reader.new) unused unused
-        (reading (is_reread output signature_box.now) message) (Ok tt)) }
-    ensures refused { IfErr result (λ e. (message : List ℕ)
+        (reading (is_reread output signature_box.now) message) (Ok tt))
+        (λ e. (message : List ℕ)
         × StagesEnd (rereader_call R.Source R.steady data_reader.old data_reader.new) unused unused
         (reading (is_reread output signature_box.now) message) (Err e)) }
     ensures given { HasGiven (R.ahead data_reader.old) (R.ahead data_reader.new) }

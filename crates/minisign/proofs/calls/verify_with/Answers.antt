@@ -11,7 +11,7 @@ use Rattle.minisign.proofs.calls.verify_with.Goals as goal
 pub returns-in_err-pk-clause-headline : goal.returns-in_err-pk-clause-headline
 returns-in_err-pk-clause-headline g c = λ message told memory no_new_fault status_no_new_fault out_no_new_fault again.
     let p = err_from_is_err_and c.from_residual.result c.from_residual.ensures.1 in
-    text_verdict _ _ _ message _ c.from_residual.result _ (p.1 ∙ ap (λ e. Err e) p.2) c.in_err-pk.ensures.refused memory
+    text_verdict _ _ _ message _ c.from_residual.result _ (p.1 ∙ ap (λ e. Err e) p.2) c.in_err-pk.ensures.read memory
 
 pub returns-in_err-verify-clause-headline : goal.returns-in_err-verify-clause-headline
 returns-in_err-verify-clause-headline g c = λ message told memory no_new_fault status_no_new_fault out_no_new_fault again.

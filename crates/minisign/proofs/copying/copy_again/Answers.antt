@@ -1,30 +1,31 @@
 use Rattle.std.proofs.Common.{inl, inr, refl, sym, ◌∙◌}
-use Rattle.std.proofs.lemmas.Result.{IfErr-weaker, on_ok_weaker}
-use Rattle.minisign.proofs.Beginnings.{passed_up}
+use Rattle.std.proofs.lemmas.Result.{MatchResult-weaker}
+use Rattle.minisign.proofs.Beginnings.{passed_on}
 use Rattle.minisign.proofs.Copies.{different, not_different}
 use Rattle.minisign.proofs.copying.copy_again.Goals as goal
 
-pub returns-in_err-second-clause-refused : goal.returns-in_err-second-clause-refused
-returns-in_err-second-clause-refused g c =
+pub returns-in_err-second : goal.returns-in_err-second
+returns-in_err-second g c =
     let (second, copies) = c.in_err-second.ensures in
-    passed_up _ _ _ c.from_residual-in_err-second.ensures.1 (
+    passed_on _ _ _ _ c.from_residual-in_err-second.ensures.1 (
       second,
       inr (
         record { reader = c.go_back.new.data_reader; status = tt; out = c.args.out.now },
-        (c.in_ok-go_back.ensures.returned, refl, refl),
+        (c.in_ok-go_back.ensures, refl, refl),
         inl (copies, refl),
       ),
     )
 
-pub returns-clause-copied : goal.returns-clause-copied
-returns-clause-copied g c =
+pub returns : goal.returns
+returns g c =
     let (second, copies, digest) = c.in_ok-second.ensures in
     let equal = not_different c.in_ok-second.second c.args.digest.now c.if-ne.ensures in
-    on_ok_weaker c.flush.result (λ flushed. (
+    MatchResult-weaker c.flush.result c.flush.ensures
+    (λ _ flushed. (
       second,
       (
         record { reader = c.go_back.new.data_reader; status = tt; out = c.args.out.now },
-        (c.in_ok-go_back.ensures.returned, refl, refl),
+        (c.in_ok-go_back.ensures, refl, refl),
         (
           record { reader = c.copy_hashed.new.data_reader; status = tt; out = c.copy_hashed.new.out },
           (copies, refl),
@@ -39,17 +40,12 @@ returns-clause-copied g c =
           ),
         ),
       ),
-    )) c.flush.ensures.flushed
-
-pub returns-clause-refused : goal.returns-clause-refused
-returns-clause-refused g c =
-    let (second, copies, digest) = c.in_ok-second.ensures in
-    let equal = not_different c.in_ok-second.second c.args.digest.now c.if-ne.ensures in
-    IfErr-weaker c.flush.result _ _ (λ e failed. (
+    ))
+    (λ e failed. (
       second,
       inr (
         record { reader = c.go_back.new.data_reader; status = tt; out = c.args.out.now },
-        (c.in_ok-go_back.ensures.returned, refl, refl),
+        (c.in_ok-go_back.ensures, refl, refl),
         inr (
           record { reader = c.copy_hashed.new.data_reader; status = tt; out = c.copy_hashed.new.out },
           (copies, refl),
@@ -60,15 +56,15 @@ returns-clause-refused g c =
           ),
         ),
       ),
-    )) c.flush.ensures.refused
+    ))
 
-pub returns-then-ne-clause-refused : goal.returns-then-ne-clause-refused
-returns-then-ne-clause-refused g c =
+pub returns-then-ne : goal.returns-then-ne
+returns-then-ne g c =
     let (second, copies, digest) = c.in_ok-second.ensures in (
       second,
       inr (
         record { reader = c.go_back.new.data_reader; status = tt; out = c.args.out.now },
-        (c.in_ok-go_back.ensures.returned, refl, refl),
+        (c.in_ok-go_back.ensures, refl, refl),
         inr (
           record { reader = c.copy_hashed.new.data_reader; status = tt; out = c.copy_hashed.new.out },
           (copies, refl),

@@ -1,5 +1,5 @@
 use Rattle.std.proofs.Common.{inl, inr, ⊎_elim}
-use Rattle.std.proofs.lemmas.Result.{IfErr-weaker}
+use Rattle.std.proofs.lemmas.Result.{MatchResult-weaker}
 use Rattle.minisign_base.specs.DeviceCalls.{rereader_call, unused}
 use Rattle.minisign_base.specs.SinkLaws.{AppendsFront-keeps}
 use Rattle.minisign.proofs.Beginnings.{on_err_of, passed_up}
@@ -18,7 +18,7 @@ returns-in_err-signed-clause-refused g c =
     passed_up _ _ _ c.from_residual.ensures.1
     (unread (g.S.Scheme.accepts c.args.scheme.now) c.args.pk.now c.args.signature_box.now c.args.quiet c.args.output c.args.allow_legacy
     g.R.Source g.R.Rereader.steady g.W.Sink g.O.Sink c.args.data_reader.now c.args.data_reader.now c.read_data.new.data_reader
-    c.args.status.now c.args.status.now c.args.out.now c.args.out.now _ c.in_err-signed.ensures.refused)
+    c.args.status.now c.args.status.now c.args.out.now c.args.out.now _ c.in_err-signed.ensures.held)
 
 pub returns-in_err-judge-clause-refused : goal.returns-in_err-judge-clause-refused
 returns-in_err-judge-clause-refused g c =
@@ -48,18 +48,18 @@ returns-clause-accepted g c =
     copying_succeeds (g.S.Scheme.accepts c.args.scheme.now) c.args.pk.now c.args.signature_box.now c.args.quiet c.args.allow_legacy
     g.R.Source g.R.Rereader.steady c.args.data_reader.now c.read_data.new.data_reader c.copy_out.new.data_reader _ _ message
     c.args.output c.in_ok-signed.signed holds read pass (c.in_ok-judge.ensures message same) c.in_ok-say.ensures.said
-    c.copy_out.result c.in_ok-say.ensures.no_new_fault c.say.ensures.unflushed c.copy_out.ensures.copied
+    c.copy_out.result c.in_ok-say.ensures.no_new_fault c.say.ensures.unflushed
+    (MatchResult-weaker c.copy_out.result c.copy_out.ensures (λ _ copied. copied) (λ _ _. tt))
 
 pub returns-clause-refused : goal.returns-clause-refused
 returns-clause-refused g c =
     let (message, holds, read) = c.in_ok-signed.ensures.held in
     let same = judged_signed _ c.in_ok-signed.signed c.args.signature_box.now c.args.allow_legacy message c.as_bytes.ensures holds in
-    IfErr-weaker c.copy_out.result _ _ (λ e stopped.
+    MatchResult-weaker c.copy_out.result c.copy_out.ensures (λ _ _. tt) (λ e stopped.
     uncopied (g.S.Scheme.accepts c.args.scheme.now) c.args.pk.now c.args.signature_box.now c.args.quiet c.args.output c.args.allow_legacy
     g.R.Source g.R.Rereader.steady g.W.Sink g.O.Sink c.args.data_reader.now c.read_data.new.data_reader c.copy_out.new.data_reader
     c.args.status.now c.say.new.status c.args.out.now c.copy_out.new.out e message read (c.in_ok-judge.ensures message same)
-    c.in_ok-signed.signed holds c.say.ensures.quiet c.in_ok-say.ensures.said c.in_ok-say.ensures.no_new_fault c.say.ensures.unflushed stopped
-    ) c.copy_out.ensures.refused
+    c.in_ok-signed.signed holds c.say.ensures.quiet c.in_ok-say.ensures.said c.in_ok-say.ensures.no_new_fault c.say.ensures.unflushed stopped)
 
 pub returns-clause-said_front : goal.returns-clause-said_front
 returns-clause-said_front g c =
