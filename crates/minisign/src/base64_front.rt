@@ -1,6 +1,6 @@
 //! Base64 that is decoded without memory: the bytes at the front are kept, and all of the text is judged.
 
-ghost use Rattle.std.specs.Prelude.{◌≡◌, ◌+◌, ◌*◌, ◌/◌, ◌%◌, ◌≤◌, List, ℕ, true, false, length, min, take, MatchOption};
+ghost use Rattle.std.specs.Prelude.{◌≡◌, ◌+◌, ◌*◌, ◌/◌, ◌%◌, ◌≤◌, List, ℕ, false, length, min, take, MatchOption};
 ghost use Rattle.minisign.specs.Texts.{IsBase64Of, is_base64};
 
 use base64::engine::general_purpose::STANDARD;

@@ -1,14 +1,13 @@
 //! Copying the data of a box that was accepted: the data that was kept, or a second pass over the
 //! source that has to give the digest of the first.
 
-ghost use Rattle.std.specs.Prelude.{◌≡◌, ℕ, ◌<◌, ◌++◌, List, false, length, Ok, Err, MatchResult, IfErr, OnOk, OnErr};
-ghost use Rattle.std.specs.Io.KnownBytes.{Appends};
+ghost use Rattle.std.specs.Prelude.{◌≡◌, ℕ, ◌<◌, ◌++◌, List, false, length, Ok, Err, MatchResult};
 ghost use Rattle.minisign_hash.specs.Blake2b.{blake2b_digest};
 ghost use Rattle.minisign_hash.specs.Fed.{IsFed, has_finalized, output_length};
-ghost use Rattle.minisign_base.specs.Devices.{AppendsFront, BeginsAnew};
+ghost use Rattle.minisign_base.specs.Devices.{BeginsAnew};
 ghost use Rattle.minisign_base.specs.Fault.{Named};
 ghost use Rattle.minisign_base.specs.declared.faults.NamedFault.TheVariants.{GoingBackFailed, WritingFailed};
-ghost use Rattle.minisign_base.specs.DeviceCalls.{Flushes, GoesBack, IsWritingFault, rereader_call, sink_call, unused};
+ghost use Rattle.minisign_base.specs.DeviceCalls.{Flushes, GoesBack, Puts, rereader_call, sink_call, unused};
 ghost use Rattle.minisign.specs.Reading.{Copies};
 ghost use Rattle.minisign.specs.Stages.{StagesEnd, copying_again};
 ghost use Rattle.minisign.specs.SignedData.{copying_held};
@@ -135,11 +134,7 @@ fn go_back<R: Rereader>(data_reader: &mut R) -> Result<()>
 
 // Writes all of the bytes.
 fn put_bytes<O: Sink>(out: &mut O, bytes: &[u8]) -> Result<()>
-    ensures all { OnOk result (Appends (O.taken out.old) (O.taken out.new) bytes.now) }
-    ensures no_new_fault { OnOk result (O.sink_faults out.new ≡ O.sink_faults out.old) }
-    ensures refused { IfErr result (IsWritingFault (sink_call O.Sink out.old out.new)) }
-    ensures front { OnErr result (AppendsFront (O.taken out.old) (O.taken out.new) bytes.now) }
-    ensures unflushed { O.flushed out.new ≡ O.flushed out.old }
+    ensures { Puts (sink_call O.Sink out.old out.new) bytes.now result }
 {
     match put_all(out, bytes) {
         Ok(()) => Ok(()),

@@ -351,9 +351,9 @@ fn read_lines(alloc: Global, lines: TextLines) -> Result<SignatureBox>
 // The comment in the first line.
 #[tactic(auto, unfolding(crate::specs::Texts::untrusted_comment_label))]
 pub(crate) fn untrusted_comment_in(line: &str) -> Result<&str>
-    ensures comment { IfOk result (λ c. line.now ≡ untrusted_comment_label ++ c.now) }
-    ensures refused { IfErr result (λ e. (e ≡ Named UntrustedCommentPrefix)
-        × ((comment : List ℕ) → line.now ≢ untrusted_comment_label ++ comment)) }
+    ensures { MatchResult result
+        (λ c. line.now ≡ untrusted_comment_label ++ c.now)
+        (λ e. (e ≡ Named UntrustedCommentPrefix) × ((comment : List ℕ) → line.now ≢ untrusted_comment_label ++ comment)) }
 {
     match line.strip_prefix("untrusted comment: ") {
         Some(comment) => Ok(comment),
@@ -364,9 +364,9 @@ pub(crate) fn untrusted_comment_in(line: &str) -> Result<&str>
 // The comment in the third line.
 #[tactic(auto, unfolding(crate::specs::SignatureText::trusted_comment_label))]
 pub(crate) fn trusted_comment_in(line: &str) -> Result<&str>
-    ensures comment { IfOk result (λ c. line.now ≡ trusted_comment_label ++ c.now) }
-    ensures refused { IfErr result (λ e. (e ≡ Named TrustedCommentPrefix)
-        × ((comment : List ℕ) → line.now ≢ trusted_comment_label ++ comment)) }
+    ensures { MatchResult result
+        (λ c. line.now ≡ trusted_comment_label ++ c.now)
+        (λ e. (e ≡ Named TrustedCommentPrefix) × ((comment : List ℕ) → line.now ≢ trusted_comment_label ++ comment)) }
 {
     match line.strip_prefix("trusted comment: ") {
         Some(comment) => Ok(comment),
@@ -390,9 +390,9 @@ fn decode_signature(alloc: Global, text: &str) -> Result<Signature>
 
 // A signature of an algorithm that is known.
 pub(crate) fn known(signature: Signature) -> Result<Signature>
-    ensures same { IfOk result (λ s. (s ≡ signature) × IsKnownAlgorithm s.algorithm) }
-    ensures refused { IfErr result (λ e. (e ≡ Named UnsupportedSignatureAlgorithm)
-        × (is_known_algorithm signature.algorithm ≡ false)) }
+    ensures { MatchResult result
+        (λ s. (s ≡ signature) × IsKnownAlgorithm s.algorithm)
+        (λ e. (e ≡ Named UnsupportedSignatureAlgorithm) × (is_known_algorithm signature.algorithm ≡ false)) }
 {
     if signature.sig_alg != SIGALG && signature.sig_alg != SIGALG_PREHASHED {
         return Err(NamedFault::UnsupportedSignatureAlgorithm.into());
@@ -402,9 +402,9 @@ pub(crate) fn known(signature: Signature) -> Result<Signature>
 
 // The comment signature that a text is the base64 of.
 fn decode_comment_signature(alloc: Global, text: &str) -> Result<Vec<u8>>
-    ensures bytes { IfOk result (λ v. IsBase64Of text.now v.items) }
-    ensures refused { IfErr result (λ e. (e ≡ Named OutOfMemory)
-        ⊎ ((e ≡ Named SignatureNotBase64) × (is_base64 text.now ≡ false))) }
+    ensures { MatchResult result
+        (λ v. IsBase64Of text.now v.items)
+        (λ e. (e ≡ Named OutOfMemory) ⊎ ((e ≡ Named SignatureNotBase64) × (is_base64 text.now ≡ false))) }
 {
     match decode(alloc, text)? {
         Some(bytes) => Ok(bytes),

@@ -1,6 +1,6 @@
 //! Whether a signature box vouches for data under a public key.
 
-ghost use Rattle.std.specs.Prelude.{◌≡◌, ℕ, Bool, List, true, false, ◌⊎◌, Ok, Err, MatchResult, IfOk, IfErr, OnOk, OnErr};
+ghost use Rattle.std.specs.Prelude.{◌≡◌, ℕ, Bool, List, true, false, ◌⊎◌, Ok, Err, MatchResult, IfErr, OnOk, OnErr};
 ghost use Rattle.minisign_base.specs.Devices.{HasGiven};
 ghost use Rattle.minisign_base.specs.Fault.{Named};
 ghost use Rattle.minisign_base.specs.declared.faults.NamedFault.TheVariants.{GoingBackFailed, OutOfMemory};

@@ -1,6 +1,6 @@
 use Rattle.std.proofs.Common.{Ok, Err, inl, inr, refl, subst}
 use Rattle.std.proofs.lemmas.Result.{MatchResult-weaker}
-use Rattle.minisign_base.specs.DeviceCalls.{Puts, Takes, rereader_call, sink_call, unused}
+use Rattle.minisign_base.specs.DeviceCalls.{Puts, rereader_call, sink_call, unused}
 use Rattle.minisign.specs.Stages.{StagesEnd}
 use Rattle.minisign.proofs.Passes.{kept_steps}
 use Rattle.minisign.proofs.copying.copy_out.Goals as goal
@@ -8,8 +8,8 @@ use Rattle.minisign.proofs.copying.copy_out.Goals as goal
 pub returns-in_ok-put_bytes-in-Kept : goal.returns-in_ok-put_bytes-in-Kept
 returns-in_ok-put_bytes-in-Kept g c =
     let stages = kept_steps c.args.output c.args.signed.now c.in-Kept.bytes c.in-Kept.bytes.items c.if-not-output.false c.in-Kept.is in
-    let all = subst (Takes (sink_call g.O.Sink c.args.out.now c.put_bytes.new.out)) c.deref.ensures.value c.in_ok-put_bytes-in-Kept.ensures.all in
-    let put : Puts (sink_call g.O.Sink c.args.out.now c.put_bytes.new.out) c.in-Kept.bytes.items (Ok tt) = ((all, c.in_ok-put_bytes-in-Kept.ensures.no_new_fault), c.put_bytes.ensures.unflushed) in
+    let put : Puts (sink_call g.O.Sink c.args.out.now c.put_bytes.new.out) c.in-Kept.bytes.items (Ok tt) =
+    subst (λ bytes. Puts (sink_call g.O.Sink c.args.out.now c.put_bytes.new.out) bytes (Ok tt)) c.deref.ensures.value c.in_ok-put_bytes-in-Kept.ensures in
     MatchResult-weaker c.flush.result c.flush.ensures
     (λ _ flushed. (
       c.in-Kept.bytes.items,

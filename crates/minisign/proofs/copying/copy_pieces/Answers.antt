@@ -9,10 +9,11 @@ use Rattle.minisign.proofs.copying.copy_pieces.Goals as goal
 pub pieces-preserved : goal.pieces-preserved
 pieces-preserved g c =
     let (done, given, taken, fed, since) = c.pieces.invariant.given in
+    let ((put, out_no_new_fault), unflushed) = c.in_ok-put_bytes-in-Ok.ensures in
     record {
       no_new_fault = c.in-Ok.ensures.no_new_fault ∙ c.pieces.invariant.no_new_fault;
-      out_no_new_fault = c.in_ok-put_bytes-in-Ok.ensures.no_new_fault ∙ c.pieces.invariant.out_no_new_fault;
-      unflushed = c.in_ok-put_bytes-in-Ok.ensures.unflushed ∙ c.pieces.invariant.unflushed;
+      out_no_new_fault = out_no_new_fault ∙ c.pieces.invariant.out_no_new_fault;
+      unflushed = unflushed ∙ c.pieces.invariant.unflushed;
       marked = c.in-Ok.ensures.marked ∙ c.pieces.invariant.marked;
       mark = c.in-Ok.ensures.mark ∙ c.pieces.invariant.mark;
       unfinished = c.update.ensures.finalized;
@@ -20,7 +21,7 @@ pieces-preserved g c =
       given = (
         _,
         Consumes-trans _ _ _ _ _ given c.in-Ok.ensures.bytes,
-        Appends-trans _ _ _ _ _ taken c.in_ok-put_bytes-in-Ok.ensures.all,
+        Appends-trans _ _ _ _ _ taken put,
         λ m held. rw (← append_assoc) (c.update.ensures.fed _ (fed m held)),
         given_more _ _ _ _ since c.in-Ok.ensures.since,
       );
@@ -50,9 +51,9 @@ pub returns-in_err-put_bytes-in-Ok-clause-copied : goal.returns-in_err-put_bytes
 returns-in_err-put_bytes-in-Ok-clause-copied g c =
     let (done, given, taken, fed, since) = c.pieces.invariant.given in
     let more = Consumes-trans _ _ _ _ _ given c.in-Ok.ensures.bytes in
-    let put = AppendsFront-after _ _ _ _ _ taken c.in_err-put_bytes-in-Ok.ensures.front in
+    let (((fault, rose), put_front), unflushed) = c.in_err-put_bytes-in-Ok.ensures in
+    let put = AppendsFront-after _ _ _ _ _ taken put_front in
     let (message, ahead, front) = front_of_ahead _ (g.R.Source.ahead c.read.new.self) _ _ _ more put in
-    let (fault, rose) = c.in_err-put_bytes-in-Ok.ensures.refused in
     passed_on _ _ _ _ c.from_residual.ensures.1 (
       message,
       record {
@@ -66,7 +67,7 @@ returns-in_err-put_bytes-in-Ok-clause-copied g c =
         front = front;
         given_front = front_of_given _ _ _ _ (given_more _ _ _ _ since c.in-Ok.ensures.since) put;
         marked = c.in-Ok.ensures.marked ∙ c.pieces.invariant.marked;
-        unflushed = c.put_bytes.ensures.unflushed ∙ c.pieces.invariant.unflushed;
+        unflushed = unflushed ∙ c.pieces.invariant.unflushed;
       },
     )
 
