@@ -7,8 +7,8 @@ one: each is written into a copy of its function, which stands behind it under a
 contract and a copy of its written proof. So what calls the function is not proved again. A method of a trait's impl has
 no second name and is changed where it stands, and an edit that reaches beyond the body of its function is tried alone.
 The crate has to be proved as it stands, by `rt ci` where this runs beside it (tests/shared/proved.py), and else by a check
-of the functions that the edits change. What is proved so is assumed in the copies: a hole stands in place of its proof,
-so that a check tries the wrong bodies alone. An edit that is not refused beside others is tried once more alone.
+of the functions that the edits change. What is proved so is assumed in the copies: its body is a loop without an end, and
+its proof a hole, so that a check tries the wrong bodies alone. An edit that is not refused beside others is tried once more alone.
 
 An edit passes if the search for a proof of one of the function's own goals came to its end and found none. It counts
 apart, and not as passed, if the search gave up at one of its limits, so that the goal may hold, or if only the
@@ -52,7 +52,8 @@ GROUP = 48
 PARTS = ("src", "specs", "proofs")
 # What stands behind the name of a function in that of a copy with a wrong body, before the number of this.
 COPY = "_with_wrong_body_"
-# A proof that is a hole, so that what calls the function rests on its contract.
+# A body that is of each type and calls nothing, and a proof that is a hole: what calls such a function rests on its contract.
+LOOP = "\n{indent}    loop {{}}\n"
 HOLE = """use Rattle.{path}.Statement.{{statement}}
 
 pub {name}_spec : {{M : Type 1}} → statement M
@@ -64,6 +65,8 @@ WELL = ("proved", "no holes", "depends on a hole in")
 HEADER = re.compile(r"(?m)^(?: *#\[.*\]\n)*(?P<indent> *)(?:pub(?:\(\w+\))? )?(?:const )?(?:unsafe )?"
                     r'(?:extern "C" )?(?P<fn>fn) (?P<name>\w+)')
 BODY = re.compile(r"(?m)\{$")
+# Where the head of a function ends, before its body or without one.
+HEAD_END = re.compile(r"(?m)[{;]$")
 # A goal of the function for which a search found no proof.
 SEARCHED = re.compile(r"did not prove `|it is not proved that")
 # A search for a proof did not come to its end.
@@ -184,7 +187,7 @@ def assume(folder, crate, functions):
     for it in functions:
         *_, name = path = it.split("::")
         if "fn" in path or "+" in it:
-            # (what a closure is proved to do has no contract of its own)
+            # (a closure goes with the body that it stands in)
             continue
         proof = f"{folder}/proofs/{'/'.join(path)}"
         os.makedirs(proof, exist_ok=True)
@@ -192,6 +195,21 @@ def assume(folder, crate, functions):
             os.remove(f"{proof}/{file}")
         with open(f"{proof}/Proof.antt", "w", encoding="utf-8") as file:
             file.write(HOLE.format(path=".".join([crate, "proofs", *path]), name=name))
+
+
+def loops(text, changed):
+    """Returns what has to stand in place of what in the text of a file so that its functions are loops without an end, but
+    for those that are changed where they stand."""
+    found, end = [], 0
+    for header in HEADER.finditer(text):
+        head = HEAD_END.search(text, header.end())
+        if header.start() < end or not head or head[0] == ";" or "const fn" in header[0]:
+            continue
+        body = re.compile(rf"(?m)^{header['indent']}\}}").search(text, head.end())
+        end = body.end()
+        if not any(header.start() < at < end for at in changed):
+            found.append((head.end(), body.start(), LOOP.format(indent=header["indent"])))
+    return found
 
 
 class Places:
@@ -227,17 +245,14 @@ class Trial:
 
     def __init__(self, crate, places, tell):
         self.crate, self.places, self.tell = crate, places, tell
-        # The texts of the files that are changed, and the functions that are proved as they stand.
-        self.texts, self.proved = {}, []
+        # The functions that are proved as they stand.
+        self.proved = []
 
     def begin(self, bodies, submit):
         """Has the crate proved as it stands, and submits the groups. It tells of each body once, here or there."""
-        for it in bodies:
-            if not it.fault and it.path not in self.texts:
-                with open(f"crates/{self.crate}/{it.path}", encoding="utf-8") as file:
-                    self.texts[it.path] = file.read()
-            if not it.fault:
-                it.places(self.texts[it.path])
+        for it in [it for it in bodies if not it.fault]:
+            with open(f"crates/{self.crate}/{it.path}", encoding="utf-8") as file:
+                it.places(file.read())
         whole = [it for it in bodies if not it.fault]
         why = proved.supply(proved.crates()[self.crate].below) or self.lacks_proof(whole)
         for it in bodies:
@@ -286,11 +301,16 @@ class Trial:
             return proved.rattle("check", self.crate, folder, "--allow-holes", *words, before=("nice", "-n", "19")).stdout
 
     def changed(self, group):
-        """Returns the texts of the files with the changes of a group in place."""
+        """Returns the texts of the crate's sources with the changes of a group in place, and loops in place of all other
+        bodies."""
         texts = {}
-        for path in {it.path for it in group}:
-            pieces = [piece for it in group if it.path == path for piece in it.pieces(self.texts[path])]
-            texts[path] = replaced(self.texts[path], pieces)
+        for path in [f"{at}/{it}" for at, _, names in os.walk(f"crates/{self.crate}/src") for it in names]:
+            with open(path, encoding="utf-8") as it:
+                text = it.read()
+            name = os.path.relpath(path, f"crates/{self.crate}")
+            pieces = [piece for it in group if it.path == name for piece in it.pieces(text)]
+            in_place = [begin for begin, end, _ in pieces if begin < end]
+            texts[name] = replaced(text, [*pieces, *loops(text, in_place)])
         return texts
 
     def judged(self, body, said):
