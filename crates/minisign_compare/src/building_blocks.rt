@@ -6,8 +6,7 @@ ghost use Rattle.minisign_hash.specs.Fed.{IsFed, has_finalized, output_length};
 use crate::devices::typed_prompt;
 use crate::refusals::Refusal;
 use crate::replies::{Fields, Reply};
-use crate::words::{Words, number_of};
-use minisign::PError;
+use crate::words::{bytes_of, expect_words, number_of, only_word, typed_lines_of, word};
 use minisign::base::devices::sinks::Sink;
 use minisign::base::devices::sources::Source;
 use minisign::base::helpers::{
@@ -22,31 +21,25 @@ use std::io;
 use std::time::{Clock, Duration};
 
 /// Answers any request that is not of keys, signatures, pairs or a table.
-pub fn answer(
-    alloc: Global,
-    name: &str,
-    words: &mut Words,
-    reply: &mut Reply,
-) -> Result<(), Refusal> {
+pub fn answer(alloc: Global, name: &str, line: &str, reply: &mut Reply) -> Result<(), Refusal> {
     match name {
-        "raw_scrypt_params" => answer_limits(words, reply),
-        "blake2b" => answer_blake2b(alloc, words, reply),
-        "scrypt" => answer_scrypt(alloc, words, reply),
-        "fixed_time_eq" => answer_equal(alloc, words, reply),
-        "store_u64_le" => answer_store(words, reply),
-        "load_u64_le" => answer_load(alloc, words, reply),
-        "unix_timestamp" => answer_timestamp(words, reply),
-        "get_password" => answer_password(alloc, words, reply),
+        "raw_scrypt_params" => answer_limits(line, reply),
+        "blake2b" => answer_blake2b(alloc, line, reply),
+        "scrypt" => answer_scrypt(alloc, line, reply),
+        "fixed_time_eq" => answer_equal(alloc, line, reply),
+        "store_u64_le" => answer_store(line, reply),
+        "load_u64_le" => answer_load(alloc, line, reply),
+        "unix_timestamp" => answer_timestamp(line, reply),
+        "get_password" => answer_password(alloc, line, reply),
         _ => Err(Refusal::BadRequest),
     }
 }
 
-fn answer_limits(words: &mut Words, reply: &mut Reply) -> Result<(), Refusal> {
-    let memlimit = words.number::<u64>()?;
-    let opslimit = words.number::<u64>()?;
-    let n_log2_max = words.number::<u8>()?;
-    words.end()?;
-    let params = raw_scrypt_params(memlimit, opslimit, n_log2_max)?;
+fn answer_limits(line: &str, reply: &mut Reply) -> Result<(), Refusal> {
+    expect_words(line, 3)?;
+    let memlimit = number_of(word(line, 1))?;
+    let opslimit = number_of(word(line, 2))?;
+    let params = raw_scrypt_params(memlimit, opslimit, number_of(word(line, 3))?)?;
     show_params(&params, &mut reply.fields)
 }
 
@@ -54,19 +47,17 @@ fn answer_limits(words: &mut Words, reply: &mut Reply) -> Result<(), Refusal> {
 fn show_params(params: &Params, fields: &mut Fields) -> Result<(), Refusal> {
     fields.number("n_log2", params.n_log2() as u64)?;
     fields.number("r", params.r() as u64)?;
-    fields.number("p", params.p() as u64)?;
-    Ok(())
+    fields.number("p", params.p() as u64)
 }
 
-fn answer_blake2b(alloc: Global, words: &mut Words, reply: &mut Reply) -> Result<(), Refusal> {
-    let outlen = words.number::<usize>()?;
-    let cuts = words.next()?;
-    let bytes = words.bytes(alloc)?;
-    words.end()?;
+fn answer_blake2b(alloc: Global, line: &str, reply: &mut Reply) -> Result<(), Refusal> {
+    expect_words(line, 3)?;
+    let outlen = number_of(word(line, 1))?;
+    let bytes = bytes_of(alloc, word(line, 3))?;
     if outlen == 0 || outlen > 64 {
         return Err(Refusal::OutsideConditions);
     }
-    show_digests(outlen, cuts, &bytes, &mut reply.fields)
+    show_digests(outlen, word(line, 2), &bytes, &mut reply.fields)
 }
 
 // The fields of a digest: of the bytes as a whole, and in pieces, as the state tells it first and
@@ -85,8 +76,7 @@ fn show_digests(outlen: usize, cuts: &str, bytes: &[u8], fields: &mut Fields) ->
     state.finalize(&mut again[..outlen]);
     fields.bytes("whole", &whole[..outlen])?;
     fields.bytes("pieces", &pieces[..outlen])?;
-    fields.bytes("again", &again[..outlen])?;
-    Ok(())
+    fields.bytes("again", &again[..outlen])
 }
 
 // Feeds a state all of the bytes: `-` at once, otherwise cut at places parted by commas.
@@ -109,59 +99,54 @@ fn feed(state: &mut Blake2b, cuts: &str, bytes: &[u8]) -> Result<(), Refusal>
     Ok(())
 }
 
-fn answer_scrypt(alloc: Global, words: &mut Words, reply: &mut Reply) -> Result<(), Refusal> {
-    let n_log2 = words.number::<u8>()?;
-    let r = words.number::<u32>()?;
-    let p = words.number::<u32>()?;
-    let length = words.number::<usize>()?;
-    let password = words.bytes(alloc)?;
-    let salt = words.bytes(alloc)?;
-    words.end()?;
-    let params = match Params::new(n_log2, r, p) {
-        Ok(params) => params,
-        Err(error) => return Err(Refusal::Fault(PError::from(error))),
-    };
-    let key = derived(alloc, &password, &salt, &params, length);
-    reply.fields.returned_bytes("out", key)?;
-    Ok(())
+fn answer_scrypt(alloc: Global, line: &str, reply: &mut Reply) -> Result<(), Refusal> {
+    expect_words(line, 6)?;
+    let numbers = (
+        number_of(word(line, 1))?,
+        number_of(word(line, 2))?,
+        number_of(word(line, 3))?,
+    );
+    let length = number_of(word(line, 4))?;
+    let password = bytes_of(alloc, word(line, 5))?;
+    let salt = bytes_of(alloc, word(line, 6))?;
+    let key = derived(alloc, &password, &salt, numbers, length);
+    reply.fields.returned_bytes("out", key)
 }
 
-// The key of so many bytes.
+// The key of so many bytes, by the parameters of these numbers.
 fn derived(
     alloc: Global,
     password: &[u8],
     salt: &[u8],
-    params: &Params,
+    (n_log2, r, p): (u8, u32, u32),
     length: usize,
 ) -> minisign::Result<Vec<u8>> {
+    let params = Params::new(n_log2, r, p)?;
     let mut key = vec![in alloc; 0u8; length]?;
-    scrypt(alloc, password, salt, params, &mut key)?;
+    scrypt(alloc, password, salt, &params, &mut key)?;
     Ok(key)
 }
 
-fn answer_equal(alloc: Global, words: &mut Words, reply: &mut Reply) -> Result<(), Refusal> {
-    let first = words.bytes(alloc)?;
-    let second = words.bytes(alloc)?;
-    words.end()?;
-    reply.fields.flag("eq", fixed_time_eq(&first, &second))?;
-    Ok(())
+fn answer_equal(alloc: Global, line: &str, reply: &mut Reply) -> Result<(), Refusal> {
+    expect_words(line, 2)?;
+    let first = bytes_of(alloc, word(line, 1))?;
+    let second = bytes_of(alloc, word(line, 2))?;
+    reply.fields.flag("eq", fixed_time_eq(&first, &second))
 }
 
-fn answer_store(words: &mut Words, reply: &mut Reply) -> Result<(), Refusal> {
-    let number = words.number::<u64>()?;
-    words.end()?;
-    reply.fields.bytes("out", &store_u64_le(number))?;
-    Ok(())
+fn answer_store(line: &str, reply: &mut Reply) -> Result<(), Refusal> {
+    let number = only_word(line)?;
+    let number = number_of(number)?;
+    reply.fields.bytes("out", &store_u64_le(number))
 }
 
-fn answer_load(alloc: Global, words: &mut Words, reply: &mut Reply) -> Result<(), Refusal> {
-    let bytes = words.bytes(alloc)?;
-    words.end()?;
+fn answer_load(alloc: Global, line: &str, reply: &mut Reply) -> Result<(), Refusal> {
+    let word = only_word(line)?;
+    let bytes = bytes_of(alloc, word)?;
     if bytes.len() < 8 {
         return Err(Refusal::OutsideConditions);
     }
-    reply.fields.number("out", load_u64_le(&bytes))?;
-    Ok(())
+    reply.fields.number("out", load_u64_le(&bytes))
 }
 
 // A clock that shows one moment, or can't be read.
@@ -189,12 +174,11 @@ fn clock_of(word: &str) -> Result<Shows, Refusal> {
     Ok(Shows(Some(Duration::new(number_of(word)?, 0))))
 }
 
-fn answer_timestamp(words: &mut Words, reply: &mut Reply) -> Result<(), Refusal> {
-    let word = words.next()?;
-    words.end()?;
+fn answer_timestamp(line: &str, reply: &mut Reply) -> Result<(), Refusal> {
+    let word = only_word(line)?;
     let clock = clock_of(word)?;
-    reply.fields.number("out", unix_timestamp(&clock)?)?;
-    Ok(())
+    let moment = unix_timestamp(&clock)?;
+    reply.fields.number("out", moment)
 }
 
 // What the call that asks for a password returns.
@@ -202,12 +186,11 @@ fn asked<R: Source, W: Sink>(alloc: Global, prompt: &mut Prompt<R, W>) -> minisi
     get_password(alloc, prompt, "Password: ")
 }
 
-fn answer_password(alloc: Global, words: &mut Words, reply: &mut Reply) -> Result<(), Refusal> {
-    let typed = words.typed_lines(alloc)?;
-    words.end()?;
+fn answer_password(alloc: Global, line: &str, reply: &mut Reply) -> Result<(), Refusal> {
+    let word = only_word(line)?;
+    let typed = typed_lines_of(alloc, word)?;
     let mut prompt = typed_prompt(alloc, &typed);
     let password = asked(alloc, &mut prompt);
     reply.end_prompt(alloc, prompt)?;
-    reply.fields.returned_text("out", password)?;
-    Ok(())
+    reply.fields.returned_text("out", password)
 }

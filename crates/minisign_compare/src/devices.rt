@@ -10,7 +10,6 @@ use minisign::base::devices::random_sources::{FixedRandom, RandomSource};
 use minisign::base::devices::sinks::VecSink;
 use minisign::base::devices::sources::{Rereader, SliceSource, Source};
 use minisign::base::prompt::Prompt;
-use minisign::reading::read_to_end;
 use minisign_fixtures::devices::sinks::LimitedSink;
 use std::alloc::Global;
 
@@ -184,12 +183,28 @@ fn from_place(bytes: &[u8], place: usize) -> &[u8] {
     }
 }
 
-/// Reads a sink: `-` (takes all), `N` (takes so many bytes), `f` or `fN` (as these, and its flush
-/// fails).
-pub fn sink_of(alloc: Global, word: &str) -> Result<LimitedSink, Refusal> {
-    match word.strip_prefix("f") {
-        Some(room) => Ok(LimitedSink::new(alloc, room_of(room)?).flushed(0)),
-        None => Ok(LimitedSink::new(alloc, room_of(word)?)),
+/// A sink as a request describes it: `-` (takes all), `N` (takes so many bytes), `f` or `fN` (as
+/// these, and its flush fails).
+#[derive(Clone, Copy)]
+pub struct SinkWord {
+    room: usize,
+    flushes: usize,
+}
+
+impl SinkWord {
+    /// Reads the description.
+    pub fn read(word: &str) -> Result<SinkWord, Refusal> {
+        let (room, flushes) = match word.strip_prefix("f") {
+            Some(room) => (room, 0),
+            None => (word, usize::MAX),
+        };
+        let room = room_of(room)?;
+        Ok(SinkWord { room, flushes })
+    }
+
+    /// The sink, which is empty.
+    pub fn sink(self, alloc: Global) -> LimitedSink {
+        LimitedSink::new(alloc, self.room).flushed(self.flushes)
     }
 }
 
@@ -263,20 +278,4 @@ fn counted_bytes(alloc: Global, first: u8) -> Result<Vec<u8>, Refusal> {
 /// A prompt into which lines are typed, and which keeps what it is told.
 pub fn typed_prompt(alloc: Global, typed: &[u8]) -> Prompt<SliceSource<'_>, VecSink> {
     Prompt::new(SliceSource::new(typed), VecSink::new(alloc))
-}
-
-/// What a prompt was told, and how many lines are left of those that were typed.
-pub fn after_prompt(
-    alloc: Global,
-    prompt: Prompt<SliceSource<'_>, VecSink>,
-) -> Result<(Vec<u8>, u64), Refusal> {
-    let (mut reader, writer) = prompt.into_parts();
-    let rest = read_to_end(alloc, &mut reader)?;
-    let mut left = 0u64;
-    for byte in rest.iter() {
-        if *byte == b'\n' {
-            left = left.saturating_add(1);
-        }
-    }
-    Ok((writer.into_vec(), left))
 }

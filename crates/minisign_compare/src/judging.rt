@@ -1,18 +1,19 @@
 //! Requests that sign and verify.
 
 use crate::devices::{CountedRandom, CountedSource, DataWord, random_bytes};
+use crate::public_keys::key_of;
 use crate::refusals::Refusal;
 use crate::replies::Reply;
-use crate::signatures::{box_of, show};
+use crate::signatures::{box_of, show_returned};
 use crate::table::Table;
-use crate::words::{Words, bytes_of, text_or_none_of};
+use crate::words::{bytes_of, expect_words, flag_of, number_of, text_of, text_or_none_of, word};
 use minisign::base::devices::sinks::VecSink;
 use minisign::base::toy::{ToyScheme, Triple};
 use minisign::{PublicKey, PublicKeyBox, SecretKey, SignatureBox, sign, verify};
 use std::alloc::Global;
 
 // The words of a request to sign.
-#[derive(Clone, Copy, Drop)]
+#[derive(Clone, Copy)]
 struct SignWords<'a> {
     pk: &'a str,
     sk: &'a str,
@@ -24,19 +25,19 @@ struct SignWords<'a> {
 }
 
 impl<'a> SignWords<'a> {
-    // All that are left.
-    fn read(words: &mut Words<'a>) -> Result<SignWords<'a>, Refusal> {
-        let read = SignWords {
-            pk: words.next()?,
-            sk: words.next()?,
-            data: words.next()?,
-            trusted_comment: words.next()?,
-            untrusted_comment: words.next()?,
-            random: words.next()?,
-            moment: words.number()?,
-        };
-        words.end()?;
-        Ok(read)
+    // All of the line.
+    fn read(line: &'a str) -> Result<SignWords<'a>, Refusal> {
+        expect_words(line, 7)?;
+        let moment = number_of(word(line, 7))?;
+        Ok(SignWords {
+            pk: word(line, 1),
+            sk: word(line, 2),
+            data: word(line, 3),
+            trusted_comment: word(line, 4),
+            untrusted_comment: word(line, 5),
+            random: word(line, 6),
+            moment,
+        })
     }
 }
 
@@ -48,24 +49,19 @@ pub fn answer(
     alloc: Global,
     table: &Table,
     name: &str,
-    words: &mut Words,
+    line: &str,
     reply: &mut Reply,
 ) -> Result<(), Refusal> {
     match name {
-        "sign" => answer_sign(alloc, table, words, reply),
-        "verify" => answer_verify(alloc, table, words, reply),
-        "verify_texts" => answer_verify_texts(alloc, table, words, reply),
+        "sign" => answer_sign(alloc, table, line, reply),
+        "verify" => answer_verify(alloc, table, line, reply),
+        "verify_texts" => answer_verify_texts(alloc, table, line, reply),
         _ => Err(Refusal::BadRequest),
     }
 }
 
-fn answer_sign(
-    alloc: Global,
-    table: &Table,
-    words: &mut Words,
-    reply: &mut Reply,
-) -> Result<(), Refusal> {
-    let asked = SignWords::read(words)?;
+fn answer_sign(alloc: Global, table: &Table, line: &str, reply: &mut Reply) -> Result<(), Refusal> {
+    let asked = SignWords::read(line)?;
     let sk_bytes = bytes_of(alloc, asked.sk)?;
     let data = DataWord::read(alloc, asked.data)?;
     let bytes = random_bytes(alloc, asked.random)?;
@@ -98,20 +94,42 @@ fn sign_with_keys(
     let sk = SecretKey::from_bytes(sk_bytes)?;
     let pk = key_or_none(alloc, asked.pk)?;
     let triples = table.triples(alloc)?;
+    let keys = (pk.as_ref(), &sk);
+    sign_data(
+        alloc,
+        &triples,
+        keys,
+        (data, bytes),
+        comments,
+        asked.moment,
+        reply,
+    )
+}
+
+// Signs the data with random bytes.
+fn sign_data(
+    alloc: Global,
+    triples: &[Triple<'_>],
+    keys: (Option<&PublicKey>, &SecretKey),
+    (data, bytes): (&DataWord, &[u8]),
+    comments: (Option<&str>, Option<&str>),
+    moment: u64,
+    reply: &mut Reply,
+) -> Result<(), Refusal> {
     let mut source = data.source();
     let mut random = CountedRandom::new(bytes);
     let signed = signed(
         alloc,
-        &triples,
-        (pk.as_ref(), &sk),
+        triples,
+        keys,
         &mut source,
         comments,
         &mut random,
-        asked.moment,
+        moment,
     );
     reply.tail.number("drawn", random.drawn())?;
     show_reads(&source, reply)?;
-    show(alloc, &signed?, &mut reply.fields)
+    show_returned(alloc, signed, &mut reply.fields)
 }
 
 // What the call that signs returns.
@@ -140,58 +158,54 @@ fn signed(
 fn answer_verify(
     alloc: Global,
     table: &Table,
-    words: &mut Words,
+    line: &str,
     reply: &mut Reply,
 ) -> Result<(), Refusal> {
-    let pk = PublicKey::from_bytes(&words.bytes(alloc)?)?;
-    judge(alloc, table, &pk, words, reply)
+    expect_words(line, 6)?;
+    let pk = key_of(alloc, word(line, 1))?;
+    judge(alloc, table, &pk, line, reply)
 }
 
 fn answer_verify_texts(
     alloc: Global,
     table: &Table,
-    words: &mut Words,
+    line: &str,
     reply: &mut Reply,
 ) -> Result<(), Refusal> {
-    let text = words.text(alloc)?;
+    expect_words(line, 6)?;
+    let text = text_of(alloc, word(line, 1))?;
     let pk = PublicKeyBox::from_string(alloc, text.as_str())?.into_public_key(alloc)?;
-    judge(alloc, table, &pk, words, reply)
+    judge(alloc, table, &pk, line, reply)
 }
 
-// Verifies with a key and what the words behind it say.
+// Verifies with a key and what the words of the request say.
 fn judge(
     alloc: Global,
     table: &Table,
     pk: &PublicKey,
-    words: &mut Words,
+    line: &str,
     reply: &mut Reply,
 ) -> Result<(), Refusal> {
-    let signature_box = box_of(alloc, words.next()?)?;
-    judge_box(alloc, table, (pk, &signature_box), words, reply)
+    let signature_box = box_of(alloc, word(line, 2))?;
+    judge_box(alloc, table, (pk, &signature_box), line, reply)
 }
 
-// Verifies with a key, a box and what the words behind these say.
+// Verifies with a key, a box and what the words of the request say.
 fn judge_box(
     alloc: Global,
     table: &Table,
     texts: (&PublicKey, &SignatureBox),
-    words: &mut Words,
+    line: &str,
     reply: &mut Reply,
 ) -> Result<(), Refusal> {
-    let data = DataWord::read(alloc, words.next()?)?;
-    let quiet = words.flag()?;
-    let output = words.flag()?;
-    let allow_legacy = words.flag()?;
-    words.end()?;
+    let flags = (
+        flag_of(word(line, 4))?,
+        flag_of(word(line, 5))?,
+        flag_of(word(line, 6))?,
+    );
+    let data = DataWord::read(alloc, word(line, 3))?;
     let triples = table.triples(alloc)?;
-    judge_data(
-        alloc,
-        &triples,
-        texts,
-        &data,
-        (quiet, output, allow_legacy),
-        reply,
-    )
+    judge_data(alloc, &triples, texts, &data, flags, reply)
 }
 
 // Verifies the data.
@@ -248,8 +262,7 @@ fn verified(
 // How the data was read.
 fn show_reads(source: &CountedSource<'_>, reply: &mut Reply) -> Result<(), Refusal> {
     reply.tail.number("reads", source.reads())?;
-    reply.tail.number("pos", source.place())?;
-    Ok(())
+    reply.tail.number("pos", source.place())
 }
 
 // The record of a public key, or none where the word is `-`.
@@ -257,5 +270,5 @@ fn key_or_none(alloc: Global, word: &str) -> Result<Option<PublicKey>, Refusal> 
     if word == "-" {
         return Ok(None);
     }
-    Ok(Some(PublicKey::from_bytes(&bytes_of(alloc, word)?)?))
+    Ok(Some(key_of(alloc, word)?))
 }

@@ -21,7 +21,6 @@ use replies::Reply;
 use std::io::{self, BufRead, BufReader, BufWriter, Write};
 use std::process::ExitCode;
 use table::Table;
-use words::Words;
 
 fn main(rt: HostRuntime) -> io::Result<ExitCode> {
     let mut answers = BufWriter::new(rt.alloc(), io::writer(&rt))?;
@@ -29,13 +28,18 @@ fn main(rt: HostRuntime) -> io::Result<ExitCode> {
     for line in BufReader::new(rt.alloc(), rt.reader())?.lines(rt.alloc()) {
         let line = line?;
         if !answer_line(&rt, &mut table, line.as_str(), &mut answers)? {
-            answers.flush()?;
-            eprintln!(rt; "bad request: {line}")?;
-            return Ok(ExitCode::from(3));
+            return refuse(&rt, &mut answers, line.as_str());
         }
     }
     answers.flush()?;
     Ok(ExitCode::SUCCESS)
+}
+
+// Says that a line is no request, behind the answers to those before it.
+fn refuse<W: Write>(rt: &HostRuntime, answers: &mut W, line: &str) -> io::Result<ExitCode> {
+    answers.flush()?;
+    eprintln!(rt; "bad request: {line}")?;
+    Ok(ExitCode::from(3))
 }
 
 // Answers one line; an empty one and a comment get no answer. It is false of what is no request.
@@ -60,24 +64,23 @@ fn answer(
     line: &str,
     reply: &mut Reply,
 ) -> Result<(), Refusal> {
-    let mut words = Words::new(line);
-    let name = words.next()?;
-    match subject(name) {
-        "pk" => public_keys::answer(rt, name, &mut words, reply),
-        "sk" => secret_keys::answer(rt, name, &mut words, reply),
-        "sig" | "bones" => signatures::answer(rt, name, &mut words, reply),
-        "gen" => pairs::answer(rt.alloc(), name, &mut words, reply),
-        "table" => table.answer(rt.alloc(), name, &mut words),
-        "sign" | "verify" => judging::answer(rt.alloc(), table, name, &mut words, reply),
-        _ => building_blocks::answer(rt.alloc(), name, &mut words, reply),
+    let name = before(line, ' ');
+    match before(name, '_') {
+        "pk" => public_keys::answer(rt, name, line, reply),
+        "sk" => secret_keys::answer(rt, name, line, reply),
+        "sig" | "bones" => signatures::answer(rt, name, line, reply),
+        "gen" => pairs::answer(rt.alloc(), name, line, reply),
+        "table" => table.answer(rt.alloc(), name, line),
+        "sign" | "verify" => judging::answer(rt.alloc(), table, name, line, reply),
+        _ => building_blocks::answer(rt.alloc(), name, line, reply),
     }
 }
 
-// What a request is about: its name up to the first `_`.
-fn subject(name: &str) -> &str {
-    match name.split_once('_') {
-        Some((subject, _)) => subject,
-        None => name,
+// The text up to this character: a request's name, or what the name says that it is about.
+fn before(text: &str, end: char) -> &str {
+    match text.split_once(end) {
+        Some((front, _)) => front,
+        None => text,
     }
 }
 

@@ -2,93 +2,83 @@
 
 use crate::refusals::Refusal;
 use crate::replies::{Fields, Reply};
-use crate::words::Words;
+use crate::words::{bytes_of, expect_words, only_word, text_of, word};
 use minisign::{PublicKey, PublicKeyBox, SecretKey};
 use std::alloc::Global;
 
 /// Answers a request whose name begins with `pk_`.
-pub fn answer(
-    rt: &HostRuntime,
-    name: &str,
-    words: &mut Words,
-    reply: &mut Reply,
-) -> Result<(), Refusal> {
+pub fn answer(rt: &HostRuntime, name: &str, line: &str, reply: &mut Reply) -> Result<(), Refusal> {
     let alloc = rt.alloc();
     match name {
-        "pk_from_box" => from_box(alloc, words, reply),
-        "pk_from_base64" => from_base64(alloc, words, reply),
-        "pk_from_file" => from_file(rt, words, reply),
-        "pk_from_bytes" => from_bytes(alloc, words, reply),
-        "pk_from_secret_key" => from_secret_key(alloc, words, reply),
-        "pk_to_box" => to_box(alloc, words, reply),
-        "pk_eq" => equal(alloc, words, reply),
+        "pk_from_box" => from_box(alloc, line, reply),
+        "pk_from_base64" => from_base64(alloc, line, reply),
+        "pk_from_file" => from_file(rt, line, reply),
+        "pk_from_bytes" => from_bytes(alloc, line, reply),
+        "pk_from_secret_key" => from_secret_key(alloc, line, reply),
+        "pk_to_box" => to_box(alloc, line, reply),
+        "pk_eq" => equal(alloc, line, reply),
         _ => Err(Refusal::BadRequest),
     }
 }
 
-fn from_box(alloc: Global, words: &mut Words, reply: &mut Reply) -> Result<(), Refusal> {
-    let text = words.text(alloc)?;
-    words.end()?;
+fn from_box(alloc: Global, line: &str, reply: &mut Reply) -> Result<(), Refusal> {
+    let word = only_word(line)?;
+    let text = text_of(alloc, word)?;
     let key_box = PublicKeyBox::from_string(alloc, text.as_str())?;
-    show(
-        alloc,
-        &PublicKey::from_box(alloc, key_box)?,
-        &mut reply.fields,
-    )
+    let key = PublicKey::from_box(alloc, key_box)?;
+    show(alloc, &key, &mut reply.fields)
 }
 
-fn from_base64(alloc: Global, words: &mut Words, reply: &mut Reply) -> Result<(), Refusal> {
-    let text = words.text(alloc)?;
-    words.end()?;
+fn from_base64(alloc: Global, line: &str, reply: &mut Reply) -> Result<(), Refusal> {
+    let word = only_word(line)?;
+    let text = text_of(alloc, word)?;
     let key = PublicKey::from_base64(alloc, text.as_str())?;
     show(alloc, &key, &mut reply.fields)
 }
 
-fn from_file(rt: &HostRuntime, words: &mut Words, reply: &mut Reply) -> Result<(), Refusal> {
-    let path = words.text(rt.alloc())?;
-    words.end()?;
+fn from_file(rt: &HostRuntime, line: &str, reply: &mut Reply) -> Result<(), Refusal> {
+    let word = only_word(line)?;
+    let path = text_of(rt.alloc(), word)?;
     let key = PublicKey::from_file(rt, rt.alloc(), path.as_str())?;
     show(rt.alloc(), &key, &mut reply.fields)
 }
 
-fn from_bytes(alloc: Global, words: &mut Words, reply: &mut Reply) -> Result<(), Refusal> {
-    let key = next_key(alloc, words)?;
-    words.end()?;
+fn from_bytes(alloc: Global, line: &str, reply: &mut Reply) -> Result<(), Refusal> {
+    let word = only_word(line)?;
+    let key = key_of(alloc, word)?;
     show(alloc, &key, &mut reply.fields)
 }
 
-fn from_secret_key(alloc: Global, words: &mut Words, reply: &mut Reply) -> Result<(), Refusal> {
-    let bytes = words.bytes(alloc)?;
-    words.end()?;
+fn from_secret_key(alloc: Global, line: &str, reply: &mut Reply) -> Result<(), Refusal> {
+    let word = only_word(line)?;
+    let bytes = bytes_of(alloc, word)?;
     let key = PublicKey::from_secret_key(&SecretKey::from_bytes(&bytes)?)?;
     show(alloc, &key, &mut reply.fields)
 }
 
-fn to_box(alloc: Global, words: &mut Words, reply: &mut Reply) -> Result<(), Refusal> {
-    let key = next_key(alloc, words)?;
-    words.end()?;
+fn to_box(alloc: Global, line: &str, reply: &mut Reply) -> Result<(), Refusal> {
+    let word = only_word(line)?;
+    let key = key_of(alloc, word)?;
     let text = key.to_box(alloc)?.into_string();
-    reply.fields.bytes("text", text.as_bytes())?;
-    Ok(())
+    reply.fields.bytes("text", text.as_bytes())
 }
 
-fn equal(alloc: Global, words: &mut Words, reply: &mut Reply) -> Result<(), Refusal> {
-    let first = next_key(alloc, words)?;
-    let second = next_key(alloc, words)?;
-    words.end()?;
-    reply.fields.flag("eq", first == second)?;
-    Ok(())
+fn equal(alloc: Global, line: &str, reply: &mut Reply) -> Result<(), Refusal> {
+    expect_words(line, 2)?;
+    let first = key_of(alloc, word(line, 1))?;
+    let second = key_of(alloc, word(line, 2))?;
+    reply.fields.flag("eq", first == second)
 }
 
-// The next word as the record of a public key.
-fn next_key(alloc: Global, words: &mut Words) -> Result<PublicKey, Refusal> {
-    Ok(PublicKey::from_bytes(&words.bytes(alloc)?)?)
+/// The public key of a record.
+pub fn key_of(alloc: Global, word: &str) -> Result<PublicKey, Refusal> {
+    let bytes = bytes_of(alloc, word)?;
+    Ok(PublicKey::from_bytes(&bytes)?)
 }
 
 // The fields of a public key.
 fn show(alloc: Global, key: &PublicKey, fields: &mut Fields) -> Result<(), Refusal> {
     fields.returned_bytes("raw", key.to_bytes(alloc))?;
     fields.bytes("keynum", key.keynum())?;
-    fields.returned_text("base64", key.to_base64(alloc))?;
-    Ok(())
+    fields.returned_text("base64", key.to_base64(alloc))
 }

@@ -4,12 +4,12 @@ ghost use Rattle.std.specs.Prelude.{◌≡◌, [], ◌++◌, OnOk, codes, if◌t
 ghost use Rattle.hex.specs.Hex.{encode_lower};
 ghost use Rattle.minisign_compare.specs.Fields.{begun};
 
-use crate::devices::after_prompt;
 use crate::refusals::Refusal;
-use minisign::Result;
+use crate::words::times_in;
 use minisign::base::devices::sinks::VecSink;
 use minisign::base::devices::sources::SliceSource;
 use minisign::base::prompt::Prompt;
+use minisign::reading::read_to_end;
 use std::alloc::Global;
 
 /// Fields `NAME=VALUE`, parted by single spaces.
@@ -38,7 +38,7 @@ impl Fields {
     }
 
     /// A field of bytes: an `x`, and two lower hexadecimal digits for each.
-    pub fn bytes(&mut self, name: &str, bytes: &[u8]) -> Result<()>
+    pub fn bytes(&mut self, name: &str, bytes: &[u8]) -> Result<(), Refusal>
         ensures { OnOk result (string_bytes self.new.text
             ≡ begun (string_bytes self.old.text) name.now ++ codes "x" ++ encode_lower bytes.now) }
     {
@@ -50,7 +50,7 @@ impl Fields {
     }
 
     /// A field of a decimal number.
-    pub fn number(&mut self, name: &str, number: u64) -> Result<()> {
+    pub fn number(&mut self, name: &str, number: u64) -> Result<(), Refusal> {
         let digits = format!(in self.alloc; "{number}")?;
         self.begin(name)?;
         self.text.push_str(digits.as_str())?;
@@ -58,7 +58,7 @@ impl Fields {
     }
 
     /// A field of a flag: 1 or 0.
-    pub fn flag(&mut self, name: &str, flag: bool) -> Result<()>
+    pub fn flag(&mut self, name: &str, flag: bool) -> Result<(), Refusal>
         ensures { OnOk result (string_bytes self.new.text
             ≡ begun (string_bytes self.old.text) name.now ++ (if flag then codes "1" else codes "0")) }
     {
@@ -68,19 +68,27 @@ impl Fields {
     }
 
     /// A field of the bytes that a call returned.
-    pub fn returned_bytes(&mut self, name: &str, returned: Result<Vec<u8>>) -> Result<()> {
+    pub fn returned_bytes(
+        &mut self,
+        name: &str,
+        returned: minisign::Result<Vec<u8>>,
+    ) -> Result<(), Refusal> {
         let bytes = returned?;
         self.bytes(name, &bytes)
     }
 
     /// A field of the bytes of the text that a call returned.
-    pub fn returned_text(&mut self, name: &str, returned: Result<String>) -> Result<()> {
+    pub fn returned_text(
+        &mut self,
+        name: &str,
+        returned: minisign::Result<String>,
+    ) -> Result<(), Refusal> {
         let text = returned?;
         self.bytes(name, text.as_bytes())
     }
 
     // A field's name.
-    fn begin(&mut self, name: &str) -> Result<()>
+    fn begin(&mut self, name: &str) -> Result<(), Refusal>
         ensures text { OnOk result (string_bytes self.new.text ≡ begun (string_bytes self.old.text) name.now) }
     {
         if !self.text.is_empty() {
@@ -124,8 +132,11 @@ impl Reply {
         &mut self,
         alloc: Global,
         prompt: Prompt<SliceSource<'_>, VecSink>,
-    ) -> std::result::Result<(), Refusal> {
-        (self.stdout, self.typed_left) = after_prompt(alloc, prompt)?;
+    ) -> Result<(), Refusal> {
+        let (mut reader, writer) = prompt.into_parts();
+        let rest = read_to_end(alloc, &mut reader)?;
+        self.stdout = writer.into_vec();
+        self.typed_left = times_in(&rest, b'\n');
         Ok(())
     }
 }

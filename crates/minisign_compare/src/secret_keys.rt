@@ -3,98 +3,100 @@
 use crate::devices::typed_prompt;
 use crate::refusals::Refusal;
 use crate::replies::{Fields, Reply};
-use crate::words::Words;
+use crate::words::{
+    bytes_of, expect_words, only_word, text_of, text_or_none_of, typed_lines_of, word,
+};
+use minisign::base::devices::sinks::VecSink;
+use minisign::base::devices::sources::SliceSource;
+use minisign::base::prompt::Prompt;
 use minisign::{SecretKey, SecretKeyBox};
 use std::alloc::Global;
 
 /// Answers a request whose name begins with `sk_`.
-pub fn answer(
-    rt: &HostRuntime,
-    name: &str,
-    words: &mut Words,
-    reply: &mut Reply,
-) -> Result<(), Refusal> {
+pub fn answer(rt: &HostRuntime, name: &str, line: &str, reply: &mut Reply) -> Result<(), Refusal> {
     let alloc = rt.alloc();
     match name {
-        "sk_open" => open(alloc, words, reply),
-        "sk_from_file" => from_file(rt, words, reply),
-        "sk_plain" => plain(alloc, words, reply),
-        "sk_from_bytes" => from_bytes(alloc, words, reply),
-        "sk_to_box" => to_box(alloc, words, reply),
-        "sk_eq" => equal(alloc, words, reply),
+        "sk_open" => open(alloc, line, reply),
+        "sk_from_file" => from_file(rt, line, reply),
+        "sk_plain" => plain(alloc, line, reply),
+        "sk_from_bytes" => from_bytes(alloc, line, reply),
+        "sk_to_box" => to_box(alloc, line, reply),
+        "sk_eq" => equal(alloc, line, reply),
         _ => Err(Refusal::BadRequest),
     }
 }
 
-fn open(alloc: Global, words: &mut Words, reply: &mut Reply) -> Result<(), Refusal> {
-    let text = words.text(alloc)?;
-    let password = words.text_or_none(alloc)?;
-    let typed = words.typed_lines(alloc)?;
-    words.end()?;
-    let key_box = SecretKeyBox::from_string(alloc, text.as_str())?;
+fn open(alloc: Global, line: &str, reply: &mut Reply) -> Result<(), Refusal> {
+    expect_words(line, 3)?;
+    let typed = typed_lines_of(alloc, word(line, 3))?;
+    let password = text_or_none_of(alloc, word(line, 2))?;
+    let key_box = box_of(alloc, word(line, 1))?;
     let mut prompt = typed_prompt(alloc, &typed);
     let key = key_box.into_secret_key(alloc, password, &mut prompt);
-    reply.end_prompt(alloc, prompt)?;
-    show_opened(alloc, key, &mut reply.fields)
+    show_opened(alloc, key, prompt, reply)
 }
 
-fn from_file(rt: &HostRuntime, words: &mut Words, reply: &mut Reply) -> Result<(), Refusal> {
+fn from_file(rt: &HostRuntime, line: &str, reply: &mut Reply) -> Result<(), Refusal> {
     let alloc = rt.alloc();
-    let path = words.text(alloc)?;
-    let password = words.text_or_none(alloc)?;
-    let typed = words.typed_lines(alloc)?;
-    words.end()?;
+    expect_words(line, 3)?;
+    let typed = typed_lines_of(alloc, word(line, 3))?;
+    let path = text_of(alloc, word(line, 1))?;
+    let password = text_or_none_of(alloc, word(line, 2))?;
     let mut prompt = typed_prompt(alloc, &typed);
     let key = SecretKey::from_file(rt, alloc, path.as_str(), password, &mut prompt);
-    reply.end_prompt(alloc, prompt)?;
-    show_opened(alloc, key, &mut reply.fields)
+    show_opened(alloc, key, prompt, reply)
 }
 
-fn plain(alloc: Global, words: &mut Words, reply: &mut Reply) -> Result<(), Refusal> {
-    let text = words.text(alloc)?;
-    words.end()?;
-    let key_box = SecretKeyBox::from_string(alloc, text.as_str())?;
+fn plain(alloc: Global, line: &str, reply: &mut Reply) -> Result<(), Refusal> {
+    let word = only_word(line)?;
+    let key_box = box_of(alloc, word)?;
     let key = key_box.into_unencrypted_secret_key(alloc)?;
     show(alloc, &key, &mut reply.fields)
 }
 
-fn from_bytes(alloc: Global, words: &mut Words, reply: &mut Reply) -> Result<(), Refusal> {
-    let key = next_key(alloc, words)?;
-    words.end()?;
+fn from_bytes(alloc: Global, line: &str, reply: &mut Reply) -> Result<(), Refusal> {
+    let word = only_word(line)?;
+    let key = key_of(alloc, word)?;
     show(alloc, &key, &mut reply.fields)
 }
 
-fn to_box(alloc: Global, words: &mut Words, reply: &mut Reply) -> Result<(), Refusal> {
-    let bytes = words.bytes(alloc)?;
-    let comment = words.text_or_none(alloc)?;
-    words.end()?;
-    let key = SecretKey::from_bytes(&bytes)?;
+fn to_box(alloc: Global, line: &str, reply: &mut Reply) -> Result<(), Refusal> {
+    expect_words(line, 2)?;
+    let comment = text_or_none_of(alloc, word(line, 2))?;
+    let key = key_of(alloc, word(line, 1))?;
     let text = key.to_box(alloc, comment.as_deref())?.into_string();
-    reply.fields.bytes("text", text.as_bytes())?;
-    Ok(())
+    reply.fields.bytes("text", text.as_bytes())
 }
 
-fn equal(alloc: Global, words: &mut Words, reply: &mut Reply) -> Result<(), Refusal> {
-    let first = next_key(alloc, words)?;
-    let second = next_key(alloc, words)?;
-    words.end()?;
-    reply.fields.flag("eq", first == second)?;
-    Ok(())
+fn equal(alloc: Global, line: &str, reply: &mut Reply) -> Result<(), Refusal> {
+    expect_words(line, 2)?;
+    let first = key_of(alloc, word(line, 1))?;
+    let second = key_of(alloc, word(line, 2))?;
+    reply.fields.flag("eq", first == second)
 }
 
-// The next word as the record of a secret key.
-fn next_key(alloc: Global, words: &mut Words) -> Result<SecretKey, Refusal> {
-    Ok(SecretKey::from_bytes(&words.bytes(alloc)?)?)
+// The box of a text.
+fn box_of(alloc: Global, word: &str) -> Result<SecretKeyBox, Refusal> {
+    let text = text_of(alloc, word)?;
+    Ok(SecretKeyBox::from_string(alloc, text.as_str())?)
 }
 
-// The fields of the secret key that a call returned.
+// The secret key of a record.
+fn key_of(alloc: Global, word: &str) -> Result<SecretKey, Refusal> {
+    let bytes = bytes_of(alloc, word)?;
+    Ok(SecretKey::from_bytes(&bytes)?)
+}
+
+// The fields of the secret key that a call returned, and what its prompt was told.
 fn show_opened(
     alloc: Global,
     returned: minisign::Result<SecretKey>,
-    fields: &mut Fields,
+    prompt: Prompt<SliceSource<'_>, VecSink>,
+    reply: &mut Reply,
 ) -> Result<(), Refusal> {
+    reply.end_prompt(alloc, prompt)?;
     let key = returned?;
-    show(alloc, &key, fields)
+    show(alloc, &key, &mut reply.fields)
 }
 
 // The fields of a secret key.
@@ -103,6 +105,5 @@ fn show(alloc: Global, key: &SecretKey, fields: &mut Fields) -> Result<(), Refus
     fields.bytes("keynum", key.keynum())?;
     fields.flag("encrypted", key.is_encrypted())?;
     let debug = format!(in alloc; "{key:?}")?;
-    fields.returned_text("debug", Ok(debug))?;
-    Ok(())
+    fields.bytes("debug", debug.as_bytes())
 }

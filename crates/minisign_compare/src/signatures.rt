@@ -2,78 +2,60 @@
 
 use crate::refusals::Refusal;
 use crate::replies::{Fields, Reply};
-use crate::words::{Words, bytes_of, text_of};
+use crate::words::{bytes_of, only_word, text_of};
 use minisign::{SignatureBones, SignatureBox};
 use std::alloc::Global;
 
 /// Answers a request whose name begins with `sig_` or `bones_`.
-pub fn answer(
-    rt: &HostRuntime,
-    name: &str,
-    words: &mut Words,
-    reply: &mut Reply,
-) -> Result<(), Refusal> {
+pub fn answer(rt: &HostRuntime, name: &str, line: &str, reply: &mut Reply) -> Result<(), Refusal> {
     let alloc = rt.alloc();
     match name {
-        "sig_from_string" => from_string(alloc, words, reply),
-        "sig_from_file" => from_file(rt, words, reply),
-        "sig_from_bytes" => from_bytes(alloc, words, reply),
-        "bones_untrusted" => bones_untrusted(alloc, words, reply),
-        "bones_trusted" => bones_trusted(alloc, words, reply),
-        "bones_to_string" => bones_to_string(alloc, words, reply),
+        "sig_from_string" => from_string(alloc, line, reply),
+        "sig_from_file" => from_file(rt, line, reply),
+        "sig_from_bytes" => from_bytes(alloc, line, reply),
+        "bones_untrusted" => bones_untrusted(alloc, line, reply),
+        "bones_trusted" => bones_trusted(alloc, line, reply),
+        "bones_to_string" => bones_to_string(alloc, line, reply),
         _ => Err(Refusal::BadRequest),
     }
 }
 
-fn from_string(alloc: Global, words: &mut Words, reply: &mut Reply) -> Result<(), Refusal> {
-    let text = words.text(alloc)?;
-    words.end()?;
-    let signature_box = SignatureBox::from_string(alloc, text.as_str())?;
+fn from_string(alloc: Global, line: &str, reply: &mut Reply) -> Result<(), Refusal> {
+    let word = only_word(line)?;
+    let signature_box = box_of_text(alloc, word)?;
     show(alloc, &signature_box, &mut reply.fields)
 }
 
-fn from_file(rt: &HostRuntime, words: &mut Words, reply: &mut Reply) -> Result<(), Refusal> {
-    let path = words.text(rt.alloc())?;
-    words.end()?;
+fn from_file(rt: &HostRuntime, line: &str, reply: &mut Reply) -> Result<(), Refusal> {
+    let word = only_word(line)?;
+    let path = text_of(rt.alloc(), word)?;
     let signature_box = SignatureBox::from_file(rt, rt.alloc(), path.as_str())?;
     show(rt.alloc(), &signature_box, &mut reply.fields)
 }
 
-fn from_bytes(alloc: Global, words: &mut Words, reply: &mut Reply) -> Result<(), Refusal> {
-    let bones = next_bones(alloc, words)?;
-    words.end()?;
+fn from_bytes(alloc: Global, line: &str, reply: &mut Reply) -> Result<(), Refusal> {
+    let word = only_word(line)?;
+    let bones = bones_of(alloc, word)?;
     reply.fields.returned_bytes("bones", bones.to_bytes(alloc))?;
-    reply.fields.flag("prehashed", bones.is_prehashed())?;
-    Ok(())
+    reply.fields.flag("prehashed", bones.is_prehashed())
 }
 
-fn bones_untrusted(alloc: Global, words: &mut Words, reply: &mut Reply) -> Result<(), Refusal> {
-    let signature_box = SignatureBox::from_bones(next_bones(alloc, words)?);
-    words.end()?;
-    let comment = signature_box.untrusted_comment(alloc);
-    reply.fields.returned_text("untrusted", comment)?;
-    Ok(())
+fn bones_untrusted(alloc: Global, line: &str, reply: &mut Reply) -> Result<(), Refusal> {
+    let record = only_word(line)?;
+    let comment = box_of_bones(alloc, record)?.untrusted_comment(alloc);
+    reply.fields.returned_text("untrusted", comment)
 }
 
-fn bones_trusted(alloc: Global, words: &mut Words, reply: &mut Reply) -> Result<(), Refusal> {
-    let signature_box = SignatureBox::from_bones(next_bones(alloc, words)?);
-    words.end()?;
-    let comment = signature_box.trusted_comment(alloc);
-    reply.fields.returned_text("trusted", comment)?;
-    Ok(())
+fn bones_trusted(alloc: Global, line: &str, reply: &mut Reply) -> Result<(), Refusal> {
+    let record = only_word(line)?;
+    let comment = box_of_bones(alloc, record)?.trusted_comment(alloc);
+    reply.fields.returned_text("trusted", comment)
 }
 
-fn bones_to_string(alloc: Global, words: &mut Words, reply: &mut Reply) -> Result<(), Refusal> {
-    let signature_box = SignatureBox::from_bones(next_bones(alloc, words)?);
-    words.end()?;
-    let text = signature_box.to_string(alloc);
-    reply.fields.returned_text("text", text)?;
-    Ok(())
-}
-
-// The next word as the record of a bare signature.
-fn next_bones(alloc: Global, words: &mut Words) -> Result<SignatureBones, Refusal> {
-    Ok(SignatureBones::from_bytes(&words.bytes(alloc)?)?)
+fn bones_to_string(alloc: Global, line: &str, reply: &mut Reply) -> Result<(), Refusal> {
+    let record = only_word(line)?;
+    let text = box_of_bones(alloc, record)?.to_string(alloc);
+    reply.fields.returned_text("text", text)
 }
 
 /// A box: of `bones:` and a record, or of a text.
@@ -84,8 +66,14 @@ pub fn box_of(alloc: Global, word: &str) -> Result<SignatureBox, Refusal> {
     }
 }
 
+// The bare signature of a record.
+fn bones_of(alloc: Global, record: &str) -> Result<SignatureBones, Refusal> {
+    let bytes = bytes_of(alloc, record)?;
+    Ok(SignatureBones::from_bytes(&bytes)?)
+}
+
 fn box_of_bones(alloc: Global, record: &str) -> Result<SignatureBox, Refusal> {
-    let bones = SignatureBones::from_bytes(&bytes_of(alloc, record)?)?;
+    let bones = bones_of(alloc, record)?;
     Ok(SignatureBox::from_bones(bones))
 }
 
@@ -94,19 +82,24 @@ fn box_of_text(alloc: Global, word: &str) -> Result<SignatureBox, Refusal> {
     Ok(SignatureBox::from_string(alloc, text.as_str())?)
 }
 
-/// The fields of a signature.
-pub fn show(
+/// The fields of the signature that a call returned.
+pub fn show_returned(
     alloc: Global,
-    signature_box: &SignatureBox,
+    returned: minisign::Result<SignatureBox>,
     fields: &mut Fields,
 ) -> Result<(), Refusal> {
+    let signature_box = returned?;
+    show(alloc, &signature_box, fields)
+}
+
+// The fields of a signature.
+fn show(alloc: Global, signature_box: &SignatureBox, fields: &mut Fields) -> Result<(), Refusal> {
     fields.returned_bytes("bones", record_of(alloc, signature_box))?;
     fields.bytes("keynum", signature_box.keynum())?;
     fields.flag("prehashed", signature_box.is_prehashed())?;
     fields.returned_text("untrusted", signature_box.untrusted_comment(alloc))?;
     fields.returned_text("trusted", signature_box.trusted_comment(alloc))?;
-    fields.returned_text("text", signature_box.to_string(alloc))?;
-    Ok(())
+    fields.returned_text("text", signature_box.to_string(alloc))
 }
 
 // The record of the bare signature in a box.

@@ -1,7 +1,7 @@
 //! The triples that the toy scheme accepts besides its own signatures.
 
 use crate::refusals::Refusal;
-use crate::words::Words;
+use crate::words::{bytes_of, expect_words, word};
 use minisign::base::toy::Triple;
 use std::alloc::Global;
 
@@ -28,28 +28,32 @@ impl Table {
     }
 
     /// Answers a request whose name begins with `table_`.
-    pub fn answer(&mut self, alloc: Global, name: &str, words: &mut Words) -> Result<(), Refusal> {
+    pub fn answer(&mut self, alloc: Global, name: &str, line: &str) -> Result<(), Refusal> {
         match name {
-            "table_add" => self.add(alloc, words),
-            "table_clear" => {
-                self.listed.clear();
-                words.end()
-            }
+            "table_add" => self.add(alloc, line),
+            "table_clear" => self.clear(line),
             _ => Err(Refusal::BadRequest),
         }
     }
 
     // Adds a triple.
-    fn add(&mut self, alloc: Global, words: &mut Words) -> Result<(), Refusal> {
-        let message = words.bytes(alloc)?;
-        let public_key = array_of::<32>(&words.bytes(alloc)?)?;
-        let signature = array_of::<64>(&words.bytes(alloc)?)?;
-        words.end()?;
+    fn add(&mut self, alloc: Global, line: &str) -> Result<(), Refusal> {
+        expect_words(line, 3)?;
+        let public_key = array_of::<32>(alloc, word(line, 2))?;
+        let signature = array_of::<64>(alloc, word(line, 3))?;
+        let message = bytes_of(alloc, word(line, 1))?;
         self.listed.push(Listed {
             message,
             public_key,
             signature,
         })?;
+        Ok(())
+    }
+
+    // Lets all triples go.
+    fn clear(&mut self, line: &str) -> Result<(), Refusal> {
+        expect_words(line, 0)?;
+        self.listed.clear();
         Ok(())
     }
 
@@ -67,12 +71,13 @@ impl Table {
     }
 }
 
-// Bytes as an array, where there are as many.
-fn array_of<const N: usize>(bytes: &[u8]) -> Result<[u8; N], Refusal> {
+// The bytes of a word as an array, where there are as many.
+fn array_of<const N: usize>(alloc: Global, word: &str) -> Result<[u8; N], Refusal> {
+    let bytes = bytes_of(alloc, word)?;
     if bytes.len() != N {
         return Err(Refusal::BadRequest);
     }
     let mut array = [0u8; N];
-    array.copy_from_slice(bytes);
+    array.copy_from_slice(&bytes);
     Ok(array)
 }

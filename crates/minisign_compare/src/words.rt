@@ -9,85 +9,38 @@ use minisign::base::NamedFault;
 use std::alloc::Global;
 use std::str::FromStr;
 
-/// The words of a request that are still to be read.
-#[derive(Drop)]
-pub struct Words<'a> {
-    rest: Option<&'a str>,
+/// Whether so many words stand behind a request's name: any other number makes no request.
+pub fn expect_words(line: &str, count: u64) -> Result<(), Refusal> {
+    if times_in(line.as_bytes(), b' ') == count {
+        Ok(())
+    } else {
+        Err(Refusal::BadRequest)
+    }
 }
 
-impl<'a> Words<'a> {
-    /// All words of the line.
-    pub fn new(line: &'a str) -> Words<'a> {
-        Words { rest: Some(line) }
+/// The word with this number, of which the request's name has 0.
+pub fn word(line: &str, number: usize) -> &str {
+    match line.split(' ').nth(number) {
+        Some(word) => word,
+        None => "",
     }
+}
 
-    /// The next word.
-    pub fn next(&mut self) -> Result<&'a str, Refusal> {
-        let Some(rest) = self.rest else {
-            return Err(Refusal::BadRequest);
-        };
-        match rest.split_once(' ') {
-            Some((word, more)) => {
-                self.rest = Some(more);
-                Ok(word)
-            }
-            None => {
-                self.rest = None;
-                Ok(rest)
-            }
+/// The one word behind a request's name.
+pub fn only_word(line: &str) -> Result<&str, Refusal> {
+    expect_words(line, 1)?;
+    Ok(word(line, 1))
+}
+
+/// How often a byte stands in these bytes.
+pub fn times_in(bytes: &[u8], wanted: u8) -> u64 {
+    let mut times = 0u64;
+    for byte in bytes {
+        if *byte == wanted {
+            times = times.saturating_add(1);
         }
     }
-
-    /// The next word as bytes.
-    pub fn bytes(&mut self, alloc: Global) -> Result<Vec<u8>, Refusal> {
-        bytes_of(alloc, self.next()?)
-    }
-
-    /// The next word as a text.
-    pub fn text(&mut self, alloc: Global) -> Result<String, Refusal> {
-        text_of(alloc, self.next()?)
-    }
-
-    /// The next word as a text, or none where it is `-`.
-    pub fn text_or_none(&mut self, alloc: Global) -> Result<Option<String>, Refusal> {
-        text_or_none_of(alloc, self.next()?)
-    }
-
-    /// The next word as a number.
-    pub fn number<N: FromStr>(&mut self) -> Result<N, Refusal>
-    where
-        N::Err: Drop,
-    {
-        number_of(self.next()?)
-    }
-
-    /// The next word as a flag: 0 is none, and any other number below 256 is one.
-    pub fn flag(&mut self) -> Result<bool, Refusal> {
-        Ok(self.number::<u8>()? != 0)
-    }
-
-    /// Typed lines, each with a line feed: none where the next word is `-`, otherwise texts parted
-    /// by commas.
-    pub fn typed_lines(&mut self, alloc: Global) -> Result<Vec<u8>, Refusal> {
-        let mut typed = Vec::new(alloc);
-        let word = self.next()?;
-        if word == "-" {
-            return Ok(typed);
-        }
-        for part in word.split(',') {
-            typed.extend_from_slice(text_of(alloc, part)?.as_bytes())?;
-            typed.push(b'\n')?;
-        }
-        Ok(typed)
-    }
-
-    /// No word is left.
-    pub fn end(&mut self) -> Result<(), Refusal> {
-        match self.rest {
-            Some(_) => Err(Refusal::BadRequest),
-            None => Ok(()),
-        }
-    }
+    times
 }
 
 /// The bytes that an `x` and two hexadecimal digits for each byte spell.
@@ -122,6 +75,30 @@ pub fn text_or_none_of(alloc: Global, word: &str) -> Result<Option<String>, Refu
         "-" => Ok(None),
         word => Ok(Some(text_of(alloc, word)?)),
     }
+}
+
+/// Typed lines, each with a line feed: none where the word is `-`, otherwise texts parted by commas.
+pub fn typed_lines_of(alloc: Global, word: &str) -> Result<Vec<u8>, Refusal> {
+    let mut typed = Vec::new(alloc);
+    if word != "-" {
+        for part in word.split(',') {
+            type_line(alloc, part, &mut typed)?;
+        }
+    }
+    Ok(typed)
+}
+
+// Puts one line and its line feed behind those that are there.
+fn type_line(alloc: Global, word: &str, typed: &mut Vec<u8>) -> Result<(), Refusal> {
+    let line = text_of(alloc, word)?;
+    typed.extend_from_slice(line.as_bytes())?;
+    typed.push(b'\n')?;
+    Ok(())
+}
+
+/// A flag: 0 is none, and any other number below 256 is one.
+pub fn flag_of(word: &str) -> Result<bool, Refusal> {
+    Ok(number_of::<u8>(word)? != 0)
 }
 
 /// The number that decimal digits spell.
