@@ -6,7 +6,7 @@ ghost use Rattle.minisign_hash.specs.Fed.{IsFed, has_finalized, output_length};
 use crate::devices::typed_prompt;
 use crate::refusals::Refusal;
 use crate::replies::{Fields, Reply};
-use crate::words::{bytes_of, expect_words, number_of, only_word, typed_lines_of, word};
+use crate::words::{bytes_of, number_of, typed_lines_of, word};
 use minisign::base::devices::sinks::Sink;
 use minisign::base::devices::sources::Source;
 use minisign::base::helpers::{
@@ -36,7 +36,6 @@ pub fn answer(alloc: Global, name: &str, line: &str, reply: &mut Reply) -> Resul
 }
 
 fn answer_limits(line: &str, reply: &mut Reply) -> Result<(), Refusal> {
-    expect_words(line, 3)?;
     let memlimit = number_of(word(line, 1))?;
     let opslimit = number_of(word(line, 2))?;
     let params = raw_scrypt_params(memlimit, opslimit, number_of(word(line, 3))?)?;
@@ -51,7 +50,6 @@ fn show_params(params: &Params, fields: &mut Fields) -> Result<(), Refusal> {
 }
 
 fn answer_blake2b(alloc: Global, line: &str, reply: &mut Reply) -> Result<(), Refusal> {
-    expect_words(line, 3)?;
     let outlen = number_of(word(line, 1))?;
     let bytes = bytes_of(alloc, word(line, 3))?;
     if outlen == 0 || outlen > 64 {
@@ -100,7 +98,6 @@ fn feed(state: &mut Blake2b, cuts: &str, bytes: &[u8]) -> Result<(), Refusal>
 }
 
 fn answer_scrypt(alloc: Global, line: &str, reply: &mut Reply) -> Result<(), Refusal> {
-    expect_words(line, 6)?;
     let numbers = (
         number_of(word(line, 1))?,
         number_of(word(line, 2))?,
@@ -128,21 +125,18 @@ fn derived(
 }
 
 fn answer_equal(alloc: Global, line: &str, reply: &mut Reply) -> Result<(), Refusal> {
-    expect_words(line, 2)?;
     let first = bytes_of(alloc, word(line, 1))?;
     let second = bytes_of(alloc, word(line, 2))?;
     reply.fields.flag("eq", fixed_time_eq(&first, &second))
 }
 
 fn answer_store(line: &str, reply: &mut Reply) -> Result<(), Refusal> {
-    let number = only_word(line)?;
-    let number = number_of(number)?;
+    let number = number_of(word(line, 1))?;
     reply.fields.bytes("out", &store_u64_le(number))
 }
 
 fn answer_load(alloc: Global, line: &str, reply: &mut Reply) -> Result<(), Refusal> {
-    let word = only_word(line)?;
-    let bytes = bytes_of(alloc, word)?;
+    let bytes = bytes_of(alloc, word(line, 1))?;
     if bytes.len() < 8 {
         return Err(Refusal::OutsideConditions);
     }
@@ -175,8 +169,7 @@ fn clock_of(word: &str) -> Result<Shows, Refusal> {
 }
 
 fn answer_timestamp(line: &str, reply: &mut Reply) -> Result<(), Refusal> {
-    let word = only_word(line)?;
-    let clock = clock_of(word)?;
+    let clock = clock_of(word(line, 1))?;
     let moment = unix_timestamp(&clock)?;
     reply.fields.number("out", moment)
 }
@@ -187,8 +180,7 @@ fn asked<R: Source, W: Sink>(alloc: Global, prompt: &mut Prompt<R, W>) -> minisi
 }
 
 fn answer_password(alloc: Global, line: &str, reply: &mut Reply) -> Result<(), Refusal> {
-    let word = only_word(line)?;
-    let typed = typed_lines_of(alloc, word)?;
+    let typed = typed_lines_of(alloc, word(line, 1))?;
     let mut prompt = typed_prompt(alloc, &typed);
     let password = asked(alloc, &mut prompt);
     reply.end_prompt(alloc, prompt)?;

@@ -6,7 +6,7 @@ use crate::refusals::Refusal;
 use crate::replies::Reply;
 use crate::signatures::{box_of, show_returned};
 use crate::table::Table;
-use crate::words::{bytes_of, expect_words, flag_of, number_of, text_of, text_or_none_of, word};
+use crate::words::{bytes_of, flag_of, number_of, text_of, text_or_none_of, word};
 use minisign::base::devices::sinks::VecSink;
 use minisign::base::toy::{ToyScheme, Triple};
 use minisign::{PublicKey, PublicKeyBox, SecretKey, SignatureBox, sign, verify};
@@ -27,7 +27,6 @@ struct SignWords<'a> {
 impl<'a> SignWords<'a> {
     // All of the line.
     fn read(line: &'a str) -> Result<SignWords<'a>, Refusal> {
-        expect_words(line, 7)?;
         let moment = number_of(word(line, 7))?;
         Ok(SignWords {
             pk: word(line, 1),
@@ -161,7 +160,6 @@ fn answer_verify(
     line: &str,
     reply: &mut Reply,
 ) -> Result<(), Refusal> {
-    expect_words(line, 6)?;
     let pk = key_of(alloc, word(line, 1))?;
     judge(alloc, table, &pk, line, reply)
 }
@@ -172,7 +170,6 @@ fn answer_verify_texts(
     line: &str,
     reply: &mut Reply,
 ) -> Result<(), Refusal> {
-    expect_words(line, 6)?;
     let text = text_of(alloc, word(line, 1))?;
     let pk = PublicKeyBox::from_string(alloc, text.as_str())?.into_public_key(alloc)?;
     judge(alloc, table, &pk, line, reply)

@@ -10,6 +10,7 @@ mod pairs;
 mod public_keys;
 mod refusals;
 mod replies;
+mod requests;
 mod secret_keys;
 mod signatures;
 mod table;
@@ -18,20 +19,27 @@ mod words;
 use minisign::PError;
 use refusals::Refusal;
 use replies::Reply;
+use requests::is_request;
 use std::io::{self, BufRead, BufReader, BufWriter, Write};
 use std::process::ExitCode;
 use table::Table;
 
 fn main(rt: HostRuntime) -> io::Result<ExitCode> {
     let mut answers = BufWriter::new(rt.alloc(), io::writer(&rt))?;
+    let code = answer_all(&rt, &mut answers)?;
+    answers.flush()?;
+    Ok(code)
+}
+
+// Answers each line, up to one that is no request.
+fn answer_all<W: Write>(rt: &HostRuntime, answers: &mut W) -> io::Result<ExitCode> {
     let mut table = Table::new(rt.alloc());
     for line in BufReader::new(rt.alloc(), rt.reader())?.lines(rt.alloc()) {
         let line = line?;
-        if !answer_line(&rt, &mut table, line.as_str(), &mut answers)? {
-            return refuse(&rt, &mut answers, line.as_str());
+        if !answer_line(rt, &mut table, line.as_str(), answers)? {
+            return refuse(rt, answers, line.as_str());
         }
     }
-    answers.flush()?;
     Ok(ExitCode::SUCCESS)
 }
 
@@ -65,6 +73,9 @@ fn answer(
     reply: &mut Reply,
 ) -> Result<(), Refusal> {
     let name = before(line, ' ');
+    if !is_request(name, line) {
+        return Err(Refusal::BadRequest);
+    }
     match before(name, '_') {
         "pk" => public_keys::answer(rt, name, line, reply),
         "sk" => secret_keys::answer(rt, name, line, reply),

@@ -3,7 +3,7 @@
 use crate::devices::{CountedRandom, SinkWord, random_bytes, typed_prompt};
 use crate::refusals::Refusal;
 use crate::replies::{Fields, Reply};
-use crate::words::{expect_words, only_word, text_or_none_of, typed_lines_of, word};
+use crate::words::{text_or_none_of, typed_lines_of, word};
 use minisign::KeyPair;
 use minisign::base::devices::sinks::VecSink;
 use minisign::base::devices::sources::SliceSource;
@@ -24,8 +24,7 @@ pub fn answer(alloc: Global, name: &str, line: &str, reply: &mut Reply) -> Resul
 }
 
 fn plain(alloc: Global, line: &str, reply: &mut Reply) -> Result<(), Refusal> {
-    let random = only_word(line)?;
-    let bytes = random_bytes(alloc, random)?;
+    let bytes = random_bytes(alloc, word(line, 1))?;
     let mut random = CountedRandom::new(&bytes);
     let pair = generated_plain(&mut random);
     reply.tail.number("drawn", random.drawn())?;
@@ -38,7 +37,6 @@ fn generated_plain(random: &mut CountedRandom<'_>) -> minisign::Result<KeyPair> 
 }
 
 fn sealed(alloc: Global, line: &str, reply: &mut Reply) -> Result<(), Refusal> {
-    expect_words(line, 3)?;
     let bytes = random_bytes(alloc, word(line, 1))?;
     let typed = typed_lines_of(alloc, word(line, 3))?;
     let password = text_or_none_of(alloc, word(line, 2))?;
@@ -71,7 +69,6 @@ fn generated_sealed(
 }
 
 fn write_plain(alloc: Global, line: &str, reply: &mut Reply) -> Result<(), Refusal> {
-    expect_words(line, 3)?;
     let pk_sink = SinkWord::read(word(line, 2))?;
     let sk_sink = SinkWord::read(word(line, 3))?;
     let bytes = random_bytes(alloc, word(line, 1))?;
@@ -99,7 +96,6 @@ fn written_plain(
 }
 
 fn write_sealed(alloc: Global, line: &str, reply: &mut Reply) -> Result<(), Refusal> {
-    expect_words(line, 6)?;
     let sinks = (
         SinkWord::read(word(line, 2))?,
         SinkWord::read(word(line, 3))?,

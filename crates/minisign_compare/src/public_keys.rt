@@ -2,7 +2,7 @@
 
 use crate::refusals::Refusal;
 use crate::replies::{Fields, Reply};
-use crate::words::{bytes_of, expect_words, only_word, text_of, word};
+use crate::words::{bytes_of, text_of, word};
 use minisign::{PublicKey, PublicKeyBox, SecretKey};
 use std::alloc::Global;
 
@@ -22,49 +22,42 @@ pub fn answer(rt: &HostRuntime, name: &str, line: &str, reply: &mut Reply) -> Re
 }
 
 fn from_box(alloc: Global, line: &str, reply: &mut Reply) -> Result<(), Refusal> {
-    let word = only_word(line)?;
-    let text = text_of(alloc, word)?;
+    let text = text_of(alloc, word(line, 1))?;
     let key_box = PublicKeyBox::from_string(alloc, text.as_str())?;
     let key = PublicKey::from_box(alloc, key_box)?;
     show(alloc, &key, &mut reply.fields)
 }
 
 fn from_base64(alloc: Global, line: &str, reply: &mut Reply) -> Result<(), Refusal> {
-    let word = only_word(line)?;
-    let text = text_of(alloc, word)?;
+    let text = text_of(alloc, word(line, 1))?;
     let key = PublicKey::from_base64(alloc, text.as_str())?;
     show(alloc, &key, &mut reply.fields)
 }
 
 fn from_file(rt: &HostRuntime, line: &str, reply: &mut Reply) -> Result<(), Refusal> {
-    let word = only_word(line)?;
-    let path = text_of(rt.alloc(), word)?;
+    let path = text_of(rt.alloc(), word(line, 1))?;
     let key = PublicKey::from_file(rt, rt.alloc(), path.as_str())?;
     show(rt.alloc(), &key, &mut reply.fields)
 }
 
 fn from_bytes(alloc: Global, line: &str, reply: &mut Reply) -> Result<(), Refusal> {
-    let word = only_word(line)?;
-    let key = key_of(alloc, word)?;
+    let key = key_of(alloc, word(line, 1))?;
     show(alloc, &key, &mut reply.fields)
 }
 
 fn from_secret_key(alloc: Global, line: &str, reply: &mut Reply) -> Result<(), Refusal> {
-    let word = only_word(line)?;
-    let bytes = bytes_of(alloc, word)?;
+    let bytes = bytes_of(alloc, word(line, 1))?;
     let key = PublicKey::from_secret_key(&SecretKey::from_bytes(&bytes)?)?;
     show(alloc, &key, &mut reply.fields)
 }
 
 fn to_box(alloc: Global, line: &str, reply: &mut Reply) -> Result<(), Refusal> {
-    let word = only_word(line)?;
-    let key = key_of(alloc, word)?;
+    let key = key_of(alloc, word(line, 1))?;
     let text = key.to_box(alloc)?.into_string();
     reply.fields.bytes("text", text.as_bytes())
 }
 
 fn equal(alloc: Global, line: &str, reply: &mut Reply) -> Result<(), Refusal> {
-    expect_words(line, 2)?;
     let first = key_of(alloc, word(line, 1))?;
     let second = key_of(alloc, word(line, 2))?;
     reply.fields.flag("eq", first == second)

@@ -3,9 +3,7 @@
 use crate::devices::typed_prompt;
 use crate::refusals::Refusal;
 use crate::replies::{Fields, Reply};
-use crate::words::{
-    bytes_of, expect_words, only_word, text_of, text_or_none_of, typed_lines_of, word,
-};
+use crate::words::{bytes_of, text_of, text_or_none_of, typed_lines_of, word};
 use minisign::base::devices::sinks::VecSink;
 use minisign::base::devices::sources::SliceSource;
 use minisign::base::prompt::Prompt;
@@ -27,7 +25,6 @@ pub fn answer(rt: &HostRuntime, name: &str, line: &str, reply: &mut Reply) -> Re
 }
 
 fn open(alloc: Global, line: &str, reply: &mut Reply) -> Result<(), Refusal> {
-    expect_words(line, 3)?;
     let typed = typed_lines_of(alloc, word(line, 3))?;
     let password = text_or_none_of(alloc, word(line, 2))?;
     let key_box = box_of(alloc, word(line, 1))?;
@@ -38,7 +35,6 @@ fn open(alloc: Global, line: &str, reply: &mut Reply) -> Result<(), Refusal> {
 
 fn from_file(rt: &HostRuntime, line: &str, reply: &mut Reply) -> Result<(), Refusal> {
     let alloc = rt.alloc();
-    expect_words(line, 3)?;
     let typed = typed_lines_of(alloc, word(line, 3))?;
     let path = text_of(alloc, word(line, 1))?;
     let password = text_or_none_of(alloc, word(line, 2))?;
@@ -48,20 +44,17 @@ fn from_file(rt: &HostRuntime, line: &str, reply: &mut Reply) -> Result<(), Refu
 }
 
 fn plain(alloc: Global, line: &str, reply: &mut Reply) -> Result<(), Refusal> {
-    let word = only_word(line)?;
-    let key_box = box_of(alloc, word)?;
+    let key_box = box_of(alloc, word(line, 1))?;
     let key = key_box.into_unencrypted_secret_key(alloc)?;
     show(alloc, &key, &mut reply.fields)
 }
 
 fn from_bytes(alloc: Global, line: &str, reply: &mut Reply) -> Result<(), Refusal> {
-    let word = only_word(line)?;
-    let key = key_of(alloc, word)?;
+    let key = key_of(alloc, word(line, 1))?;
     show(alloc, &key, &mut reply.fields)
 }
 
 fn to_box(alloc: Global, line: &str, reply: &mut Reply) -> Result<(), Refusal> {
-    expect_words(line, 2)?;
     let comment = text_or_none_of(alloc, word(line, 2))?;
     let key = key_of(alloc, word(line, 1))?;
     let text = key.to_box(alloc, comment.as_deref())?.into_string();
@@ -69,7 +62,6 @@ fn to_box(alloc: Global, line: &str, reply: &mut Reply) -> Result<(), Refusal> {
 }
 
 fn equal(alloc: Global, line: &str, reply: &mut Reply) -> Result<(), Refusal> {
-    expect_words(line, 2)?;
     let first = key_of(alloc, word(line, 1))?;
     let second = key_of(alloc, word(line, 2))?;
     reply.fields.flag("eq", first == second)

@@ -2,7 +2,7 @@
 
 use crate::refusals::Refusal;
 use crate::replies::{Fields, Reply};
-use crate::words::{bytes_of, only_word, text_of};
+use crate::words::{bytes_of, text_of, word};
 use minisign::{SignatureBones, SignatureBox};
 use std::alloc::Global;
 
@@ -21,40 +21,34 @@ pub fn answer(rt: &HostRuntime, name: &str, line: &str, reply: &mut Reply) -> Re
 }
 
 fn from_string(alloc: Global, line: &str, reply: &mut Reply) -> Result<(), Refusal> {
-    let word = only_word(line)?;
-    let signature_box = box_of_text(alloc, word)?;
+    let signature_box = box_of_text(alloc, word(line, 1))?;
     show(alloc, &signature_box, &mut reply.fields)
 }
 
 fn from_file(rt: &HostRuntime, line: &str, reply: &mut Reply) -> Result<(), Refusal> {
-    let word = only_word(line)?;
-    let path = text_of(rt.alloc(), word)?;
+    let path = text_of(rt.alloc(), word(line, 1))?;
     let signature_box = SignatureBox::from_file(rt, rt.alloc(), path.as_str())?;
     show(rt.alloc(), &signature_box, &mut reply.fields)
 }
 
 fn from_bytes(alloc: Global, line: &str, reply: &mut Reply) -> Result<(), Refusal> {
-    let word = only_word(line)?;
-    let bones = bones_of(alloc, word)?;
+    let bones = bones_of(alloc, word(line, 1))?;
     reply.fields.returned_bytes("bones", bones.to_bytes(alloc))?;
     reply.fields.flag("prehashed", bones.is_prehashed())
 }
 
 fn bones_untrusted(alloc: Global, line: &str, reply: &mut Reply) -> Result<(), Refusal> {
-    let record = only_word(line)?;
-    let comment = box_of_bones(alloc, record)?.untrusted_comment(alloc);
+    let comment = box_of_bones(alloc, word(line, 1))?.untrusted_comment(alloc);
     reply.fields.returned_text("untrusted", comment)
 }
 
 fn bones_trusted(alloc: Global, line: &str, reply: &mut Reply) -> Result<(), Refusal> {
-    let record = only_word(line)?;
-    let comment = box_of_bones(alloc, record)?.trusted_comment(alloc);
+    let comment = box_of_bones(alloc, word(line, 1))?.trusted_comment(alloc);
     reply.fields.returned_text("trusted", comment)
 }
 
 fn bones_to_string(alloc: Global, line: &str, reply: &mut Reply) -> Result<(), Refusal> {
-    let record = only_word(line)?;
-    let text = box_of_bones(alloc, record)?.to_string(alloc);
+    let text = box_of_bones(alloc, word(line, 1))?.to_string(alloc);
     reply.fields.returned_text("text", text)
 }
 

@@ -1,7 +1,7 @@
 //! The triples that the toy scheme accepts besides its own signatures.
 
 use crate::refusals::Refusal;
-use crate::words::{bytes_of, expect_words, word};
+use crate::words::{bytes_of, word};
 use minisign::base::toy::Triple;
 use std::alloc::Global;
 
@@ -31,14 +31,16 @@ impl Table {
     pub fn answer(&mut self, alloc: Global, name: &str, line: &str) -> Result<(), Refusal> {
         match name {
             "table_add" => self.add(alloc, line),
-            "table_clear" => self.clear(line),
+            "table_clear" => {
+                self.listed.clear();
+                Ok(())
+            }
             _ => Err(Refusal::BadRequest),
         }
     }
 
     // Adds a triple.
     fn add(&mut self, alloc: Global, line: &str) -> Result<(), Refusal> {
-        expect_words(line, 3)?;
         let public_key = array_of::<32>(alloc, word(line, 2))?;
         let signature = array_of::<64>(alloc, word(line, 3))?;
         let message = bytes_of(alloc, word(line, 1))?;
@@ -47,13 +49,6 @@ impl Table {
             public_key,
             signature,
         })?;
-        Ok(())
-    }
-
-    // Lets all triples go.
-    fn clear(&mut self, line: &str) -> Result<(), Refusal> {
-        expect_words(line, 0)?;
-        self.listed.clear();
         Ok(())
     }
 

@@ -9,27 +9,12 @@ use minisign::base::NamedFault;
 use std::alloc::Global;
 use std::str::FromStr;
 
-/// Whether so many words stand behind a request's name: any other number makes no request.
-pub fn expect_words(line: &str, count: u64) -> Result<(), Refusal> {
-    if times_in(line.as_bytes(), b' ') == count {
-        Ok(())
-    } else {
-        Err(Refusal::BadRequest)
-    }
-}
-
 /// The word with this number, of which the request's name has 0.
 pub fn word(line: &str, number: usize) -> &str {
     match line.split(' ').nth(number) {
         Some(word) => word,
         None => "",
     }
-}
-
-/// The one word behind a request's name.
-pub fn only_word(line: &str) -> Result<&str, Refusal> {
-    expect_words(line, 1)?;
-    Ok(word(line, 1))
 }
 
 /// How often a byte stands in these bytes.
