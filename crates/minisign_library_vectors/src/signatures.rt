@@ -1,6 +1,6 @@
 //! Signatures: their texts, signing and verifying.
 
-mod calls;
+pub mod calls;
 mod devices;
 mod signing;
 mod texts;

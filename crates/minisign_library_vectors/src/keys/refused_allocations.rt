@@ -5,6 +5,7 @@
 
 use crate::keys::sealed::in_parts::sealed_in_parts;
 use crate::keys::texts::is_text_of;
+use crate::signatures::calls::has_text;
 use minisign::{KeyPair, PublicKey, Result, SecretKey, SecretKeyBox};
 use minisign_base::devices::random_sources::FixedRandom;
 use minisign_base::devices::sinks::VecSink;
@@ -24,12 +25,24 @@ fn typed<'a>(bytes: &'a [u8]) -> Prompt<SliceSource<'a>, Counting> {
     Prompt::new(SliceSource::new(bytes), Counting { bytes: 0 })
 }
 
+// The text of a public key.
+fn public_text(alloc: Global, key: &PublicKey) -> Result<String> {
+    let pk_box = key.to_box(alloc)?;
+    Ok(pk_box.into_string())
+}
+
+// The text of a secret key, with the comment by default.
+fn secret_text(alloc: Global, key: &SecretKey) -> Result<String> {
+    let sk_box = key.to_box(alloc, None)?;
+    Ok(sk_box.into_string())
+}
+
 // Whether a pair that is not sealed is made as it should be, and its secret key can be copied.
 fn made_raw(alloc: Global) -> Result<bool> {
     let scheme = ToyScheme::new();
     let pair = KeyPair::generate_unencrypted_keypair(&scheme, &mut FixedRandom::new(&counted()))?;
-    let text = pair.clone()?.pk.to_box(alloc)?.into_string();
-    Ok(text.as_str() == COUNTED_PUBLIC_TEXT)
+    let copy = pair.clone()?;
+    has_text(public_text(alloc, &copy.pk), COUNTED_PUBLIC_TEXT)
 }
 
 // The same, written to two buffers.
@@ -43,8 +56,14 @@ fn wrote_raw(alloc: Global) -> Result<bool> {
         &mut public,
         &mut secret,
     )?;
-    let read = PublicKey::from_bytes(public.as_slice())?;
-    Ok(read == pair.pk && SecretKey::from_bytes(secret.as_slice())? == pair.sk)
+    has_records(&pair, public.as_slice(), secret.as_slice())
+}
+
+// Whether the keys of these records are those of the pair.
+fn has_records(pair: &KeyPair, public: &[u8], secret: &[u8]) -> Result<bool> {
+    let pk = PublicKey::from_bytes(public)?;
+    let sk = SecretKey::from_bytes(secret)?;
+    Ok(pk == pair.pk && sk == pair.sk)
 }
 
 // Whether this is the text of the pair that is sealed under the empty password.
@@ -65,7 +84,7 @@ fn made_sealed(alloc: Global) -> Result<bool> {
         None,
         &mut typed(b"\n\n"),
     )?;
-    let text = pair.sk.to_box(alloc, None)?.into_string();
+    let text = secret_text(alloc, &pair.sk)?;
     Ok(is_sealed_text(text.as_bytes()))
 }
 
@@ -87,34 +106,38 @@ fn wrote_sealed(alloc: Global) -> Result<bool> {
     Ok(written && is_sealed_text(secret.as_slice()))
 }
 
+// Whether the key is key A, which is sealed no more.
+fn is_opened(key: &SecretKey) -> Result<bool> {
+    let opened = SecretKey::from_bytes(&secret_record(b"Sc", &CHECKSUM))?;
+    Ok(*key == opened && !key.is_encrypted())
+}
+
 // Whether the text of key A, sealed, opens with every third row kept.
 fn opened_in_less_memory(alloc: Global) -> Result<bool> {
     let sk_box = SecretKeyBox::from_string(alloc, SEALED)?;
     let key = SecretKey::from_box_keeping(alloc, sk_box, None, &mut typed(b"password\n"), 3)?;
-    Ok(key == SecretKey::from_bytes(&secret_record(b"Sc", &CHECKSUM))? && !key.is_encrypted())
+    is_opened(&key)
 }
 
 // Whether key A opens that was sealed in many parts.
 fn opened_in_parts(alloc: Global) -> Result<bool> {
     let sk_box = sealed_in_parts(alloc)?;
     let key = SecretKey::from_box(alloc, sk_box, None, &mut typed(b"password\n"))?;
-    Ok(key == SecretKey::from_bytes(&secret_record(b"Sc", &CHECKSUM))? && !key.is_encrypted())
+    is_opened(&key)
 }
 
 // Whether the text of key A's public half comes out as it was worked out.
 fn public_written(alloc: Global) -> Result<bool> {
     let secret = SecretKey::from_bytes(&secret_record(&[0, 0], &CHECKSUM))?;
     let public = PublicKey::from_secret_key(&secret)?;
-    let text = public.to_box(alloc)?.into_string();
-    Ok(text.as_str() == KEY_TEXT)
+    has_text(public_text(alloc, &public), KEY_TEXT)
 }
 
 // Whether the text of key A comes out again as it was read.
 fn secret_written_again(alloc: Global) -> Result<bool> {
     let sk_box = SecretKeyBox::from_string(alloc, SECRET_TEXT)?;
     let sk = sk_box.into_unencrypted_secret_key(alloc)?;
-    let text = sk.to_box(alloc, None)?.into_string();
-    Ok(text.as_str() == SECRET_TEXT)
+    has_text(secret_text(alloc, &sk), SECRET_TEXT)
 }
 
 #[test]

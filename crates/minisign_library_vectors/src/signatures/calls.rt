@@ -259,3 +259,9 @@ pub fn signed_text<P: Source, Q: Sink, R: Source, Z: RandomSource>(
 pub fn read_box(alloc: Global, text: &str) -> Result<SignatureBox> {
     SignatureBox::from_string(alloc, text)
 }
+
+/// Whether this is the text that a call returned, or its fault.
+pub fn has_text(returned: Result<String>, text: &str) -> Result<bool> {
+    let returned = returned?;
+    Ok(returned.as_str() == text)
+}

@@ -4,7 +4,7 @@
 //! fail to write too.
 
 use crate::signatures::calls::{
-    COPYING, Said, key_a, public_a, read_box, signed_from, signed_text, verified_texts,
+    COPYING, Said, has_text, key_a, public_a, read_box, signed_from, signed_text, verified_texts,
 };
 use minisign::{PublicKey, Result, SignatureBones, SignatureBox};
 use minisign_base::devices::random_sources::FixedRandom;
@@ -73,8 +73,8 @@ fn text_signed<Q: Sink>(
 
 // Whether signing with the text and a typed password gives the text that was worked out.
 fn signed(alloc: Global, sk_text: &str) -> Result<bool> {
-    let text = text_signed(alloc, sk_text, &mut typed(b"password\n"))?;
-    Ok(text.as_str() == SIGNATURE_TEXT)
+    let text = text_signed(alloc, sk_text, &mut typed(b"password\n"));
+    has_text(text, SIGNATURE_TEXT)
 }
 
 // The box that is made with a public key to test, and with the comments by default.
@@ -104,9 +104,9 @@ fn read_again(alloc: Global, made: Result<SignatureBox>) -> Result<SignatureBox>
 
 // Whether this is the trusted comment of the box, and its untrusted one is that by default.
 fn has_comments(alloc: Global, signature_box: &SignatureBox, trusted: &str) -> Result<bool> {
-    let shown = signature_box.trusted_comment(alloc)?;
-    let below = signature_box.untrusted_comment(alloc)?;
-    Ok(shown.as_str() == trusted && below.as_str() == "signature from rsign secret key")
+    let is_trusted = has_text(signature_box.trusted_comment(alloc), trusted)?;
+    let untrusted = signature_box.untrusted_comment(alloc);
+    Ok(has_text(untrusted, "signature from rsign secret key")? && is_trusted)
 }
 
 // Whether a box that is made with a public key to test, and with the comments by default, has its
