@@ -11,46 +11,30 @@ use std::alloc::Global;
 
 const ZEROS: [u8; 128] = [0; 128];
 
-// Key A's secret text with this comment.
-fn secret_text(alloc: Global, comment: &str) -> Result<String> {
-    let second = match SECRET_TEXT.split_once('\n') {
-        Some((_, second)) => second,
-        None => "",
+// Whether key A's secret text with a comment of this many letters signs `abc` as key A does, with
+// that comment beside it.
+fn signs(alloc: Global, size: usize) -> Result<bool> {
+    let Some((_, second)) = SECRET_TEXT.split_once('\n') else {
+        return Ok(false);
     };
-    let text = format!(in alloc; "untrusted comment: {comment}\n{second}")?;
-    Ok(text)
-}
-
-// What key A signs over `abc` with this comment.
-fn signed_by_key(alloc: Global, comment: &str) -> Result<String> {
+    let comment = String::from_utf8(vec![in alloc; b'x'; size]?)?;
+    let comment = comment.as_str();
+    let sk_text = format!(in alloc; "untrusted comment: {comment}\n{second}")?;
     let said = Said {
         trusted: Some(comment),
         untrusted: Some(comment),
         moment: 0,
     };
-    signed(alloc, b"abc", said, &ZEROS)?.into_string(alloc)
-}
-
-// What the text of a secret key signs over `abc` with this comment.
-fn signed_by_text(alloc: Global, sk_text: &str, comment: &str) -> Result<String> {
-    signed_text(
+    let wanted = signed(alloc, b"abc", said, &ZEROS)?.into_string(alloc)?;
+    let given = signed_text(
         alloc,
-        sk_text,
+        sk_text.as_str(),
         None,
         &mut typed_at_once(alloc, b""),
         &mut SliceSource::new(b"abc"),
         (comment, comment),
         &mut FixedRandom::new(&ZEROS),
-    )
-}
-
-// Whether key A's secret text with a comment of this many letters signs `abc` as key A does, with
-// that comment beside it.
-fn signs(alloc: Global, size: usize) -> Result<bool> {
-    let comment = String::from_utf8(vec![in alloc; b'x'; size]?)?;
-    let sk_text = secret_text(alloc, comment.as_str())?;
-    let wanted = signed_by_key(alloc, comment.as_str())?;
-    let given = signed_by_text(alloc, sk_text.as_str(), comment.as_str());
+    );
     Ok(gives_text(given, wanted.as_str()))
 }
 
