@@ -61,12 +61,9 @@ pub {name}_spec : {{M : Type 1}} → statement M
 """
 # What is said of a function that is proved, where some of what it calls has a hole for its proof or none has.
 WELL = ("proved", "no holes", "depends on a hole in")
-# Where a function begins, with the attributes above it, and its body.
+# Where a function begins, with the attributes above it.
 HEADER = re.compile(r"(?m)^(?: *#\[.*\]\n)*(?P<indent> *)(?:pub(?:\(\w+\))? )?(?:const )?(?:unsafe )?"
                     r'(?:extern "C" )?(?P<fn>fn) (?P<name>\w+)')
-BODY = re.compile(r"(?m)\{$")
-# Where the head of a function ends, before its body or without one.
-HEAD_END = re.compile(r"(?m)[{;]$")
 # A goal of the function for which a search found no proof.
 SEARCHED = re.compile(r"did not prove `|it is not proved that")
 # A search for a proof did not come to its end.
@@ -197,18 +194,29 @@ def assume(folder, crate, functions):
             file.write(HOLE.format(path=".".join([crate, "proofs", *path]), name=name))
 
 
+def body_of(text, header):
+    """Returns where the body of a function begins and ends, behind this match of HEADER, if it has one: by the layout of
+    `rt fmt`, in which its brackets end the line of the head and stand at the head's place."""
+    indent = header["indent"]
+    begin = re.compile(rf"(?m)(?:\A.*|^{indent}(?:\).*)?)\{{$").search(text[header.end():])
+    end = re.compile(rf"(?m)^{indent}\}}").search(text, header.end() + begin.end()) if begin else None
+    return (header.end() + begin.end(), end.start()) if end else None
+
+
 def loops(text, changed):
     """Returns what has to stand in place of what in the text of a file so that its functions are loops without an end, but
     for those that are changed where they stand."""
     found, end = [], 0
-    for header in HEADER.finditer(text):
-        head = HEAD_END.search(text, header.end())
-        if header.start() < end or not head or head[0] == ";" or "const fn" in header[0]:
+    headers = [*HEADER.finditer(text)]
+    for header, other in zip(headers, [*headers[1:], None]):
+        body = body_of(text, header)
+        # (a function that is declared without a body is followed by another function, or by the end of its trait)
+        is_there = body and not re.search(r"(?m)^\}", text[header.end() : body[0]]) and (not other or body[0] < other.start())
+        if header.start() < end or not is_there or "const fn" in header[0]:
             continue
-        body = re.compile(rf"(?m)^{header['indent']}\}}").search(text, head.end())
-        end = body.end()
+        end = body[1]
         if not any(header.start() < at < end for at in changed):
-            found.append((head.end(), body.start(), LOOP.format(indent=header["indent"])))
+            found.append((*body, LOOP.format(indent=header["indent"])))
     return found
 
 
@@ -356,9 +364,9 @@ def function_at(text, at):
     """Returns where the function begins and ends in whose body a place of a source file lies, and its name, if it lies in
     one."""
     headers = [*HEADER.finditer(text, 0, max(at, 0))]
-    body = BODY.search(text, headers[-1].start("fn")) if headers else None
-    end = re.compile(rf"(?m)^{headers[-1]['indent']}\}}").search(text, body.end()) if body else None
-    return (headers[-1].start(), end.end(), headers[-1]["name"]) if end and body.start() < at < end.start() else None
+    body = body_of(text, headers[-1]) if headers else None
+    is_there = body and body[0] <= at < body[1]
+    return (headers[-1].start(), text.index("}", body[1]) + 1, headers[-1]["name"]) if is_there else None
 
 
 def is_of_trait(text, at):
