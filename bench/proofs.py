@@ -50,6 +50,9 @@ def main(words):
     rows = next((int(it) for it in words if it.isdigit()), 30)
     crate, flags = words[0], [it for it in words if it == "--test"]
     why = proved.supply(proved.crates()[crate].below)
+    if why:
+        print(f"a library is not proved: {why}")
+        return 1
     with tempfile.TemporaryDirectory(prefix="proofs-") as room:
         ran = proved.rattle("check", crate, f"{proved.ROOT}/crates/{crate}", "--incremental", room, *flags)
         found = costs(saved(room))
@@ -58,7 +61,7 @@ def main(words):
         print(f"{sum(parts.values()):7.1f}  {name}: {shown}")
     total = sum((parts for parts in found.values()), Counter())
     print(f"{sum(total.values()):7.1f}  in all: {', '.join(f'{part} {seconds:.0f}' for part, seconds in total.most_common(8))}")
-    print(why or proved.first_of(ran.stdout))
+    print(proved.first_of(ran.stdout))
     return ran.returncode
 
 
