@@ -1,9 +1,10 @@
 """What scripts need from outside: each is looked for first. Where `CI` is set in the environment, what is not there is
-installed, as root on Debian; else it is a `Missing` that names its package.
+installed, as root on Debian, by one script at a time; else it is a `Missing` that names its package.
 
 Needs Python 3.9 or later.
 """
 
+import fcntl
 import os
 import shutil
 import subprocess
@@ -11,6 +12,8 @@ import sys
 import tempfile
 
 SECONDS = 600
+# Scripts that install hold this file: apt-get does not wait for another one that renews the list of packages.
+LOCK = os.path.join(tempfile.gettempdir(), "minisign-installing-packages")
 
 HELLO = "int main(void) { return 0; }\n"
 SODIUM = "#include <sodium.h>\nint main(void) { return sodium_init() < 0; }\n"
@@ -50,8 +53,11 @@ def need(find, what, *packages):
     """What `find` answers, once the packages are installed where it first answers None."""
     found = find()
     if found is None and may_install():
-        wrong = install(packages)
-        found = find()
+        with open(LOCK, "w", encoding="ascii") as lock:
+            fcntl.flock(lock, fcntl.LOCK_EX)
+            # (another script may have brought it meanwhile)
+            wrong = "" if find() is not None else install(packages)
+            found = find()
         if found is None:
             raise Missing(f"{what} is not here, and installing {' '.join(packages)} did not bring it: {wrong}")
     if found is None:

@@ -2,6 +2,7 @@
 one for x86-64-v2, and one for x86-64-v3. Both stand on the libraries that are built already (`proved.py`).
 """
 
+import fcntl
 import os
 import subprocess
 
@@ -18,11 +19,13 @@ FOR_V3 = "--cpu=x86-64-v3"
 
 
 def built():
-    """The paths of the two archives, which are proved and built where they are not there."""
-    for archive, flags in ((V3, [FOR_V3]), (V2, [])):
-        if not os.path.exists(archive):
-            print("static library: building it, and proving first what is not proved", flush=True)
-            proved.build_archive(NAME, archive, *flags)
+    """The paths of the two archives, which are proved and built where they are not there, by one script at a time."""
+    with open(os.path.join(FOLDER, "Makefile"), "rb") as lock:
+        fcntl.flock(lock, fcntl.LOCK_EX)
+        for archive, flags in ((V3, [FOR_V3]), (V2, [])):
+            if not os.path.exists(archive):
+                print("static library: building it, and proving first what is not proved", flush=True)
+                proved.build_archive(NAME, archive, *flags)
     return V2, V3
 
 

@@ -93,19 +93,13 @@ fn tell_usage(rt: &HostRuntime) -> io::Result<ExitCode> {
 // Runs a job.
 fn run(rt: &HostRuntime, job: &str, arguments: &mut env::Args) -> Result<u64, Stopped> {
     match job {
-        "hash" => hash(rt, &next(arguments)?, rounds(arguments)?),
-        "verify" => {
-            let (pk, sig) = (next(arguments)?, next(arguments)?);
-            verify_file(rt, &pk, &sig, &next(arguments)?)
-        }
-        "sign" => sign_file(rt, &next(arguments)?, &next(arguments)?),
-        "open" => open(rt, &next(arguments)?, next(arguments)?),
-        "keys" => keys(rt, &next(arguments)?, rounds(arguments)?),
-        "signatures" => signatures(rt, &next(arguments)?, rounds(arguments)?),
-        "small" => {
-            let (pk, sig) = (next(arguments)?, next(arguments)?);
-            small(rt, &pk, &sig, rounds(arguments)?)
-        }
+        "hash" => hash(rt, arguments),
+        "verify" => verify_file(rt, arguments),
+        "sign" => sign_file(rt, arguments),
+        "open" => open(rt, arguments),
+        "keys" => keys(rt, arguments),
+        "signatures" => signatures(rt, arguments),
+        "small" => small(rt, arguments),
         _ => Err(Stopped::Usage),
     }
 }
@@ -124,16 +118,38 @@ fn rounds(arguments: &mut env::Args) -> Result<u64, Stopped> {
     }
 }
 
-fn text_of(rt: &HostRuntime, path: &str) -> Result<String, Stopped> {
-    let mut source = FileSource::new(fs::open(rt, path)?);
+// The file that the next argument names.
+fn source_of(rt: &HostRuntime, arguments: &mut env::Args) -> Result<FileSource<fs::File>, Stopped> {
+    let path = next(arguments)?;
+    Ok(FileSource::new(fs::open(rt, &path)?))
+}
+
+fn text_of(rt: &HostRuntime, arguments: &mut env::Args) -> Result<String, Stopped> {
+    let mut source = source_of(rt, arguments)?;
     Ok(read_text(rt.alloc(), &mut source)?)
 }
 
-fn hash(rt: &HostRuntime, path: &str, rounds: u64) -> Result<u64, Stopped> {
-    let mut source = FileSource::new(fs::open(rt, path)?);
+fn key_of(rt: &HostRuntime, arguments: &mut env::Args) -> Result<PublicKey, Stopped> {
+    let text = text_of(rt, arguments)?;
+    let key_box = PublicKeyBox::from_string(rt.alloc(), &text)?;
+    Ok(key_box.into_public_key(rt.alloc())?)
+}
+
+fn box_of(rt: &HostRuntime, arguments: &mut env::Args) -> Result<SignatureBox, Stopped> {
+    let text = text_of(rt, arguments)?;
+    Ok(SignatureBox::from_string(rt.alloc(), &text)?)
+}
+
+fn secret_of(rt: &HostRuntime, arguments: &mut env::Args) -> Result<SecretKeyBox, Stopped> {
+    let text = text_of(rt, arguments)?;
+    Ok(SecretKeyBox::from_string(rt.alloc(), &text)?)
+}
+
+fn hash(rt: &HostRuntime, arguments: &mut env::Args) -> Result<u64, Stopped> {
+    let mut source = source_of(rt, arguments)?;
     let data = read_to_end(rt.alloc(), &mut source)?;
     let mut sum = 0u64;
-    for _ in 0..rounds {
+    for _ in 0..rounds(arguments)? {
         let mut digest = [0u8; 64];
         Blake2b::blake2b(&mut digest, &data);
         sum = sum.wrapping_add(digest[0] as u64);
@@ -141,37 +157,12 @@ fn hash(rt: &HostRuntime, path: &str, rounds: u64) -> Result<u64, Stopped> {
     Ok(sum)
 }
 
-fn key_of(rt: &HostRuntime, path: &str) -> Result<PublicKey, Stopped> {
-    let text = text_of(rt, path)?;
-    let key_box = PublicKeyBox::from_string(rt.alloc(), &text)?;
-    Ok(key_box.into_public_key(rt.alloc())?)
-}
-
-fn box_of(rt: &HostRuntime, path: &str) -> Result<SignatureBox, Stopped> {
-    let text = text_of(rt, path)?;
-    Ok(SignatureBox::from_string(rt.alloc(), &text)?)
-}
-
-fn secret_of(rt: &HostRuntime, path: &str) -> Result<SecretKeyBox, Stopped> {
-    let text = text_of(rt, path)?;
-    Ok(SecretKeyBox::from_string(rt.alloc(), &text)?)
-}
-
-fn verify_file(rt: &HostRuntime, pk: &str, sig: &str, path: &str) -> Result<u64, Stopped> {
-    let key = key_of(rt, pk)?;
-    let signature_box = box_of(rt, sig)?;
-    verify_with(rt, &key, &signature_box, path)?;
+fn verify_file(rt: &HostRuntime, arguments: &mut env::Args) -> Result<u64, Stopped> {
+    let key = key_of(rt, arguments)?;
+    let signature_box = box_of(rt, arguments)?;
+    let mut source = source_of(rt, arguments)?;
+    verified(rt.alloc(), &key, &signature_box, &mut source)?;
     Ok(1)
-}
-
-fn verify_with(
-    rt: &HostRuntime,
-    key: &PublicKey,
-    signature_box: &SignatureBox,
-    path: &str,
-) -> Result<(), Stopped> {
-    let mut source = FileSource::new(fs::open(rt, path)?);
-    Ok(verified(rt.alloc(), key, signature_box, &mut source)?)
 }
 
 // Verifies what a source has ahead, quietly and with no output.
@@ -197,9 +188,9 @@ fn verified<R: Rereader>(
     )
 }
 
-fn sign_file(rt: &HostRuntime, sk: &str, path: &str) -> Result<u64, Stopped> {
-    let key = secret_of(rt, sk)?.into_unencrypted_secret_key(rt.alloc())?;
-    let mut source = FileSource::new(fs::open(rt, path)?);
+fn sign_file(rt: &HostRuntime, arguments: &mut env::Args) -> Result<u64, Stopped> {
+    let key = secret_of(rt, arguments)?.into_unencrypted_secret_key(rt.alloc())?;
+    let mut source = source_of(rt, arguments)?;
     let text = signed_text(rt.alloc(), &key, &mut source)?;
     Ok(text.len() as u64)
 }
@@ -224,17 +215,18 @@ fn signed_text<R: Source>(
     signature_box.to_string(alloc)
 }
 
-fn open(rt: &HostRuntime, sk: &str, password: String) -> Result<u64, Stopped> {
-    let key_box = secret_of(rt, sk)?;
+fn open(rt: &HostRuntime, arguments: &mut env::Args) -> Result<u64, Stopped> {
+    let key_box = secret_of(rt, arguments)?;
+    let password = next(arguments)?;
     let mut unasked = Prompt::new(SliceSource::new(b""), VecSink::new(rt.alloc()));
     let key = SecretKey::from_box(rt.alloc(), key_box, Some(password), &mut unasked)?;
     Ok(key.is_encrypted() as u64)
 }
 
-fn keys(rt: &HostRuntime, pk: &str, rounds: u64) -> Result<u64, Stopped> {
-    let text = text_of(rt, pk)?;
+fn keys(rt: &HostRuntime, arguments: &mut env::Args) -> Result<u64, Stopped> {
+    let text = text_of(rt, arguments)?;
     let mut sum = 0u64;
-    for _ in 0..rounds {
+    for _ in 0..rounds(arguments)? {
         let key_box = PublicKeyBox::from_string(rt.alloc(), &text)?;
         let key = PublicKey::from_box(rt.alloc(), key_box)?;
         sum = sum.wrapping_add(key.keynum().len() as u64);
@@ -242,21 +234,21 @@ fn keys(rt: &HostRuntime, pk: &str, rounds: u64) -> Result<u64, Stopped> {
     Ok(sum)
 }
 
-fn signatures(rt: &HostRuntime, sig: &str, rounds: u64) -> Result<u64, Stopped> {
-    let text = text_of(rt, sig)?;
+fn signatures(rt: &HostRuntime, arguments: &mut env::Args) -> Result<u64, Stopped> {
+    let text = text_of(rt, arguments)?;
     let mut sum = 0u64;
-    for _ in 0..rounds {
+    for _ in 0..rounds(arguments)? {
         let signature_box = SignatureBox::from_string(rt.alloc(), &text)?;
         sum = sum.wrapping_add(signature_box.keynum().len() as u64);
     }
     Ok(sum)
 }
 
-fn small(rt: &HostRuntime, pk: &str, sig: &str, rounds: u64) -> Result<u64, Stopped> {
-    let key = key_of(rt, pk)?;
-    let signature_box = box_of(rt, sig)?;
+fn small(rt: &HostRuntime, arguments: &mut env::Args) -> Result<u64, Stopped> {
+    let key = key_of(rt, arguments)?;
+    let signature_box = box_of(rt, arguments)?;
     let mut verified = 0u64;
-    for _ in 0..rounds {
+    for _ in 0..rounds(arguments)? {
         for number in 0..SMALL_FILES {
             verify_small(rt, &key, &signature_box, number)?;
             verified = verified.wrapping_add(1);
@@ -275,5 +267,6 @@ fn verify_small(
     let Ok(name) = format!(in rt.alloc(); "{number}") else {
         return Err(Stopped::Usage);
     };
-    verify_with(rt, key, signature_box, &name)
+    let mut source = FileSource::new(fs::open(rt, &name)?);
+    Ok(verified(rt.alloc(), key, signature_box, &mut source)?)
 }

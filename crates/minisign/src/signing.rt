@@ -27,7 +27,7 @@ use minisign_base::{NamedFault, Result};
 use std::alloc::Global;
 
 /// The comments of a signature as a caller gives them, and the moment that stands for a trusted one.
-#[derive(Clone, Copy, Debug)]
+#[derive(Clone, Copy)]
 pub(crate) struct GivenComments<'a> {
     /// The comment that is signed. Without one it is `timestamp:` and the moment.
     pub(crate) trusted: Option<&'a str>,

@@ -13,7 +13,7 @@ ghost use Rattle.minisign_base.specs.Devices.{most_faults};
 pub struct DeviceFault;
 
 // How often a device failed.
-#[derive(Clone, Copy, Debug)]
+#[derive(Clone, Copy)]
 struct FaultCount(u64);
 
 impl FaultCount {

@@ -24,7 +24,7 @@ pub const PASSWORD_BYTES: usize = 1024;
 
 /// What a person types into, and what is shown: a reader and a writer, such as a terminal's two
 /// sides.
-#[derive(Debug, Drop)]
+#[derive(Drop)]
 pub struct Prompt<R, W> {
     /// What lines are read from.
     pub reader: R,

@@ -17,13 +17,13 @@ use std::simd::u8x32;
 ///
 /// With a table it also accepts the triples that stand there, so that signatures of other schemes
 /// can be tried without them.
-#[derive(Clone, Copy, Debug)]
+#[derive(Clone, Copy)]
 pub struct ToyScheme<'a> {
     table: &'a [Triple<'a>],
 }
 
 /// A message, a public key and a signature that a table accepts together.
-#[derive(Clone, Copy, Debug)]
+#[derive(Clone, Copy)]
 pub struct Triple<'a> {
     pub message: &'a [u8],
     pub public_key: [u8; 32],

@@ -8,7 +8,7 @@ use crate::faults::InstallFault;
 
 /// Which field of the trusted comment has the number of an update. Fields end at tabs, and the
 /// first one with the label counts.
-#[derive(Clone, Copy, Debug, PartialEq, Eq)]
+#[derive(Clone, Copy, PartialEq, Eq)]
 pub enum Numbering {
     /// `timestamp:`, as signing writes it if no comment is given.
     Timestamp,

@@ -12,7 +12,7 @@ use minisign_base::devices::DeviceFault;
 use std::alloc::Global;
 
 /// The names that outlive a run.
-#[derive(Clone, Copy, Debug, PartialEq, Eq)]
+#[derive(Clone, Copy, PartialEq, Eq)]
 pub enum Name {
     /// Where updates are installed.
     Place,

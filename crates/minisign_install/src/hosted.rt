@@ -46,7 +46,7 @@ pub struct Installation {
 }
 
 /// Why a call of an installation that a host holds did not go.
-#[derive(Debug, Drop)]
+#[derive(Drop)]
 pub enum HostRefusal {
     /// A wrong use, which changes nothing.
     WrongUse(Misuse),

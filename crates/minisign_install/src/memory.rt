@@ -42,7 +42,7 @@ pub struct MemoryFolder {
 }
 
 /// A file of a folder in memory, by its number.
-#[derive(Debug, Drop)]
+#[derive(Drop)]
 pub struct MemoryHandle {
     file: usize,
 }

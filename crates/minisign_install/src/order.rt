@@ -9,7 +9,7 @@ ghost use Rattle.minisign_install.specs.Runs.{OwnsNoMore};
 
 /// What is due: the call that the host makes next, or how the run has ended. The numbers are those
 /// of the record up to the answers of the signature scheme, and then those of the update.
-#[derive(Debug, Drop)]
+#[derive(Drop)]
 pub enum Due<E> {
     /// Lock the place, without waiting for another run.
     Lock,
@@ -54,7 +54,7 @@ pub enum Due<E> {
 }
 
 /// How a call went.
-#[derive(Debug, Drop)]
+#[derive(Drop)]
 pub enum Outcome<E> {
     /// It was done; of a stage that is copied or read back, there is no more.
     Done,

@@ -13,7 +13,7 @@ const DRAWN: usize = 16;
 
 /// The name of a stage: 16 random bytes. It is made of bytes that were drawn and of nothing else,
 /// so that two runs have one name only by chance, and no other process has a reason to use it.
-#[derive(Debug, Drop)]
+#[derive(Drop)]
 pub struct StageName {
     bytes: [u8; 16],
 }

@@ -3,7 +3,7 @@
 use crate::comments::Numbering;
 
 /// Which update is wanted.
-#[derive(Clone, Copy, Debug)]
+#[derive(Clone, Copy)]
 pub struct Wanted<'a> {
     /// The text of the public key.
     pub pk_text: &'a str,

@@ -24,7 +24,7 @@ pub trait RandomSource {
 
 /// The bytes of a slice, in their order. It fails exactly where too few are left, and then gives
 /// none.
-#[derive(Debug, Drop)]
+#[derive(Drop)]
 pub struct FixedRandom<'a> {
     rest: &'a [u8],
     faults: FaultCount,
@@ -65,7 +65,7 @@ impl<'a> RandomSource for FixedRandom<'a> {
 }
 
 /// The bytes of a source, in their order. It fails only where the source failed or ended.
-#[derive(Debug, Drop)]
+#[derive(Drop)]
 pub struct SourceRandom<S> {
     /// What the bytes come from.
     pub source: S,

@@ -42,7 +42,7 @@ pub trait Sink {
 }
 
 /// A buffer that grows. It fails only where a growth is refused.
-#[derive(Debug, Drop)]
+#[derive(Drop)]
 pub struct VecSink {
     bytes: Vec<u8>,
     faults: FaultCount,
@@ -103,7 +103,7 @@ impl Sink for VecSink {
 }
 
 /// Takes all bytes and keeps none. It never fails.
-#[derive(Clone, Copy, Debug, Drop)]
+#[derive(Clone, Copy, Drop)]
 pub struct NoSink;
 
 impl Sink for NoSink {
@@ -123,7 +123,7 @@ impl Sink for NoSink {
 
 /// Any writer of std. Its bytes are known where the writer's are. A writer that takes nothing of
 /// something, or says that it took more than there was, has failed.
-#[derive(Debug, Drop)]
+#[derive(Drop)]
 pub struct WriterSink<W> {
     writer: W,
     faults: FaultCount,

@@ -72,7 +72,7 @@ pub trait Rereader: Source {
 }
 
 /// The bytes of a slice. It fails only in `back` without a mark.
-#[derive(Debug, Drop)]
+#[derive(Drop)]
 pub struct SliceSource<'a> {
     // The bytes from the place on that was last marked or gone back to, or from the beginning on.
     bytes: &'a [u8],
@@ -162,7 +162,7 @@ impl<'a> Rereader for SliceSource<'a> {
 }
 
 /// No bytes: a read gives none, and never fails.
-#[derive(Clone, Copy, Debug, Drop)]
+#[derive(Clone, Copy, Drop)]
 pub struct NoSource;
 
 impl Source for NoSource {
@@ -182,7 +182,7 @@ impl Source for NoSource {
 
 /// The bytes of any reader of std, 2^63 - 1 at most: a read after that is a fault. Its bytes
 /// are known where the reader's are, until the first fault. It can't go back.
-#[derive(Debug, Drop)]
+#[derive(Drop)]
 pub struct ReaderSource<R> {
     reader: R,
     left: u64,
@@ -253,7 +253,7 @@ impl<R: Read> Rereader for ReaderSource<R> {
 /// after that is a fault. It marks its place and goes back by seeking. No byte is known, since
 /// none of std's files is, and so it is not known to be steady: a file may change between two
 /// readings.
-#[derive(Debug, Drop)]
+#[derive(Drop)]
 pub struct FileSource<F> {
     reader: ReaderSource<F>,
     marked: Option<u64>,

@@ -60,7 +60,7 @@ pub(super) fn note(
 }
 
 // What a call does to the name of a stage.
-#[derive(Clone, Copy, Debug)]
+#[derive(Clone, Copy)]
 pub(crate) enum Change {
     // It leads to the file that the call made.
     Made,

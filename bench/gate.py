@@ -1,0 +1,110 @@
+#!/usr/bin/env python3
+"""Runs the gate, and lists what its parts take of the clock and of processor time.
+
+    bench/gate.py [LOG]
+
+All is proved anew. What `.ci/run` says goes to LOG, `gate.log` where none is named. The prover's processes are looked at
+twice a second, and told apart by their words and their folder; what was too short to be seen is in the row of all else.
+Processor time grows with the work that others do on the machine, also where `vmstat` shows none in its column `st`.
+
+Needs Python 3.9 or later, what the gate needs, and Linux.
+"""
+
+import os
+import re
+import resource
+import subprocess
+import sys
+import threading
+import time
+from collections import defaultdict
+
+TOP = os.path.join(os.path.dirname(os.path.realpath(__file__)), "..")
+SECONDS = 0.5
+TICKS = os.sysconf("SC_CLK_TCK")
+# What is run, beside proofs, by the words or the folder of a process.
+MUST_FAIL, GROUPS, ARCHIVES = "the edits of must-fail/", "the edits in groups", "archives for C, the page's module"
+
+
+def part_of(words, folder):
+    """The part of the gate that a process of the prover belongs to."""
+    name = words[words.index("--crate-name") + 1] if "--crate-name" in words[:-1] else ""
+    if "/rt-edit-" in folder:
+        return MUST_FAIL
+    if "/wrong-bodies-" in folder:
+        return GROUPS
+    if words[-1].endswith(".a") or any(it.startswith("--target") for it in words) and "x86_64" not in " ".join(words):
+        return ARCHIVES
+    return f"{name} with its tests" if "--test" in words else name
+
+
+class Watch:
+    """What the prover's processes have taken of processor time, by parts of the gate."""
+
+    def __init__(self):
+        self.taken, self.parts, self.ends, self.begun = {}, {}, {}, time.monotonic()
+
+    def look(self):
+        """Looks at each process once."""
+        for pid in filter(str.isdigit, os.listdir("/proc")):
+            try:
+                self.look_at(pid)
+            except (OSError, ValueError, IndexError):
+                # (it has ended meanwhile)
+                pass
+
+    def look_at(self, pid):
+        """Notes what a process of the prover has taken until now."""
+        with open(f"/proc/{pid}/stat", encoding="utf-8", errors="replace") as it:
+            fields = it.read().rpartition(")")[2].split()
+        key = pid, fields[19]
+        if key not in self.parts:
+            with open(f"/proc/{pid}/cmdline", encoding="utf-8", errors="replace") as it:
+                words = it.read().rstrip("\0").split("\0")
+            is_prover = os.path.basename(words[0]) == "rattle" and words[1] in ("check", "build")
+            self.parts[key] = part_of(words, os.readlink(f"/proc/{pid}/cwd")) if is_prover else ""
+        if self.parts[key]:
+            self.taken[key] = (int(fields[11]) + int(fields[12])) / TICKS
+            self.ends[self.parts[key]] = time.monotonic() - self.begun
+
+    def rows(self):
+        """What each part has taken, and when it ended, in seconds."""
+        sums = defaultdict(float)
+        for key, seconds in self.taken.items():
+            sums[self.parts[key]] += seconds
+        return [(it, sums[it], self.ends[it]) for it in sorted(sums, key=self.ends.get)]
+
+
+def run(log, watch):
+    """Runs the gate, and returns its status."""
+    with open(log, "w", encoding="utf-8") as it:
+        gate = subprocess.Popen(["bash", os.path.join(TOP, ".ci", "run"), "--anew"], stdin=subprocess.DEVNULL, stdout=it,
+                                stderr=subprocess.STDOUT)
+        waiting = threading.Thread(target=gate.wait)
+        waiting.start()
+        while waiting.is_alive():
+            watch.look()
+            waiting.join(SECONDS)
+    return gate.returncode
+
+
+def main(words):
+    log, watch = words[0] if words else "gate.log", Watch()
+    status = run(log, watch)
+    used = resource.getrusage(resource.RUSAGE_CHILDREN)
+    total, rows = used.ru_utime + used.ru_stime, watch.rows()
+    rows.append(("all else", total - sum(seconds for _, seconds, _ in rows), time.monotonic() - watch.begun))
+    rows.append(("the gate", total, time.monotonic() - watch.begun))
+    print("| Part | Ended after, minutes | Processor time, minutes |\n|---|---|---|")
+    for name, seconds, end in rows:
+        print(f"| {name} | {end / 60:.1f} | {seconds / 60:.1f} |")
+    with open(log, encoding="utf-8", errors="replace") as it:
+        said = it.read()
+    kept = re.search(r"(?m)^rt: ok;.*", said)
+    print(kept[0] if kept else "rt ci did not pass")
+    print(said.rstrip("\n").rpartition("\n")[2])
+    return status
+
+
+if __name__ == "__main__":
+    sys.exit(main(sys.argv[1:]))
