@@ -33,7 +33,7 @@ def part_of(words, folder):
         return MUST_FAIL
     if "/wrong-bodies-" in folder:
         return GROUPS
-    if words[-1].endswith(".a") or any(it.startswith("--target") for it in words) and "x86_64" not in " ".join(words):
+    if words[-1].endswith(".a"):
         return ARCHIVES
     return f"{name} with its tests" if "--test" in words else name
 
@@ -56,16 +56,17 @@ class Watch:
     def look_at(self, pid):
         """Notes what a process of the prover has taken until now."""
         with open(f"/proc/{pid}/stat", encoding="utf-8", errors="replace") as it:
-            fields = it.read().rpartition(")")[2].split()
+            name, _, rest = it.read().rpartition(") ")
+        fields = rest.split()
         key = pid, fields[19]
+        if not name.endswith("(rattle"):
+            return
         if key not in self.parts:
             with open(f"/proc/{pid}/cmdline", encoding="utf-8", errors="replace") as it:
                 words = it.read().rstrip("\0").split("\0")
-            is_prover = os.path.basename(words[0]) == "rattle" and words[1] in ("check", "build")
-            self.parts[key] = part_of(words, os.readlink(f"/proc/{pid}/cwd")) if is_prover else ""
-        if self.parts[key]:
-            self.taken[key] = (int(fields[11]) + int(fields[12])) / TICKS
-            self.ends[self.parts[key]] = time.monotonic() - self.begun
+            self.parts[key] = part_of(words, os.readlink(f"/proc/{pid}/cwd"))
+        self.taken[key] = (int(fields[11]) + int(fields[12])) / TICKS
+        self.ends[self.parts[key]] = time.monotonic() - self.begun
 
     def rows(self):
         """What each part has taken, and when it ended, in seconds."""
