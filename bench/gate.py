@@ -1,11 +1,11 @@
 #!/usr/bin/env python3
 """Runs the gate, and lists what its parts take of the clock and of processor time.
 
-    bench/gate.py [LOG]
+    bench/gate.py LOG
 
-All is proved anew. What `.ci/run` says goes to LOG, `gate.log` where none is named. The prover's processes are looked at
-twice a second, and told apart by their words and their folder; what was too short to be seen is in the row of all else.
-Processor time grows with the work that others do on the machine, also where `vmstat` shows none in its column `st`.
+All is proved anew. What `.ci/run` says goes to the file LOG. The prover's processes are looked at twice a second, and told
+apart by their words and their folder, so no other prover may be at work; what was too short to be seen is in the row of all
+else. Processor time grows with the work that others do on the host, also where `vmstat` shows none in its column `st`.
 
 Needs Python 3.9 or later, what the gate needs, and Linux.
 """
@@ -27,8 +27,10 @@ MUST_FAIL, GROUPS, ARCHIVES = "the edits of must-fail/", "the edits in groups", 
 
 
 def part_of(words, folder):
-    """The part of the gate that a process of the prover belongs to."""
-    name = words[words.index("--crate-name") + 1] if "--crate-name" in words[:-1] else ""
+    """The part of the gate that a process of the prover belongs to, if it proves or builds a crate."""
+    if "--crate-name" not in words[:-1]:
+        return ""
+    name = words[words.index("--crate-name") + 1]
     if "/rt-edit-" in folder:
         return MUST_FAIL
     if "/wrong-bodies-" in folder:
@@ -65,8 +67,9 @@ class Watch:
             with open(f"/proc/{pid}/cmdline", encoding="utf-8", errors="replace") as it:
                 words = it.read().rstrip("\0").split("\0")
             self.parts[key] = part_of(words, os.readlink(f"/proc/{pid}/cwd"))
-        self.taken[key] = (int(fields[11]) + int(fields[12])) / TICKS
-        self.ends[self.parts[key]] = time.monotonic() - self.begun
+        if self.parts[key]:
+            self.taken[key] = (int(fields[11]) + int(fields[12])) / TICKS
+            self.ends[self.parts[key]] = time.monotonic() - self.begun
 
     def rows(self):
         """What each part has taken, and when it ended, in seconds."""
@@ -90,7 +93,10 @@ def run(log, watch):
 
 
 def main(words):
-    log, watch = words[0] if words else "gate.log", Watch()
+    if len(words) != 1:
+        print("usage: bench/gate.py LOG")
+        return 2
+    log, watch = words[0], Watch()
     status = run(log, watch)
     used = resource.getrusage(resource.RUSAGE_CHILDREN)
     total, rows = used.ru_utime + used.ru_stime, watch.rows()
