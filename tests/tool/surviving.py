@@ -33,6 +33,7 @@ from sign_runs import FILE, OPEN_KEY, SIG, check_signature
 WRITING_FAILED = toy.WRITING_FAILED.encode()
 LEGACY = b"error: Legacy signatures are not accepted\n"
 STAGE = ".minisign_tool-"
+PUBLIC_FRONT, SECRET_FRONT = b"untrusted comment: minisign", b"untrusted comment: rsign"
 MEMORY = "/dev/shm"
 TYPED = b"p\np\n"
 MOST_CALLS = 500
@@ -75,13 +76,23 @@ class Task:
         return tuple(self.is_new(folder, name, judge) for name, judge in self.targets.items())
 
     def check_stage(self, folder, name, killed):
-        """Only a killed run leaves a file beside the others, under a name of its own. Where no secret key was there
-        before, one that is left is for its owner alone; else it has at most the rights of that one."""
+        """Only a killed run leaves a file beside the others, under a name of its own. It has no more rights than the
+        files that were there, or than a new file of its kind, whatever it holds by then."""
         if not killed or not os.path.basename(name).startswith(STAGE):
             raise Failure(f"it left {name}")
-        rights = self.mode if any(it.endswith(SK) for it in self.files) else 0o600
-        if content(folder, name).startswith(b"untrusted comment: rsign") and mode_of(folder, name) & ~rights:
+        if mode_of(folder, name) & ~self.rights_of(folder, name):
             raise Failure(f"{name} has the mode {mode_of(folder, name):o}")
+
+    def rights_of(self, folder, name):
+        """The most rights that a file may have which a killed run left. The file of a secret key is made once that of its
+        public key is whole."""
+        if set(self.targets) & set(self.files):
+            return self.mode
+        held = content(folder, name)
+        stages = [it for it in os.listdir(os.path.join(folder, os.path.dirname(name))) if it.startswith(STAGE)]
+        if held.startswith(SECRET_FRONT) or (len(stages) == 2 and not held.startswith(PUBLIC_FRONT)):
+            return 0o600
+        return 0o644
 
     def is_new(self, folder, name, judge):
         held, older = content(folder, name), self.files.get(name)
@@ -122,6 +133,7 @@ OLDER_PAIR = {PK: toy.public_text(), SK: toy.sealed_text(b"older")}
 TO_SIGN = {SK: OPEN_KEY, FILE: b"abc"}
 
 REPLACED_PAIR = Task("a pair over an older one", KEYGEN, PAIR, OLDER_PAIR)
+OWNERS_PAIR = Task("a pair over an older one for its owner alone", KEYGEN, PAIR, OLDER_PAIR, mode=0o600)
 REPLACED_SIGNATURE = Task("a signature over an older one", SIGN, {SIG: is_signature}, {**TO_SIGN, SIG: toy.signature_text(b"abc")})
 NEW_SIGNATURE = Task("a new signature", SIGN, {SIG: is_signature}, TO_SIGN)
 TASKS = [
@@ -426,6 +438,7 @@ def cases(surviving):
         yield f"{task.name}, on a full disk", lambda it=task: surviving.on_full_disk(it)
         yield f"{task.name}, beyond the size of files", lambda it=task: surviving.within_file_size(it, False)
         yield f"{task.name}, beyond the size of files, whose signal is ignored", lambda it=task: surviving.within_file_size(it, True)
+    yield f"{OWNERS_PAIR.name}, killed", lambda: surviving.killed(OWNERS_PAIR)
     yield "another's files stay another's", surviving.keeps_owner
     rows = [
         ("its own", NOBODY, NOBODY, 0o664, (NOBODY, NOBODY, 0o644)),
