@@ -16,33 +16,39 @@ LEGACY = toy.signature_text(b"abc", toy.signature_record(b"abc", algorithm=b"Ed"
 SAID = VERIFIED + b"Trusted comment: t\n"
 
 
-def verify(signed, source, output):
+# What verifies over devices, and how the key is given to it.
+CALLS = [("verify_texts", toy.public_text()), ("verify", b"Ed" + toy.KEYNUM + toy.KEY)]
+
+
+def verify(signed, source, output, call=CALLS[0]):
     """A request that verifies with a status, with output where it is asked for, and legacy signatures allowed."""
-    return ask("verify_texts", toy.public_text(), signed, source, False, output, True)
+    return ask(*call, signed, source, False, output, True)
 
 
 def copied():
     """The data of a copy fails: four reads, then four more. (Of the mark before the first reads and of going back
     before the others there is no request.)"""
-    for read in range(1, 5):
-        yield Row(f"copy: read {read} fails", verify(PREHASHED, data(b"abc", chunk=1, fail=read), True),
-                  refused("ReadingFailed", reads=read, pos=read - 1))
-    for read in range(5, 9):
-        yield Row(f"copy: read {read} fails", verify(PREHASHED, data(b"abc", chunk=1, fail=read), True),
-                  refused("ReadingFailed", stdout=b"abc"[:read - 5], stderr=SAID, reads=read, pos=read - 5))
-    yield Row("copy: no read fails", verify(PREHASHED, data(b"abc", chunk=1, fail=9), True),
-              gives(stdout=b"abc", stderr=SAID, reads=8, pos=3))
+    for call in CALLS:
+        name, asked = f"copy by {call[0]}", lambda fail: verify(PREHASHED, data(b"abc", chunk=1, fail=fail), True, call)
+        for read in range(1, 5):
+            yield Row(f"{name}: read {read} fails", asked(read), refused("ReadingFailed", reads=read, pos=read - 1))
+        for read in range(5, 9):
+            yield Row(f"{name}: read {read} fails", asked(read),
+                      refused("ReadingFailed", stdout=b"abc"[:read - 5], stderr=SAID, reads=read, pos=read - 5))
+        yield Row(f"{name}: no read fails", asked(9), gives(stdout=b"abc", stderr=SAID, reads=8, pos=3))
 
 
 def read_once():
     """Data that is read once fails: four reads."""
-    for name, signed, output in [("prehashed", PREHASHED, False), ("legacy", LEGACY, False),
+    for kind, signed, output in [("prehashed", PREHASHED, False), ("legacy", LEGACY, False),
                                  ("legacy with output", LEGACY, True)]:
-        for read in range(1, 5):
-            yield Row(f"read once, {name}: read {read} fails", verify(signed, data(b"abc", chunk=1, fail=read), output),
-                      refused("ReadingFailed", reads=read, pos=read - 1))
-        yield Row(f"read once, {name}: no read fails", verify(signed, data(b"abc", chunk=1, fail=5), output),
-                  gives(stdout=b"abc" if output else b"", stderr=SAID, reads=4, pos=3))
+        for call in CALLS:
+            name = f"read once by {call[0]}, {kind}"
+            for read in range(1, 5):
+                yield Row(f"{name}: read {read} fails", verify(signed, data(b"abc", chunk=1, fail=read), output, call),
+                          refused("ReadingFailed", reads=read, pos=read - 1))
+            yield Row(f"{name}: no read fails", verify(signed, data(b"abc", chunk=1, fail=5), output, call),
+                      gives(stdout=b"abc" if output else b"", stderr=SAID, reads=4, pos=3))
 
 
 def changed():
@@ -136,19 +142,26 @@ def text_sinks():
 
 
 def pairs_undrawn():
-    """Random bytes that end early make no pair: nothing is asked, and no key is written."""
-    random = bytes(range(72))
+    """Random bytes that end early make no pair: nothing is asked, and no key is written. The two calls that write nothing
+    draw as those do that write."""
+    random, password = bytes(range(72)), (None, typed(b"p", b"p"))
+    unwritten = {"sink1": b"", "sink2": b""}
     for length in range(40):
-        yield Row(f"raw pair: {length} random bytes", ask("gen_write_plain", random[:length], None, None),
-                  refused("RandomSourceFailed", drawn=length // 32 * 32, sink1=b"", sink2=b""))
+        name, undrawn = f"raw pair: {length} random bytes", {"drawn": length // 32 * 32}
+        yield Row(name, ask("gen_write_plain", random[:length], None, None),
+                  refused("RandomSourceFailed", **undrawn, **unwritten))
+        yield Row(f"{name}, not written", ask("gen_plain", random[:length]), refused("RandomSourceFailed", **undrawn))
     for length in range(72):
-        yield Row(f"sealed pair: {length} random bytes",
-                  ask("gen_write_sealed", random[:length], None, None, None, None, typed(b"p", b"p")),
-                  refused("RandomSourceFailed", typed_left=2, drawn=0 if length < 32 else 32 if length < 40 else 40,
-                          sink1=b"", sink2=b""))
+        name = f"sealed pair: {length} random bytes"
+        undrawn = {"typed_left": 2, "drawn": 0 if length < 32 else 32 if length < 40 else 40}
+        yield Row(name, ask("gen_write_sealed", random[:length], None, None, None, *password),
+                  refused("RandomSourceFailed", **undrawn, **unwritten))
+        yield Row(f"{name}, not written", ask("gen_sealed", random[:length], *password),
+                  refused("RandomSourceFailed", **undrawn))
+    pair = {"pk": b"Ed" + KEYNUM + KEY, "sk": UNSEALED, "encrypted": False, "drawn": 40}
     yield Row("raw pair: 40 random bytes", ask("gen_write_plain", random[:40], None, None),
-              gives(pk=b"Ed" + KEYNUM + KEY, sk=UNSEALED, encrypted=False, drawn=40, sink1=b"Ed" + KEYNUM + KEY,
-                    sink2=UNSEALED))
+              gives(**pair, sink1=pair["pk"], sink2=UNSEALED))
+    yield Row("raw pair: 40 random bytes, not written", ask("gen_plain", random[:40]), gives(**pair))
 
 
 def rows(folder):

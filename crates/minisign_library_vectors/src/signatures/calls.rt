@@ -134,6 +134,25 @@ pub fn box_comes_out<S: Scheme, R: Rereader>(
     is_wanted(answer, sinks, wanted)
 }
 
+/// Whether verifying the data under key A with the box that a text reads as comes out as wanted.
+pub fn read_box_comes_out<R: Rereader>(
+    alloc: Global,
+    text: &str,
+    data: &mut R,
+    options: VerifyOptions,
+    sinks: Sinks,
+    wanted: Wanted,
+) -> bool {
+    match (public_a(), read_box(alloc, text)) {
+        (Ok(pk), Ok(signature_box)) => {
+            let parts = (&pk, &signature_box);
+            let toy = ToyScheme::new();
+            box_comes_out(alloc, &toy, parts, data, options, sinks, wanted)
+        }
+        _ => false,
+    }
+}
+
 /// Whether verifying these bytes with a box comes out as wanted, at once and one byte a read.
 pub fn box_judges<S: Scheme>(
     alloc: Global,

@@ -1,15 +1,16 @@
 //! Devices that fail at one of their calls and go on after it, where no request of
 //! `minisign_compare` can say it: each call of the library with each of its devices failing at each
-//! of its calls in turn, until a run meets no fault. Data that fails at a read, for `sign` and
-//! `verify_texts`, is in `tests/rows/failing_devices.py`.
+//! of its calls in turn, until a run meets no fault. Data that fails at a read, for `sign`,
+//! `verify` and `verify_texts`, is in `tests/rows/failing_devices.py`.
 
 use crate::signatures::calls::{
-    COPYING, Said, Sinks, Wanted, ample, key_a, signed_from, signed_text, texts_come_out,
+    COPYING, Said, Sinks, Wanted, ample, key_a, read_box_comes_out, signed_from, signed_text,
+    texts_come_out,
 };
 use minisign::reading::read_to_end;
 use minisign::{Result, SecretKey, SecretKeyBox};
 use minisign_base::devices::random_sources::RandomSource;
-use minisign_base::devices::sources::SliceSource;
+use minisign_base::devices::sources::{Rereader, SliceSource};
 use minisign_base::faults::NamedFault::{
     DataChanged, GoingBackFailed, RandomSourceFailed, ReadingFailed, WritingFailed,
 };
@@ -48,42 +49,98 @@ const ZEROS: [u8; 128] = [0; 128];
 // More calls than are made.
 const ALL: usize = 1000;
 
+// What verifies over devices.
+#[derive(Clone, Copy, PartialEq, Eq)]
+enum Call {
+    // `verify_texts`.
+    WithTexts,
+    // `verify`, with the key and the box that the texts read as.
+    WithBox,
+}
+
+const CALLS: [Call; 2] = [Call::WithTexts, Call::WithBox];
+
+// Which sink fails.
+#[derive(Clone, Copy)]
+enum Fails {
+    // The status, which takes so many bytes a write, behind so many calls.
+    Status(usize, usize),
+    // The output, which takes one byte a write, behind so many calls.
+    Out(usize),
+}
+
+impl Fails {
+    // Sinks that fail so.
+    fn sinks(self, alloc: Global) -> Sinks {
+        let mut sinks = ample(alloc);
+        match self {
+            Fails::Status(most, calls) => {
+                sinks.status = sinks.status.by(most).failing_after(calls);
+            }
+            Fails::Out(calls) => {
+                sinks.out = sinks.out.by(1).failing_after(calls);
+            }
+        }
+        sinks
+    }
+}
+
+// Whether verifying the data under key A with output and legacy signatures allowed comes out so.
+fn verifies<R: Rereader>(
+    alloc: Global,
+    call: Call,
+    text: &str,
+    data: &mut R,
+    sinks: Sinks,
+    wanted: Wanted,
+) -> bool {
+    if call == Call::WithBox {
+        return read_box_comes_out(alloc, text, data, COPYING, sinks, wanted);
+    }
+    let toy = ToyScheme::new();
+    texts_come_out(alloc, &toy, (KEY_TEXT, text), data, COPYING, sinks, wanted)
+}
+
 // Calls of data that is copied, in their order: the mark, four reads, going back, four reads. A mark
 // that fails leaves all of the data, and going back comes once all of it was read.
 #[test]
 fn a_mark_and_going_back_fail(rt: HostRuntime) {
     let alloc = rt.alloc();
-    for (calls, said, left) in [(0usize, 0usize, b"abc".as_slice()), (5, 60, b"")] {
-        let mut data = FailingSource::new(b"abc", calls);
-        let wanted = Wanted {
-            outcome: Refused(GoingBackFailed),
-            said: front(SAID, said),
-            copied: b"",
-        };
-        let (toy, texts, sinks) = (ToyScheme::new(), (KEY_TEXT, SIGNATURE_TEXT), ample(alloc));
-        let came = texts_come_out(alloc, &toy, texts, &mut data, COPYING, sinks, wanted);
-        assert!(rt; came, "at {calls}");
-        assert!(rt;
-            gives_record(read_to_end(alloc, &mut data), left),
-            "at {calls}"
-        );
+    for call in CALLS {
+        for (calls, said, left) in [(0usize, 0usize, b"abc".as_slice()), (5, 60, b"")] {
+            let mut data = FailingSource::new(b"abc", calls);
+            let wanted = Wanted {
+                outcome: Refused(GoingBackFailed),
+                said: front(SAID, said),
+                copied: b"",
+            };
+            let came = verifies(
+                alloc,
+                call,
+                SIGNATURE_TEXT,
+                &mut data,
+                ample(alloc),
+                wanted,
+            );
+            assert!(rt; came, "at {calls}");
+            assert!(rt;
+                gives_record(read_to_end(alloc, &mut data), left),
+                "at {calls}"
+            );
+        }
     }
 }
 
-// Whether verifying `abc` with output and legacy signatures allowed comes out so under key A, where
-// a second reading gives other data.
-fn comes_out(alloc: Global, text: &str, second: &[u8], sinks: Sinks, wanted: Wanted) -> bool {
-    let mut data = Changes::new(b"abc", second);
-    let toy = ToyScheme::new();
-    texts_come_out(
-        alloc,
-        &toy,
-        (KEY_TEXT, text),
-        &mut data,
-        COPYING,
-        sinks,
-        wanted,
-    )
+// Whether verifying `abc` comes out so by both calls, where a second reading gives other data, and a
+// sink fails.
+fn comes_out(alloc: Global, text: &str, second: &[u8], fails: Fails, wanted: Wanted) -> bool {
+    for call in CALLS {
+        let mut data = Changes::new(b"abc", second);
+        if !verifies(alloc, call, text, &mut data, fails.sinks(alloc), wanted) {
+            return false;
+        }
+    }
+    true
 }
 
 // The status is written and never flushed: 60 bytes one by one, or all at once.
@@ -96,15 +153,14 @@ fn the_status_fails(rt: HostRuntime) {
         (LEGACY_TEXT, 1, 60),
     ] {
         for calls in 0..=writes {
-            let mut sinks = ample(alloc);
-            sinks.status = sinks.status.by(most).failing_after(calls);
+            let fails = Fails::Status(most, calls);
             let is_written = calls == writes;
             let wanted = Wanted {
                 outcome: if is_written { Accepted } else { UNWRITTEN },
                 said: if is_written { SAID } else { front(SAID, calls) },
                 copied: if is_written { b"abc" } else { b"" },
             };
-            let came = comes_out(alloc, text, b"abc", sinks, wanted);
+            let came = comes_out(alloc, text, b"abc", fails, wanted);
             assert!(rt; came, "at {calls} by {most}");
         }
     }
@@ -124,14 +180,13 @@ fn the_output_fails(rt: HostRuntime) {
     ];
     for (text, second, whole, writes, answer) in rows {
         for calls in 0..=4usize {
-            let mut sinks = ample(alloc);
-            sinks.out = sinks.out.by(1).failing_after(calls);
+            let fails = Fails::Out(calls);
             let wanted = Wanted {
                 outcome: if calls < writes { UNWRITTEN } else { answer },
                 said: SAID,
                 copied: front(whole, calls),
             };
-            let came = comes_out(alloc, text, second, sinks, wanted);
+            let came = comes_out(alloc, text, second, fails, wanted);
             assert!(rt; came, "at {calls} of {writes}");
         }
     }
