@@ -512,8 +512,20 @@ class Library:
                             return item
         return None
 
+    def passed_by(self, module):
+        """The module that the definitions of a crate pass on under this name (`specs/Lib.antt`), or the same one."""
+        parts = module.split(".")
+        if len(parts) == 4 and parts[2] == "specs":
+            for folder in self.folders_of(parts[1]):
+                file = os.path.join(folder, "specs", "Lib.antt")
+                if os.path.exists(file):
+                    other, name = read_module(file).passed_on.get(parts[3], (module, ""))
+                    return module if name else other
+        return module
+
     def resolve(self, module, name, depth=0):
         """The definition, or the item of a `.rt` file, that a module has under a name, or None."""
+        module = self.passed_by(module)
         if (module, name) not in self.resolved:
             self.resolved[module, name] = self.look_up(module, name, depth)
         return self.resolved[module, name]

@@ -123,9 +123,10 @@ def first_of(words):
     return next((it for it in lines if "error" in it), lines[-1])[:300]
 
 
-def rattle(verb, name, folder, *flags, before=()):
-    """Has the prover check or build a crate whose files are in this folder, over the libraries below it."""
-    crate = crates()[name]
+def rattle(verb, name, folder, *flags, before=(), crate=None):
+    """Has the prover check or build a crate whose files are in this folder, over the libraries below it. It is one of
+    crates.txt, or another one that is told by its line."""
+    crate = crate or crates()[name]
     root = next(it for it in ("src/main.rt", "src/lib.rt") if os.path.exists(f"{folder}/{it}"))
     words = ["--crate-name", name, root, "-L", f"dependency={kit()}/rlibs"]
     for it in crate.of_kit:

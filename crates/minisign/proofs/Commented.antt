@@ -9,11 +9,11 @@ use Rattle.minisign_base.specs.Fault.{Fault, Named}
 use Rattle.minisign_base.specs.declared.faults.NamedFault.TheVariants.{OutOfMemory}
 use Rattle.minisign_base.specs.DeviceCalls.{RereaderCall, SinkCall}
 use Rattle.minisign.specs.Acceptance.{Flags, Refuses, Verifier, Vouches}
-use Rattle.minisign.specs.Calls.{CopyIsVouchedWith, CopyVerifiedFails, IsCommentOf, IsCommentVerdict, IsFileVerdict, TextsVouchWith}
+use Rattle.minisign.specs.Calls.{CopyIsVouchedWith, CopyVerifiedFails, IsCommentOf, IsCommentVerdict, IsFileVerdict, TextsVouchWith, VerifyReaderFails}
 use Rattle.minisign.specs.Headline.{IsVerdict, TextsRefuse, TextsVouchFor}
-use Rattle.minisign.specs.Reading.{IsAhead, ReadingFails}
+use Rattle.minisign.specs.Reading.{IsAhead, ReadingFails, ReadsWhole}
 use Rattle.minisign.specs.Records.{PublicKeyRecord, SignatureBoxRecord, is_prehashed, prehashed_algorithm}
-use Rattle.minisign.specs.VerifyingLaws.{fails_without_status}
+use Rattle.minisign.specs.VerifyingLaws.{fails_without_sinks, fails_without_status}
 use Rattle.minisign.specs.VerifyingTexts.{ReadTexts, TextsFail, VerifyingTextsFails, VerifyingTextsSucceeds}
 use Rattle.minisign.proofs.Passes.{IsReason, why_it_fails}
 use Rattle.minisign.proofs.PublicKeyTexts.{one_public_key_text}
@@ -74,10 +74,10 @@ silently output = record { quiet = true; output = output; legacy = false }
 -- what was ahead is vouched for, with the comment
 pub ahead_vouched : {T R W O : Type 0} (bytes : T → List ℕ) (accepts : Verifier) (pk sig : List ℕ) (reader : RereaderCall R) (status : SinkCall W) (out : SinkCall O) (r : Result T Fault)
     → OnOk r (VerifyingTextsSucceeds accepts pk sig (silently false) reader status out) → IfOk r (λ t. IsCommentOf sig (bytes t))
-    → IfOk r (λ t. (message : List ℕ) × IsAhead (reader.source.ahead reader.old) message × TextsVouchWith accepts pk sig message false (bytes t))
+    → IfOk r (λ t. (message : List ℕ) × ReadsWhole reader.source reader.old reader.new message × TextsVouchWith accepts pk sig message false (bytes t))
 ahead_vouched bytes accepts pk sig reader status out (Ok t) ok said = (
   ok.verified.message,
-  ok.verified.given,
+  record { given = ok.verified.given; end = ok.verified.end; mark = ok.verified.mark refl; no_new_fault = ok.verified.no_new_fault },
   signed_comment accepts pk sig ok.verified.message false (bytes t)
       (record { key = ok.key; box = ok.box; key_read = ok.read.key_read; box_read = ok.read.box_read; vouches = ok.verified.vouches }) said,
 )
@@ -109,9 +109,18 @@ ahead_refused accepts pk sig reader status out (Err e) (inl stops) =
 ahead_refused accepts pk sig reader status out (Err e) (inr (key, box, read, h)) =
     ahead_reason accepts pk sig reader status out key box e read (why_it_fails accepts key box true false false reader status out e h)
 
+-- at which stage it was refused: neither sink is used
+pub reader_refused : {T R W O : Type 0} (accepts : Verifier) (pk sig : List ℕ) (reader : RereaderCall R) (status : SinkCall W) (out : SinkCall O) (r : Result T Fault)
+    → IfErr r (VerifyingTextsFails accepts pk sig (silently false) reader status out)
+    → IfErr r (VerifyReaderFails accepts pk sig reader)
+reader_refused accepts pk sig reader status out (Ok t) err = tt
+reader_refused accepts pk sig reader status out (Err e) (inl stops) = inl (stops.why, stops.unread)
+reader_refused accepts pk sig reader status out (Err e) (inr (key, box, read, h)) =
+    inr (key, box, read, fails_without_sinks accepts key box false reader status out e h)
+
 -- the verdict on a file's data
 pub file_verdict : {T R : Type 0} (bytes : T → List ℕ) (accepts : Verifier) (pk sig : List ℕ) (reader : RereaderCall R) (r : Result T Fault)
-    → IfOk r (λ t. (message : List ℕ) × IsAhead (reader.source.ahead reader.old) message × TextsVouchWith accepts pk sig message false (bytes t))
+    → IfOk r (λ t. (message : List ℕ) × ReadsWhole reader.source reader.old reader.new message × TextsVouchWith accepts pk sig message false (bytes t))
     → IfErr r (λ e. (e ≡ Named OutOfMemory) ⊎ ReadingFails reader.source reader.old reader.new e
     ⊎ ((message : List ℕ) × IsAhead (reader.source.ahead reader.old) message × TextsRefuse accepts pk sig message false e))
     → IsFileVerdict bytes accepts pk r

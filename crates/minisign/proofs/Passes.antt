@@ -506,7 +506,7 @@ module _ {R W O : Type 0} (accepts : Verifier) (pk : PublicKeyRecord) (x : Signa
 
   -- a read failed, of a source that had not failed before
   read_fault : (r : R) → reader.source.faults r ≡ reader.source.faults reader.old → IsReadFault reader.source r reader.new e → Why
-  read_fault r no_new_fault (inl memory) = inl memory
+  read_fault r no_new_fault (inl memory) = inl memory.0
   read_fault r no_new_fault (inr failed) =
       inr (inr (inl (record { fault = failed.fault; rose = subst (λ n. Rose n (reader.source.faults reader.new)) no_new_fault failed.rose })))
 
@@ -544,7 +544,9 @@ module _ {R W O : Type 0} (accepts : Verifier) (pk : PublicKeyRecord) (x : Signa
   why_uncopied false hashed is message second d pass same h = absurd h
   why_uncopied true true is message second d pass same (inl ((fault, fails), s, o)) = mark_fault (sym is) d.reader pass.no_new_fault fails.fault
   why_uncopied true true is message second d pass same (inr (d2, (at, s2, o2), inl (not, s3))) =
-      ⊎_elim (read_fault d2.reader (at.no_new_fault ∙ pass.no_new_fault)) (out_fault (sym is) d2.out (ap out.sink.sink_faults (o2 ∙ same))) not.failed
+      ⊎_elim (λ memory. inl memory.0)
+      (⊎_elim (λ failed. read_fault d2.reader (at.no_new_fault ∙ pass.no_new_fault) (inr failed))
+      (out_fault (sym is) d2.out (ap out.sink.sink_faults (o2 ∙ same)))) not.failed
   why_uncopied true true is message second d pass same (inr (d2, (at, s2, o2), inr (d3, (put, s3), inl ((changed, unlike), r, s4, o4)))) =
       inr (inr (inr (inr (inr (inr (
         sym is,

@@ -12,7 +12,7 @@ use Rattle.minisign.specs.Headline.{TextsRefuse, TextsVouchFor}
 use Rattle.minisign.specs.Sealing.{is_encrypted, no_kdf, opening_refusal, unencrypted_refusal}
 use Rattle.minisign.specs.SecretKeyText.{SecretKeyText, secret_key_refusal}
 use Rattle.minisign.specs.SignatureText.{SignatureText}
-use Rattle.minisign.specs.Signing.{DrawFails, KeyIsSealed, OpenedSigningFails}
+use Rattle.minisign.specs.Signing.{DrawFails, KeyIsSealed, OpenedSigningFails, RunsOutDrawing}
 use Rattle.minisign.specs.TextFiles.{IsTextFileFault}
 use Rattle.minisign.specs.Texts.{IsRefused}
 use Rattle.minisign.specs.Verifying.{ReadsTwice, VerifyingFails}
@@ -71,6 +71,18 @@ pub record CopyIsVouchedWith {R O : Type 0} (accepts : Verifier) (pk_text sig_te
   pub read_twice : ReadsTwice reader out message copy
   pub same : IsSteady reader → IfSome (reader.source.ahead reader.old) (λ xs. copy ≡ xs)
 
+-- nothing is said or copied, and legacy signatures are refused
+abbrev pub only_reads : Flags
+only_reads = record { quiet = true; output = false; legacy = false }
+
+-- why verifying what a reader has ahead was refused: a text was, with nothing read; or it failed at one of the stages of
+-- verifying with the key and the box that the texts read as, of which none uses a sink
+abbrev pub VerifyReaderFails : {R : Type 0} → Verifier → List ℕ → List ℕ → RereaderCall R → Fault → Type 0
+VerifyReaderFails accepts pk_text sig_text reader e =
+    (TextsFail pk_text sig_text e × (reader.new ≡ reader.old))
+    ⊎ ((key : PublicKeyRecord) × (box : SignatureBoxRecord) × ReadTexts pk_text sig_text key box
+    × VerifyingFails accepts key box only_reads reader unused unused e)
+
 -- nothing is said, the data is copied, and legacy signatures are refused
 abbrev pub only_copies : Flags
 only_copies = record { quiet = true; output = true; legacy = false }
@@ -103,7 +115,7 @@ pub record GivesNoKeyWith (text password : List ℕ) (e : Fault) : Type 0 where
 abbrev pub BytesSigningFails : {Z : Type 0} → SecretKeyRecord → RandomCall Z → Fault → Type 0
 BytesSigningFails sk z e =
     ((e ≡ Named EncryptedKeyRefused) × (is_encrypted sk ≡ true) × (z.new ≡ z.old))
-    ⊎ ((is_encrypted sk ≡ false) × ((e ≡ Named OutOfMemory) ⊎ DrawFails z e))
+    ⊎ ((is_encrypted sk ≡ false) × (RunsOutDrawing z e ⊎ DrawFails z e))
 
 -- signing what a reader has ahead fails: the key is sealed, with nothing read or drawn; or it is opened, and memory
 -- runs out, the reader fails, or all was read and the random source fails

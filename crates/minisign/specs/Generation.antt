@@ -10,7 +10,7 @@ use Rattle.minisign.specs.PublicKeyText.{public_key_text}
 use Rattle.minisign.specs.Records.{PublicKeyRecord, SecretKeyRecord, legacy_algorithm, public_key_bytes, secret_key_bytes}
 use Rattle.minisign.specs.Sealing.{IsWithin, Opens, checksum_of, no_kdf, scrypt_kdf, xored_key}
 use Rattle.minisign.specs.SecretKeyText.{SecretKeyText, secret_key_text}
-use Rattle.minisign.specs.Signing.{DrawFails, HasDrawn, IsGenuine}
+use Rattle.minisign.specs.Signing.{DrawFails, HasDrawn, IsGenuine, RandomHasNoNewFault}
 use Rattle.minisign.specs.OpenedTexts.{IsOpened}
 
 -- the checksum's algorithm: Blake2b
@@ -142,11 +142,11 @@ PartsFail pk_sink sk_sink public secret e =
     ((e ≡ Named OutOfMemory) × AreUnwritten pk_sink sk_sink) ⊎ WritingFails pk_sink sk_sink public secret e
 
 -- a pair that is not sealed is not written as raw bytes: the random source failed, and both sinks are as they
--- were, or a pair was made whose parts were not written
+-- were, or it did not, and a pair was made whose parts were not written
 abbrev pub RawPairFails : {Z P K : Type 0} → (List ℕ → List ℕ) → RandomCall Z → SinkCall P → SinkCall K → Fault → Type 0
 RawPairFails public_of z pk_sink sk_sink e =
     (DrawFails z e × AreUnwritten pk_sink sk_sink)
-    ⊎ ((pk : PublicKeyRecord) × (sk : SecretKeyRecord) × IsUnsealedPair public_of z pk sk
+    ⊎ ((pk : PublicKeyRecord) × (sk : SecretKeyRecord) × IsUnsealedPair public_of z pk sk × RandomHasNoNewFault z
     × PartsFail pk_sink sk_sink (public_key_bytes pk) (secret_key_bytes sk) e)
 
 -- the 72 random bytes of a sealed pair were drawn
@@ -154,7 +154,7 @@ pub record AllDrawn {Z : Type 0} (z : RandomCall Z) : Type 0 where
   pub bytes : List ℕ
   pub count : length bytes ≡ 72
   pub drawn : HasDrawn z bytes
-  pub no_new_fault : z.random.random_faults z.new ≡ z.random.random_faults z.old
+  pub no_new_fault : RandomHasNoNewFault z
 
 -- a sealed pair is not made: the random source failed, before anything was asked, or else no key was sealed
 abbrev pub SealedPairFails : {Z R W : Type 0} → RandomCall Z → PromptCall R W → Option (List ℕ) → Fault → Type 0
@@ -169,11 +169,11 @@ pub record HasSealed {Z R W : Type 0} (public_of : List ℕ → List ℕ) (z : R
   pub pair : IsSealedPair public_of password z pk sk
   pub opens : OpensToPair public_of password pk sk
 
--- a sealed pair is not written as texts: it was not made, and both sinks are as they were, or its parts were
--- not written
+-- a sealed pair is not written as texts: it was not made, and both sinks are as they were, or it was, with no new fault
+-- of the random source, and its parts were not written
 abbrev pub SealedTextsFail : {Z R W P K : Type 0} → (List ℕ → List ℕ) → RandomCall Z → PromptCall R W → Option (List ℕ)
     → SinkCall P → SinkCall K → Option (List ℕ) → Fault → Type 0
 SealedTextsFail public_of z p password pk_sink sk_sink comment e =
     (SealedPairFails z p password e × AreUnwritten pk_sink sk_sink)
-    ⊎ ((pk : PublicKeyRecord) × (sk : SecretKeyRecord) × HasSealed public_of z p password pk sk
+    ⊎ ((pk : PublicKeyRecord) × (sk : SecretKeyRecord) × HasSealed public_of z p password pk sk × RandomHasNoNewFault z
     × PartsFail pk_sink sk_sink (public_key_text pk) (secret_key_text comment sk) e)

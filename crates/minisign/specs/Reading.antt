@@ -28,9 +28,9 @@ pub record ReadingFails {R : Type 0} (source : SourceOf R) (old new : R) (e : Fa
   pub fault : e ≡ Named ReadingFailed
   pub rose : Rose (source.faults old) (source.faults new)
 
--- memory ran out, or the source failed
+-- memory ran out, with no new fault of the source, or the source failed
 abbrev pub IsReadFault : {R : Type 0} → SourceOf R → R → R → Fault → Type 0
-IsReadFault source old new e = (e ≡ Named OutOfMemory) ⊎ ReadingFails source old new e
+IsReadFault source old new e = ((e ≡ Named OutOfMemory) × (source.faults new ≡ source.faults old)) ⊎ ReadingFails source old new e
 
 -- the data is read to its end, and is this message; or memory runs out, or the source fails; a mark stays
 abbrev pub Reads : {R : Type 0} → RereaderCall R → List ℕ → Result ⊤ Fault → Type 0
@@ -38,14 +38,22 @@ Reads r message answer =
     MatchResult answer (λ _. ReadsWhole r.source r.old r.new message) (λ e. IsReadFault r.source r.old r.new e × SourceGives r)
     × (r.source.is_marked r.new ≡ r.source.is_marked r.old)
 
--- all that is ahead is read, and put to the output, which flushes nothing; or memory runs out, or one of the two fails,
--- and the output holds a beginning of what was ahead, and of what the source gave; a mark stays
+-- one of the two failed: the source, or the output
+abbrev pub IsCopyFault : {R O : Type 0} → RereaderCall R → SinkCall O → Fault → Type 0
+IsCopyFault reader out e = ReadingFails reader.source reader.old reader.new e ⊎ IsWritingFault out e
+
+-- memory ran out, with nothing read or copied
+abbrev pub NothingIsCopied : {R O : Type 0} → RereaderCall R → SinkCall O → Fault → Type 0
+NothingIsCopied reader out e = (e ≡ Named OutOfMemory) × (reader.new ≡ reader.old) × (out.new ≡ out.old)
+
+-- all that is ahead is read, and put to the output, which flushes nothing; or memory runs out before anything is read, or
+-- one of the two fails, and the output holds a beginning of what was ahead, and of what the source gave; a mark stays
 pub record Copies {R O : Type 0} (reader : RereaderCall R) (out : SinkCall O) (second : List ℕ) (answer : Result ⊤ Fault) : Type 0 where
   pub read : OnOk answer (ReadsWhole reader.source reader.old reader.new second)
   pub since : OnOk answer (WereGiven (reader.source.since reader.new) second)
   pub all : OnOk answer (Takes out second)
   pub no_new_fault : OnOk answer (SinkHasNoNewFault out)
-  pub failed : IfErr answer (λ e. IsReadFault reader.source reader.old reader.new e ⊎ IsWritingFault out e)
+  pub failed : IfErr answer (λ e. NothingIsCopied reader out e ⊎ IsCopyFault reader out e)
   pub ahead : OnErr answer (IsAhead (reader.source.ahead reader.old) second)
   pub left : OnErr answer (SourceGives reader)
   pub front : OnErr answer (TakesFront out second)

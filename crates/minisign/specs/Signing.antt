@@ -114,11 +114,23 @@ pub record GivenKeyRefuses {Z : Type 0} (accepts : Verifier) (sign : Signer) (pk
   pub signed : IsSigned sign sk message chosen z made
   pub refused : accepts_comments accepts pk made ≡ false
 
+-- the random source did not fail
+abbrev pub RandomHasNoNewFault : {Z : Type 0} → RandomCall Z → Type 0
+RandomHasNoNewFault z = z.random.random_faults z.new ≡ z.random.random_faults z.old
+
+-- memory ran out, with no new fault of the random source
+abbrev pub RunsOutDrawing : {Z : Type 0} → RandomCall Z → Fault → Type 0
+RunsOutDrawing z e = (e ≡ Named OutOfMemory) × RandomHasNoNewFault z
+
+-- memory ran out, with no new fault of the data or of the random source
+abbrev pub RunsOutSigning : {R Z : Type 0} → SourceCall R → RandomCall Z → Fault → Type 0
+RunsOutSigning r z e = RunsOutDrawing z e × (r.source.faults r.new ≡ r.source.faults r.old)
+
 -- signing with an opened key fails: memory runs out, the data fails, or all of it was read and the random
 -- source fails
 abbrev pub OpenedSigningFails : {R Z : Type 0} → SourceCall R → RandomCall Z → Fault → Type 0
 OpenedSigningFails r z e =
-    (e ≡ Named OutOfMemory)
+    RunsOutSigning r z e
     ⊎ DataFails r z e
     ⊎ ((message : List ℕ) × ReadsWhole r.source r.old r.new message × DrawFails z e)
 
@@ -129,7 +141,7 @@ abbrev pub SigningFails : {R Z : Type 0} → Verifier → Signer → Option Publ
 SigningFails accepts sign pk sk chosen r z e =
     KeyIsSealed sk r z e
     ⊎ ((is_encrypted sk ≡ false)
-    × ((e ≡ Named OutOfMemory)
+    × (RunsOutSigning r z e
     ⊎ DataFails r z e
     ⊎ ((message : List ℕ) × ReadsWhole r.source r.old r.new message
     × (DrawFails z e ⊎ IsSomeAnd pk (λ p. GivenKeyRefuses accepts sign p sk message chosen z e)))))

@@ -118,3 +118,15 @@ fails_without_status accepts pk x output legacy reader status out e (message, se
       (reading (is_reread output x) message ++ (Judge accepts pk x legacy message ∷ (reporting true x ++ copying output (is_prehashed x.signature) message second))) (Err e)
       (quiet_stages accepts pk x legacy (is_reread output x) output (is_prehashed x.signature) message second) h,
 )
+
+-- verifying that says and copies nothing uses neither sink
+pub fails_without_sinks : {R W O : Type 0} (accepts : Verifier) (pk : PublicKeyRecord) (x : SignatureBoxRecord) (legacy : Bool)
+    (reader : RereaderCall R) (status : SinkCall W) (out : SinkCall O) (e : Fault)
+    → VerifyingFails accepts pk x (record { quiet = true; output = false; legacy = legacy }) reader status out e
+    → VerifyingFails accepts pk x (record { quiet = true; output = false; legacy = legacy }) reader unused unused e
+fails_without_sinks accepts pk x legacy reader status out e h =
+    let (message, second, stages) = fails_without_status accepts pk x false legacy reader status out e h in (
+      message,
+      second,
+      beside_output unused.sink tt reader unused out (Read message ∷ Judge accepts pk x legacy message ∷ []) (Err e) (tt, (tt, tt)) stages,
+    )

@@ -4,9 +4,10 @@ ghost use Rattle.std.specs.Prelude.{◌≡◌, ◌⊎◌, ℕ, List, true, false
 ghost use Rattle.minisign_base.specs.Fault.{Named};
 ghost use Rattle.minisign_base.specs.declared.faults.NamedFault.TheVariants.{OutOfMemory};
 ghost use Rattle.minisign_base.specs.DeviceCalls.{rereader_call, sink_call};
-ghost use Rattle.minisign.specs.Calls.{CopiesExactly, CopyIsVouchedWith, CopyVerifiedFails, IsCommentOf, IsCommentVerdict, IsFileVerdict, ReadsExactly, TextsVouchWith};
+ghost use Rattle.minisign_base.specs.Devices.{HasGiven};
+ghost use Rattle.minisign.specs.Calls.{CopiesExactly, CopyIsVouchedWith, CopyVerifiedFails, IsCommentOf, IsCommentVerdict, IsFileVerdict, ReadsExactly, TextsVouchWith, VerifyReaderFails};
 ghost use Rattle.minisign.specs.Headline.{TextsRefuse, VerifiesExactly};
-ghost use Rattle.minisign.specs.Reading.{IsAhead, ReadingFails};
+ghost use Rattle.minisign.specs.Reading.{IsAhead, ReadingFails, ReadsWhole};
 ghost use Rattle.minisign.specs.VerifyingTexts.{ReadTexts, TextsFail, VerifyingTextsFails, VerifyingTextsSucceeds};
 
 use crate::memory::MemorySource;
@@ -63,6 +64,9 @@ pub fn verify_with<S: Scheme, R: Rereader, W: Sink, O: Sink>(
     // With quiet the status is untouched, and without `output` the output.
     ensures quiet { options.quiet ≡ true → status.new ≡ status.old }
     ensures out { options.output ≡ false → out.new ≡ out.old }
+
+    // Without `output` the reader lost at most some bytes at its front, whatever the result.
+    ensures given { options.output ≡ false → HasGiven (R.ahead data_reader.old) (R.ahead data_reader.new) }
 {
     let (pk, signature_box, comment) = read_texts(alloc, pk_text, sig_text)?;
     verify(
@@ -195,9 +199,9 @@ pub fn verify_reader<S: Scheme, R: Rereader>(
     ensures headline { ReadsExactly string_bytes (S.accepts scheme.now) pk_text.now sig_text.now
         (rereader_call R.Source R.steady data_reader.old data_reader.new) result }
 
-    // Whether its bytes are known or not: on success the texts vouch for what was ahead,
-    // with the comment that is returned.
-    ensures vouched { IfOk result (λ t. (message : List ℕ) × IsAhead (R.ahead data_reader.old) message
+    // Whether its bytes are known or not: on success the texts vouch for what was ahead, with the
+    // comment that is returned; all of it was read to its end, without a fault.
+    ensures vouched { IfOk result (λ t. (message : List ℕ) × ReadsWhole R.Source data_reader.old data_reader.new message
         × TextsVouchWith (S.accepts scheme.now) pk_text.now sig_text.now message false (string_bytes t)) }
 
     // Otherwise out of memory; or `reading failed`, only if the reader's count of faults rose; or
@@ -205,6 +209,15 @@ pub fn verify_reader<S: Scheme, R: Rereader>(
     ensures refused { IfErr result (λ e. (e ≡ Named OutOfMemory) ⊎ ReadingFails R.Source data_reader.old data_reader.new e
         ⊎ ((message : List ℕ) × IsAhead (R.ahead data_reader.old) message
         × TextsRefuse (S.accepts scheme.now) pk_text.now sig_text.now message false e)) }
+
+    // After a refusal a text was refused, or memory ran out for one, with the reader as it was; or
+    // it failed at one of the stages of `verify`: at the reading, where memory ran out or the reader
+    // failed, or at the judging, which comes once all was read to its end without a fault.
+    ensures failed { IfErr result (VerifyReaderFails (S.accepts scheme.now) pk_text.now sig_text.now
+        (rereader_call R.Source R.steady data_reader.old data_reader.new)) }
+
+    // Whatever the result, the reader lost at most some bytes at its front.
+    ensures given { HasGiven (R.ahead data_reader.old) (R.ahead data_reader.new) }
 {
     let silent = VerifyOptions::SILENT;
     verify_with(

@@ -1,14 +1,14 @@
 //! Copying the data of a box that was accepted: the data that was kept, or a second pass over the
 //! source that has to give the digest of the first.
 
-ghost use Rattle.std.specs.Prelude.{◌≡◌, ℕ, ◌<◌, ◌++◌, List, false, length, Ok, Err, MatchResult};
+ghost use Rattle.std.specs.Prelude.{◌≡◌, ℕ, ◌<◌, ◌++◌, List, false, length, Ok, Err, IfErr, MatchResult};
 ghost use Rattle.minisign_hash.specs.Blake2b.{blake2b_digest};
 ghost use Rattle.minisign_hash.specs.Fed.{IsFed, has_finalized, output_length};
 ghost use Rattle.minisign_base.specs.Devices.{BeginsAnew};
 ghost use Rattle.minisign_base.specs.Fault.{Named};
 ghost use Rattle.minisign_base.specs.declared.faults.NamedFault.TheVariants.{GoingBackFailed, WritingFailed};
 ghost use Rattle.minisign_base.specs.DeviceCalls.{Flushes, GoesBack, Puts, rereader_call, sink_call, unused};
-ghost use Rattle.minisign.specs.Reading.{Copies};
+ghost use Rattle.minisign.specs.Reading.{Copies, IsCopyFault};
 ghost use Rattle.minisign.specs.Stages.{StagesEnd, copying_again};
 ghost use Rattle.minisign.specs.SignedData.{copying_held};
 
@@ -104,6 +104,8 @@ fn copy_pieces<R: Rereader, O: Sink>(
         × ((m : List ℕ) → IsFed hasher.old m → IsFed hasher.new (m ++ message)))
         (λ e. (message : List ℕ) × Copies (rereader_call R.Source R.steady data_reader.old data_reader.new)
         (sink_call O.Sink out.old out.new) message (Err e)) }
+    ensures failed { IfErr result (IsCopyFault (rereader_call R.Source R.steady data_reader.old data_reader.new)
+        (sink_call O.Sink out.old out.new)) }
     ensures length { output_length hasher.new ≡ output_length hasher.old }
 {
     'pieces: loop {

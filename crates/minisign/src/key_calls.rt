@@ -157,8 +157,8 @@ pub fn sign_bytes<S: Scheme, Z: RandomSource>(
     // Whatever the result, the random source lost at most some bytes at its front.
     ensures drawn { HasGiven (Z.random_ahead random.old) (Z.random_ahead random.new) }
 
-    // The refusals: a sealed key, with nothing drawn; and with an opened one out of memory and a
-    // failing random source.
+    // The refusals: a sealed key, with nothing drawn; and with an opened one out of memory, with no
+    // new fault of the random source, and a failing random source.
     ensures refused { IfErr result (BytesSigningFails sk.now (random_call Z.RandomSource random.old random.new)) }
 {
     let mut data = MemorySource::new(message);
@@ -208,7 +208,8 @@ pub fn sign_reader<S: Scheme, R: Source, Z: RandomSource>(
     ensures random_no_new_fault { OnOk result (Z.random_faults random.new ≡ Z.random_faults random.old) }
 
     // The refusals: a sealed key, with nothing read or drawn; and with an opened one out of memory,
-    // a failing reader, with nothing drawn, and a failing random source, once all was read.
+    // with no new fault of either, a failing reader, with nothing drawn, and a failing random source,
+    // once all was read.
     ensures refused { IfErr result (ReaderSigningFails sk.now
         (source_call R.Source data_reader.old data_reader.new)
         (random_call Z.RandomSource random.old random.new)) }
@@ -265,8 +266,9 @@ pub fn sign_file<F: Files, S: Scheme, Z: RandomSource>(
     // On success the random source did not fail.
     ensures random_no_new_fault { OnOk result (Z.random_faults random.new ≡ Z.random_faults random.old) }
 
-    // The refusals: a sealed key, with nothing drawn; and with an opened one out of memory, a file
-    // that is not opened or not read, with nothing drawn, and a failing random source.
+    // The refusals: a sealed key, with nothing drawn; and with an opened one out of memory, with no
+    // new fault of the random source, a file that is not opened or not read, with nothing drawn, and
+    // a failing random source.
     ensures refused { IfErr result (PathSigningFails sk.now (random_call Z.RandomSource random.old random.new)) }
 
     // Whatever the result, the random source lost at most some bytes at its front.

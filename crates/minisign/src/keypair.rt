@@ -123,10 +123,10 @@ impl KeyPair {
         // On success the random source did not fail.
         ensures no_new_fault { OnOk result (Z.random_faults random.new ≡ Z.random_faults random.old) }
 
-        // If a pair is not made, or memory runs out for its bytes or texts, neither sink is
-        // touched; otherwise a sink failed: the public one with the secret one untouched, or the
-        // secret one after the public one took everything and flushed it; a sink that failed took a
-        // beginning.
+        // If a pair is not made, or memory runs out for its bytes or texts, which comes only where
+        // the random source did not fail, neither sink is touched; otherwise a sink failed: the public
+        // one with the secret one untouched, or the secret one after the public one took everything
+        // and flushed it; a sink that failed took a beginning.
         ensures refused { IfErr result
             (RawPairFails (S.public_of scheme.now)
             (random_call Z.RandomSource random.old random.new)
@@ -241,10 +241,10 @@ impl KeyPair {
         // On success the random source did not fail.
         ensures no_new_fault { OnOk result (Z.random_faults random.new ≡ Z.random_faults random.old) }
 
-        // If a pair is not made, or memory runs out for its bytes or texts, neither sink is
-        // touched; otherwise a sink failed: the public one with the secret one untouched, or the
-        // secret one after the public one took everything and flushed it; a sink that failed took a
-        // beginning.
+        // If a pair is not made, or memory runs out for its bytes or texts, which comes only where
+        // the random source did not fail, neither sink is touched; otherwise a sink failed: the public
+        // one with the secret one untouched, or the secret one after the public one took everything
+        // and flushed it; a sink that failed took a beginning.
         ensures refused { IfErr result
             (SealedTextsFail (S.public_of scheme.now)
             (random_call Z.RandomSource random.old random.new)

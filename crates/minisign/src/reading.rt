@@ -34,8 +34,8 @@ pub(crate) fn read_text_file<F: Files>(files: &F, alloc: Global, path: &str) -> 
 /// All that is ahead, as a text in memory. Refused are a failing source (`reading_failed`), bytes
 /// that are not UTF-8 (`not_utf8`), and running out of memory, which may come at any time.
 pub fn read_text<S: Source>(alloc: Global, source: &mut S) -> Result<String>
-    // A text is all the bytes that were ahead, if these are UTF-8; otherwise memory ran out, the
-    // source failed, or they are not UTF-8.
+    // A text is all the bytes that were ahead, if these are UTF-8; otherwise memory ran out, with no
+    // new fault of the source, the source failed, or they are not UTF-8.
     ensures text { IfOk result (λ t. ReadsWhole S.Source source.old source.new (string_bytes t)) }
     ensures refused { IfErr result (IsTextFault S.Source source.old source.new) }
     ensures given { HasGiven (S.ahead source.old) (S.ahead source.new) }
@@ -51,8 +51,8 @@ pub fn read_text<S: Source>(alloc: Global, source: &mut S) -> Result<String>
 /// running out of memory, for the buffer or for what is kept; some bytes may have been read by
 /// then.
 pub fn read_to_end<S: Source>(alloc: Global, source: &mut S) -> Result<Vec<u8>>
-    // All the bytes that were ahead are given; or memory ran out, or a read failed and its count of
-    // faults rose. A place that is marked stays marked.
+    // All the bytes that were ahead are given; or memory ran out, with no new fault of the source, or
+    // a read failed and its count of faults rose. A place that is marked stays marked.
     ensures bytes { IfOk result (λ v. ReadsWhole S.Source source.old source.new v.items) }
     ensures refused { IfErr result (IsReadFault S.Source source.old source.new) }
     ensures given { HasGiven (S.ahead source.old) (S.ahead source.new) }

@@ -10,7 +10,7 @@ ghost use Rattle.minisign_base.specs.declared.faults.NamedFault.TheVariants.{Out
 ghost use Rattle.minisign.specs.Reading.{ReadsWhole};
 ghost use Rattle.minisign.specs.Sealing.{is_encrypted};
 ghost use Rattle.minisign.specs.Acceptance.{accepts_comments};
-ghost use Rattle.minisign.specs.Signing.{AreChosenReadBack, DrawFails, IsSigned, OpenedSigningFails, SigningFails, VouchesWhereGenuine, chosen_of, comments_or_defaults, default_trusted_comment, default_untrusted_comment, given_comments};
+ghost use Rattle.minisign.specs.Signing.{AreChosenReadBack, DrawFails, IsSigned, OpenedSigningFails, RunsOutDrawing, SigningFails, VouchesWhereGenuine, chosen_of, comments_or_defaults, default_trusted_comment, default_untrusted_comment, given_comments};
 
 use crate::comment_signature::accepts_comments;
 use crate::constants::{DEFAULT_COMMENT, SIGALG_PREHASHED};
@@ -83,8 +83,9 @@ pub fn sign<S: Scheme, R: Source, Z: RandomSource>(
     // A key is refused as sealed exactly when it is sealed, with nothing read or drawn
     // (`KeyIsSealed`). `reading failed` comes only if the source's count of faults rose, with
     // nothing drawn (`DataFails`); `random source failed` only if that source's count did, once all
-    // the data was read (`DrawFails`); a given public key is refused exactly when its 32 bytes do
-    // not accept the comment signature (`GivenKeyRefuses`).
+    // the data was read (`DrawFails`); out of memory only if neither count rose (`RunsOutSigning`); a
+    // given public key is refused exactly when its 32 bytes do not accept the comment signature
+    // (`GivenKeyRefuses`).
     ensures refused { IfErr result
         (SigningFails (S.accepts scheme.now) (S.signature_of scheme.now)
         (option_copied pk.entry) sk.now
@@ -186,7 +187,7 @@ fn make_box<S: Scheme, Z: RandomSource>(
         × VouchesWhereGenuine (S.accepts scheme.now) (S.public_of scheme.now) sk.now message x) }
     ensures no_new_fault { OnOk result (Z.random_faults random.new ≡ Z.random_faults random.old) }
     ensures refused { IfErr result
-        (λ e. (e ≡ Named OutOfMemory)
+        (λ e. RunsOutDrawing (random_call Z.RandomSource random.old random.new) e
         ⊎ DrawFails (random_call Z.RandomSource random.old random.new) e) }
     ensures given { HasGiven (Z.random_ahead random.old) (Z.random_ahead random.new) }
 {

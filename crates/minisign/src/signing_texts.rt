@@ -63,23 +63,27 @@ pub fn sign_texts<S: Scheme, P: Source, Q: Sink, R: Source, Z: RandomSource>(
     ensures one_reading { (k l : SecretKeyRecord) → SecretKeyText sk_text.now k → SecretKeyText sk_text.now l → k ≡ l }
 
     // On success the text gave a key: either one that was never sealed and whose checksum matches,
-    // with the prompt untouched, or a sealed one that opened; and the result is the text of the box
-    // that signing makes with this key from all the data.
+    // with the prompt untouched, or a sealed one that opened under the password that was passed in or
+    // typed; and the result is the text of the box that signing makes with this key from all the
+    // data. Where this very key is genuine, the text is read back as clause `headline` says: so who
+    // signs with a sealed key and its password gets a text that verifies.
     ensures signed { IfOk result (λ t. (sk : SecretKeyRecord) × (message : List ℕ)
         × GivesKey (prompt_call P.Source Q.Sink prompt.old prompt.new)
         (option_map string_bytes password) sk_text.now (Ok sk)
         × ReadsWhole R.Source data_reader.old data_reader.new message
         × IsSignedText (S.signature_of scheme.now) sk message
         (given_comments trusted_comment.entry untrusted_comment.entry moment)
-        (random_call Z.RandomSource random.old random.new) (string_bytes t)) }
+        (random_call Z.RandomSource random.old random.new) (string_bytes t)
+        × SigningHeadline (S.accepts scheme.now) (S.public_of scheme.now) sk message
+        (given_comments trusted_comment.entry untrusted_comment.entry moment) (string_bytes t)) }
 
     // On success the random source did not fail.
     ensures random_no_new_fault { OnOk result (Z.random_faults random.new ≡ Z.random_faults random.old) }
 
     // A text that gives no key is refused with nothing read or drawn, by the first reason;
-    // otherwise out of memory, a failing source with nothing drawn, or a failing random source once
-    // everything was read. The fault of a sealed key never comes (`GivesKey`,
-    // `OpenedSigningFails`).
+    // otherwise out of memory, with no new fault of the source or of the random source, a failing
+    // source with nothing drawn, or a failing random source once everything was read. The fault of a
+    // sealed key never comes (`GivesKey`, `OpenedSigningFails`).
     ensures refused { IfErr result
         (TextSigningFails (prompt_call P.Source Q.Sink prompt.old prompt.new)
         (option_map string_bytes password) sk_text.now

@@ -70,12 +70,12 @@ pub fn verify<S: Scheme, R: Rereader, W: Sink, O: Sink>(
     // `vouched`, `signed_same`, `legacy_same`, `steady_same`).
     //
     // On success with `output` for a prehashed box, the source was gone back to its mark and read
-    // to its end again; what that gave is the copy, and it has the digest of the first reading. So
-    // data that changed is refused exactly where the second digest is another one (`read_twice` of
-    // `HasCopy`, `Compare` of `StageEnds`).
+    // to its end again; what that gave is the copy, and it has the digest of the first reading
+    // (`read_twice` of `HasCopy`). By this and by clause `refused` (`Compare` of `StageEnds`) data
+    // that changed is refused exactly where the second digest is another one.
     //
-    // The copy is flushed on success, and on no refusal before the digests are compared (`flushed`
-    // of `HasCopy`; `unflushed` of `Copies`).
+    // The copy is flushed on success (`flushed` of `HasCopy`), and by clause `refused` (`unflushed`
+    // of `Copies`) on no refusal before the digests are compared.
     ensures accepted { OnOk result (VerifyingSucceeds (S.accepts scheme.now) pk.now signature_box.now
         (record { quiet = quiet; output = output; legacy = allow_legacy })
         (rereader_call R.Source R.steady data_reader.old data_reader.new)
@@ -108,9 +108,10 @@ pub fn verify<S: Scheme, R: Rereader, W: Sink, O: Sink>(
     // `Data changed between verification and output` comes only where all that the second reading
     // gave was copied, and has a different digest from the data (`Compare`).
     //
-    // Out of memory comes in the first reading, in judging or before the status took anything, with
-    // status and output untouched; or in the second reading, with a beginning copied of what that
-    // gave. What it gave is what is known of it.
+    // Out of memory comes only where no count of faults rose: in the first reading, in judging or
+    // before the status took anything, with status and output untouched; or behind the return,
+    // before the second reading began, with nothing copied (`NothingIsCopied`). So no fault of a
+    // device, and no half of a copy, is told as out of memory.
     //
     // A reading takes at most some bytes off the front of what the source has ahead; going back
     // puts those ahead that the mark keeps, which are what was ahead at first if it is steady

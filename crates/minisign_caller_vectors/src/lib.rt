@@ -15,6 +15,8 @@ mod folders;
 #[cfg(test)]
 mod installing;
 #[cfg(test)]
+mod passwords;
+#[cfg(test)]
 mod reading;
 #[cfg(test)]
 mod releases;

@@ -1,10 +1,10 @@
 -- Asking for a password again, by how often it may still be asked.
 use Rattle.std.proofs.Common.{◌≡◌, ◌≢◌, ◌-◌, ℕ, zero, suc, List, Err, arith, inl, inr, subst, sym}
 use Rattle.std.specs.declared.result.Result.{Result}
-use Rattle.minisign_base.specs.Fault.{Fault, Named}
-use Rattle.minisign_base.specs.Members.{SinkOf, SourceOf}
-use Rattle.minisign_base.specs.declared.faults.NamedFault.TheVariants.{WrongPassword}
-use Rattle.minisign_base.specs.declared.prompt.Prompt.{Prompt}
+use Rattle.minisign.specs.Fault.{Fault, Named}
+use Rattle.minisign.specs.Members.{SinkOf, SourceOf}
+use Rattle.minisign.specs.NamedFaults.{WrongPassword}
+use Rattle.minisign.specs.Prompt.{Prompt}
 use Rattle.minisign.specs.Records.{SecretKeyRecord}
 use Rattle.minisign_examples.specs.Asking.{IsOpeningAgain}
 

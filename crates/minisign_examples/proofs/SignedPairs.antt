@@ -2,8 +2,8 @@
 use Rattle.std.specs.Prelude.{ℕ, List, false, Result, Ok, Err, IfErr, IfOk, MatchResult}
 use Rattle.std.proofs.Common.{inl, inr, sym, ◌∙◌}
 use Rattle.std.proofs.lemmas.Bool.{true≢false}
-use Rattle.minisign_base.specs.Fault.{Fault}
-use Rattle.minisign_base.specs.DeviceCalls.{RandomCall}
+use Rattle.minisign.specs.Fault.{Fault}
+use Rattle.minisign.specs.DeviceCalls.{RandomCall}
 use Rattle.minisign.specs.Acceptance.{Verifier, Vouches}
 use Rattle.minisign.specs.Calls.{BytesSigningFails}
 use Rattle.minisign.specs.Generation.{IsGenuinePair}
@@ -23,5 +23,5 @@ signed_by_pair bytes (Ok t) accepts public_of pk sk message chosen z pair kept s
     (x, read, each pk false pair.key pair.keynum)
 signed_by_pair bytes (Err e) accepts public_of pk sk message chosen z pair kept signed (inl (fault, sealed, undrawn)) =
     absurd (true≢false (sym sealed ∙ pair.genuine.opened))
-signed_by_pair bytes (Err e) accepts public_of pk sk message chosen z pair kept signed (inr (opened, inl memory)) = inl memory
+signed_by_pair bytes (Err e) accepts public_of pk sk message chosen z pair kept signed (inr (opened, inl memory)) = inl memory.0
 signed_by_pair bytes (Err e) accepts public_of pk sk message chosen z pair kept signed (inr (opened, inr draw)) = inr draw.fault

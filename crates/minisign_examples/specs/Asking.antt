@@ -1,10 +1,10 @@
 -- How opening a key ends that asks for the password again where it was wrong.
 use Rattle.std.specs.Prelude.{◌≢◌, ◌⊎◌, ℕ, zero, suc, List, None, Result, Err}
-use Rattle.minisign_base.specs.Fault.{Fault, Named}
-use Rattle.minisign_base.specs.Members.{SinkOf, SourceOf}
-use Rattle.minisign_base.specs.DeviceCalls.{prompt_call}
-use Rattle.minisign_base.specs.declared.faults.NamedFault.TheVariants.{WrongPassword}
-use Rattle.minisign_base.specs.declared.prompt.Prompt.{Prompt}
+use Rattle.minisign.specs.Fault.{Fault, Named}
+use Rattle.minisign.specs.Members.{SinkOf, SourceOf}
+use Rattle.minisign.specs.DeviceCalls.{prompt_call}
+use Rattle.minisign.specs.NamedFaults.{WrongPassword}
+use Rattle.minisign.specs.Prompt.{Prompt}
 use Rattle.minisign.specs.Opening.{IsOpening}
 use Rattle.minisign.specs.Records.{SecretKeyRecord}
 

@@ -1,6 +1,6 @@
 -- A new public key that an old one vouches for.
 use Rattle.std.specs.Prelude.{◌⊎◌, ℕ, false, List}
-use Rattle.minisign_base.specs.Fault.{Fault}
+use Rattle.minisign.specs.Fault.{Fault}
 use Rattle.minisign.specs.Acceptance.{Verifier}
 use Rattle.minisign.specs.Headline.{TextsRefuse, TextsVouchFor}
 

@@ -1,7 +1,7 @@
 -- The texts of a pair of keys, and why a release is not made.
 use Rattle.std.specs.Prelude.{◌≡◌, ◌<◌, ◌⊎◌, ℕ, List, length}
-use Rattle.minisign_base.specs.Fault.{Fault, Named}
-use Rattle.minisign_base.specs.declared.faults.NamedFault.TheVariants.{OutOfMemory, PasswordTooLong, RandomSourceFailed}
+use Rattle.minisign.specs.Fault.{Fault, Named}
+use Rattle.minisign.specs.NamedFaults.{OutOfMemory, PasswordTooLong, RandomSourceFailed}
 use Rattle.minisign.specs.Records.{PublicKeyRecord, SecretKeyRecord}
 use Rattle.minisign.specs.PublicKeyText.{PublicKeyText}
 use Rattle.minisign.specs.Generation.{IsGenuinePair, OpensOnlyTo}

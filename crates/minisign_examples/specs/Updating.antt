@@ -1,7 +1,7 @@
 -- An update that two texts vouch for under its name.
 use Rattle.std.specs.Prelude.{◌≡◌, ◌≢◌, ◌⊎◌, ℕ, false, List, codes}
-use Rattle.minisign_base.specs.Fault.{Fault, Worded}
-use Rattle.minisign_base.specs.declared.errors.ErrorKind.TheVariants.{Verify}
+use Rattle.minisign.specs.Fault.{Fault, Worded}
+use Rattle.minisign.specs.ErrorKinds.{Verify}
 use Rattle.minisign.specs.Acceptance.{Verifier}
 use Rattle.minisign.specs.Calls.{TextsVouchWith}
 use Rattle.minisign.specs.Headline.{TextsRefuse}

@@ -1,14 +1,11 @@
 //! A caller that asks for a password again where it was wrong.
 
 ghost use Rattle.std.specs.Prelude.{◌≡◌, ◌≢◌, Err, true, false};
-ghost use Rattle.minisign_base.specs.Fault.{Named};
-ghost use Rattle.minisign_base.specs.declared.faults.NamedFault.TheVariants.{WrongPassword};
+ghost use Rattle.minisign.specs.Fault.{Named};
+ghost use Rattle.minisign.specs.NamedFaults.{WrongPassword};
 ghost use Rattle.minisign_examples.specs.Asking.{IsOpeningAgain};
 
-use minisign::{NamedFault, Result, SecretKey, SecretKeyBox};
-use minisign_base::devices::sinks::Sink;
-use minisign_base::devices::sources::Source;
-use minisign_base::prompt::Prompt;
+use minisign::{NamedFault, Prompt, Result, SecretKey, SecretKeyBox, Sink, Source};
 use std::alloc::Global;
 
 /// Opens the sealed secret key of a text with the password that is typed, and asks again, up to

@@ -1,19 +1,18 @@
 //! A caller that signs and verifies with raw keys.
 
 ghost use Rattle.std.specs.Prelude.{◌≡◌, ◌⊎◌, ℕ, List, None, false, string_bytes, IfOk, IfErr};
-ghost use Rattle.minisign_base.specs.Fault.{Named};
-ghost use Rattle.minisign_base.specs.declared.faults.NamedFault.TheVariants.{OutOfMemory, RandomSourceFailed};
-ghost use Rattle.minisign_base.specs.DeviceCalls.{random_call};
+ghost use Rattle.minisign.specs.Fault.{Named};
+ghost use Rattle.minisign.specs.NamedFaults.{OutOfMemory, RandomSourceFailed};
+ghost use Rattle.minisign.specs.DeviceCalls.{random_call};
 ghost use Rattle.minisign.specs.Headline.{TextsVouchFor};
 ghost use Rattle.minisign.specs.PublicKeyText.{public_key_text};
 ghost use Rattle.minisign.specs.Signing.{IsGenuine, comments_or_defaults};
 ghost use Rattle.minisign.specs.SigningTexts.{IsSignedText};
 
 use minisign::{
-    PublicKey, Result, SecretKey, default_comments_are_read_back, sign_bytes, verify_bytes,
+    PublicKey, RandomSource, Result, Scheme, SecretKey, default_comments_are_read_back, sign_bytes,
+    verify_bytes,
 };
-use minisign_base::devices::random_sources::RandomSource;
-use minisign_base::scheme::Scheme;
 use std::alloc::Global;
 
 /// Signs the message, and verifies what was signed under the public key. The trusted comment is the

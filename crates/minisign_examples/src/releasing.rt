@@ -10,11 +10,9 @@ ghost use Rattle.minisign.specs.SignatureText.{SignatureText};
 ghost use Rattle.minisign_examples.specs.Releasing.{ArePairTexts, IsMemoryOrRandomFault, IsPairFault};
 
 use minisign::{
-    KeyPair, Result, SecretKey, default_comments_are_read_back, open_with_password, sign_bytes,
-    verify_bytes,
+    KeyPair, RandomSource, Result, Scheme, SecretKey, default_comments_are_read_back,
+    open_with_password, sign_bytes, verify_bytes,
 };
-use minisign_base::devices::random_sources::RandomSource;
-use minisign_base::scheme::Scheme;
 use std::alloc::Global;
 
 /// What is published beside an update.

@@ -2,12 +2,11 @@
 //! the new one.
 
 ghost use Rattle.std.specs.Prelude.{◌≡◌, ◌⊎◌, MatchResult};
-ghost use Rattle.minisign_base.specs.Fault.{Named};
-ghost use Rattle.minisign_base.specs.declared.faults.NamedFault.TheVariants.{OutOfMemory};
+ghost use Rattle.minisign.specs.Fault.{Named};
+ghost use Rattle.minisign.specs.NamedFaults.{OutOfMemory};
 ghost use Rattle.minisign_examples.specs.NewKeys.{RefuseThroughNewKey, VouchThroughNewKey};
 
-use minisign::{Result, verify_bytes};
-use minisign_base::scheme::Scheme;
+use minisign::{Result, Scheme, verify_bytes};
 use std::alloc::Global;
 
 /// The text of a new public key, and the text of its signature by the old key.

@@ -1,12 +1,11 @@
 //! A caller that opens a sealed key where memory is scarce.
 
 ghost use Rattle.std.specs.Prelude.{◌≡◌, ◌⊎◌, None, MatchResult};
-ghost use Rattle.minisign_base.specs.Fault.{Named};
-ghost use Rattle.minisign_base.specs.declared.faults.NamedFault.TheVariants.{OutOfMemory};
+ghost use Rattle.minisign.specs.Fault.{Named};
+ghost use Rattle.minisign.specs.NamedFaults.{OutOfMemory};
 ghost use Rattle.minisign.specs.OpenedTexts.{IsOpened, RefusesOpening};
 
-use minisign::{Result, SecretKey, SecretKeyBox};
-use minisign_base::prompt::Prompt;
+use minisign::{Prompt, Result, SecretKey, SecretKeyBox};
 use std::alloc::Global;
 
 // Every how many rows of scrypt one is kept: an eighth of the memory, for twice the time.

@@ -1,13 +1,12 @@
 //! A caller that installs what two texts vouch for under its name, and nothing else.
 
 ghost use Rattle.std.specs.Prelude.{◌≡◌, ◌⊎◌, false, MatchResult};
-ghost use Rattle.minisign_base.specs.Fault.{Named};
-ghost use Rattle.minisign_base.specs.declared.faults.NamedFault.TheVariants.{OutOfMemory};
+ghost use Rattle.minisign.specs.Fault.{Named};
+ghost use Rattle.minisign.specs.NamedFaults.{OutOfMemory};
 ghost use Rattle.minisign.specs.Calls.{TextsVouchWith};
 ghost use Rattle.minisign_examples.specs.Updating.{RefusesUpdate};
 
-use minisign::{ErrorKind, PError, Result, verify_bytes};
-use minisign_base::scheme::Scheme;
+use minisign::{ErrorKind, PError, Result, Scheme, verify_bytes};
 use std::alloc::Global;
 
 /// Success exactly where the texts of a public key and of a signature vouch for the update, and the

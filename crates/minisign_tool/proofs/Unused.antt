@@ -1,7 +1,7 @@
 -- Verifying that copies nothing, where its output is left out.
 use Rattle.std.proofs.Common.{List, ℕ, Result, Ok, Err, IfErr, inl, inr, false, None}
-use Rattle.minisign_base.specs.Fault.{Fault}
-use Rattle.minisign_base.specs.DeviceCalls.{RereaderCall, SinkCall, unused}
+use Rattle.minisign.specs.Fault.{Fault}
+use Rattle.minisign.specs.DeviceCalls.{RereaderCall, SinkCall, unused}
 use Rattle.minisign.specs.Acceptance.{Verifier}
 use Rattle.minisign.specs.Records.{PublicKeyRecord, SignatureBoxRecord}
 use Rattle.minisign.specs.Verifying.{VerifyingFails}

@@ -1,7 +1,7 @@
 -- What `cat` refuses before it reads anything.
 use Rattle.std.specs.Prelude.{codes}
-use Rattle.minisign_base.specs.Fault.{Fault, Worded}
-use Rattle.minisign_base.specs.declared.errors.ErrorKind.TheVariants.{Io}
+use Rattle.minisign.specs.Fault.{Fault, Worded}
+use Rattle.minisign.specs.ErrorKinds.{Io}
 
 -- the data comes from the file that standard output leads into
 unfoldable pub input_is_output : Fault

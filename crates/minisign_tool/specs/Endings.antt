@@ -1,7 +1,9 @@
 -- What the exit status of a command shows.
 use Rattle.std.specs.Prelude.{◌≡◌, ℕ, ◌≤◌, List, false, ⊤}
-use Rattle.minisign_base.specs.Members.{SinkOf}
-use Rattle.minisign.specs.Acceptance.{Verifier}
+use Rattle.minisign.specs.Members.{SinkOf}
+use Rattle.minisign.specs.Acceptance.{Verifier, status_lines, verified_text}
+use Rattle.minisign.specs.Records.{SignatureBoxRecord}
+use Rattle.minisign.specs.Lines.{line}
 use Rattle.minisign.specs.Headline.{TextsVouchFor}
 use Rattle.minisign_tool.specs.Report.{EndsWithFault, SaysAfterWarning, ShowsOnlyFault, TakesOrFails, usage_line, warning_line}
 use Rattle.minisign_tool.specs.VerifyRaw.{VouchesRaw}
@@ -34,10 +36,17 @@ abbrev pub SaysOnlyFaults : {S : Type 0} → SinkOf S → S → S → ℕ → Ty
 SaysOnlyFaults sink old new status =
     (status ≡ 0 → TakesOrFails sink old new warning_line) × (status ≡ 1 → ShowsOnlyFault sink old new (λ _. ⊤))
 
--- what a command says that verifies: the warning, and with status 0 some lines behind it, with 1 the line of a fault at the end
+-- what a command says that verifies: the warning, and with status 0 the status lines of a box behind it, with 1 the line of
+-- a fault at the end
 abbrev pub SaysVerdict : {S : Type 0} → SinkOf S → S → S → ℕ → Type 0
 SaysVerdict sink old new status =
-    (status ≡ 0 → (lines : List ℕ) × SaysAfterWarning sink old new lines) × (status ≡ 1 → EndsWithFault sink old new (λ _ _. ⊤))
+    (status ≡ 0 → (box : SignatureBoxRecord) × SaysAfterWarning sink old new (status_lines box))
+    × (status ≡ 1 → EndsWithFault sink old new (λ _ _. ⊤))
+
+-- what `verify-raw` says: the same, with the one line of a box without comments
+abbrev pub SaysRawVerdict : {S : Type 0} → SinkOf S → S → S → ℕ → Type 0
+SaysRawVerdict sink old new status =
+    (status ≡ 0 → SaysAfterWarning sink old new (line verified_text)) × (status ≡ 1 → EndsWithFault sink old new (λ _ _. ⊤))
 
 -- the warning was said, and then the usage
 abbrev pub ShowsWarningAndUsage : {S : Type 0} → SinkOf S → S → S → Type 0
@@ -48,6 +57,6 @@ abbrev pub SaysCommand : {S : Type 0} → SinkOf S → Command → S → S → �
 SaysCommand sink (Keygen pk sk) old new status = (status ≤ 1) × SaysOnlyFaults sink old new status
 SaysCommand sink (Sign sk file sig) old new status = (status ≤ 1) × SaysOnlyFaults sink old new status
 SaysCommand sink (Verify pk file sig) old new status = (status ≤ 1) × SaysVerdict sink old new status
-SaysCommand sink (VerifyRaw pk sig) old new status = (status ≤ 1) × SaysVerdict sink old new status
+SaysCommand sink (VerifyRaw pk sig) old new status = (status ≤ 1) × SaysRawVerdict sink old new status
 SaysCommand sink (Cat pk file sig) old new status = (status ≤ 1) × SaysVerdict sink old new status
 SaysCommand sink Usage old new status = (status ≡ 2) × ShowsWarningAndUsage sink old new

@@ -1,6 +1,6 @@
 -- What `keygen` makes.
 use Rattle.std.specs.Prelude.{ℕ, List, None, Ok}
-use Rattle.minisign_base.specs.DeviceCalls.{PromptCall, RandomCall, SinkCall, TakesPart}
+use Rattle.minisign.specs.DeviceCalls.{PromptCall, RandomCall, SinkCall, TakesPart}
 use Rattle.minisign.specs.Generation.{IsGenuinePair, IsSealedPair, OpensOnlyTo}
 use Rattle.minisign.specs.NewPassword.{IsSealing}
 use Rattle.minisign.specs.PublicKeyText.{public_key_text}

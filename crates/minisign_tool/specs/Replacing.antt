@@ -1,7 +1,7 @@
 -- What a file is to hold, and why one is not replaced.
 use Rattle.std.specs.Prelude.{◌≡◌, ◌⊎◌, ℕ, List}
-use Rattle.minisign_base.specs.Fault.{Fault, Named}
-use Rattle.minisign_base.specs.declared.faults.NamedFault.TheVariants.{OutOfMemory, WritingFailed}
+use Rattle.minisign.specs.Fault.{Fault, Named}
+use Rattle.minisign.specs.NamedFaults.{OutOfMemory, WritingFailed}
 use Rattle.minisign_tool.specs.declared.replacing.Contents.{Contents}
 
 -- the permission bits of a new file that all may read and write, 0o666, and of one for its owner alone, 0o600

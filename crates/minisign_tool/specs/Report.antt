@@ -1,10 +1,10 @@
 -- What the program says on the error stream.
 use Rattle.std.specs.Prelude.{◌≡◌, ℕ, ◌⊎◌, List, ◌++◌, codes}
 use Rattle.std.specs.Io.KnownBytes.{Appends}
-use Rattle.minisign_base.specs.Devices.{Rose, AppendsFront}
-use Rattle.minisign_base.specs.Fault.{Fault, text_of}
-use Rattle.minisign_base.specs.Members.{SinkOf}
-use Rattle.minisign_base.specs.DeviceCalls.{SinkCall, sink_call}
+use Rattle.minisign.specs.Devices.{Rose, AppendsFront}
+use Rattle.minisign.specs.Fault.{Fault, text_of}
+use Rattle.minisign.specs.Members.{SinkOf}
+use Rattle.minisign.specs.DeviceCalls.{SinkCall, sink_call}
 use Rattle.minisign.specs.Lines.{line}
 
 -- the first line of every run

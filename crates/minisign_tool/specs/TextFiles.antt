@@ -1,7 +1,7 @@
 -- Two texts that are read from files.
 use Rattle.std.specs.Prelude.{◌≡◌, ℕ, ◌⊎◌, List}
-use Rattle.minisign_base.specs.Fault.{Fault}
-use Rattle.minisign_base.specs.DeviceCalls.{SourceCall}
+use Rattle.minisign.specs.Fault.{Fault}
+use Rattle.minisign.specs.DeviceCalls.{SourceCall}
 use Rattle.minisign.specs.Reading.{ReadsWhole}
 use Rattle.minisign.specs.TextFiles.{IsTextFault}
 

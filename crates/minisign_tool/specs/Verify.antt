@@ -1,8 +1,8 @@
 -- How a run that verifies with two text files ends.
 use Rattle.std.specs.Prelude.{◌≡◌, ℕ, ◌⊎◌, true, false, List}
-use Rattle.minisign_base.specs.Fault.{Fault}
-use Rattle.minisign_base.specs.Members.{SourceOf}
-use Rattle.minisign_base.specs.DeviceCalls.{RereaderCall, SinkCall, SourceCall, TakesFront, rereader_call, source_call, unused}
+use Rattle.minisign.specs.Fault.{Fault}
+use Rattle.minisign.specs.Members.{SourceOf}
+use Rattle.minisign.specs.DeviceCalls.{RereaderCall, SinkCall, SourceCall, TakesFront, rereader_call, source_call, unused}
 use Rattle.minisign.specs.Records.{PublicKeyRecord, SignatureBoxRecord}
 use Rattle.minisign.specs.Acceptance.{Flags, Verifier, status_lines}
 use Rattle.minisign.specs.Headline.{CopyIsVouchedFor, TextsVouchFor}

@@ -1,8 +1,8 @@
 -- What it means that `verify-raw` accepts, and why it ends otherwise.
 use Rattle.std.specs.Prelude.{◌≡◌, ℕ, ◌<◌, ◌⊎◌, false, List, length, None}
-use Rattle.minisign_base.specs.Fault.{Fault, Named}
-use Rattle.minisign_base.specs.declared.faults.NamedFault.TheVariants.{RecordTooShort}
-use Rattle.minisign_base.specs.DeviceCalls.{RereaderCall, SinkCall, SourceCall, TakesFront, unused}
+use Rattle.minisign.specs.Fault.{Fault, Named}
+use Rattle.minisign.specs.NamedFaults.{RecordTooShort}
+use Rattle.minisign.specs.DeviceCalls.{RereaderCall, SinkCall, SourceCall, TakesFront, unused}
 use Rattle.minisign.specs.Records.{PublicKeyRecord, SignatureRecord, SignatureBoxRecord, ReadsPublicKey, ReadsSignature, IsKnownAlgorithm, IsBonesFault}
 use Rattle.minisign.specs.Acceptance.{Verifier, Vouches, verified_text}
 use Rattle.minisign.specs.Lines.{line}

@@ -1,7 +1,7 @@
 //! The command `cat`: as `verify`, and what was verified is copied out.
 
 ghost use Rattle.std.specs.Prelude.{◌≡◌, ◌≤◌, false, true, OnOk, IfErr};
-ghost use Rattle.minisign_base.specs.DeviceCalls.{Takes, sink_call};
+ghost use Rattle.minisign.specs.DeviceCalls.{Takes, sink_call};
 ghost use Rattle.minisign_tool.specs.Report.{EndsWithFault, SaysAfterWarning};
 ghost use Rattle.minisign_tool.specs.Verify.{FilesFailToCopy, FilesVouchForCopy, verifying_call};
 

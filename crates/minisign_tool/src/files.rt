@@ -2,11 +2,11 @@
 //! them and the standard streams, and returns the exit status. What fails before the body has begun
 //! is returned as a fault, with nothing said.
 
-ghost use Rattle.std.specs.Prelude.{◌≡◌, ◌≤◌, ◌⊎◌, Err, IsOk, IfOk, IfErr};
-ghost use Rattle.minisign_base.specs.Fault.{Fault, Named};
-ghost use Rattle.minisign_base.specs.declared.faults.NamedFault.TheVariants.{ClockIncorrect, ReadingFailed};
+ghost use Rattle.std.specs.Prelude.{◌≡◌, ◌≤◌, ◌⊎◌, ℕ, List, Some, Err, IsOk, IfOk, IfErr};
+ghost use Rattle.minisign.specs.Fault.{Fault, Named};
+ghost use Rattle.minisign.specs.NamedFaults.{ClockIncorrect, ReadingFailed};
 ghost use Rattle.minisign_tool.specs.Copying.{input_is_output};
-ghost use Rattle.minisign_tool.specs.Endings.{SaysOnlyFaults, SaysVerdict, SomeBytesVouch, SomeTextsVouch};
+ghost use Rattle.minisign_tool.specs.Endings.{SaysOnlyFaults, SaysRawVerdict, SaysVerdict, SomeBytesVouch, SomeTextsVouch};
 ghost use Rattle.minisign_tool.specs.Replacing.{HoldsContents, for_all, for_the_owner};
 ghost use Rattle.minisign_tool.specs.Report.{ShowsFault};
 
@@ -135,12 +135,20 @@ pub fn sign_files<S: Scheme, W: Sink>(
     if status != 0 {
         return Ok(status);
     }
-    let contents = Contents {
+    let contents = contents_of_signature(sig, &signature);
+    Ok(end_replacing(errors, replace_file(rt, contents)))
+}
+
+// What the file of a signature is to hold: all that was written as its text. A new one is for all.
+fn contents_of_signature<'a>(sig: &'a str, text: &'a VecSink) -> Contents<'a>
+    // The file of a signature is new for all, and gets the text that was made.
+    ensures { (bytes : List ℕ) → ⟦<VecSink as Sink>⟧.taken text.now ≡ Some bytes → HoldsContents result sig.now for_all bytes }
+{
+    Contents {
         path: sig,
         mode: FOR_ALL,
-        bytes: signature.as_slice(),
-    };
-    Ok(end_replacing(errors, replace_file(rt, contents)))
+        bytes: text.as_slice(),
+    }
 }
 
 /// Opens the public key, the data and the signature, and runs `verify` over them.
@@ -159,7 +167,8 @@ pub fn verify_files<S: Scheme, W: Sink>(
     // the scheme accepts.
     ensures accepted { IfOk result (λ s. s ≡ 0 → SomeTextsVouch (S.accepts scheme.now)) }
 
-    // With status 0 lines are said behind the warning, with 1 the line of a fault comes last.
+    // With status 0 the status lines of a box are said behind the warning, with 1 the line of a
+    // fault comes last.
     ensures said { IfOk result (SaysVerdict W.Sink errors.old errors.new) }
 
     // The only fault that comes before the body is `reading failed`, and nothing is said then.
@@ -189,8 +198,9 @@ pub fn verify_raw_files<S: Scheme, W: Sink>(
     // for which these vouch, whatever the scheme accepts.
     ensures accepted { IfOk result (λ s. s ≡ 0 → SomeBytesVouch (S.accepts scheme.now)) }
 
-    // With status 0 lines are said behind the warning, with 1 the line of a fault comes last.
-    ensures said { IfOk result (SaysVerdict W.Sink errors.old errors.new) }
+    // With status 0 the status line of a bare signature is said behind the warning, with 1 the line
+    // of a fault comes last.
+    ensures said { IfOk result (SaysRawVerdict W.Sink errors.old errors.new) }
 
     // The only fault that comes before the body is `reading failed`, and nothing is said then.
     ensures refused { IfErr result (λ e. (e ≡ Named ReadingFailed) × (errors.new ≡ errors.old)) }
@@ -225,7 +235,8 @@ pub fn cat_files<S: Scheme, W: Sink>(
     // the scheme accepts.
     ensures accepted { IfOk result (λ s. s ≡ 0 → SomeTextsVouch (S.accepts scheme.now)) }
 
-    // With status 0 lines are said behind the warning, with 1 the line of a fault comes last.
+    // With status 0 the status lines of a box are said behind the warning, with 1 the line of a
+    // fault comes last.
     ensures said { IfOk result (SaysVerdict W.Sink errors.old errors.new) }
 
     // The only faults that come before the body are `reading failed` and data from the file that

@@ -1,7 +1,7 @@
 //! The command `keygen`: a sealed pair under a password that is typed twice, as two texts.
 
 ghost use Rattle.std.specs.Prelude.{◌≡◌, ◌≤◌, None};
-ghost use Rattle.minisign_base.specs.DeviceCalls.{prompt_call, random_call, sink_call};
+ghost use Rattle.minisign.specs.DeviceCalls.{prompt_call, random_call, sink_call};
 ghost use Rattle.minisign.specs.Generation.{SealedTextsFail};
 ghost use Rattle.minisign_tool.specs.Keygen.{MakesKeys};
 ghost use Rattle.minisign_tool.specs.Report.{ShowsOnlyFault, TakesOrFails, warning_line};

@@ -3,7 +3,7 @@
 
 ghost use Rattle.std.specs.Prelude.{◌≡◌, ◌++◌, codes, MatchResult, OnOk, OnErr};
 ghost use Rattle.std.specs.Io.KnownBytes.{Appends};
-ghost use Rattle.minisign_base.specs.Devices.{Rose, AppendsFront};
+ghost use Rattle.minisign.specs.Devices.{Rose, AppendsFront};
 ghost use Rattle.minisign.specs.Lines.{line};
 ghost use Rattle.minisign_tool.specs.Report.{TakesOrFails, ShowsFault, usage_line, warning_line};
 

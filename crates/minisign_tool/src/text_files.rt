@@ -1,7 +1,7 @@
 //! Texts of keys and signatures, read from files.
 
 ghost use Rattle.std.specs.Prelude.{string_bytes, IfOk, IfErr};
-ghost use Rattle.minisign_base.specs.DeviceCalls.{source_call};
+ghost use Rattle.minisign.specs.DeviceCalls.{source_call};
 ghost use Rattle.minisign_tool.specs.TextFiles.{EitherFails, ReadsBoth};
 
 use minisign::Result;

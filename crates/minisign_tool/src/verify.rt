@@ -2,8 +2,8 @@
 //! third.
 
 ghost use Rattle.std.specs.Prelude.{◌≡◌, ◌≤◌, false, OnOk, IfErr};
-ghost use Rattle.minisign_base.specs.Devices.{HasGiven};
-ghost use Rattle.minisign_base.specs.DeviceCalls.{Takes, sink_call};
+ghost use Rattle.minisign.specs.Devices.{HasGiven};
+ghost use Rattle.minisign.specs.DeviceCalls.{Takes, sink_call};
 ghost use Rattle.minisign_tool.specs.Report.{EndsWithFault, SaysAfterWarning};
 ghost use Rattle.minisign_tool.specs.Verify.{FilesFail, FilesVouch, verifying_call};
 

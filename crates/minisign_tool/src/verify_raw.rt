@@ -3,8 +3,8 @@
 
 ghost use Rattle.std.specs.Prelude.{◌≡◌, ℕ, ◌≤◌, List, OnOk, OnErr, IfErr};
 ghost use Rattle.std.specs.Io.KnownBytes.{Appends};
-ghost use Rattle.minisign_base.specs.Devices.{HasGiven};
-ghost use Rattle.minisign_base.specs.DeviceCalls.{Takes, rereader_call, sink_call, source_call};
+ghost use Rattle.minisign.specs.Devices.{HasGiven};
+ghost use Rattle.minisign.specs.DeviceCalls.{Takes, rereader_call, sink_call, source_call};
 ghost use Rattle.minisign.specs.Acceptance.{verified_text};
 ghost use Rattle.minisign.specs.Lines.{line};
 ghost use Rattle.minisign.specs.Reading.{ReadsWhole};

@@ -1,6 +1,6 @@
 use Rattle.std.proofs.Common.{arith, string_bytes, false, sym}
 use Rattle.std.proofs.lemmas.Bool.{true≢false}
-use Rattle.minisign.proofs.Commented.{ahead_refused, ahead_vouched, comment_verdict}
+use Rattle.minisign.proofs.Commented.{ahead_refused, ahead_vouched, comment_verdict, reader_refused}
 use Rattle.minisign.proofs.calls.verify_reader.Goals as goal
 
 pub returns-clause-headline : goal.returns-clause-headline
@@ -18,4 +18,9 @@ returns-clause-vouched g c =
 pub returns-clause-refused : goal.returns-clause-refused
 returns-clause-refused g c =
     ahead_refused (g.S.Scheme.accepts c.args.scheme.now) c.args.pk_text.now c.args.sig_text.now _ _ _ c.verify_with.result
+    c.verify_with.ensures.refused
+
+pub returns-clause-failed : goal.returns-clause-failed
+returns-clause-failed g c =
+    reader_refused (g.S.Scheme.accepts c.args.scheme.now) c.args.pk_text.now c.args.sig_text.now _ _ _ c.verify_with.result
     c.verify_with.ensures.refused

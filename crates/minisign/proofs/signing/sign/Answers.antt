@@ -13,7 +13,7 @@ returns-in_err-test_given_key-clause-refused g c =
     (inr (
       opened,
       elim c.in_err-test_given_key.ensures.refused [
-        | inl out_of_memory ↦ inl out_of_memory
+        | inl out_of_memory ↦ inl ((out_of_memory, c.in_ok-signature_box.ensures.no_new_fault), read.no_new_fault)
         | inr refused ↦ inr (inr (message, read, inr (refused_by_given _ _ (option_copied c.args.pk) _ _ _ _ _ _ signed refused)))
       ],
     ))

@@ -24,3 +24,9 @@ returns-clause-headline g c =
       headline,
     ))
     c.sign_opened.ensures.signed
+
+pub returns-clause-signed : goal.returns-clause-signed
+returns-clause-signed g c =
+    IfOk-weaker c.sign_opened.result _ _
+    (λ t (message, read, signed, headline). (c.in_ok-sk.sk, message, c.in_ok-sk.ensures.gives, read, signed, headline))
+    c.sign_opened.ensures.signed

@@ -24,7 +24,14 @@ returns-clause-signed g c =
     (λ t h. record {
       sk_text = c.deref.result.now;
       read = rw c.deref.ensures c.in_ok-sk_text.ensures.text;
-      signs = record { key = h.0; message = h.1; given = h.2; read = h.3; signed = h.4 };
+      signs = record {
+        key = h.0;
+        message = h.1;
+        given = h.2;
+        read = h.3;
+        signed = h.4;
+        vouched = λ seed genuine. h.5 seed genuine c.default_comments_are_read_back.ensures.one_line;
+      };
     })
     c.sign_texts.ensures.signed
 

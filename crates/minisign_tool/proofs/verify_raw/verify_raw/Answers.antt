@@ -1,6 +1,6 @@
 use Rattle.std.proofs.Common.{inr, subst}
 use Rattle.std.proofs.lemmas.Result.{IfErr-weaker}
-use Rattle.minisign_base.specs.DeviceCalls.{rereader_call, sink_call, unused}
+use Rattle.minisign.specs.DeviceCalls.{rereader_call, sink_call, unused}
 use Rattle.minisign.specs.Verifying.{VerifyingFails}
 use Rattle.minisign_tool.specs.Verify.{says_only}
 use Rattle.minisign_tool.proofs.Unused.{box_fails}

@@ -1,0 +1,116 @@
+#!/usr/bin/env python3
+"""Makes the repository of a caller of the lines that the documents tell to copy, and proves the caller in it.
+
+    tests/library/new_repository.py
+
+The lines of crates.txt and the example stand in README.md or in docs/GUIDE.md, each in a block of its own. The libraries
+are those of this repository as they stand proved (tests/shared/proved.py); the caller's crate lists what the lines say
+and no more, and has the example, with the imports, the definition and the proof that stand in `minisign_examples`. The
+last line is `N passed, M failed`.
+
+Needs Python 3.9 or later and the kit.
+"""
+
+import os
+import re
+import shutil
+import sys
+import tempfile
+
+HERE = os.path.dirname(os.path.realpath(__file__))
+sys.path.append(os.path.join(HERE, "..", "shared"))
+
+import proved
+
+DOCUMENTS = ("README.md", "docs/GUIDE.md")
+# The crate whose example the documents show, and what of it the caller has beside that.
+EXAMPLES = "minisign_examples"
+MODULE = "updating"
+PARTS = (f"src/{MODULE}.rt", "specs/Updating.antt", f"proofs/{MODULE}")
+CALLER = "your_crate"
+
+
+class Wrong(Exception):
+    """Something that a document says and that is not so."""
+
+
+def read(path):
+    with open(os.path.join(proved.ROOT, path), encoding="utf-8") as it:
+        return it.read()
+
+
+def block_with(line):
+    """The block of the first document that has one with a line that begins so."""
+    for name in DOCUMENTS:
+        for block in re.findall(r"(?ms)^```\w*\n(.*?)^```$", read(name)):
+            if re.search(rf"(?m)^{re.escape(line)}", block):
+                return block
+    raise Wrong(f"no block of {' or '.join(DOCUMENTS)} has a line that begins with {line!r}")
+
+
+def lines_of_crates():
+    """The lines of crates.txt that a caller takes over, and the one of the caller's crate."""
+    lines = [line for line in block_with(f"{CALLER}:").splitlines() if ":" in line.partition("#")[0]]
+    libraries, (caller,) = ([line for line in lines if line.startswith(f"{CALLER}:") == is_caller] for is_caller in (False, True))
+    for line in libraries:
+        if line not in read("crates.txt").splitlines():
+            raise Wrong(f"crates.txt has no line {line!r}")
+    return libraries, caller
+
+
+def fill(folder):
+    """Puts the caller's crate into a folder: the example of the documents behind the imports of the same in its crate."""
+    example = block_with("pub fn check_update")
+    module = read(f"crates/{EXAMPLES}/src/{MODULE}.rt")
+    if example not in module:
+        raise Wrong(f"the example is not that of crates/{EXAMPLES}/src/{MODULE}.rt")
+    for part in PARTS:
+        came, goes = os.path.join(proved.ROOT, "crates", EXAMPLES, part), os.path.join(folder, part)
+        os.makedirs(os.path.dirname(goes), exist_ok=True)
+        (shutil.copytree if os.path.isdir(came) else shutil.copyfile)(came, goes)
+    write(folder, "src/lib.rt", f"//! An updater.\n\n#![tactic(auto)]\n\npub mod {MODULE};\n")
+    write(folder, "specs/Lib.antt", "pub mod Updating\n")
+    for at, _, names in os.walk(folder):
+        for name in names:
+            path = os.path.join(at, name)
+            with open(path, encoding="utf-8") as it:
+                text = it.read()
+            write(at, name, text.replace(f"Rattle.{EXAMPLES}.", f"Rattle.{CALLER}."))
+
+
+def write(folder, name, text):
+    with open(os.path.join(folder, name), "w", encoding="utf-8") as it:
+        it.write(text)
+
+
+def check():
+    """Proves the caller over the libraries that its line of crates.txt lists."""
+    libraries, line = lines_of_crates()
+    names = [it.partition(":")[0] for it in libraries]
+    crate = proved.Crate(line, {it: proved.crates()[it] for it in names})
+    if [it for it in crate.below if it not in names] or set(names) - set(crate.below):
+        raise Wrong(f"the libraries below {CALLER} are {crate.below}, and the lines have {names}")
+    why = proved.supply(crate.below)
+    if why:
+        raise Wrong(why)
+    with tempfile.TemporaryDirectory(prefix="minisign-new-repository-") as folder:
+        fill(folder)
+        ran = proved.rattle("check", CALLER, folder, crate=crate)
+    words = ran.stdout
+    if ran.returncode or f"{MODULE}::check_update" not in proved.functions_of(CALLER, words):
+        raise Wrong(f"the example is not proved: {proved.first_of(words)}")
+
+
+def main():
+    try:
+        check()
+    except Wrong as why:
+        print(f"FAILED: {why}")
+        print("0 passed, 1 failed")
+        return 1
+    print("1 passed, 0 failed")
+    return 0
+
+
+if __name__ == "__main__":
+    sys.exit(main())
