@@ -8,14 +8,17 @@ use Rattle.std.proofs.Math.Bool.{cond}
 use Rattle.std.proofs.Math.Logic.{⊎_elim}
 use Rattle.std.proofs.lemmas.Bool.{cases_lt, le-leb, lt-leb}
 use Rattle.std.proofs.lemmas.List.{append_assoc, length-take-le, take-append-drop}
-use Rattle.minisign_base.specs.Fault.{Fault}
+use Rattle.minisign_base.specs.Fault.{Fault, Named}
+use Rattle.minisign_base.specs.declared.faults.NamedFault.{NamedFault}
+use Rattle.minisign_base.specs.declared.faults.NamedFault.TheVariants.{RecordTooShort}
 use Rattle.minisign.specs.InPlace.{IsViewOf, SignatureViewRecord, first_64}
-use Rattle.minisign.specs.PublicKeyText.{EncodesPublicKey}
+use Rattle.minisign.specs.PublicKeyText.{EncodesPublicKey, decoded_key}
 use Rattle.minisign.specs.Records.{IsKnownAlgorithm, PublicKeyRecord, ReadsPublicKey, ReadsSignature, SignatureBoxRecord, SignatureRecord, public_key_bytes, signature_bytes}
 use Rattle.minisign.specs.SignatureText.{EncodesSignature, HasFourLines, SignatureText, signature_refusal, trusted_comment_label}
 use Rattle.minisign.specs.Texts.{IsBase64Of, base64_bytes, is_base64, line_at, untrusted_comment_label}
 use Rattle.minisign.proofs.Base64Pieces.{length_base64}
 use Rattle.minisign.proofs.Base64Texts.{short_of}
+use Rattle.minisign.proofs.PublicKeyTexts.{encoded_is_decoded}
 use Rattle.minisign.proofs.RecordFields.{stored_length}
 use Rattle.minisign.proofs.SignatureTexts.{no_refusal, one_signature_text}
 
@@ -26,7 +29,7 @@ longer bytes record_bytes rest n front =
 
 -- what the front of the decoded bytes is read as
 module _ (text room bytes : List ℕ) (n : ℕ) (base64 : IsBase64Of text bytes) (front : take n room ≡ take n bytes) where
-  pub encoded_key : (k : PublicKeyRecord) → ReadsPublicKey (take n room) k → EncodesPublicKey text k
+  encoded_key : (k : PublicKeyRecord) → ReadsPublicKey (take n room) k → EncodesPublicKey text k
   encoded_key k h = record {
     bytes = bytes;
     base64 = base64;
@@ -57,6 +60,16 @@ short_front text room bytes n cap m base64 count fits least short =
     let same : length (take n room) ≡ n = length-take-le n room fits in
     let few : length bytes < m = omega (arith, same, count, short) in
     short_of text bytes bytes m base64 refl few
+
+-- the front of the decoded bytes is read as all of them
+pub front_read : (fault : NamedFault) (text room bytes : List ℕ) (n : ℕ) (r : Result PublicKeyRecord Fault) → IsBase64Of text bytes → n ≡ min (length bytes) 42
+    → n ≤ length room → take n room ≡ take n bytes → MatchResult r (ReadsPublicKey (take n room)) (λ e. (e ≡ Named RecordTooShort) × (length (take n room) < 42))
+    → r ≡ decoded_key fault text
+front_read fault text room bytes n (Ok k) base64 count fits front reads =
+    sym (encoded_is_decoded fault text k (encoded_key text room bytes n base64 front k reads))
+front_read fault text room bytes n (Err e) base64 count fits front refused =
+    let short = short_front text room bytes n 42 42 base64 count fits (omega arith) refused.1 in
+    rw (short.0, lt-leb 42 _ short.1) (ap Err refused.0)
 
 -- the first 64 bytes
 few_bytes : (bytes : List ℕ) → length bytes < 64 → first_64 bytes ≡ None

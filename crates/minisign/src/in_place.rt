@@ -6,20 +6,24 @@ ghost use Rattle.std.specs.Str.{trim};
 ghost use Rattle.minisign_base.specs.Fault.{Named};
 ghost use Rattle.minisign_base.specs.declared.faults.NamedFault.TheVariants.{RecordTooShort, SignatureNotBase64};
 ghost use Rattle.minisign.specs.InPlace.{IsViewOf, first_64};
-ghost use Rattle.minisign.specs.PublicKeyText.{BarePublicKey, EncodesPublicKey, PublicKeyText, bare_public_key_refusal, public_key_refusal};
-ghost use Rattle.minisign.specs.Records.{PublicKeyRecord, SignatureBoxRecord, is_prehashed};
+ghost use Rattle.minisign.specs.PublicKeyText.{decoded_key, key_in_line, read_bare_public_key, read_public_key};
+ghost use Rattle.minisign.specs.Records.{SignatureBoxRecord, is_prehashed};
 ghost use Rattle.minisign.specs.SignatureText.{EncodesSignature, HasFourLines, SignatureText, signature_refusal};
-ghost use Rattle.minisign.specs.Texts.{HasSecondLine, IsBase64Of, IsRefused, base64_bytes, is_base64};
+ghost use Rattle.minisign.specs.Texts.{IsBase64Of, IsRefused, base64_bytes, is_base64};
 
 use crate::base64_front::decode_front;
 use crate::constants::SIGALG_PREHASHED;
-use crate::public_key::{ENCODED_BYTES, PublicKey, key_line};
+use crate::public_key::PublicKey;
 use crate::signature::Signature;
 use crate::signature_box::{
     TextLines, four_lines, known, trusted_comment_in, untrusted_comment_in,
 };
+use crate::texts::next_line;
 use minisign_base::{NamedFault, Result};
 use std::marker::Model;
+
+// The length of a public key in base64.
+const ENCODED_BYTES: usize = 56;
 
 /// What a signature text reads as: the signature, the comments where they lie in the text, and of the comment
 /// signature the first 64 bytes.
@@ -81,28 +85,38 @@ impl<'a> SignatureView<'a> {
     }
 }
 
-/// Reads a public key text: the key that `PublicKey::from_box` reads, and its refusals in their order.
-/// Takes no memory, and never says that it ran out.
+/// Reads a public key text: a first line that may be anything, and a second of 56 bytes that, trimmed of white space, is
+/// the base64 of the 42 bytes of a key. Later lines are ignored.
+///
+/// These are refused, in this order: a text with no first line, one with no second line, another length of that line,
+/// what is not base64, fewer than 42 bytes. Takes no memory.
 pub fn read_public_key(text: &str) -> Result<PublicKey>
-    // A public key text is read as `PublicKey::from_box` reads it: the same key, the same first
-    // reasons, and never out of memory.
-    ensures read { IfOk result (PublicKeyText text.now) }
-    ensures exact { (k : PublicKeyRecord) → PublicKeyText text.now k → result ≡ Ok k }
-    ensures refused { IfErr result (IsRefused (PublicKeyText text.now) (public_key_refusal text.now)) }
+    // A public key text is read as its grammar has it, a function of the text: as the key, or the first case that fails.
+    ensures { result ≡ read_public_key text.now }
 {
-    read_key_text(text)
+    let mut lines = text.lines();
+    let Some(_comment) = next_line(&mut lines) else {
+        return Err(NamedFault::MissingPublicKeyComment.into());
+    };
+    let Some(encoded) = next_line(&mut lines) else {
+        return Err(NamedFault::MissingEncodedPublicKey.into());
+    };
+    read_key_line(encoded)
 }
 
-/// Reads the bare base64 of a key, 56 bytes: the key that `PublicKey::from_base64` reads, and its refusals in their
-/// order. Takes no memory, and never says that it ran out.
+/// Reads the bare base64 of a key, 56 bytes with nothing around them.
+///
+/// These are refused, in this order: a text that, trimmed of white space, has another length, what is not base64 as it
+/// stands, fewer than 42 bytes. Takes no memory.
 pub fn read_bare_public_key(text: &str) -> Result<PublicKey>
-    // The base64 of a key is read as `PublicKey::from_base64` reads it: the same key, the same
-    // first reasons, and never out of memory.
-    ensures read { IfOk result (BarePublicKey text.now) }
-    ensures exact { (k : PublicKeyRecord) → BarePublicKey text.now k → result ≡ Ok k }
-    ensures refused { IfErr result (IsRefused (BarePublicKey text.now) (bare_public_key_refusal text.now)) }
+    // The base64 of a key is read as its grammar has it, a function of the text: as the key, or the first case that
+    // fails.
+    ensures { result ≡ read_bare_public_key text.now }
 {
-    read_bare(text)
+    if text.trim().len() != ENCODED_BYTES {
+        return Err(NamedFault::BarePublicKeyLength.into());
+    }
+    decode_key(text, NamedFault::BarePublicKeyNotBase64)
 }
 
 /// Reads a signature text: of the box that `SignatureBox::from_string` reads all but what stands behind the first 64
@@ -121,54 +135,25 @@ pub fn read_signature(text: &str) -> Result<SignatureView<'_>>
     read_box(text)
 }
 
-// Reads a public key text.
-fn read_key_text(text: &str) -> Result<PublicKey>
-    ensures read { IfOk result (PublicKeyText text.now) }
-    ensures refused { IfErr result (λ e. public_key_refusal text.now ≡ Some e) }
-{
-    let line = key_line(text)?;
-    read_key_line(line)
-}
-
 // Reads the second line of a public key text.
-fn read_key_line(line: &str) -> Result<PublicKey>
-    ensures read { IfOk result (λ k. (length line.now ≡ 56) × EncodesPublicKey (trim line.now) k) }
-    ensures refused { IfErr result (λ e. (text : List ℕ) → HasSecondLine text line.now → public_key_refusal text ≡ Some e) }
+fn read_key_line(encoded: &str) -> Result<PublicKey>
+    ensures { result ≡ key_in_line encoded.now }
 {
-    if line.len() != ENCODED_BYTES {
+    if encoded.len() != ENCODED_BYTES {
         return Err(NamedFault::PublicKeyLineLength.into());
     }
-    match decode_key(line.trim())? {
-        Some(key) => Ok(key),
-        None => Err(NamedFault::PublicKeyLineNotBase64.into()),
-    }
+    decode_key(encoded.trim(), NamedFault::PublicKeyLineNotBase64)
 }
 
-// Reads the bare base64 of a key.
-fn read_bare(text: &str) -> Result<PublicKey>
-    ensures read { IfOk result (BarePublicKey text.now) }
-    ensures refused { IfErr result (λ e. bare_public_key_refusal text.now ≡ Some e) }
-{
-    if text.trim().len() != ENCODED_BYTES {
-        return Err(NamedFault::BarePublicKeyLength.into());
-    }
-    match decode_key(text)? {
-        Some(key) => Ok(key),
-        None => Err(NamedFault::BarePublicKeyNotBase64.into()),
-    }
-}
-
-// The key that a text is the base64 of; nothing where the text is not base64.
-fn decode_key(text: &str) -> Result<Option<PublicKey>>
-    ensures { MatchResult result
-        (λ o. MatchOption o (is_base64 text.now ≡ false) (EncodesPublicKey text.now))
-        (λ e. (e ≡ Named RecordTooShort) × (is_base64 text.now ≡ true) × (length (base64_bytes text.now) < 42)) }
+// The key that a text is the base64 of; where it is not base64, this fault.
+fn decode_key(text: &str, not_base64: NamedFault) -> Result<PublicKey>
+    ensures { result ≡ decoded_key not_base64 text.now }
 {
     let mut record = [0u8; 42];
     let Some(count) = decode_front(text.as_bytes(), &mut record) else {
-        return Ok(None);
+        return Err(not_base64.into());
     };
-    Ok(Some(PublicKey::from_bytes(&record[..count])?))
+    PublicKey::from_bytes(&record[..count])
 }
 
 // Reads a signature text.
