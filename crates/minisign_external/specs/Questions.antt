@@ -1,11 +1,11 @@
 -- What a signature scheme has to be asked before it is known whether two texts vouch for a message, and
 -- what its answers decide.
-use Rattle.std.specs.Prelude.{◌≡◌, ℕ, ◌≤◌, ◌||◌, Bool, IsTrue, nat_le, if◌then◌else◌, List, ◌++◌, length, replicate, take, Some}
+use Rattle.std.specs.Prelude.{◌≡◌, ℕ, ◌≤◌, ◌||◌, Bool, IsTrue, nat_le, if◌then◌else◌, List, ◌++◌, length, replicate, take, Some, Ok}
 use Rattle.minisign_base.specs.Fault.{Fault}
 use Rattle.minisign.specs.Records.{PublicKeyRecord, SignatureRecord, SignatureBoxRecord, CommentsRecord, is_prehashed}
 use Rattle.minisign.specs.InPlace.{SignatureViewRecord, IsViewOf}
 use Rattle.minisign.specs.Acceptance.{Verifier, signed_bytes}
-use Rattle.minisign.specs.PublicKeyText.{PublicKeyText}
+use Rattle.minisign.specs.PublicKeyText.{read_public_key}
 use Rattle.minisign.specs.SignatureText.{SignatureText}
 use Rattle.minisign.specs.Headline.{TextsRefuse}
 
@@ -38,9 +38,8 @@ told_signature c = if has_whole_signature c then take 64 c.signature else replic
 
 -- the two texts read as this key and this box, and as no others
 pub record AreReadAs (pk_text sig_text : List ℕ) (pk : PublicKeyRecord) (x : SignatureBoxRecord) : Type 0 where
-  pub key_read : PublicKeyText pk_text pk
+  pub key_read : read_public_key pk_text ≡ Ok pk
   pub box_read : SignatureText sig_text x
-  pub one_key : (other : PublicKeyRecord) → PublicKeyText pk_text other → pk ≡ other
   pub one_box : (other : SignatureBoxRecord) → SignatureText sig_text other → x ≡ other
 
 -- the two texts read as this key and this box, and all conditions hold that need no scheme: what is left
@@ -64,7 +63,7 @@ IsRefusedUnasked pk_text sig_text legacy e =
 -- the scheme answers the questions of the two texts about the message so
 abbrev pub AnswersTexts : Verifier → List ℕ → List ℕ → List ℕ → Bool → Bool → Type 0
 AnswersTexts accepts pk_text sig_text message first second =
-    (pk : PublicKeyRecord) (x : SignatureBoxRecord) (c : CommentsRecord) → PublicKeyText pk_text pk → SignatureText sig_text x
+    (pk : PublicKeyRecord) (x : SignatureBoxRecord) (c : CommentsRecord) → read_public_key pk_text ≡ Ok pk → SignatureText sig_text x
     → x.comments ≡ Some c → AnswersSo accepts pk x c message first second
 
 -- what is told of two texts that were read where they lie

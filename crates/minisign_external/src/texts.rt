@@ -5,7 +5,7 @@ ghost use Rattle.std.specs.Prelude.{◌≡◌, if◌then◌else◌, ◌++◌, �
 ghost use Rattle.minisign_base.specs.Fault.{Named};
 ghost use Rattle.minisign_base.specs.declared.faults.NamedFault.TheVariants.{DifferentKeyIds};
 ghost use Rattle.minisign.specs.InPlace.{IsViewOf, first_64};
-ghost use Rattle.minisign.specs.PublicKeyText.{PublicKeyText};
+ghost use Rattle.minisign.specs.PublicKeyText.{read_public_key};
 ghost use Rattle.minisign.specs.Records.{CommentsRecord, PublicKeyRecord, SignatureBoxRecord, is_prehashed};
 ghost use Rattle.minisign.specs.SignatureText.{SignatureText};
 ghost use Rattle.minisign_external.specs.Questions.{AreOpen, AreReadAs, AreTexts, HoldsMessage, IsRefusedUnasked, has_whole_signature, told_signature};
@@ -39,7 +39,7 @@ impl<'a> Texts<'a> {
         // box; the trusted comment and 64 bytes have no more bytes than the signature's text.
         ensures read { IfOk result (AreTexts pk_text.now sig_text.now) }
         ensures size { IfOk result (λ t. 64 + length t.view.trusted ≤ length sig_text.now) }
-        ensures exact { (k : PublicKeyRecord) (x : SignatureBoxRecord) → PublicKeyText pk_text.now k → SignatureText sig_text.now x → IsOk result }
+        ensures exact { (k : PublicKeyRecord) (x : SignatureBoxRecord) → read_public_key pk_text.now ≡ Ok k → SignatureText sig_text.now x → IsOk result }
         ensures refused { IfErr result (λ e. (legacy : Bool) → IsRefusedUnasked pk_text.now sig_text.now legacy e) }
     {
         texts_are_decided();
