@@ -17,14 +17,17 @@ use minisign_base::{NamedFault, Result};
 use std::alloc::Global;
 use std::str::Lines;
 
-/// A law, for which nothing is done: the first case that fails decides about each text that the
-/// library reads.
+/// A law, for which nothing is done: the functions that read texts, and the first case that fails, agree with the
+/// relations that the grammars are.
 #[tactic(auto, using(crate::proofs::PublicKeyTexts::read_as, crate::proofs::PublicKeyTexts::bare_read_as, crate::proofs::SignatureTexts::decided, crate::proofs::SecretKeyTexts::decided))]
 pub fn texts_are_decided()
-    // No test fails exactly when a text reads as some public key (from its text, or from bare
-    // base64), as some box, or as some secret key; and it reads as one at most.
+    // What is read of a text, by the function of its grammar, is a public key (of its text, or of bare base64) exactly
+    // where the text reads as this key by the relation that its grammar is; it reads as one at most, and as none where
+    // what is read is a fault.
     ensures public_key { (text : List ℕ) → IsReading (PublicKeyText text) (read_public_key text) }
     ensures bare_public_key { (text : List ℕ) → IsReading (BarePublicKey text) (read_bare_public_key text) }
+
+    // No test fails exactly when a text reads as some box, or as some secret key; and it reads as one at most.
     ensures signature { (text : List ℕ) → IsDecided (SignatureText text) (signature_refusal text) }
     ensures secret_key { (text : List ℕ) → IsDecided (SecretKeyText text) (secret_key_refusal text) }
 {}
