@@ -3,7 +3,6 @@ use Rattle.std.proofs.Common.{◌≡◌, take-take, ℕ, ◌<◌, ◌≤◌, min
 use Rattle.std.specs.declared.option.Option.TheVariants.{None, Some}
 use Rattle.std.specs.declared.result.Result.{Result}
 use Rattle.std.specs.declared.result.Result.TheVariants.{Ok, Err}
-use Rattle.std.specs.Str.{trim}
 use Rattle.std.proofs.Math.Bool.{cond}
 use Rattle.std.proofs.Math.Logic.{⊎_elim}
 use Rattle.std.proofs.lemmas.Bool.{cases_lt, le-leb, lt-leb}
@@ -11,16 +10,15 @@ use Rattle.std.proofs.lemmas.List.{append_assoc, length-take-le, take-append-dro
 use Rattle.minisign_base.specs.Fault.{Fault, Named}
 use Rattle.minisign_base.specs.declared.faults.NamedFault.{NamedFault}
 use Rattle.minisign_base.specs.declared.faults.NamedFault.TheVariants.{RecordTooShort}
-use Rattle.minisign.specs.InPlace.{IsViewOf, SignatureViewRecord, first_64}
+use Rattle.minisign.specs.InPlace.{first_64}
 use Rattle.minisign.specs.PublicKeyText.{EncodesPublicKey, decoded_key}
-use Rattle.minisign.specs.Records.{IsKnownAlgorithm, PublicKeyRecord, ReadsPublicKey, ReadsSignature, SignatureBoxRecord, SignatureRecord, public_key_bytes, signature_bytes}
-use Rattle.minisign.specs.SignatureText.{EncodesSignature, HasFourLines, SignatureText, signature_refusal, trusted_comment_label}
-use Rattle.minisign.specs.Texts.{IsBase64Of, base64_bytes, is_base64, line_at, untrusted_comment_label}
+use Rattle.minisign.specs.Records.{PublicKeyRecord, ReadsPublicKey, ReadsSignature, SignatureRecord, public_key_bytes, signature_bytes}
+use Rattle.minisign.specs.SignatureText.{EncodesSignature}
+use Rattle.minisign.specs.Texts.{IsBase64Of, base64_bytes, is_base64}
 use Rattle.minisign.proofs.Base64Pieces.{length_base64}
 use Rattle.minisign.proofs.Base64Texts.{short_of}
 use Rattle.minisign.proofs.PublicKeyTexts.{encoded_is_decoded}
 use Rattle.minisign.proofs.RecordFields.{stored_length}
-use Rattle.minisign.proofs.SignatureTexts.{no_refusal, one_signature_text}
 
 -- a record that the front of bytes begins with, the bytes begin with
 longer : (bytes record_bytes rest : List ℕ) (n : ℕ) → take n bytes ≡ record_bytes ++ rest → bytes ≡ record_bytes ++ (rest ++ drop n bytes)
@@ -87,32 +85,6 @@ front_64 bytes room n count fits front =
     ∙ ap (λ (x : List ℕ). Some (take 64 x)) front
     ∙ ap (λ (x : List ℕ). Some x) (take-take 64 n bytes (omega (arith, count))) ∙ sym (enough_bytes bytes enough))
     (cases_lt (length bytes) 64)
-
--- a box that four lines hold
-pub assembled : (text a b c d u t trimmed g : List ℕ) (s : SignatureRecord) → HasFourLines text a b c d → a ≡ untrusted_comment_label ++ u
-    → EncodesSignature (trim b) s → IsKnownAlgorithm s.algorithm → c ≡ trusted_comment_label ++ t → trim t ≡ trimmed → IsBase64Of (trim d) g
-    → SignatureText text (record { signature = s; comments = Some (record { untrusted = u; trusted = trimmed; signature = g }) })
-assembled text a b c d u t trimmed g s four first encodes algorithm third is_trimmed signed =
-    let at_0 : line_at 0 text ≡ a = rw four.cut refl in
-    let at_1 : line_at 1 text ≡ b = rw four.cut refl in
-    let at_2 : line_at 2 text ≡ c = rw four.cut refl in
-    let at_3 : line_at 3 text ≡ d = rw four.cut refl in
-    record {
-      comments = record { untrusted = u; trusted = trimmed; signature = g };
-      four_lines = rw four.cut refl;
-      untrusted_comment = at_0 ∙ first;
-      signature = subst (λ (l : List ℕ). EncodesSignature (trim l) s) (sym at_1) encodes;
-      algorithm = algorithm;
-      trusted_comment = (t, at_2 ∙ third, is_trimmed);
-      comment_signature = subst (λ (l : List ℕ). IsBase64Of (trim l) g) (sym at_3) signed;
-      box = refl;
-    }
-
--- the box that a text reads as is the one that is told of
-pub view_exact : (t : List ℕ) (r : Result SignatureViewRecord Fault) → IfOk r (λ v. (x : SignatureBoxRecord) × SignatureText t x × IsViewOf v x)
-    → IfErr r (λ e. signature_refusal t ≡ Some e) → (x : SignatureBoxRecord) → SignatureText t x → MatchResult r (λ v. IsViewOf v x) (λ _. ⊥)
-view_exact t (Ok v) ok err x read = subst (λ y. IsViewOf v y) (one_signature_text t ok.0 x ok.1 read) ok.2
-view_exact t (Err e) ok err x read = let no = sym (no_refusal t x read) ∙ err in cc no
 
 -- the base64 of a signature is longer than the signature
 pub long_enough : (text : List ℕ) (s : SignatureRecord) → EncodesSignature text s → 64 ≤ length text

@@ -13,7 +13,7 @@ use Rattle.minisign.specs.Sealing.{Opens, password_refusal, scrypt_kdf, xored_ke
 use Rattle.minisign.specs.SecretKeyText.{SecretKeyText}
 use Rattle.minisign.specs.Signing.{ChosenComments, IsGenuine}
 use Rattle.minisign.specs.PublicKeyText.{read_public_key}
-use Rattle.minisign.specs.SignatureText.{AreOneLine, SignatureText, signature_refusal}
+use Rattle.minisign.specs.SignatureText.{AreOneLine, read_signature, read_signature_box}
 
 -- == Verifying ==
 
@@ -23,7 +23,7 @@ pub record TextsVouchFor (accepts : Verifier) (pk_text sig_text message : List �
   pub key : PublicKeyRecord
   pub box : SignatureBoxRecord
   pub key_read : read_public_key pk_text ≡ Ok key
-  pub box_read : SignatureText sig_text box
+  pub box_read : read_signature_box sig_text ≡ Ok box
   pub vouches : Vouches accepts key box message legacy
 
 -- the first failing case: of the public key text, otherwise of the signature text, otherwise of the conditions that
@@ -31,8 +31,8 @@ pub record TextsVouchFor (accepts : Verifier) (pk_text sig_text message : List �
 abbrev pub IsFirstCase : Verifier → List ℕ → List ℕ → List ℕ → Bool → Fault → Type 0
 IsFirstCase accepts pk_text sig_text message legacy e =
     (read_public_key pk_text ≡ Err e)
-    ⊎ (((key : PublicKeyRecord) × (read_public_key pk_text ≡ Ok key)) × (signature_refusal sig_text ≡ Some e))
-    ⊎ ((key : PublicKeyRecord) × (box : SignatureBoxRecord) × (read_public_key pk_text ≡ Ok key) × SignatureText sig_text box
+    ⊎ (((key : PublicKeyRecord) × (read_public_key pk_text ≡ Ok key)) × (read_signature sig_text ≡ Err e))
+    ⊎ ((key : PublicKeyRecord) × (box : SignatureBoxRecord) × (read_public_key pk_text ≡ Ok key) × (read_signature_box sig_text ≡ Ok box)
     × (first_refusal accepts key box message legacy ≡ Some e))
 
 -- the texts do not vouch for the message, and this is the first failing case
@@ -75,4 +75,4 @@ OpeningHeadline password text bound answer =
 abbrev pub SigningHeadline : Verifier → (List ℕ → List ℕ) → SecretKeyRecord → List ℕ → ChosenComments → List ℕ → Type 0
 SigningHeadline accepts public_of sk message chosen text =
     (seed : List ℕ) → IsGenuine public_of sk seed → AreOneLine chosen.untrusted chosen.trusted
-    → (x : SignatureBoxRecord) × SignatureText text x × VouchesUnderEachKey accepts (public_of seed) sk.keynum message x
+    → (x : SignatureBoxRecord) × (read_signature_box text ≡ Ok x) × VouchesUnderEachKey accepts (public_of seed) sk.keynum message x

@@ -1,11 +1,12 @@
 -- What texts of keys and signatures are made of: lines, base64 as RFC 4648 section 4 has it, and tests
 -- in an order.
-use Rattle.std.specs.Prelude.{◌≡◌, ◌↔◌, ℕ, ◌%◌, Bool, if◌then◌else◌, bytes_eq, map, List, [], ◌∷◌, slice_get, slice_index_or, Option, None, Some, Result, Ok, Err, is_some, codes}
+use Rattle.std.specs.Prelude.{◌≡◌, ◌↔◌, ◌⊎◌, ℕ, ◌%◌, Bool, if◌then◌else◌, bytes_eq, map, List, [], ◌∷◌, slice_get, slice_index_or, Option, None, Some, Result, Ok, Err, is_some, codes}
 use Rattle.std.specs.Str.Lines.{lines}
 use Rattle.base64.specs.Engines.{standard}
 use Rattle.base64.specs.GeneralPurpose.{IsBytes, encode_of, decoded_bytes_of}
 use Rattle.minisign_base.specs.Fault.{Fault, Named}
 use Rattle.minisign_base.specs.declared.faults.NamedFault.{NamedFault}
+use Rattle.minisign_base.specs.declared.faults.NamedFault.TheVariants.{OutOfMemory}
 
 -- the base64 of bytes, padded
 unfoldable pub base64_of : List ℕ → List ℕ
@@ -35,6 +36,15 @@ line_at n text = slice_index_or (lines text) n []
 -- reading goes on where a test holds, and ends with the fault where it does not
 abbrev pub require : {V : Type 0} → Bool → NamedFault → Result V Fault → Result V Fault
 require holds fault more = if holds then more else Err (Named fault)
+
+-- what is read, as something else
+abbrev pub map_ok : {V W : Type 0} → (V → W) → Result V Fault → Result W Fault
+map_ok f (Ok v) = Ok (f v)
+map_ok f (Err e) = Err e
+
+-- the answer is what is read, or out of memory
+abbrev pub IsReadOrNoMemory : {V : Type 0} → Result V Fault → Result V Fault → Type 0
+IsReadOrNoMemory answer read = (answer ≡ read) ⊎ (answer ≡ Err (Named OutOfMemory))
 
 -- what is read is a value exactly where the text reads as this value, by the relation; it reads as one at most, and as
 -- none where what is read is a fault

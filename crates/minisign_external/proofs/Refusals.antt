@@ -17,7 +17,7 @@ turned_down accepts pk_text sig_text message legacy pk x e read first none = rec
   first_case = inr (inr (pk, x, read.key_read, read.box_read, first));
   unvouched = λ v. none (
       subst (λ k. Vouches accepts k x message legacy) (let same = sym v.key_read ∙ read.key_read in cc same)
-      (subst (λ y. Vouches accepts v.key y message legacy) (sym (read.one_box v.box v.box_read)) v.vouches)
+      (subst (λ y. Vouches accepts v.key y message legacy) (let same = sym v.box_read ∙ read.box_read in cc same) v.vouches)
       );
 }
 
