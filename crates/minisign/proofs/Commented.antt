@@ -11,13 +11,13 @@ use Rattle.minisign_base.specs.DeviceCalls.{RereaderCall, SinkCall}
 use Rattle.minisign.specs.Acceptance.{Flags, Refuses, Verifier, Vouches}
 use Rattle.minisign.specs.Calls.{CopyIsVouchedWith, CopyVerifiedFails, IsCommentOf, IsCommentVerdict, IsFileVerdict, TextsVouchWith, VerifyReaderFails}
 use Rattle.minisign.specs.Headline.{IsVerdict, TextsRefuse, TextsVouchFor}
+use Rattle.minisign.specs.PublicKeyText.{read_public_key}
 use Rattle.minisign.specs.Reading.{IsAhead, ReadingFails, ReadsWhole}
 use Rattle.minisign.specs.Records.{PublicKeyRecord, SignatureBoxRecord, is_prehashed, prehashed_algorithm}
 use Rattle.minisign.specs.VerifyingLaws.{fails_without_sinks, fails_without_status}
 use Rattle.minisign.specs.VerifyingTexts.{ReadTexts, TextsFail, VerifyingTextsFails, VerifyingTextsSucceeds}
 use Rattle.minisign.proofs.Passes.{IsReason, why_it_fails}
-use Rattle.minisign.proofs.PublicKeyTexts.{one_public_key_text}
-use Rattle.minisign.proofs.SignatureTexts.{one_signature_text}
+use Rattle.minisign.proofs.ReadTexts.{one_value}
 use Rattle.minisign.proofs.VouchedTexts.{text_verdict}
 
 abbrev is_memory : Fault → Bool
@@ -35,7 +35,7 @@ pub signed_comment : (accepts : Verifier) (pk sig message : List ℕ) (legacy : 
 signed_comment accepts pk sig message legacy comment vouched said = record {
   vouched = vouched;
   comments = said.comments;
-  both = ap (λ x. x.comments) (one_signature_text sig vouched.box said.box vouched.box_read said.box_read) ∙ said.both;
+  both = ap (λ x. x.comments) (one_value (read_signature_box sig) vouched.box said.box vouched.box_read said.box_read) ∙ said.both;
   trusted = said.trusted;
 }
 
@@ -58,8 +58,8 @@ box_refusal : (accepts : Verifier) (pk sig message : List ℕ) (legacy : Bool) (
 box_refusal accepts pk sig message legacy key box e read refused = record {
   first_case = inr (inr (key, box, read.key_read, read.box_read, refused.first));
   unvouched = λ v. refused.unacceptable (
-      subst (λ k. Vouches accepts k box message legacy) (one_public_key_text pk _ _ v.key_read read.key_read)
-      (subst (λ x. Vouches accepts v.key x message legacy) (one_signature_text sig _ _ v.box_read read.box_read) v.vouches)
+      subst (λ k. Vouches accepts k box message legacy) (one_value (read_public_key pk) _ _ v.key_read read.key_read)
+      (subst (λ x. Vouches accepts v.key x message legacy) (one_value (read_signature_box sig) _ _ v.box_read read.box_read) v.vouches)
       );
 }
 

@@ -3,21 +3,22 @@ use Rattle.std.proofs.Common.{◌≡◌, take-take, ℕ, ◌<◌, ◌≤◌, min
 use Rattle.std.specs.declared.option.Option.TheVariants.{None, Some}
 use Rattle.std.specs.declared.result.Result.{Result}
 use Rattle.std.specs.declared.result.Result.TheVariants.{Ok, Err}
-use Rattle.std.specs.Str.{trim}
 use Rattle.std.proofs.Math.Bool.{cond}
 use Rattle.std.proofs.Math.Logic.{⊎_elim}
 use Rattle.std.proofs.lemmas.Bool.{cases_lt, le-leb, lt-leb}
 use Rattle.std.proofs.lemmas.List.{append_assoc, length-take-le, take-append-drop}
-use Rattle.minisign_base.specs.Fault.{Fault}
-use Rattle.minisign.specs.InPlace.{IsViewOf, SignatureViewRecord, first_64}
-use Rattle.minisign.specs.PublicKeyText.{EncodesPublicKey}
-use Rattle.minisign.specs.Records.{IsKnownAlgorithm, PublicKeyRecord, ReadsPublicKey, ReadsSignature, SignatureBoxRecord, SignatureRecord, public_key_bytes, signature_bytes}
-use Rattle.minisign.specs.SignatureText.{EncodesSignature, HasFourLines, SignatureText, signature_refusal, trusted_comment_label}
-use Rattle.minisign.specs.Texts.{IsBase64Of, base64_bytes, is_base64, line_at, untrusted_comment_label}
+use Rattle.minisign_base.specs.Fault.{Fault, Named}
+use Rattle.minisign_base.specs.declared.faults.NamedFault.{NamedFault}
+use Rattle.minisign_base.specs.declared.faults.NamedFault.TheVariants.{RecordTooShort}
+use Rattle.minisign.specs.InPlace.{first_64}
+use Rattle.minisign.specs.PublicKeyText.{EncodesPublicKey, decoded_key}
+use Rattle.minisign.specs.Records.{PublicKeyRecord, ReadsPublicKey, ReadsSignature, SignatureRecord, public_key_bytes, signature_bytes}
+use Rattle.minisign.specs.SignatureText.{EncodesSignature}
+use Rattle.minisign.specs.Texts.{IsBase64Of, base64_bytes, is_base64}
 use Rattle.minisign.proofs.Base64Pieces.{length_base64}
 use Rattle.minisign.proofs.Base64Texts.{short_of}
+use Rattle.minisign.proofs.PublicKeyTexts.{encoded_is_decoded}
 use Rattle.minisign.proofs.RecordFields.{stored_length}
-use Rattle.minisign.proofs.SignatureTexts.{no_refusal, one_signature_text}
 
 -- a record that the front of bytes begins with, the bytes begin with
 longer : (bytes record_bytes rest : List ℕ) (n : ℕ) → take n bytes ≡ record_bytes ++ rest → bytes ≡ record_bytes ++ (rest ++ drop n bytes)
@@ -26,7 +27,7 @@ longer bytes record_bytes rest n front =
 
 -- what the front of the decoded bytes is read as
 module _ (text room bytes : List ℕ) (n : ℕ) (base64 : IsBase64Of text bytes) (front : take n room ≡ take n bytes) where
-  pub encoded_key : (k : PublicKeyRecord) → ReadsPublicKey (take n room) k → EncodesPublicKey text k
+  encoded_key : (k : PublicKeyRecord) → ReadsPublicKey (take n room) k → EncodesPublicKey text k
   encoded_key k h = record {
     bytes = bytes;
     base64 = base64;
@@ -58,6 +59,16 @@ short_front text room bytes n cap m base64 count fits least short =
     let few : length bytes < m = omega (arith, same, count, short) in
     short_of text bytes bytes m base64 refl few
 
+-- the front of the decoded bytes is read as all of them
+pub front_read : (fault : NamedFault) (text room bytes : List ℕ) (n : ℕ) (r : Result PublicKeyRecord Fault) → IsBase64Of text bytes → n ≡ min (length bytes) 42
+    → n ≤ length room → take n room ≡ take n bytes → MatchResult r (ReadsPublicKey (take n room)) (λ e. (e ≡ Named RecordTooShort) × (length (take n room) < 42))
+    → r ≡ decoded_key fault text
+front_read fault text room bytes n (Ok k) base64 count fits front reads =
+    sym (encoded_is_decoded fault text k (encoded_key text room bytes n base64 front k reads))
+front_read fault text room bytes n (Err e) base64 count fits front refused =
+    let short = short_front text room bytes n 42 42 base64 count fits (omega arith) refused.1 in
+    rw (short.0, lt-leb 42 _ short.1) (ap Err refused.0)
+
 -- the first 64 bytes
 few_bytes : (bytes : List ℕ) → length bytes < 64 → first_64 bytes ≡ None
 few_bytes bytes few = ap (λ b. cond b (Some (take 64 bytes)) None) (lt-leb 64 (length bytes) few)
@@ -74,32 +85,6 @@ front_64 bytes room n count fits front =
     ∙ ap (λ (x : List ℕ). Some (take 64 x)) front
     ∙ ap (λ (x : List ℕ). Some x) (take-take 64 n bytes (omega (arith, count))) ∙ sym (enough_bytes bytes enough))
     (cases_lt (length bytes) 64)
-
--- a box that four lines hold
-pub assembled : (text a b c d u t trimmed g : List ℕ) (s : SignatureRecord) → HasFourLines text a b c d → a ≡ untrusted_comment_label ++ u
-    → EncodesSignature (trim b) s → IsKnownAlgorithm s.algorithm → c ≡ trusted_comment_label ++ t → trim t ≡ trimmed → IsBase64Of (trim d) g
-    → SignatureText text (record { signature = s; comments = Some (record { untrusted = u; trusted = trimmed; signature = g }) })
-assembled text a b c d u t trimmed g s four first encodes algorithm third is_trimmed signed =
-    let at_0 : line_at 0 text ≡ a = rw four.cut refl in
-    let at_1 : line_at 1 text ≡ b = rw four.cut refl in
-    let at_2 : line_at 2 text ≡ c = rw four.cut refl in
-    let at_3 : line_at 3 text ≡ d = rw four.cut refl in
-    record {
-      comments = record { untrusted = u; trusted = trimmed; signature = g };
-      four_lines = rw four.cut refl;
-      untrusted_comment = at_0 ∙ first;
-      signature = subst (λ (l : List ℕ). EncodesSignature (trim l) s) (sym at_1) encodes;
-      algorithm = algorithm;
-      trusted_comment = (t, at_2 ∙ third, is_trimmed);
-      comment_signature = subst (λ (l : List ℕ). IsBase64Of (trim l) g) (sym at_3) signed;
-      box = refl;
-    }
-
--- the box that a text reads as is the one that is told of
-pub view_exact : (t : List ℕ) (r : Result SignatureViewRecord Fault) → IfOk r (λ v. (x : SignatureBoxRecord) × SignatureText t x × IsViewOf v x)
-    → IfErr r (λ e. signature_refusal t ≡ Some e) → (x : SignatureBoxRecord) → SignatureText t x → MatchResult r (λ v. IsViewOf v x) (λ _. ⊥)
-view_exact t (Ok v) ok err x read = subst (λ y. IsViewOf v y) (one_signature_text t ok.0 x ok.1 read) ok.2
-view_exact t (Err e) ok err x read = let no = sym (no_refusal t x read) ∙ err in cc no
 
 -- the base64 of a signature is longer than the signature
 pub long_enough : (text : List ℕ) (s : SignatureRecord) → EncodesSignature text s → 64 ≤ length text

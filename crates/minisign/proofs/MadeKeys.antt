@@ -10,7 +10,7 @@ use Rattle.minisign_base.specs.Limits.{numbers, sealing_limits}
 use Rattle.minisign_kdf.specs.Params.{Numbers}
 use Rattle.minisign.specs.Generation.{key_to_seal, unsealed_key}
 use Rattle.minisign.specs.Making.{IsMadePublicText, IsMadeText, IsOfParts, OpensToParts}
-use Rattle.minisign.specs.PublicKeyText.{PublicKeyText, commented_public_key_text}
+use Rattle.minisign.specs.PublicKeyText.{commented_public_key_text, read_public_key}
 use Rattle.minisign.specs.Records.{PublicKeyRecord, SecretKeyRecord, own_public_key}
 use Rattle.minisign.specs.Sealing.{IsWithin, Opens, bound_refusal, checksum_of, key_limits, key_numbers, key_xor, work_refusal, xored_key}
 use Rattle.minisign.specs.SecretKeyText.{SecretKeyText, secret_key_text}
@@ -133,13 +133,13 @@ same_public keynum secret key parts =
     λ i. own_public_key (record key { algorithm = sym parts.algorithm i; keynum = sym parts.keynum_is i; secret = sym parts.secret_is i })
 
 pub made_public : (keynum secret comment text : List ℕ) (pk : PublicKeyRecord) (sk : SecretKeyRecord) → sk ≡ unsealed_key keynum secret → pk ≡ own_public_key sk
-    → text ≡ commented_public_key_text comment pk → (LacksByte 10 comment → PublicKeyText text pk) → length text ≡ length comment + 77
+    → text ≡ commented_public_key_text comment pk → (LacksByte 10 comment → read_public_key text ≡ Ok pk) → length text ≡ length comment + 77
     → IsMadePublicText keynum secret comment text
 made_public keynum secret comment text pk sk same own written reads size =
     let is : pk ≡ own_public_key (unsealed_key keynum secret) = own ∙ ap own_public_key same in
     record {
       written = written ∙ ap (commented_public_key_text comment) is;
-      reads = λ lacks key parts. subst (λ k. PublicKeyText text k) (is ∙ same_public keynum secret key parts) (reads lacks);
+      reads = λ lacks key parts. subst (λ k. read_public_key text ≡ Ok k) (is ∙ same_public keynum secret key parts) (reads lacks);
       size = size;
     }
 
@@ -161,7 +161,7 @@ returned_sealed keynum secret password comment s sk (Ok text) some more sealed o
 returned_sealed keynum secret password comment s sk (Err e) some more sealed opened allowed written reads size = tt
 
 pub returned_public : (keynum secret comment : List ℕ) (pk : PublicKeyRecord) (sk : SecretKeyRecord) (r : Result (List ℕ) Fault) → sk ≡ unsealed_key keynum secret → pk ≡ own_public_key sk
-    → IfOk r (λ b. b ≡ commented_public_key_text comment pk) → (LacksByte 10 comment → IfOk r (λ b. PublicKeyText b pk)) → IfOk r (λ b. length b ≡ length comment + 77)
+    → IfOk r (λ b. b ≡ commented_public_key_text comment pk) → (LacksByte 10 comment → IfOk r (λ b. read_public_key b ≡ Ok pk)) → IfOk r (λ b. length b ≡ length comment + 77)
     → IfOk r (IsMadePublicText keynum secret comment)
 returned_public keynum secret comment pk sk (Ok text) same own written reads size = made_public keynum secret comment text pk sk same own written reads size
 returned_public keynum secret comment pk sk (Err e) same own written reads size = tt

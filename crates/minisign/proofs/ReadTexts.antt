@@ -1,5 +1,5 @@
 -- What a reading call answers, from what is read and from the first case that fails.
-use Rattle.std.proofs.Common.{◌≡◌, ◌⊎◌, ℕ, Bool, true, false, List, [], ◌∷◌, refl, sym, ap, subst, ◌∙◌, inl, inr, IfOk, IfErr, MatchResult}
+use Rattle.std.proofs.Common.{◌≡◌, ◌↔◌, ◌⊎◌, ℕ, Bool, true, false, List, [], ◌∷◌, refl, sym, ap, subst, ◌∙◌, inl, inr, IfOk, IfErr, MatchResult}
 use Rattle.std.proofs.Math.Bool.{cond}
 use Rattle.std.specs.List.{AllByRecursion}
 use Rattle.std.specs.declared.option.Option.{Option}
@@ -7,8 +7,30 @@ use Rattle.std.specs.declared.option.Option.TheVariants.{None, Some}
 use Rattle.std.specs.declared.result.Result.{Result}
 use Rattle.std.specs.declared.result.Result.TheVariants.{Ok, Err}
 use Rattle.minisign_base.specs.Fault.{Fault, Named}
+use Rattle.minisign_base.specs.declared.faults.NamedFault.{NamedFault}
 use Rattle.minisign_base.specs.declared.faults.NamedFault.TheVariants.{OutOfMemory}
-use Rattle.minisign.specs.Texts.{IsRefused, IsDecided, Test, first_failing}
+use Rattle.minisign.specs.Texts.{IsReading, IsRefused, IsDecided, Test, first_failing, require}
+
+-- what is read is one value at most
+pub one_value : {V : Type 0} (r : Result V Fault) (v w : V) → r ≡ Ok v → r ≡ Ok w → v ≡ w
+one_value r v w of_v of_w = let same = sym of_v ∙ of_w in cc same
+
+-- a relation of which a function gives the values
+pub is_reading : {V : Type 0} (reads : V → Type 0) (read : Result V Fault) → ((v : V) → (read ≡ Ok v) ↔ reads v) → IsReading reads read
+is_reading reads read value = record {
+  value = value;
+  one_value = λ v w of_v of_w. one_value read v w ((value v).1 of_v) ((value w).1 of_w);
+  no_value = λ e is v of_v. let no = sym is ∙ (value v).1 of_v in cc no;
+}
+
+-- what is read behind a test
+pub passed : {V : Type 0} (holds : Bool) (fault : NamedFault) (more : Result V Fault) (v : V) → require holds fault more ≡ Ok v → (holds ≡ true) × (more ≡ Ok v)
+passed true fault more v h = (refl, h)
+passed false fault more v h = cc h
+
+pub tested : (holds : Bool) (others : Option Fault) (e : Fault) → cond holds others (Some e) ≡ None → (holds ≡ true) × (others ≡ None)
+tested true others e h = (refl, h)
+tested false others e h = cc h
 
 -- all tests hold where no case fails
 pub all_hold : (tests : List Test) → first_failing tests ≡ None → AllByRecursion (λ t. t.holds ≡ true) tests

@@ -10,7 +10,7 @@ use Rattle.minisign.specs.Records.{SecretKeyRecord, ReadsSecretKey}
 use Rattle.minisign.specs.SecretKeyText.{SecretKeyText, secret_key_refusal}
 use Rattle.minisign.specs.Texts.{IsBase64Of, IsDecided, IsRefused, base64_bytes, has_line, is_base64, line_at}
 use Rattle.minisign.proofs.Base64Texts.{bytes_read, is_read, one_decoding, reads}
-use Rattle.minisign.proofs.PublicKeyTexts.{tested}
+use Rattle.minisign.proofs.ReadTexts.{tested}
 use Rattle.minisign.proofs.RecordFields.{joined_fields, one_secret_key}
 
 -- a stored secret key has 158 bytes

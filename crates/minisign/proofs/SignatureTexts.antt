@@ -1,27 +1,27 @@
--- Texts of signatures: the first case that fails is none exactly where a box is read, and it is the only
--- one.
-use Rattle.std.proofs.Common.{◌≡◌, ◌≢◌, ℕ, ◌<◌, ◌≤◌, Bool, true, false, ◌||◌, List, [], ◌∷◌, ◌++◌, length, take, drop, codes, slice_index_or, refl, sym, ap, subst, ◌∙◌, arith, inl, inr, ◌⊎◌, is_some, slice_get}
-use Rattle.std.specs.declared.option.Option.TheVariants.{None, Some}
+-- Texts of signatures: the function that reads them and the relation agree, and a written text reads as its box.
+use Rattle.std.proofs.Common.{◌≡◌, ◌≢◌, ℕ, ◌<◌, ◌≤◌, Bool, true, false, ◌||◌, List, [], ◌∷◌, ◌++◌, length, take, drop, codes, Ok, Err, refl, sym, ap, subst, ◌∙◌, arith, inl, inr, ◌⊎◌}
+use Rattle.std.specs.declared.option.Option.TheVariants.{Some}
 use Rattle.std.specs.List.{starts_with}
 use Rattle.std.specs.Str.{trim}
 use Rattle.std.specs.Str.Lines.{lines, strip_carriage_return}
 use Rattle.std.proofs.Math.Dec.{eqb, leb, lit<}
 use Rattle.std.proofs.lemmas.Bool.{le-leb, leb-true, lt-leb}
 use Rattle.std.proofs.lemmas.Bool.Decides.{Decides-eqb}
-use Rattle.std.proofs.lemmas.List.{append_assoc, append_cancel_left, length-take-le, length-drop, take-append-drop}
+use Rattle.std.proofs.Math.Seq.{drop-append_seam}
+use Rattle.std.proofs.lemmas.List.{append_assoc, length-take-le, length-drop, take-append-drop}
 use Rattle.std.proofs.lemmas.Slice.Eq.{starts_is, bytes_eq-Decides}
 use Rattle.minisign_base.specs.Fault.{Named}
-use Rattle.minisign_base.specs.declared.faults.NamedFault.TheVariants.{MissingUntrustedComment, MissingSignature, MissingTrustedComment, MissingGlobalSignature, UntrustedCommentPrefix, SignatureNotBase64, RecordTooShort, TrustedCommentPrefix, UnsupportedSignatureAlgorithm}
-use Rattle.minisign.specs.Records.{CommentsRecord, SignatureRecord, SignatureBoxRecord, ReadsSignature, IsKnownAlgorithm, signature_bytes, legacy_algorithm, prehashed_algorithm}
-use Rattle.minisign.specs.Texts.{IsBase64Of, IsDecided, base64_of, base64_bytes, is_base64, line_at, untrusted_comment_label}
-use Rattle.minisign.specs.SignatureText.{AreOneLine, EncodesSignature, SignatureText, HasFourLines, AreReadBack, comments_read_back, signature_text, is_known_algorithm, signature_tests, signature_refusal, trusted_comment_label}
+use Rattle.minisign_base.specs.declared.faults.NamedFault.TheVariants.{UntrustedCommentPrefix, SignatureNotBase64, RecordTooShort, TrustedCommentPrefix, UnsupportedSignatureAlgorithm}
+use Rattle.minisign.specs.Records.{CommentsRecord, SignatureRecord, ReadsSignature, IsKnownAlgorithm, signature_bytes, legacy_algorithm, prehashed_algorithm}
+use Rattle.minisign.specs.Texts.{IsBase64Of, IsReading, base64_of, base64_bytes, is_base64, map_ok, untrusted_comment_label}
+use Rattle.minisign.specs.SignatureText.{AreOneLine, AreReadBack, EncodesSignature, SignatureText, SignatureTextRecord, box_of, comments_read_back, is_known_algorithm, read_signature, read_signature_box, signature_in_four, signature_in_lines, signature_of_bytes, signature_text, trusted_comment_label}
 use Rattle.minisign.proofs.Base64Texts.{bytes_read, is_read, reads, one_decoding}
 use Rattle.base64.specs.GeneralPurpose.{IsBytes}
 use Rattle.base64.proofs.EngineFacts.{front_bytes}
 use Rattle.minisign.specs.Lines.{line}
 use Rattle.minisign.proofs.Letters.{AllGraphic, graphic_base64, trim_graphic}
 use Rattle.minisign.proofs.WrittenLines.{AllShown, labelled, labelled_one_line, lines_labelled, lines_line, lines_last, shown_codes, shown_graphic, shown_one_line, strip_none, trimmed_end}
-use Rattle.minisign.proofs.ReadTexts.{all_hold}
+use Rattle.minisign.proofs.ReadTexts.{is_reading, passed}
 use Rattle.minisign.proofs.RecordFields.{joined_fields, one_signature, stored_algorithm, stored_length}
 
 -- a line that begins with a label
@@ -71,57 +71,8 @@ encodes_tests text s h =
       ap (take 2) same ∙ stored_algorithm h.bytes s h.reads,
     )
 
-one_encoded : (text : List ℕ) (s t : SignatureRecord) → EncodesSignature text s → EncodesSignature text t → s ≡ t
-one_encoded text s t h j =
-    one_signature h.bytes s t h.reads (subst (λ b. ReadsSignature b t) (one_decoding text j.bytes h.bytes j.base64 h.base64) j.reads)
-
-lines_before : (ls : List (List ℕ)) → is_some (slice_get ls 3) ≡ true
-    → (is_some (slice_get ls 0) ≡ true) × (is_some (slice_get ls 1) ≡ true) × (is_some (slice_get ls 2) ≡ true)
-lines_before [] h = cc h
-lines_before (a ∷ []) h = cc h
-lines_before (a ∷ b ∷ []) h = cc h
-lines_before (a ∷ b ∷ c ∷ []) h = cc h
-lines_before (a ∷ b ∷ c ∷ d ∷ later) h = (refl, refl, refl)
-
--- no case fails where a box is read
-pub no_refusal : (text : List ℕ) (x : SignatureBoxRecord) → SignatureText text x → signature_refusal text ≡ None
-unfolding signature_refusal
-no_refusal text x h =
-    let before = lines_before (lines text) h.four_lines in
-    let signature = encodes_tests (trim (line_at 1 text)) x.signature h.signature in
-    rw (
-      before.0,
-      before.1,
-      before.2,
-      h.four_lines,
-      begins (line_at 0 text) untrusted_comment_label _ h.untrusted_comment,
-      signature.0,
-      signature.1,
-      begins (line_at 2 text) trusted_comment_label _ h.trusted_comment.1,
-      signature.2,
-      known x.signature.algorithm h.algorithm,
-      is_read _ _ h.comment_signature,
-    ) refl
-
-pub one_signature_text : (text : List ℕ) (x y : SignatureBoxRecord) → SignatureText text x → SignatureText text y → x ≡ y
-one_signature_text text x y h j =
-    let signature : x.signature ≡ y.signature = one_encoded _ _ _ h.signature j.signature in
-    let untrusted : h.comments.untrusted ≡ j.comments.untrusted =
-    append_cancel_left untrusted_comment_label _ _ (sym h.untrusted_comment ∙ j.untrusted_comment) in
-    let comment : h.trusted_comment.0 ≡ j.trusted_comment.0 =
-    append_cancel_left trusted_comment_label _ _ (sym h.trusted_comment.1 ∙ j.trusted_comment.1) in
-    let trusted : h.comments.trusted ≡ j.comments.trusted = sym h.trusted_comment.2 ∙ ap trim comment ∙ j.trusted_comment.2 in
-    let signed : h.comments.signature ≡ j.comments.signature = one_decoding _ _ _ h.comment_signature j.comment_signature in
-    let comments : h.comments ≡ j.comments = λ i. record { untrusted = untrusted i; trusted = trusted i; signature = signed i } in
-    let boxed : x.comments ≡ y.comments = h.box ∙ ap (λ c. Some c) comments ∙ sym j.box in
-    λ i. record { signature = signature i; comments = boxed i }
-
 -- bytes that are many enough begin with a signature
-signature_in : List ℕ → SignatureRecord
-signature_in bytes = record { algorithm = take 2 bytes; keynum = take 8 (drop 2 bytes); signature = take 64 (drop 8 (drop 2 bytes)) }
-
-signature_in_front : (bytes : List ℕ) → 74 ≤ length bytes → ReadsSignature bytes (signature_in bytes)
-unfolding signature_in
+signature_in_front : (bytes : List ℕ) → 74 ≤ length bytes → ReadsSignature bytes (signature_of_bytes bytes)
 signature_in_front bytes l = record {
   algorithm_length = length-take-le 2 bytes (omega arith);
   keynum_length = length-take-le 8 (drop 2 bytes) (omega (arith, length-drop 2 bytes));
@@ -129,86 +80,111 @@ signature_in_front bytes l = record {
   front = (drop 64 (drop 8 (drop 2 bytes)), joined_fields bytes _ _ _ _ _ _ (sym (take-append-drop 2 bytes)) (sym (take-append-drop 8 (drop 2 bytes))) (sym (take-append-drop 64 (drop 8 (drop 2 bytes)))));
 }
 
-read_where_none_fails : (text : List ℕ) → signature_refusal text ≡ None → (x : SignatureBoxRecord) × SignatureText text x
-unfolding signature_refusal signature_in
-read_where_none_fails text h =
-    let (_, (_, (_, (fourth, (untrusted, (base64, (long, (trusted, (algorithm, (signed, _)))))))))) = all_hold (signature_tests text) h in
-    let bytes : List ℕ = base64_bytes (trim (line_at 1 text)) in
-    let comments : CommentsRecord = record {
-      untrusted = drop (length untrusted_comment_label) (line_at 0 text);
-      trusted = trim (drop (length trusted_comment_label) (line_at 2 text));
-      signature = base64_bytes (trim (line_at 3 text));
-    } in (
-      record { signature = signature_in bytes; comments = Some comments },
-      record {
-        comments = comments;
-        four_lines = fourth;
-        untrusted_comment = begins_with (line_at 0 text) untrusted_comment_label untrusted;
-        signature = record { bytes = bytes; base64 = reads _ base64; reads = signature_in_front bytes (leb-true 74 _ long) };
-        algorithm = is_known (take 2 bytes) algorithm;
-        trusted_comment = (_, begins_with (line_at 2 text) trusted_comment_label trusted, refl);
-        comment_signature = reads _ signed;
-        box = refl;
-      },
-    )
+-- a signature that is encoded is the one at the front of the decoded bytes
+decoded_signature : (text : List ℕ) (s : SignatureRecord) → EncodesSignature text s → signature_of_bytes (base64_bytes text) ≡ s
+decoded_signature text s h =
+    let bytes = base64_bytes text in
+    let reads = subst (λ b. ReadsSignature b s) (sym (bytes_read text h.bytes h.base64)) h.reads in
+    one_signature bytes (signature_of_bytes bytes) s (signature_in_front bytes (stored_length bytes s reads)) reads
 
-pub decided : (text : List ℕ) → IsDecided (SignatureText text) (signature_refusal text)
-decided text = record {
-  none_fails = (read_where_none_fails text, λ read. no_refusal text read.0 read.1);
-  one_value = one_signature_text text;
-}
-
--- the case that fails where lines are missing
-pub no_first_line : (text : List ℕ) → lines text ≡ [] → signature_refusal text ≡ Some (Named MissingUntrustedComment)
-unfolding signature_refusal
-no_first_line text e = rw e refl
-
-pub no_second_line : (text a : List ℕ) → lines text ≡ a ∷ [] → signature_refusal text ≡ Some (Named MissingSignature)
-unfolding signature_refusal
-no_second_line text a e = rw e refl
-
-pub no_third_line : (text a b : List ℕ) → lines text ≡ a ∷ b ∷ [] → signature_refusal text ≡ Some (Named MissingTrustedComment)
-unfolding signature_refusal
-no_third_line text a b e = rw e refl
-
-pub no_fourth_line : (text a b c : List ℕ) → lines text ≡ a ∷ b ∷ c ∷ [] → signature_refusal text ≡ Some (Named MissingGlobalSignature)
-unfolding signature_refusal
-no_fourth_line text a b c e = rw e refl
-
--- the case that fails in one of four lines
-module _ (text a b c d : List ℕ) (four : HasFourLines text a b c d) where
-  pub other_label : starts_with eqb a untrusted_comment_label ≡ false → signature_refusal text ≡ Some (Named UntrustedCommentPrefix)
-  unfolding signature_refusal
-  other_label label = rw (four.cut, label) refl
+-- what is read of four lines
+module _ (a b c d : List ℕ) where
+  pub other_label : starts_with eqb a untrusted_comment_label ≡ false → signature_in_four a b c d ≡ Err (Named UntrustedCommentPrefix)
+  other_label label = rw label refl
 
   module _ (label : starts_with eqb a untrusted_comment_label ≡ true) where
-    pub no_base64 : is_base64 (trim b) ≡ false → signature_refusal text ≡ Some (Named SignatureNotBase64)
-    unfolding signature_refusal
-    no_base64 other = rw (four.cut, label, other) refl
+    pub no_base64 : is_base64 (trim b) ≡ false → signature_in_four a b c d ≡ Err (Named SignatureNotBase64)
+    no_base64 other = rw (label, other) refl
 
-    pub too_short : is_base64 (trim b) ≡ true → length (base64_bytes (trim b)) < 74 → signature_refusal text ≡ Some (Named RecordTooShort)
-    unfolding signature_refusal
-    too_short base64 short = rw (four.cut, label, base64, lt-leb 74 _ short) refl
+    pub too_short : is_base64 (trim b) ≡ true → length (base64_bytes (trim b)) < 74 → signature_in_four a b c d ≡ Err (Named RecordTooShort)
+    too_short base64 short = rw (label, base64, lt-leb 74 _ short) refl
 
     module _ (s : SignatureRecord) (encodes : EncodesSignature (trim b) s) where
-      pub other_trusted_label : starts_with eqb c trusted_comment_label ≡ false → signature_refusal text ≡ Some (Named TrustedCommentPrefix)
-      unfolding signature_refusal
+      pub other_trusted_label : starts_with eqb c trusted_comment_label ≡ false → signature_in_four a b c d ≡ Err (Named TrustedCommentPrefix)
       other_trusted_label trusted =
           let signature = encodes_tests (trim b) s encodes in
-          rw (four.cut, label, signature.0, signature.1, trusted) refl
+          rw (label, signature.0, signature.1, trusted) refl
 
       module _ (trusted : starts_with eqb c trusted_comment_label ≡ true) where
-        pub unknown : is_known_algorithm s.algorithm ≡ false → signature_refusal text ≡ Some (Named UnsupportedSignatureAlgorithm)
-        unfolding signature_refusal
+        pub unknown : is_known_algorithm s.algorithm ≡ false → signature_in_four a b c d ≡ Err (Named UnsupportedSignatureAlgorithm)
         unknown other =
             let signature = encodes_tests (trim b) s encodes in
-            rw (four.cut, label, signature.0, signature.1, trusted, signature.2, other) refl
+            rw (label, signature.0, signature.1, trusted, signature.2, other) refl
 
-        pub no_comment_base64 : is_known_algorithm s.algorithm ≡ true → is_base64 (trim d) ≡ false → signature_refusal text ≡ Some (Named SignatureNotBase64)
-        unfolding signature_refusal
-        no_comment_base64 algorithm other =
-            let signature = encodes_tests (trim b) s encodes in
-            rw (four.cut, label, signature.0, signature.1, trusted, signature.2, algorithm, other) refl
+        module _ (algorithm : is_known_algorithm s.algorithm ≡ true) where
+          pub no_comment_base64 : is_base64 (trim d) ≡ false → signature_in_four a b c d ≡ Err (Named SignatureNotBase64)
+          no_comment_base64 other =
+              let signature = encodes_tests (trim b) s encodes in
+              rw (label, signature.0, signature.1, trusted, signature.2, algorithm, other) refl
+
+          pub all_passed : (u t g : List ℕ) → is_base64 (trim d) ≡ true → drop (length untrusted_comment_label) a ≡ u
+              → trim (drop (length trusted_comment_label) c) ≡ t → base64_bytes (trim d) ≡ g
+              → signature_in_four a b c d ≡ Ok (record { signature = s; comments = record { untrusted = u; trusted = t; signature = g } })
+          all_passed u t g signed is_untrusted is_trusted is_signed =
+              let signature = encodes_tests (trim b) s encodes in
+              let same = decoded_signature (trim b) s encodes in
+              let known : is_known_algorithm (take 2 (base64_bytes (trim b))) ≡ true = ap is_known_algorithm signature.2 ∙ algorithm in
+              rw (label, signature.0, signature.1, trusted, known, signed)
+              (λ i. Ok (record { signature = same i; comments = record { untrusted = is_untrusted i; trusted = is_trusted i; signature = is_signed i } }))
+
+-- a text reads as a signature with comments where it is read as this one
+pub text_is_read : (text : List ℕ) (t : SignatureTextRecord) → SignatureText text t → read_signature text ≡ Ok t
+unfolding read_signature
+text_is_read text t h =
+    rw h.cut (all_passed h.first h.second h.third h.fourth (begins h.first untrusted_comment_label _ h.untrusted_comment) t.signature h.signature
+    (begins h.third trusted_comment_label _ h.trusted_comment.1) (known t.signature.algorithm h.algorithm) _ _ _
+    (is_read _ _ h.comment_signature)
+    (ap (drop (length untrusted_comment_label)) h.untrusted_comment ∙ drop-append_seam untrusted_comment_label t.comments.untrusted)
+    (ap (λ (l : List ℕ). trim (drop (length trusted_comment_label) l)) h.trusted_comment.1 ∙ ap trim (drop-append_seam trusted_comment_label h.trusted_comment.0) ∙ h.trusted_comment.2)
+    (bytes_read _ _ h.comment_signature))
+
+read_lines : (text : List ℕ) (ls : List (List ℕ)) (t : SignatureTextRecord) → lines text ≡ ls → signature_in_lines ls ≡ Ok t → SignatureText text t
+read_lines text [] t cut h = cc h
+read_lines text (a ∷ []) t cut h = cc h
+read_lines text (a ∷ b ∷ []) t cut h = cc h
+read_lines text (a ∷ b ∷ c ∷ []) t cut h = cc h
+read_lines text (a ∷ b ∷ c ∷ d ∷ later) t cut h =
+    let bytes : List ℕ = base64_bytes (trim b) in
+    let untrusted = passed (starts_with eqb a untrusted_comment_label) UntrustedCommentPrefix _ t h in
+    let base64 = passed (is_base64 (trim b)) SignatureNotBase64 _ t untrusted.1 in
+    let long = passed (leb 74 (length bytes)) RecordTooShort _ t base64.1 in
+    let trusted = passed (starts_with eqb c trusted_comment_label) TrustedCommentPrefix _ t long.1 in
+    let algorithm = passed (is_known_algorithm (take 2 bytes)) UnsupportedSignatureAlgorithm _ t trusted.1 in
+    let signed = passed (is_base64 (trim d)) SignatureNotBase64 _ t algorithm.1 in
+    let read : SignatureTextRecord = record {
+      signature = signature_of_bytes bytes;
+      comments = record {
+        untrusted = drop (length untrusted_comment_label) a;
+        trusted = trim (drop (length trusted_comment_label) c);
+        signature = base64_bytes (trim d);
+      };
+    } in
+    let same : read ≡ t = cc signed.1 in
+    subst (SignatureText text) same (record {
+      first = a;
+      second = b;
+      third = c;
+      fourth = d;
+      later = later;
+      cut = cut;
+      untrusted_comment = begins_with a untrusted_comment_label untrusted.0;
+      signature = record { bytes = bytes; base64 = reads _ base64.0; reads = signature_in_front bytes (leb-true 74 _ long.0) };
+      algorithm = is_known (take 2 bytes) algorithm.0;
+      trusted_comment = (_, begins_with c trusted_comment_label trusted.0, refl);
+      comment_signature = reads _ signed.0;
+    })
+
+read_text : (text : List ℕ) (t : SignatureTextRecord) → read_signature text ≡ Ok t → SignatureText text t
+unfolding read_signature
+read_text text t h = read_lines text (lines text) t refl h
+
+pub read_as : (text : List ℕ) → IsReading (SignatureText text) (read_signature text)
+read_as text = is_reading (SignatureText text) (read_signature text) (λ t. (read_text text t, text_is_read text t))
+
+-- a text is read by its lines
+pub of_lines : (text : List ℕ) (ls : List (List ℕ)) → lines text ≡ ls → read_signature text ≡ signature_in_lines ls
+unfolding read_signature
+of_lines text ls cut = ap signature_in_lines cut
 
 -- the text that is written, letter by letter
 pub spelled_text : (s : SignatureRecord) (c : CommentsRecord) (u b t g : List ℕ) → u ≡ c.untrusted → b ≡ base64_of (signature_bytes s) → t ≡ c.trusted → g ≡ base64_of c.signature
@@ -257,19 +233,20 @@ module _ (s : SignatureRecord) (c : CommentsRecord) (encodes : EncodesSignature 
       ∙ ap (λ l. base64_of (signature_bytes s) ∷ l) (lines_line _ _ (labelled_one_line trusted_comment_label c.trusted shown_trusted some_trusted one.trusted_one_line (trimmed_end c.trusted one.trusted_trimmed))
       ∙ ap (λ l. (trusted_comment_label ++ c.trusted) ∷ l) (lines_last _ (shown_one_line _ (shown_graphic _ graphic_comment)))))
 
-  pub written_text : SignatureText (signature_text s c) (record { signature = s; comments = Some (comments_read_back c) })
-  written_text =
-      let at = λ (n : ℕ). ap (λ (ls : List (List ℕ)). slice_index_or ls n []) written_lines in
-      record {
-        comments = comments_read_back c;
-        four_lines = rw written_lines refl;
-        untrusted_comment = at 0;
-        signature = subst (λ (t : List ℕ). EncodesSignature t s) (sym (ap trim (at 1) ∙ trim_graphic _ graphic)) encodes;
-        algorithm = algorithm;
-        trusted_comment = (c.trusted, at 2, one.trusted_trimmed);
-        comment_signature = subst (λ (t : List ℕ). IsBase64Of t c.signature) (sym (ap trim (at 3) ∙ trim_graphic _ graphic_comment)) signed;
-        box = refl;
-      }
+  pub written_text : read_signature_box (signature_text s c) ≡ Ok (record { signature = s; comments = Some (comments_read_back c) })
+  written_text = ap (map_ok box_of) (text_is_read (signature_text s c) (record { signature = s; comments = comments_read_back c }) (record {
+    first = untrusted_comment_label ++ strip_carriage_return c.untrusted;
+    second = base64_of (signature_bytes s);
+    third = trusted_comment_label ++ c.trusted;
+    fourth = base64_of c.signature;
+    later = [];
+    cut = written_lines;
+    untrusted_comment = refl;
+    signature = subst (λ (t : List ℕ). EncodesSignature t s) (sym (trim_graphic _ graphic)) encodes;
+    algorithm = algorithm;
+    trusted_comment = (c.trusted, refl, one.trusted_trimmed);
+    comment_signature = subst (λ (t : List ℕ). IsBase64Of t c.signature) (sym (trim_graphic _ graphic_comment)) signed;
+  }))
 
 -- nothing goes of comments that are read back as they were written
 pub same_comments : (c : CommentsRecord) → AreReadBack c.untrusted c.trusted → comments_read_back c ≡ c

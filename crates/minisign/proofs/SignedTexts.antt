@@ -3,7 +3,7 @@ use Rattle.std.proofs.Common.{◌≡◌, ℕ, Bool, List, Option, Some, Result, 
 use Rattle.minisign_base.specs.Fault.{Fault, Named}
 use Rattle.minisign_base.specs.declared.faults.NamedFault.TheVariants.{OutOfMemory, SignatureBoxIncomplete}
 use Rattle.minisign.specs.Records.{CommentsRecord, PublicKeyRecord, SignatureBoxRecord}
-use Rattle.minisign.specs.SignatureText.{AreOneLine, SignatureText, box_read_back, signature_text}
+use Rattle.minisign.specs.SignatureText.{AreOneLine, box_read_back, read_signature_box, signature_text}
 use Rattle.minisign.specs.Acceptance.{Verifier, Vouches, VouchesUnderEachKey}
 use Rattle.minisign.specs.Signing.{ChosenComments}
 
@@ -15,8 +15,8 @@ with_signature chosen global = record { untrusted = chosen.untrusted; trusted = 
 pub written_text : {T : Type 0} (bytes : T → List ℕ) (r : Result T Fault) (x : SignatureBoxRecord) (chosen : ChosenComments) (global : List ℕ)
     → x.comments ≡ Some (with_signature chosen global)
     → MatchOption x.comments (r ≡ Err (Named SignatureBoxIncomplete)) (λ c. MatchResult r (λ t. bytes t ≡ signature_text x.signature c) (λ e. e ≡ Named OutOfMemory))
-    → (IfSome x.comments (λ c. AreOneLine c.untrusted c.trusted) → IfOk r (λ t. SignatureText (bytes t) (box_read_back x)))
-    → IfOk r (λ t. (bytes t ≡ signature_text x.signature (with_signature chosen global)) × (AreOneLine chosen.untrusted chosen.trusted → SignatureText (bytes t) (box_read_back x)))
+    → (IfSome x.comments (λ c. AreOneLine c.untrusted c.trusted) → IfOk r (λ t. read_signature_box (bytes t) ≡ Ok (box_read_back x)))
+    → IfOk r (λ t. (bytes t ≡ signature_text x.signature (with_signature chosen global)) × (AreOneLine chosen.untrusted chosen.trusted → read_signature_box (bytes t) ≡ Ok (box_read_back x)))
 written_text bytes (Err e) x chosen global both written back = tt
 written_text bytes (Ok t) x chosen global both written back = (
   subst (λ (o : Option CommentsRecord). MatchOption o (Ok t ≡ Err (Named SignatureBoxIncomplete)) (λ c. bytes t ≡ signature_text x.signature c)) both written,

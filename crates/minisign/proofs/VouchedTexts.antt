@@ -10,24 +10,26 @@ use Rattle.minisign_base.specs.declared.faults.NamedFault.TheVariants.{OutOfMemo
 use Rattle.minisign.specs.Records.{PublicKeyRecord, SignatureBoxRecord}
 use Rattle.minisign.specs.Acceptance.{Flags, Verifier, Vouches, Refuses, first_refusal}
 use Rattle.minisign.specs.Reading.{IsAhead}
+use Rattle.minisign.specs.PublicKeyText.{read_public_key}
+use Rattle.minisign.specs.SignatureText.{box_of, read_signature_box}
+use Rattle.minisign.specs.Texts.{map_ok}
 use Rattle.minisign.specs.Verifying.{VerifyingFails, VerifyingSucceeds}
 use Rattle.minisign.specs.VerifyingTexts.{ReadTexts, TextsFail, VerifyingTextsFails, VerifyingTextsSucceeds}
 use Rattle.minisign.specs.Headline.{CopyIsVouchedFor, IsVerdict, TextsRefuse}
 use Rattle.minisign.proofs.Passes.{IsReason, why_it_fails}
-use Rattle.minisign.proofs.PublicKeyTexts as key_texts
-use Rattle.minisign.proofs.SignatureTexts as signature_texts
+use Rattle.minisign.proofs.ReadTexts.{one_value}
 
 -- a text is refused
 refused_text : (accepts : Verifier) (pk sig message : List ℕ) (legacy : Bool) (e : Fault) → e ≢ Named OutOfMemory → TextsFail pk sig e
     → TextsRefuse accepts pk sig message legacy e
 refused_text accepts pk sig message legacy e memory (inl e_is) = absurd (memory e_is)
 refused_text accepts pk sig message legacy e memory (inr (inl refused)) = record {
-  first_case = inl refused.first_case;
-  unvouched = λ v. refused.unread v.key v.key_read;
+  first_case = inl refused;
+  unvouched = λ v. let no = sym refused ∙ v.key_read in cc no;
 }
 refused_text accepts pk sig message legacy e memory (inr (inr (read, refused))) = record {
-  first_case = inr (inl (key_texts.no_refusal pk read.0 read.1, refused.first_case));
-  unvouched = λ v. refused.unread v.box v.box_read;
+  first_case = inr (inl (read, refused));
+  unvouched = λ v. let no = sym (ap (map_ok box_of) refused) ∙ v.box_read in cc no;
 }
 
 pub text_verdict : {T : Type 0} (accepts : Verifier) (pk sig message : List ℕ) (legacy : Bool) (r : Result T Fault) (e : Fault) → r ≡ Err e → TextsFail pk sig e
@@ -78,8 +80,8 @@ module _ {R W O : Type 0} (accepts : Verifier) (pk sig : List ℕ) (flags : Flag
           first_case = inr (inr (key, box, read.key_read, read.box_read, subst (λ (t : List ℕ). first_refusal accepts key box t flags.legacy ≡ Some e) same h.first));
           unvouched = λ v. h.unacceptable (
               subst (λ (t : List ℕ). Vouches accepts key box t flags.legacy) (sym same)
-              (subst (λ k. Vouches accepts k box message flags.legacy) (key_texts.one_public_key_text pk _ _ v.key_read read.key_read)
-              (subst (λ x. Vouches accepts v.key x message flags.legacy) (signature_texts.one_signature_text sig _ _ v.box_read read.box_read) v.vouches))
+              (subst (λ k. Vouches accepts k box message flags.legacy) (one_value (read_public_key pk) _ _ v.key_read read.key_read)
+              (subst (λ x. Vouches accepts v.key x message flags.legacy) (one_value (read_signature_box sig) _ _ v.box_read read.box_read) v.vouches))
               );
         }
 

@@ -1,5 +1,5 @@
 -- Texts of keys that are written and read back, and their sizes.
-use Rattle.std.proofs.Common.{◌≡◌, ℕ, ◌-◌, ◌+◌, List, [], ◌∷◌, ◌++◌, length, Some, refl, ap, sym, subst, ◌∙◌, inl, inr, arith, false}
+use Rattle.std.proofs.Common.{◌≡◌, ℕ, ◌-◌, ◌+◌, List, [], ◌∷◌, ◌++◌, length, Some, Ok, refl, ap, sym, subst, ◌∙◌, inl, inr, arith, false}
 use Rattle.std.proofs.Math.Dec.{eqb}
 use Rattle.std.proofs.Math.Seq.{get_or-append_right}
 use Rattle.std.proofs.lemmas.Bool.{cases_lt, ne_eqb}
@@ -11,8 +11,8 @@ use Rattle.minisign.specs.Lines.{line}
 use Rattle.minisign.specs.Records.{PublicKeyRecord, SecretKeyRecord, ReadsSecretKey, public_key_bytes, secret_key_bytes}
 use Rattle.minisign.specs.SecretKeyText.{SecretKeyText, default_secret_key_comment, secret_key_text}
 use Rattle.minisign.specs.Texts.{IsBase64Of, base64_of, untrusted_comment_label}
-use Rattle.minisign.specs.PublicKeyText.{BarePublicKey, EncodesPublicKey, PublicKeyText, commented_public_key_text}
-use Rattle.minisign.proofs.PublicKeyTexts.{graphic, stays}
+use Rattle.minisign.specs.PublicKeyText.{BarePublicKey, EncodesPublicKey, commented_public_key_text, read_public_key}
+use Rattle.minisign.proofs.PublicKeyTexts.{graphic, stays, text_is_read}
 use Rattle.minisign.proofs.FirstLine.{lines-cut}
 use Rattle.minisign.proofs.Letters.{graphic_base64}
 use Rattle.minisign.proofs.SecretKeyTexts.{read_text}
@@ -53,19 +53,17 @@ written_secret_key comment encoded bytes text k lacks base64 stored written =
 
 -- a comment without line feed, and the base64 of a public key, on a line each
 pub commented_public_key : (k : PublicKeyRecord) (comment text : List ℕ) → BarePublicKey (base64_of (public_key_bytes k)) k → LacksByte 10 comment
-    → text ≡ commented_public_key_text comment k → PublicKeyText text k
+    → text ≡ commented_public_key_text comment k → read_public_key text ≡ Ok k
 commented_public_key k comment text bare lacks written =
     let encoded : List ℕ = base64_of (public_key_bytes k) in
-    record {
-      key_line = encoded;
-      second = record {
-        first = strip_carriage_return (untrusted_comment_label ++ comment);
-        later = [];
-        cut = commented_lines comment encoded text lacks (shown_one_line _ (shown_graphic _ (graphic k bare))) written;
-      };
-      key_line_length = ap length (sym (stays k bare)) ∙ bare.trimmed_length;
+    text_is_read text k (record {
+      comment = strip_carriage_return (untrusted_comment_label ++ comment);
+      encoded = encoded;
+      later = [];
+      cut = commented_lines comment encoded text lacks (shown_one_line _ (shown_graphic _ (graphic k bare))) written;
+      encoded_length = ap length (sym (stays k bare)) ∙ bare.trimmed_length;
       key = subst (λ (t : List ℕ). EncodesPublicKey t k) (sym (stays k bare)) bare.key;
-    }
+    })
 
 label_size : length untrusted_comment_label ≡ 19
 unfolding untrusted_comment_label

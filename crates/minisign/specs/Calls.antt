@@ -1,6 +1,6 @@
 -- What the calls for callers promise: data is vouched for and this is the comment that was signed with it, or the
 -- first reason why it is not; a text gives a key under a password, or the first reason why it gives none.
-use Rattle.std.specs.Prelude.{◌≡◌, ℕ, ◌<◌, ◌≤◌, Bool, true, false, ◌⊎◌, if◌then◌else◌, bytes_eq, List, length, Option, None, Some, IfSome, MatchResult}
+use Rattle.std.specs.Prelude.{◌≡◌, ℕ, ◌<◌, ◌≤◌, Bool, true, false, ◌⊎◌, if◌then◌else◌, bytes_eq, List, length, Option, None, Some, Ok, IfSome, MatchResult}
 use Rattle.std.specs.declared.result.Result.{Result}
 use Rattle.minisign_base.specs.Fault.{Fault, Named}
 use Rattle.minisign_base.specs.declared.faults.NamedFault.TheVariants.{EncryptedKeyRefused, OutOfMemory, PasswordTooLong, ReadingFailed}
@@ -11,7 +11,7 @@ use Rattle.minisign.specs.Generation.{AllDrawn}
 use Rattle.minisign.specs.Headline.{TextsRefuse, TextsVouchFor}
 use Rattle.minisign.specs.Sealing.{is_encrypted, no_kdf, opening_refusal, unencrypted_refusal}
 use Rattle.minisign.specs.SecretKeyText.{SecretKeyText, secret_key_refusal}
-use Rattle.minisign.specs.SignatureText.{SignatureText}
+use Rattle.minisign.specs.SignatureText.{SignatureText, read_signature_box}
 use Rattle.minisign.specs.Signing.{DrawFails, KeyIsSealed, OpenedSigningFails, RunsOutDrawing}
 use Rattle.minisign.specs.TextFiles.{IsTextFileFault}
 use Rattle.minisign.specs.Texts.{IsRefused}
@@ -23,7 +23,7 @@ use Rattle.minisign.specs.OpenedTexts.{IsOpened, IsUnencryptedText}
 pub record IsCommentOf (sig_text comment : List ℕ) : Type 0 where
   pub box : SignatureBoxRecord
   pub comments : CommentsRecord
-  pub box_read : SignatureText sig_text box
+  pub box_read : read_signature_box sig_text ≡ Ok box
   pub both : box.comments ≡ Some comments
   pub trusted : comments.trusted ≡ comment
 

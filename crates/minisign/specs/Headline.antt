@@ -2,7 +2,7 @@
 -- message, and which case fails first where they do not. Opening: when a sealed key opens under a password.
 -- Signing: what the text of a signature is worth. The sentence is in docs/PROMISES.md; docs/TRUSTED.md explains the
 -- notation, such as x.now, and that a key or a box of the code stands here for its record or its text.
-use Rattle.std.specs.Prelude.{◌≡◌, ◌≢◌, ℕ, Bool, true, ◌⊎◌, List, Option, None, Some, IfSome, IfErr, MatchResult}
+use Rattle.std.specs.Prelude.{◌≡◌, ◌≢◌, ℕ, Bool, true, ◌⊎◌, List, Option, Some, Ok, Err, IfSome, IfErr, MatchResult}
 use Rattle.std.specs.declared.result.Result.{Result}
 use Rattle.minisign_base.specs.Fault.{Fault, Named}
 use Rattle.minisign_base.specs.declared.faults.NamedFault.TheVariants.{OutOfMemory}
@@ -12,8 +12,8 @@ use Rattle.minisign.specs.Acceptance.{Flags, Verifier, Vouches, VouchesUnderEach
 use Rattle.minisign.specs.Sealing.{Opens, password_refusal, scrypt_kdf, xored_key}
 use Rattle.minisign.specs.SecretKeyText.{SecretKeyText}
 use Rattle.minisign.specs.Signing.{ChosenComments, IsGenuine}
-use Rattle.minisign.specs.PublicKeyText.{PublicKeyText, public_key_refusal}
-use Rattle.minisign.specs.SignatureText.{AreOneLine, SignatureText, signature_refusal}
+use Rattle.minisign.specs.PublicKeyText.{read_public_key}
+use Rattle.minisign.specs.SignatureText.{AreOneLine, read_signature, read_signature_box}
 
 -- == Verifying ==
 
@@ -22,17 +22,17 @@ use Rattle.minisign.specs.SignatureText.{AreOneLine, SignatureText, signature_re
 pub record TextsVouchFor (accepts : Verifier) (pk_text sig_text message : List ℕ) (legacy : Bool) : Type 0 where
   pub key : PublicKeyRecord
   pub box : SignatureBoxRecord
-  pub key_read : PublicKeyText pk_text key
-  pub box_read : SignatureText sig_text box
+  pub key_read : read_public_key pk_text ≡ Ok key
+  pub box_read : read_signature_box sig_text ≡ Ok box
   pub vouches : Vouches accepts key box message legacy
 
 -- the first failing case: of the public key text, otherwise of the signature text, otherwise of the conditions that
 -- the box vouches for the message under the key
 abbrev pub IsFirstCase : Verifier → List ℕ → List ℕ → List ℕ → Bool → Fault → Type 0
 IsFirstCase accepts pk_text sig_text message legacy e =
-    (public_key_refusal pk_text ≡ Some e)
-    ⊎ ((public_key_refusal pk_text ≡ None) × (signature_refusal sig_text ≡ Some e))
-    ⊎ ((key : PublicKeyRecord) × (box : SignatureBoxRecord) × PublicKeyText pk_text key × SignatureText sig_text box
+    (read_public_key pk_text ≡ Err e)
+    ⊎ (((key : PublicKeyRecord) × (read_public_key pk_text ≡ Ok key)) × (read_signature sig_text ≡ Err e))
+    ⊎ ((key : PublicKeyRecord) × (box : SignatureBoxRecord) × (read_public_key pk_text ≡ Ok key) × (read_signature_box sig_text ≡ Ok box)
     × (first_refusal accepts key box message legacy ≡ Some e))
 
 -- the texts do not vouch for the message, and this is the first failing case
@@ -75,4 +75,4 @@ OpeningHeadline password text bound answer =
 abbrev pub SigningHeadline : Verifier → (List ℕ → List ℕ) → SecretKeyRecord → List ℕ → ChosenComments → List ℕ → Type 0
 SigningHeadline accepts public_of sk message chosen text =
     (seed : List ℕ) → IsGenuine public_of sk seed → AreOneLine chosen.untrusted chosen.trusted
-    → (x : SignatureBoxRecord) × SignatureText text x × VouchesUnderEachKey accepts (public_of seed) sk.keynum message x
+    → (x : SignatureBoxRecord) × (read_signature_box text ≡ Ok x) × VouchesUnderEachKey accepts (public_of seed) sk.keynum message x

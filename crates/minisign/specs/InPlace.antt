@@ -1,6 +1,7 @@
 -- What is known of a signature text that is read where it lies, without memory.
 use Rattle.std.specs.Prelude.{◌≡◌, ℕ, List, if◌then◌else◌, length, take, nat_le, Option, None, Some}
 use Rattle.minisign.specs.Records.{SignatureRecord, SignatureBoxRecord, CommentsRecord}
+use Rattle.minisign.specs.SignatureText.{SignatureTextRecord}
 
 -- the first 64 bytes, where there are so many
 abbrev pub first_64 : List ℕ → Option (List ℕ)
@@ -12,6 +13,15 @@ pub record SignatureViewRecord : Type 0 where
   pub untrusted : List ℕ
   pub trusted : List ℕ
   pub comment_signature : Option (List ℕ)
+
+-- what a view tells of what a text reads as
+abbrev pub view_of : SignatureTextRecord → SignatureViewRecord
+view_of t = record {
+  signature = t.signature;
+  untrusted = t.comments.untrusted;
+  trusted = t.comments.trusted;
+  comment_signature = first_64 t.comments.signature;
+}
 
 -- the view tells this of the box
 pub record IsViewOf (v : SignatureViewRecord) (x : SignatureBoxRecord) : Type 0 where

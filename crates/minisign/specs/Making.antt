@@ -1,12 +1,12 @@
 -- Keys that are made of their parts, and the texts of both: 64 secret bytes, of a seed and of its public key,
 -- under an identifier.
-use Rattle.std.specs.Prelude.{◌≡◌, ◌⊎◌, ◌+◌, ℕ, List, length, false, Option, None, Some, IsOk, Err}
+use Rattle.std.specs.Prelude.{◌≡◌, ◌⊎◌, ◌+◌, ℕ, List, length, false, Option, None, Some, IsOk, Ok, Err}
 use Rattle.std.specs.Str.Iter.{LacksByte}
 use Rattle.minisign_base.specs.Fault.{Fault, Named}
 use Rattle.minisign_base.specs.declared.faults.NamedFault.TheVariants.{OutOfMemory}
 use Rattle.minisign_base.specs.Limits.{numbers, sealing_limits}
 use Rattle.minisign.specs.Generation.{key_to_seal, unsealed_key}
-use Rattle.minisign.specs.PublicKeyText.{PublicKeyText, commented_public_key_text}
+use Rattle.minisign.specs.PublicKeyText.{read_public_key, commented_public_key_text}
 use Rattle.minisign.specs.Records.{SecretKeyRecord, legacy_algorithm, own_public_key}
 use Rattle.minisign.specs.Sealing.{IsWithin, is_encrypted, xored_key}
 use Rattle.minisign.specs.SecretKeyText.{SecretKeyText, secret_key_text}
@@ -63,5 +63,5 @@ IsMakingFault (Some password) s e =
 -- the text of the public key of these parts: it reads as the public key of the secret key that they make
 pub record IsMadePublicText (keynum secret comment text : List ℕ) : Type 0 where
   pub written : text ≡ commented_public_key_text comment (own_public_key (unsealed_key keynum secret))
-  pub reads : LacksByte 10 comment → (key : SecretKeyRecord) → IsOfParts keynum secret key → PublicKeyText text (own_public_key key)
+  pub reads : LacksByte 10 comment → (key : SecretKeyRecord) → IsOfParts keynum secret key → read_public_key text ≡ Ok (own_public_key key)
   pub size : length text ≡ length comment + 77

@@ -1,13 +1,47 @@
--- Texts of public keys: which key a text reads as, which case fails first where it reads as none, and
--- the text that is written for a key.
-use Rattle.std.specs.Prelude.{◌≡◌, ◌==◌, ℕ, List, [], ◌∷◌, ◌++◌, length, nat_le, Option, codes}
+-- Texts of public keys: what a text reads as, key or first fault; the same as a relation; and the text that is written
+-- for a key.
+use Rattle.std.specs.Prelude.{◌≡◌, ◌==◌, ℕ, List, [], ◌∷◌, ◌++◌, length, take, drop, nat_le, Result, Ok, Err, codes}
 use Rattle.std.specs.Str.{trim}
+use Rattle.std.specs.Str.Lines.{lines}
 use Rattle.minisign_base.specs.Fault.{Fault, Named}
+use Rattle.minisign_base.specs.declared.faults.NamedFault.{NamedFault}
 use Rattle.minisign_base.specs.declared.faults.NamedFault.TheVariants.{MissingPublicKeyComment, MissingEncodedPublicKey, PublicKeyLineLength, PublicKeyLineNotBase64, BarePublicKeyLength, BarePublicKeyNotBase64, RecordTooShort}
 use Rattle.minisign_base.specs.Identifiers.{identifier_text}
 use Rattle.minisign.specs.Lines.{line}
 use Rattle.minisign.specs.Records.{PublicKeyRecord, ReadsPublicKey, public_key_bytes}
-use Rattle.minisign.specs.Texts.{IsBase64Of, base64_of, base64_bytes, is_base64, has_line, line_at, HasSecondLine, first_failing, untrusted_comment_label}
+use Rattle.minisign.specs.Texts.{IsBase64Of, base64_of, base64_bytes, is_base64, require, untrusted_comment_label}
+
+-- == Reading ==
+
+-- the key in the first 42 bytes
+abbrev pub key_of_bytes : List ℕ → Result PublicKeyRecord Fault
+key_of_bytes bytes =
+    require (nat_le 42 (length bytes)) RecordTooShort
+    (Ok (record { algorithm = take 2 bytes; keynum = take 8 (drop 2 bytes); key = take 32 (drop 8 (drop 2 bytes)) }))
+
+-- the key that a text is the base64 of
+abbrev pub decoded_key : NamedFault → List ℕ → Result PublicKeyRecord Fault
+decoded_key not_base64 text = require (is_base64 text) not_base64 (key_of_bytes (base64_bytes text))
+
+-- the key in a line of 56 bytes that, trimmed, is base64
+abbrev pub key_in_line : List ℕ → Result PublicKeyRecord Fault
+key_in_line encoded = require (length encoded == 56) PublicKeyLineLength (decoded_key PublicKeyLineNotBase64 (trim encoded))
+
+-- the first line may be anything, and the second has the key; later lines do not matter
+abbrev pub key_in_lines : List (List ℕ) → Result PublicKeyRecord Fault
+key_in_lines [] = Err (Named MissingPublicKeyComment)
+key_in_lines (comment ∷ []) = Err (Named MissingEncodedPublicKey)
+key_in_lines (comment ∷ encoded ∷ later) = key_in_line encoded
+
+-- what a text reads as
+unfoldable pub read_public_key : List ℕ → Result PublicKeyRecord Fault
+read_public_key text = key_in_lines (lines text)
+
+-- what the bare base64 of a key reads as: trimmed it has 56 bytes, and it is base64 as it stands
+unfoldable pub read_bare_public_key : List ℕ → Result PublicKeyRecord Fault
+read_bare_public_key text = require (length (trim text) == 56) BarePublicKeyLength (decoded_key BarePublicKeyNotBase64 text)
+
+-- == The grammar as a relation ==
 
 -- the text is the base64 of bytes that begin with the record of the key, which has 42
 pub record EncodesPublicKey (text : List ℕ) (k : PublicKeyRecord) : Type 0 where
@@ -18,37 +52,19 @@ pub record EncodesPublicKey (text : List ℕ) (k : PublicKeyRecord) : Type 0 whe
 -- the text reads as the public key: the first line may be anything, and the second, of 56 bytes,
 -- trimmed, encodes the key; later lines do not matter
 pub record PublicKeyText (text : List ℕ) (k : PublicKeyRecord) : Type 0 where
-  pub key_line : List ℕ
-  pub second : HasSecondLine text key_line
-  pub key_line_length : length key_line ≡ 56
-  pub key : EncodesPublicKey (trim key_line) k
-
--- the first case that fails
-unfoldable pub public_key_refusal : List ℕ → Option Fault
-public_key_refusal text =
-    first_failing (
-    record { holds = has_line 0 text; fault = Named MissingPublicKeyComment }
-    ∷ record { holds = has_line 1 text; fault = Named MissingEncodedPublicKey }
-    ∷ record { holds = length (line_at 1 text) == 56; fault = Named PublicKeyLineLength }
-    ∷ record { holds = is_base64 (trim (line_at 1 text)); fault = Named PublicKeyLineNotBase64 }
-    ∷ record { holds = nat_le 42 (length (base64_bytes (trim (line_at 1 text)))); fault = Named RecordTooShort }
-    ∷ []
-    )
+  pub comment : List ℕ
+  pub encoded : List ℕ
+  pub later : List (List ℕ)
+  pub cut : lines text ≡ comment ∷ encoded ∷ later
+  pub encoded_length : length encoded ≡ 56
+  pub key : EncodesPublicKey (trim encoded) k
 
 -- the bare base64 reads as the public key: it encodes the key, and trimmed it has 56 bytes
 pub record BarePublicKey (text : List ℕ) (k : PublicKeyRecord) : Type 0 where
   pub trimmed_length : length (trim text) ≡ 56
   pub key : EncodesPublicKey text k
 
--- the first case that fails
-unfoldable pub bare_public_key_refusal : List ℕ → Option Fault
-bare_public_key_refusal text =
-    first_failing (
-    record { holds = length (trim text) == 56; fault = Named BarePublicKeyLength }
-    ∷ record { holds = is_base64 text; fault = Named BarePublicKeyNotBase64 }
-    ∷ record { holds = nat_le 42 (length (base64_bytes text)); fault = Named RecordTooShort }
-    ∷ []
-    )
+-- == Writing ==
 
 unfoldable pub public_key_label : List ℕ
 public_key_label = codes "minisign public key: "

@@ -1,6 +1,6 @@
--- Texts of signatures: which box a text reads as, which case fails first where it reads as none, and the
--- text that is written for a box.
-use Rattle.std.specs.Prelude.{◌≡◌, ◌≢◌, ◌||◌, ◌-◌, ℕ, Bool, List, [], ◌∷◌, ◌++◌, IsTrue, length, take, slice_index, nat_eq, nat_le, bytes_eq, Option, Some, codes}
+-- Texts of signatures: what a text reads as, signature and comments or first fault; the same as a relation; and the text
+-- that is written for a box.
+use Rattle.std.specs.Prelude.{◌≡◌, ◌≢◌, ◌||◌, ◌-◌, ℕ, Bool, List, [], ◌∷◌, ◌++◌, length, take, drop, slice_index, nat_eq, nat_le, bytes_eq, Some, Result, Ok, Err, codes}
 use Rattle.std.specs.List.{starts_with}
 use Rattle.std.specs.Option.{option_map}
 use Rattle.std.specs.Str.{trim}
@@ -10,10 +10,66 @@ use Rattle.minisign_base.specs.Fault.{Fault, Named}
 use Rattle.minisign_base.specs.declared.faults.NamedFault.TheVariants.{MissingUntrustedComment, MissingSignature, MissingTrustedComment, MissingGlobalSignature, UntrustedCommentPrefix, SignatureNotBase64, RecordTooShort, TrustedCommentPrefix, UnsupportedSignatureAlgorithm}
 use Rattle.minisign.specs.Lines.{line}
 use Rattle.minisign.specs.Records.{CommentsRecord, SignatureRecord, SignatureBoxRecord, ReadsSignature, IsKnownAlgorithm, signature_bytes, legacy_algorithm, prehashed_algorithm}
-use Rattle.minisign.specs.Texts.{IsBase64Of, base64_of, base64_bytes, is_base64, has_line, line_at, Test, first_failing, untrusted_comment_label}
+use Rattle.minisign.specs.Texts.{IsBase64Of, base64_of, base64_bytes, is_base64, map_ok, require, untrusted_comment_label}
 
 unfoldable pub trusted_comment_label : List ℕ
 trusted_comment_label = codes "trusted comment: "
+
+-- == Reading ==
+
+-- what a signature text holds: a signature and its comments
+pub record SignatureTextRecord : Type 0 where
+  pub signature : SignatureRecord
+  pub comments : CommentsRecord
+
+-- a box of it
+abbrev pub box_of : SignatureTextRecord → SignatureBoxRecord
+box_of t = record { signature = t.signature; comments = Some t.comments }
+
+-- the test of an algorithm
+abbrev pub is_known_algorithm : List ℕ → Bool
+is_known_algorithm a = bytes_eq a legacy_algorithm || bytes_eq a prehashed_algorithm
+
+-- the signature in the first 74 bytes
+abbrev pub signature_of_bytes : List ℕ → SignatureRecord
+signature_of_bytes bytes = record { algorithm = take 2 bytes; keynum = take 8 (drop 2 bytes); signature = take 64 (drop 8 (drop 2 bytes)) }
+
+-- the first and the third line are a label and a comment, the trusted one trimmed, and the second and the fourth,
+-- trimmed, are base64
+abbrev pub signature_in_four : List ℕ → List ℕ → List ℕ → List ℕ → Result SignatureTextRecord Fault
+signature_in_four first second third fourth =
+    require (starts_with nat_eq first untrusted_comment_label) UntrustedCommentPrefix
+    (require (is_base64 (trim second)) SignatureNotBase64
+    (require (nat_le 74 (length (base64_bytes (trim second)))) RecordTooShort
+    (require (starts_with nat_eq third trusted_comment_label) TrustedCommentPrefix
+    (require (is_known_algorithm (take 2 (base64_bytes (trim second)))) UnsupportedSignatureAlgorithm
+    (require (is_base64 (trim fourth)) SignatureNotBase64
+    (Ok (record {
+      signature = signature_of_bytes (base64_bytes (trim second));
+      comments = record {
+        untrusted = drop (length untrusted_comment_label) first;
+        trusted = trim (drop (length trusted_comment_label) third);
+        signature = base64_bytes (trim fourth);
+      };
+    })))))))
+
+-- there are four lines; later ones do not matter
+abbrev pub signature_in_lines : List (List ℕ) → Result SignatureTextRecord Fault
+signature_in_lines [] = Err (Named MissingUntrustedComment)
+signature_in_lines (first ∷ []) = Err (Named MissingSignature)
+signature_in_lines (first ∷ second ∷ []) = Err (Named MissingTrustedComment)
+signature_in_lines (first ∷ second ∷ third ∷ []) = Err (Named MissingGlobalSignature)
+signature_in_lines (first ∷ second ∷ third ∷ fourth ∷ later) = signature_in_four first second third fourth
+
+-- what a text reads as
+unfoldable pub read_signature : List ℕ → Result SignatureTextRecord Fault
+read_signature text = signature_in_lines (lines text)
+
+-- the box that it reads as
+abbrev pub read_signature_box : List ℕ → Result SignatureBoxRecord Fault
+read_signature_box text = map_ok box_of (read_signature text)
+
+-- == The grammar as a relation ==
 
 -- the text is the base64 of bytes that begin with the record of the signature, which has 74
 pub record EncodesSignature (text : List ℕ) (s : SignatureRecord) : Type 0 where
@@ -21,40 +77,22 @@ pub record EncodesSignature (text : List ℕ) (s : SignatureRecord) : Type 0 whe
   pub base64 : IsBase64Of text bytes
   pub reads : ReadsSignature bytes s
 
--- the text reads as the box: four lines, of which the first and the third are a label and a comment, the
--- trusted one trimmed, and the second and the fourth, trimmed, are base64; later lines do not matter
-pub record SignatureText (text : List ℕ) (x : SignatureBoxRecord) : Type 0 where
-  pub comments : CommentsRecord
-  pub four_lines : IsTrue (has_line 3 text)
-  pub untrusted_comment : line_at 0 text ≡ untrusted_comment_label ++ comments.untrusted
-  pub signature : EncodesSignature (trim (line_at 1 text)) x.signature
-  pub algorithm : IsKnownAlgorithm x.signature.algorithm
-  pub trusted_comment : (comment : List ℕ) × (line_at 2 text ≡ trusted_comment_label ++ comment) × (trim comment ≡ comments.trusted)
-  pub comment_signature : IsBase64Of (trim (line_at 3 text)) comments.signature
-  pub box : x.comments ≡ Some comments
+-- the text reads as the signature with its comments: four lines, of which the first and the third are a label and a
+-- comment, the trusted one trimmed, and the second and the fourth, trimmed, are base64; later lines do not matter
+pub record SignatureText (text : List ℕ) (t : SignatureTextRecord) : Type 0 where
+  pub first : List ℕ
+  pub second : List ℕ
+  pub third : List ℕ
+  pub fourth : List ℕ
+  pub later : List (List ℕ)
+  pub cut : lines text ≡ first ∷ second ∷ third ∷ fourth ∷ later
+  pub untrusted_comment : first ≡ untrusted_comment_label ++ t.comments.untrusted
+  pub signature : EncodesSignature (trim second) t.signature
+  pub algorithm : IsKnownAlgorithm t.signature.algorithm
+  pub trusted_comment : (comment : List ℕ) × (third ≡ trusted_comment_label ++ comment) × (trim comment ≡ t.comments.trusted)
+  pub comment_signature : IsBase64Of (trim fourth) t.comments.signature
 
--- the test of an algorithm
-abbrev pub is_known_algorithm : List ℕ → Bool
-is_known_algorithm a = bytes_eq a legacy_algorithm || bytes_eq a prehashed_algorithm
-
--- the tests of a text, in their order
-abbrev pub signature_tests : List ℕ → List Test
-signature_tests text =
-    record { holds = has_line 0 text; fault = Named MissingUntrustedComment }
-    ∷ record { holds = has_line 1 text; fault = Named MissingSignature }
-    ∷ record { holds = has_line 2 text; fault = Named MissingTrustedComment }
-    ∷ record { holds = has_line 3 text; fault = Named MissingGlobalSignature }
-    ∷ record { holds = starts_with nat_eq (line_at 0 text) untrusted_comment_label; fault = Named UntrustedCommentPrefix }
-    ∷ record { holds = is_base64 (trim (line_at 1 text)); fault = Named SignatureNotBase64 }
-    ∷ record { holds = nat_le 74 (length (base64_bytes (trim (line_at 1 text)))); fault = Named RecordTooShort }
-    ∷ record { holds = starts_with nat_eq (line_at 2 text) trusted_comment_label; fault = Named TrustedCommentPrefix }
-    ∷ record { holds = is_known_algorithm (take 2 (base64_bytes (trim (line_at 1 text)))); fault = Named UnsupportedSignatureAlgorithm }
-    ∷ record { holds = is_base64 (trim (line_at 3 text)); fault = Named SignatureNotBase64 }
-    ∷ []
-
--- the first case that fails
-unfoldable pub signature_refusal : List ℕ → Option Fault
-signature_refusal text = first_failing (signature_tests text)
+-- == Writing ==
 
 -- the text that is written for a signature with comments
 abbrev pub signature_text : SignatureRecord → CommentsRecord → List ℕ
@@ -79,8 +117,3 @@ box_read_back x = record x { comments = option_map comments_read_back x.comments
 pub record AreReadBack (untrusted trusted : List ℕ) : Type 0 where
   pub one_line : AreOneLine untrusted trusted
   pub untrusted_end : slice_index untrusted (length untrusted - 1) ≢ 13
-
--- a text has these four lines at its front
-pub record HasFourLines (text first second third fourth : List ℕ) : Type 0 where
-  pub later : List (List ℕ)
-  pub cut : lines text ≡ first ∷ second ∷ third ∷ fourth ∷ later

@@ -1,10 +1,12 @@
 -- What texts of keys and signatures are made of: lines, base64 as RFC 4648 section 4 has it, and tests
 -- in an order.
-use Rattle.std.specs.Prelude.{◌≡◌, ◌↔◌, ℕ, ◌%◌, Bool, if◌then◌else◌, bytes_eq, map, List, [], ◌∷◌, slice_get, slice_index_or, Option, None, Some, is_some, codes}
+use Rattle.std.specs.Prelude.{◌≡◌, ◌↔◌, ◌⊎◌, ℕ, ◌%◌, Bool, if◌then◌else◌, bytes_eq, map, List, [], ◌∷◌, slice_get, slice_index_or, Option, None, Some, Result, Ok, Err, is_some, codes}
 use Rattle.std.specs.Str.Lines.{lines}
 use Rattle.base64.specs.Engines.{standard}
 use Rattle.base64.specs.GeneralPurpose.{IsBytes, encode_of, decoded_bytes_of}
-use Rattle.minisign_base.specs.Fault.{Fault}
+use Rattle.minisign_base.specs.Fault.{Fault, Named}
+use Rattle.minisign_base.specs.declared.faults.NamedFault.{NamedFault}
+use Rattle.minisign_base.specs.declared.faults.NamedFault.TheVariants.{OutOfMemory}
 
 -- the base64 of bytes, padded
 unfoldable pub base64_of : List ℕ → List ℕ
@@ -31,11 +33,25 @@ has_line n text = is_some (slice_get (lines text) n)
 abbrev pub line_at : ℕ → List ℕ → List ℕ
 line_at n text = slice_index_or (lines text) n []
 
--- a text has this second line
-pub record HasSecondLine (text second : List ℕ) : Type 0 where
-  pub first : List ℕ
-  pub later : List (List ℕ)
-  pub cut : lines text ≡ first ∷ second ∷ later
+-- reading goes on where a test holds, and ends with the fault where it does not
+abbrev pub require : {V : Type 0} → Bool → NamedFault → Result V Fault → Result V Fault
+require holds fault more = if holds then more else Err (Named fault)
+
+-- what is read, as something else
+abbrev pub map_ok : {V W : Type 0} → (V → W) → Result V Fault → Result W Fault
+map_ok f (Ok v) = Ok (f v)
+map_ok f (Err e) = Err e
+
+-- the answer is what is read, or out of memory
+abbrev pub IsReadOrNoMemory : {V : Type 0} → Result V Fault → Result V Fault → Type 0
+IsReadOrNoMemory answer read = (answer ≡ read) ⊎ (answer ≡ Err (Named OutOfMemory))
+
+-- what is read is a value exactly where the text reads as this value, by the relation; it reads as one at most, and as
+-- none where what is read is a fault
+pub record IsReading {V : Type 0} (reads : V → Type 0) (read : Result V Fault) : Type 0 where
+  pub value : (v : V) → (read ≡ Ok v) ↔ reads v
+  pub one_value : (v w : V) → reads v → reads w → v ≡ w
+  pub no_value : (e : Fault) → read ≡ Err e → (v : V) → ¬ (reads v)
 
 -- what is asked of a text, and the fault where it does not hold
 pub record Test : Type 0 where

@@ -1,26 +1,25 @@
 -- How verifying with two texts ends, stage by stage.
-use Rattle.std.specs.Prelude.{◌≡◌, ℕ, ◌⊎◌, List}
+use Rattle.std.specs.Prelude.{◌≡◌, ℕ, ◌⊎◌, List, Ok, Err}
 use Rattle.minisign_base.specs.Fault.{Fault, Named}
 use Rattle.minisign_base.specs.declared.faults.NamedFault.TheVariants.{OutOfMemory}
 use Rattle.minisign_base.specs.DeviceCalls.{RereaderCall, SinkCall}
 use Rattle.minisign.specs.Records.{PublicKeyRecord, SignatureBoxRecord}
 use Rattle.minisign.specs.Acceptance.{Flags, Verifier}
-use Rattle.minisign.specs.PublicKeyText.{PublicKeyText, public_key_refusal}
-use Rattle.minisign.specs.SignatureText.{SignatureText, signature_refusal}
-use Rattle.minisign.specs.Texts.{IsRefused}
+use Rattle.minisign.specs.PublicKeyText.{read_public_key}
+use Rattle.minisign.specs.SignatureText.{read_signature, read_signature_box}
 use Rattle.minisign.specs.Verifying.{VerifyingFails, VerifyingSucceeds}
 
 -- the two texts read as this key and this box
 pub record ReadTexts (pk_text sig_text : List ℕ) (key : PublicKeyRecord) (box : SignatureBoxRecord) : Type 0 where
-  pub key_read : PublicKeyText pk_text key
-  pub box_read : SignatureText sig_text box
+  pub key_read : read_public_key pk_text ≡ Ok key
+  pub box_read : read_signature_box sig_text ≡ Ok box
 
 -- a text is refused, the public key's before the signature's, or memory ran out
 abbrev pub TextsFail : List ℕ → List ℕ → Fault → Type 0
 TextsFail pk_text sig_text e =
     (e ≡ Named OutOfMemory)
-    ⊎ IsRefused (PublicKeyText pk_text) (public_key_refusal pk_text) e
-    ⊎ (((key : PublicKeyRecord) × PublicKeyText pk_text key) × IsRefused (SignatureText sig_text) (signature_refusal sig_text) e)
+    ⊎ (read_public_key pk_text ≡ Err e)
+    ⊎ (((key : PublicKeyRecord) × (read_public_key pk_text ≡ Ok key)) × (read_signature sig_text ≡ Err e))
 
 -- a text is refused before anything is read, said or copied
 pub record StopsAtTexts {R W O : Type 0} (pk_text sig_text : List ℕ) (reader : RereaderCall R) (status : SinkCall W) (out : SinkCall O) (e : Fault) : Type 0 where

@@ -33,7 +33,7 @@ pub(crate) fn decode_front(text: &[u8], room: &mut [u8]) -> Option<usize>
 }
 
 // Whether a text is base64.
-fn is_base64(text: &[u8]) -> bool
+pub(crate) fn is_base64(text: &[u8]) -> bool
     ensures { result ≡ is_base64 text.now }
 {
     let mut room = [0u8; PIECE_BYTES];

@@ -1,25 +1,28 @@
 //! Reading the texts of public keys and signatures where they lie, without memory: what is decoded stands in arrays,
 //! and the comments stay in the text.
 
-ghost use Rattle.std.specs.Prelude.{◌≡◌, ◌⊎◌, ◌+◌, ◌≤◌, ◌<◌, List, ℕ, true, false, Ok, Some, length, MatchOption, MatchResult, IfOk, IfErr};
-ghost use Rattle.std.specs.Str.{trim};
+ghost use Rattle.std.specs.Prelude.{◌≡◌, ◌⊎◌, ◌+◌, ◌≤◌, ◌<◌, true, false, Ok, Err, length, MatchResult, IfOk};
 ghost use Rattle.minisign_base.specs.Fault.{Named};
 ghost use Rattle.minisign_base.specs.declared.faults.NamedFault.TheVariants.{RecordTooShort, SignatureNotBase64};
-ghost use Rattle.minisign.specs.InPlace.{IsViewOf, first_64};
-ghost use Rattle.minisign.specs.PublicKeyText.{BarePublicKey, EncodesPublicKey, PublicKeyText, bare_public_key_refusal, public_key_refusal};
-ghost use Rattle.minisign.specs.Records.{PublicKeyRecord, SignatureBoxRecord, is_prehashed};
-ghost use Rattle.minisign.specs.SignatureText.{EncodesSignature, HasFourLines, SignatureText, signature_refusal};
-ghost use Rattle.minisign.specs.Texts.{HasSecondLine, IsBase64Of, IsRefused, base64_bytes, is_base64};
+ghost use Rattle.minisign.specs.InPlace.{first_64, view_of};
+ghost use Rattle.minisign.specs.PublicKeyText.{decoded_key, key_in_line, read_bare_public_key, read_public_key};
+ghost use Rattle.minisign.specs.Records.{IsKnownAlgorithm, is_prehashed};
+ghost use Rattle.minisign.specs.SignatureText.{EncodesSignature, read_signature, signature_in_four};
+ghost use Rattle.minisign.specs.Texts.{base64_bytes, is_base64, map_ok};
 
-use crate::base64_front::decode_front;
+use crate::base64_front::{decode_front, is_base64};
 use crate::constants::SIGALG_PREHASHED;
-use crate::public_key::{ENCODED_BYTES, PublicKey, key_line};
+use crate::public_key::PublicKey;
 use crate::signature::Signature;
 use crate::signature_box::{
     TextLines, four_lines, known, trusted_comment_in, untrusted_comment_in,
 };
+use crate::texts::next_line;
 use minisign_base::{NamedFault, Result};
 use std::marker::Model;
+
+// The length of a public key in base64.
+const ENCODED_BYTES: usize = 56;
 
 /// What a signature text reads as: the signature, the comments where they lie in the text, and of the comment
 /// signature the first 64 bytes.
@@ -81,123 +84,128 @@ impl<'a> SignatureView<'a> {
     }
 }
 
-/// Reads a public key text: the key that `PublicKey::from_box` reads, and its refusals in their order.
-/// Takes no memory, and never says that it ran out.
+/// Reads a public key text: a first line that may be anything, and a second of 56 bytes that, trimmed of white space, is
+/// the base64 of the 42 bytes of a key. Later lines are ignored.
+///
+/// These are refused, in this order: a text with no first line, one with no second line, another length of that line,
+/// what is not base64, fewer than 42 bytes. Takes no memory.
 pub fn read_public_key(text: &str) -> Result<PublicKey>
-    // A public key text is read as `PublicKey::from_box` reads it: the same key, the same first
-    // reasons, and never out of memory.
-    ensures read { IfOk result (PublicKeyText text.now) }
-    ensures exact { (k : PublicKeyRecord) → PublicKeyText text.now k → result ≡ Ok k }
-    ensures refused { IfErr result (IsRefused (PublicKeyText text.now) (public_key_refusal text.now)) }
+    // A public key text is read as its grammar has it, a function of the text: as the key, or the first case that fails.
+    ensures { result ≡ read_public_key text.now }
 {
-    read_key_text(text)
+    let mut lines = text.lines();
+    let Some(_comment) = next_line(&mut lines) else {
+        return Err(NamedFault::MissingPublicKeyComment.into());
+    };
+    let Some(encoded) = next_line(&mut lines) else {
+        return Err(NamedFault::MissingEncodedPublicKey.into());
+    };
+    read_key_line(encoded)
 }
 
-/// Reads the bare base64 of a key, 56 bytes: the key that `PublicKey::from_base64` reads, and its refusals in their
-/// order. Takes no memory, and never says that it ran out.
+/// Reads the bare base64 of a key, 56 bytes with nothing around them.
+///
+/// These are refused, in this order: a text that, trimmed of white space, has another length, what is not base64 as it
+/// stands, fewer than 42 bytes. Takes no memory.
 pub fn read_bare_public_key(text: &str) -> Result<PublicKey>
-    // The base64 of a key is read as `PublicKey::from_base64` reads it: the same key, the same
-    // first reasons, and never out of memory.
-    ensures read { IfOk result (BarePublicKey text.now) }
-    ensures exact { (k : PublicKeyRecord) → BarePublicKey text.now k → result ≡ Ok k }
-    ensures refused { IfErr result (IsRefused (BarePublicKey text.now) (bare_public_key_refusal text.now)) }
-{
-    read_bare(text)
-}
-
-/// Reads a signature text: of the box that `SignatureBox::from_string` reads all but what stands behind the first 64
-/// bytes of the comment signature, and its refusals in their order. Takes no memory, and never
-/// says that it ran out.
-pub fn read_signature(text: &str) -> Result<SignatureView<'_>>
-    // A signature text is read as `SignatureBox::from_string` reads it: the same box, of which the
-    // first 64 bytes of the comment signature are known, the same first reasons, and never out of
-    // memory. The trusted comment and the 64 bytes of a signature have no more bytes than the text.
-    ensures read { IfOk result (λ v. (x : SignatureBoxRecord) × SignatureText text.now x × IsViewOf v x) }
-    ensures size { IfOk result (λ v. 64 + length v.trusted ≤ length text.now) }
-    ensures exact { (x : SignatureBoxRecord) → SignatureText text.now x →
-        MatchResult result (λ v. IsViewOf v x) (λ _. ⊥) }
-    ensures refused { IfErr result (IsRefused (SignatureText text.now) (signature_refusal text.now)) }
-{
-    read_box(text)
-}
-
-// Reads a public key text.
-fn read_key_text(text: &str) -> Result<PublicKey>
-    ensures read { IfOk result (PublicKeyText text.now) }
-    ensures refused { IfErr result (λ e. public_key_refusal text.now ≡ Some e) }
-{
-    let line = key_line(text)?;
-    read_key_line(line)
-}
-
-// Reads the second line of a public key text.
-fn read_key_line(line: &str) -> Result<PublicKey>
-    ensures read { IfOk result (λ k. (length line.now ≡ 56) × EncodesPublicKey (trim line.now) k) }
-    ensures refused { IfErr result (λ e. (text : List ℕ) → HasSecondLine text line.now → public_key_refusal text ≡ Some e) }
-{
-    if line.len() != ENCODED_BYTES {
-        return Err(NamedFault::PublicKeyLineLength.into());
-    }
-    match decode_key(line.trim())? {
-        Some(key) => Ok(key),
-        None => Err(NamedFault::PublicKeyLineNotBase64.into()),
-    }
-}
-
-// Reads the bare base64 of a key.
-fn read_bare(text: &str) -> Result<PublicKey>
-    ensures read { IfOk result (BarePublicKey text.now) }
-    ensures refused { IfErr result (λ e. bare_public_key_refusal text.now ≡ Some e) }
+    // The base64 of a key is read as its grammar has it, a function of the text: as the key, or the first case that
+    // fails.
+    ensures { result ≡ read_bare_public_key text.now }
 {
     if text.trim().len() != ENCODED_BYTES {
         return Err(NamedFault::BarePublicKeyLength.into());
     }
-    match decode_key(text)? {
-        Some(key) => Ok(key),
-        None => Err(NamedFault::BarePublicKeyNotBase64.into()),
-    }
+    decode_key(text, NamedFault::BarePublicKeyNotBase64)
 }
 
-// The key that a text is the base64 of; nothing where the text is not base64.
-fn decode_key(text: &str) -> Result<Option<PublicKey>>
-    ensures { MatchResult result
-        (λ o. MatchOption o (is_base64 text.now ≡ false) (EncodesPublicKey text.now))
-        (λ e. (e ≡ Named RecordTooShort) × (is_base64 text.now ≡ true) × (length (base64_bytes text.now) < 42)) }
+/// Reads a signature text, as `SignatureBox::from_string` does, and tells of it all but what stands behind the first 64
+/// bytes of the comment signature. It has four lines: `untrusted comment: ` and a comment; the base64 of the 74 bytes of a
+/// signature; `trusted comment: ` and the comment that is signed; the base64 of the comment signature, of any length. The
+/// second and the fourth line and the trusted comment are trimmed of white space, the untrusted comment is kept as it
+/// stands, and later lines are ignored.
+///
+/// These are refused, in this order: a missing line, the first one first; another beginning of the first line; a second
+/// line that is not base64, or of fewer than 74 bytes; another beginning of the third line; an algorithm other than `Ed`
+/// and `ED`; a fourth line that is not base64. Takes no memory.
+pub fn read_signature(text: &str) -> Result<SignatureView<'_>>
+    // A signature text is read as its grammar has it, a function of the text: as the signature with its comments, or the
+    // first case that fails. Of the comment signature the first 64 bytes are told.
+    ensures view { result ≡ map_ok view_of (read_signature text.now) }
+
+    // The trusted comment and the 64 bytes of a signature have no more bytes than the text.
+    ensures size { IfOk result (λ v. 64 + length v.trusted ≤ length text.now) }
+{
+    let parts = read_parts(text)?;
+    Ok(SignatureView {
+        comment_signature: signature_front(parts.comment_signature),
+        signature: parts.signature,
+        untrusted_comment: parts.untrusted_comment,
+        trusted_comment: parts.trusted_comment,
+    })
+}
+
+// Reads the second line of a public key text.
+fn read_key_line(encoded: &str) -> Result<PublicKey>
+    ensures { result ≡ key_in_line encoded.now }
+{
+    if encoded.len() != ENCODED_BYTES {
+        return Err(NamedFault::PublicKeyLineLength.into());
+    }
+    decode_key(encoded.trim(), NamedFault::PublicKeyLineNotBase64)
+}
+
+// The key that a text is the base64 of; where it is not base64, this fault.
+fn decode_key(text: &str, not_base64: NamedFault) -> Result<PublicKey>
+    ensures { result ≡ decoded_key not_base64 text.now }
 {
     let mut record = [0u8; 42];
     let Some(count) = decode_front(text.as_bytes(), &mut record) else {
-        return Ok(None);
+        return Err(not_base64.into());
     };
-    Ok(Some(PublicKey::from_bytes(&record[..count])?))
+    PublicKey::from_bytes(&record[..count])
+}
+
+// What a signature text reads as, where it lies: the comment signature stays base64.
+#[derive(Drop)]
+pub(crate) struct SignatureParts<'a> {
+    pub(crate) signature: Signature,
+    pub(crate) untrusted_comment: &'a str,
+    pub(crate) trusted_comment: &'a str,
+    pub(crate) comment_signature: &'a str,
 }
 
 // Reads a signature text.
-fn read_box(text: &str) -> Result<SignatureView<'_>>
-    ensures read { IfOk result (λ v. (x : SignatureBoxRecord) × SignatureText text.now x × IsViewOf v x) }
-    ensures size { IfOk result (λ v. 64 + length v.trusted ≤ length text.now) }
-    ensures refused { IfErr result (λ e. signature_refusal text.now ≡ Some e) }
+pub(crate) fn read_parts(text: &str) -> Result<SignatureParts<'_>>
+    ensures { MatchResult result
+        (λ p. (read_signature text.now ≡ Ok (record { signature = p.signature; comments = record {
+          untrusted = p.untrusted_comment.now; trusted = p.trusted_comment.now; signature = base64_bytes p.comment_signature.now } }))
+        × (is_base64 p.comment_signature.now ≡ true) × IsKnownAlgorithm p.signature.algorithm
+        × (64 + length p.trusted_comment.now ≤ length text.now))
+        (λ e. read_signature text.now ≡ Err e) }
 {
     let lines = four_lines(text)?;
     read_lines(lines)
 }
 
 // What stands in the first four lines.
-fn read_lines(lines: TextLines<'_>) -> Result<SignatureView<'_>>
+fn read_lines(lines: TextLines<'_>) -> Result<SignatureParts<'_>>
     ensures { MatchResult result
-        (λ v. ((text : List ℕ) → HasFourLines text lines.entry.untrusted_comment.now
-        lines.entry.signature.now lines.entry.trusted_comment.now lines.entry.global_sig.now
-        → (x : SignatureBoxRecord) × SignatureText text x × IsViewOf v x)
-        × (64 + length v.trusted ≤ length lines.entry.signature.now + length lines.entry.trusted_comment.now))
-        (λ e. (text : List ℕ) → HasFourLines text lines.entry.untrusted_comment.now
-        lines.entry.signature.now lines.entry.trusted_comment.now lines.entry.global_sig.now
-        → signature_refusal text ≡ Some e) }
+        (λ p. (signature_in_four lines.entry.untrusted_comment.now lines.entry.signature.now lines.entry.trusted_comment.now lines.entry.global_sig.now
+        ≡ Ok (record { signature = p.signature; comments = record {
+          untrusted = p.untrusted_comment.now; trusted = p.trusted_comment.now; signature = base64_bytes p.comment_signature.now } }))
+        × (is_base64 p.comment_signature.now ≡ true) × IsKnownAlgorithm p.signature.algorithm
+        × (64 + length p.trusted_comment.now ≤ length lines.entry.signature.now + length lines.entry.trusted_comment.now))
+        (λ e. signature_in_four lines.entry.untrusted_comment.now lines.entry.signature.now lines.entry.trusted_comment.now lines.entry.global_sig.now ≡ Err e) }
 {
     let untrusted_comment = untrusted_comment_in(lines.untrusted_comment)?;
     let signature = decode_signature(lines.signature.trim())?;
     let trusted_comment = trusted_comment_in(lines.trusted_comment)?;
     let signature = known(signature)?;
-    let comment_signature = decode_comment_signature(lines.global_sig.trim())?;
-    Ok(SignatureView {
+    let comment_signature = lines.global_sig.trim();
+    if !is_base64(comment_signature.as_bytes()) {
+        return Err(NamedFault::SignatureNotBase64.into());
+    }
+    Ok(SignatureParts {
         signature,
         untrusted_comment,
         trusted_comment: trusted_comment.trim(),
@@ -219,17 +227,15 @@ fn decode_signature(text: &str) -> Result<Signature>
     Signature::from_bytes(&record[..count])
 }
 
-// The first 64 bytes of what a text is the base64 of, if it has so many.
-fn decode_comment_signature(text: &str) -> Result<Option<[u8; 64]>>
-    ensures { MatchResult result
-        (λ s. (bytes : List ℕ) × IsBase64Of text.now bytes × (s ≡ first_64 bytes))
-        (λ e. (e ≡ Named SignatureNotBase64) × (is_base64 text.now ≡ false)) }
+// The first 64 bytes of what base64 decodes to, if it has so many.
+fn signature_front(text: &str) -> Option<[u8; 64]>
+    ensures { is_base64 text.now ≡ true → result ≡ first_64 (base64_bytes text.now) }
 {
     let mut front = [0u8; 66];
-    let Some(count) = decode_front(text.as_bytes(), &mut front) else {
-        return Err(NamedFault::SignatureNotBase64.into());
-    };
-    Ok(first_64(&front[..count]))
+    match decode_front(text.as_bytes(), &mut front) {
+        Some(count) => first_64(&front[..count]),
+        None => None,
+    }
 }
 
 // The first 64 bytes, if there are so many.

@@ -1,33 +1,29 @@
 //! A public key, which vouches for what was signed with its secret key.
 
-ghost use Rattle.std.specs.Prelude.{◌≡◌, ◌<◌, ◌+◌, ◌⊎◌, List, ℕ, true, false, Some, length, string_bytes, MatchResult, IsOk, IfOk, IfErr, IfSome, IfNone, bytes_eq};
+ghost use Rattle.std.specs.Prelude.{◌≡◌, ◌<◌, ◌+◌, ◌⊎◌, List, ℕ, Ok, length, string_bytes, MatchResult, IsOk, IfOk, IfErr, bytes_eq};
 ghost use Rattle.std.specs.Cmp.{on_per, on_equiv, partial_equiv_from_equiv};
 ghost use Rattle.std.specs.Cmp.Lexicographic.{nat_list_eq_equiv};
 ghost use Rattle.minisign_base.specs.Fault.{Named};
 ghost use Rattle.minisign_base.specs.declared.faults.NamedFault.TheVariants.{OutOfMemory, RecordTooShort};
-ghost use Rattle.minisign.specs.Texts.{IsRefused, base64_of, is_base64, base64_bytes};
-ghost use Rattle.std.specs.Str.{trim};
+ghost use Rattle.minisign.specs.Texts.{base64_of};
 ghost use Rattle.minisign.specs.Records.{own_public_key};
-ghost use Rattle.minisign.specs.PublicKeyText.{EncodesPublicKey, PublicKeyText, BarePublicKey, public_key_refusal, bare_public_key_refusal, commented_public_key_text, public_key_text};
+ghost use Rattle.minisign.specs.PublicKeyText.{commented_public_key_text, public_key_text, read_bare_public_key, read_public_key};
 ghost use Rattle.std.specs.Str.Iter.{LacksByte};
-ghost use Rattle.minisign.specs.TextFiles.{IsTextFileFault};
-ghost use Rattle.minisign.specs.Texts.{HasSecondLine};
+ghost use Rattle.minisign.specs.TextFiles.{IsReadFromFile};
 
 use crate::constants::COMMENT_PREFIX;
 use crate::fields::{push_three, split_three};
+use crate::in_place::{read_bare_public_key, read_public_key};
 use crate::keynum::KeynumPK;
 use crate::public_key_box::PublicKeyBox;
 use crate::reading::read_text_file;
 use crate::secret_key::SecretKey;
-use crate::texts::{decode, encode, next_line, push_line};
-use minisign_base::{Identifier, NamedFault, Result};
+use crate::texts::{encode, push_line};
+use minisign_base::{Identifier, Result};
 use minisign_hash::util::fixed_time_eq;
 use std::alloc::Global;
 use std::marker::Model;
 use std::rt::Files;
-
-// The length of a public key in base64.
-pub(crate) const ENCODED_BYTES: usize = 56;
 
 /// A public key: an algorithm of 2 bytes, an identifier of 8 and a key of 32. The algorithm is kept
 /// as it was read and never tested.
@@ -70,25 +66,17 @@ impl PublicKey {
         })
     }
 
-    /// Reads a public key text: a first line that may be anything, and a second of 56 bytes that,
-    /// trimmed of white space, is the base64 of the 42 bytes of a key. Later lines are ignored.
+    /// Reads a public key text, as `read_public_key` does: a first line that may be anything, and a second of 56 bytes
+    /// that, trimmed of white space, is the base64 of the 42 bytes of a key. Later lines are ignored.
     ///
     /// These are refused, in this order: a text with no first line, one with no second line,
-    /// another length of that line, what is not base64, fewer than 42 bytes. It may run out of
-    /// memory at any time.
-    pub fn from_box(alloc: Global, public_key_box: PublicKeyBox) -> Result<PublicKey>
-        // A public key text is read as the key that its grammar gives it; a text that reads as a
-        // key gives this key or out of memory.
-        ensures read { IfOk result (PublicKeyText public_key_box) }
-        ensures exact { (k : PublicKeyRecord) → PublicKeyText public_key_box k →
-            MatchResult result (λ v. v ≡ k) (λ e. e ≡ Named OutOfMemory) }
-
-        // A refusal is out of memory, or the first test that fails, and in the second case the text
-        // reads as no key.
-        ensures refused { IfErr result (λ e. (e ≡ Named OutOfMemory)
-            ⊎ IsRefused (PublicKeyText public_key_box) (public_key_refusal public_key_box) e) }
+    /// another length of that line, what is not base64, fewer than 42 bytes. Takes no memory.
+    pub fn from_box(_alloc: Global, public_key_box: PublicKeyBox) -> Result<PublicKey>
+        // A public key text is read as its grammar has it, a function of the text: as the key, or the first case that
+        // fails.
+        ensures { result ≡ read_public_key public_key_box }
     {
-        read_text(alloc, public_key_box.as_str())
+        read_public_key(public_key_box.as_str())
     }
 
     /// Reads the public key text that the file at `path` holds, as `from_box` does. The path is
@@ -102,31 +90,22 @@ impl PublicKey {
         // ran out of memory, the file could not be opened or read, it is not UTF-8, or these calls
         // refuse a text. No byte of std's files is known, so that it is the text of this file no contract
         // says.
-        ensures read { IfOk result (λ k. (text : List ℕ) × PublicKeyText text k) }
-        ensures refused { IfErr result (λ e. IsTextFileFault e
-            ⊎ ((text : List ℕ) × IsRefused (PublicKeyText text) (public_key_refusal text) e)) }
+        ensures { IsReadFromFile read_public_key result }
     {
         let text = read_text_file(files, alloc, path)?;
         PublicKey::from_box(alloc, PublicKeyBox::from(text))
     }
 
-    /// Reads the bare base64 of a key, 56 bytes with nothing around them.
+    /// Reads the bare base64 of a key, 56 bytes with nothing around them, as `read_bare_public_key` does.
     ///
     /// These are refused, in this order: a text that, trimmed of white space, has another length,
-    /// what is not base64 as it stands, fewer than 42 bytes. It may run out of memory at any time.
-    pub fn from_base64(alloc: Global, text: &str) -> Result<PublicKey>
-        // The bare base64 of a key is read as the key that its grammar gives it; a text that is one
-        // gives this key or out of memory.
-        ensures read { IfOk result (BarePublicKey text.now) }
-        ensures exact { (k : PublicKeyRecord) → BarePublicKey text.now k →
-            MatchResult result (λ v. v ≡ k) (λ e. e ≡ Named OutOfMemory) }
-
-        // A refusal is out of memory, or the first test that fails, and in the second case the text
-        // reads as no key.
-        ensures refused { IfErr result (λ e. (e ≡ Named OutOfMemory)
-            ⊎ IsRefused (BarePublicKey text.now) (bare_public_key_refusal text.now) e) }
+    /// what is not base64 as it stands, fewer than 42 bytes. Takes no memory.
+    pub fn from_base64(_alloc: Global, text: &str) -> Result<PublicKey>
+        // The base64 of a key is read as its grammar has it, a function of the text: as the key, or the first case that
+        // fails.
+        ensures { result ≡ read_bare_public_key text.now }
     {
-        read_bare(alloc, text)
+        read_bare_public_key(text)
     }
 
     /// The public key of a secret key: its algorithm, its identifier and the last 32 bytes of its
@@ -156,7 +135,7 @@ impl PublicKey {
         // The text of a key, and its base64, are the ones by definition, and read as this key; the
         // only refusal is out of memory.
         ensures text { IfOk result (λ b. b ≡ public_key_text self.now) }
-        ensures reads_back { IfOk result (λ b. PublicKeyText b self.now) }
+        ensures reads_back { IfOk result (λ b. read_public_key b ≡ Ok self.now) }
         ensures refused { IfErr result (λ e. e ≡ Named OutOfMemory) }
     {
         let encoded = self.to_base64(alloc)?;
@@ -178,7 +157,7 @@ impl PublicKey {
         // the comment has no line feed it reads as this key; it has 77 bytes more than the comment;
         // the only refusal is out of memory.
         ensures text { IfOk result (λ b. b ≡ commented_public_key_text comment.now self.now) }
-        ensures reads_back { LacksByte 10 comment.now → IfOk result (λ b. PublicKeyText b self.now) }
+        ensures reads_back { LacksByte 10 comment.now → IfOk result (λ b. read_public_key b ≡ Ok self.now) }
         ensures size { IfOk result (λ b. length b ≡ length comment.now + 77) }
         ensures refused { IfErr result (λ e. e ≡ Named OutOfMemory) }
     {
@@ -194,7 +173,7 @@ impl PublicKey {
         // The text of a key, and its base64, are the ones by definition, and read as this key; the
         // only refusal is out of memory.
         ensures text { IfOk result (λ t. string_bytes t ≡ base64_of (public_key_bytes self.now)) }
-        ensures reads_back { IfOk result (λ t. BarePublicKey (string_bytes t) self.now) }
+        ensures reads_back { IfOk result (λ t. read_bare_public_key (string_bytes t) ≡ Ok self.now) }
         ensures refused { IfErr result (λ e. e ≡ Named OutOfMemory) }
     {
         let bytes = self.to_bytes(alloc)?;
@@ -216,75 +195,6 @@ impl PublicKey {
         let KeynumPK { keynum, pk } = &self.keynum_pk;
         push_three(&mut bytes, &self.sig_alg, keynum, pk)?;
         Ok(bytes)
-    }
-}
-
-// Reads a public key text.
-pub(crate) fn read_text(alloc: Global, text: &str) -> Result<PublicKey>
-    ensures read { IfOk result (PublicKeyText text.now) }
-    ensures refused { IfErr result
-        (λ e. (e ≡ Named OutOfMemory) ⊎ (public_key_refusal text.now ≡ Some e)) }
-{
-    let line = key_line(text)?;
-    read_key_line(alloc, line)
-}
-
-// Reads the bare base64 of a key.
-fn read_bare(alloc: Global, text: &str) -> Result<PublicKey>
-    ensures read { IfOk result (BarePublicKey text.now) }
-    ensures refused { IfErr result
-        (λ e. (e ≡ Named OutOfMemory) ⊎ (bare_public_key_refusal text.now ≡ Some e)) }
-{
-    if text.trim().len() != ENCODED_BYTES {
-        return Err(NamedFault::BarePublicKeyLength.into());
-    }
-    match decode_key(alloc, text)? {
-        Some(key) => Ok(key),
-        None => Err(NamedFault::BarePublicKeyNotBase64.into()),
-    }
-}
-
-// The second line of a text that may hold a public key.
-pub(crate) fn key_line(text: &str) -> Result<&str>
-    ensures line { IfOk result (λ l. HasSecondLine text.now l.now) }
-    ensures refused { IfErr result (λ e. public_key_refusal text.now ≡ Some e) }
-{
-    let mut lines = text.lines();
-    let Some(_) = next_line(&mut lines) else {
-        return Err(NamedFault::MissingPublicKeyComment.into());
-    };
-    match next_line(&mut lines) {
-        Some(line) => Ok(line),
-        None => Err(NamedFault::MissingEncodedPublicKey.into()),
-    }
-}
-
-// Reads the second line of a public key text.
-fn read_key_line(alloc: Global, line: &str) -> Result<PublicKey>
-    ensures read { IfOk result (λ k. (length line.now ≡ 56) × EncodesPublicKey (trim line.now) k) }
-    ensures refused { IfErr result (λ e. (e ≡ Named OutOfMemory)
-        ⊎ ((text : List ℕ) → HasSecondLine text line.now → public_key_refusal text ≡ Some e)) }
-{
-    if line.len() != ENCODED_BYTES {
-        return Err(NamedFault::PublicKeyLineLength.into());
-    }
-    match decode_key(alloc, line.trim())? {
-        Some(key) => Ok(key),
-        None => Err(NamedFault::PublicKeyLineNotBase64.into()),
-    }
-}
-
-// The key that a text is the base64 of; nothing where the text is not base64.
-fn decode_key(alloc: Global, text: &str) -> Result<Option<PublicKey>>
-    ensures key { IfOk result (λ o. IfSome o (EncodesPublicKey text.now)) }
-    ensures none { IfOk result (λ o. IfNone o (is_base64 text.now ≡ false)) }
-    ensures refused { IfErr result (λ e. (e ≡ Named OutOfMemory)
-        ⊎ ((e ≡ Named RecordTooShort) × (is_base64 text.now ≡ true)
-        × (length (base64_bytes text.now) < 42))) }
-{
-    match decode(alloc, text)? {
-        Some(bytes) => Ok(Some(PublicKey::from_bytes(&bytes)?)),
-        None => Ok(None),
     }
 }
 

@@ -1,11 +1,9 @@
 //! A public key as a text.
 
-ghost use Rattle.std.specs.Prelude.{◌≡◌, ◌⊎◌, Some, MatchResult, IfOk, IfErr, string_bytes};
+ghost use Rattle.std.specs.Prelude.{◌≡◌, Some, IfOk, IfErr, string_bytes};
 ghost use Rattle.minisign_base.specs.Fault.{Named};
 ghost use Rattle.minisign_base.specs.declared.faults.NamedFault.TheVariants.{OutOfMemory};
-ghost use Rattle.minisign.specs.PublicKeyText.{PublicKeyText, public_key_refusal};
-ghost use Rattle.minisign.specs.Records.{PublicKeyRecord};
-ghost use Rattle.minisign.specs.Texts.{IsRefused};
+ghost use Rattle.minisign.specs.PublicKeyText.{read_public_key};
 
 use crate::public_key::PublicKey;
 use minisign_base::Result;
@@ -61,12 +59,8 @@ impl PublicKeyBox {
 
     /// The public key that the text holds: `PublicKey::from_box` of this box.
     pub fn into_public_key(self, alloc: Global) -> Result<PublicKey>
-        // The text that it holds is read, and refused, as `PublicKey::from_box` says.
-        ensures read { IfOk result (PublicKeyText self) }
-        ensures exact { (k : PublicKeyRecord) → PublicKeyText self k →
-            MatchResult result (λ v. v ≡ k) (λ e. e ≡ Named OutOfMemory) }
-        ensures refused { IfErr result (λ e. (e ≡ Named OutOfMemory)
-            ⊎ IsRefused (PublicKeyText self) (public_key_refusal self) e) }
+        // The text that it holds is read as `PublicKey::from_box` reads it.
+        ensures { result ≡ read_public_key self }
     {
         PublicKey::from_box(alloc, self)
     }

@@ -1,15 +1,15 @@
 //! A signature with its comments.
 
-ghost use Rattle.std.specs.Prelude.{◌≡◌, ◌≢◌, ◌⊎◌, ◌+◌, ◌≤◌, ◌<◌, ◌++◌, List, ℕ, true, false, None, Some, Err, length, string_bytes, MatchOption, MatchResult, IfOk, IfErr, IfSome};
-ghost use Rattle.std.specs.Str.{trim};
+ghost use Rattle.std.specs.Prelude.{◌≡◌, ◌≢◌, ◌+◌, ◌≤◌, ◌++◌, List, ℕ, false, None, Some, Ok, Err, length, string_bytes, MatchOption, MatchResult, IfOk, IfErr, IfSome};
 ghost use Rattle.minisign_base.specs.Fault.{Named};
-ghost use Rattle.minisign_base.specs.declared.faults.NamedFault.TheVariants.{OutOfMemory, RecordTooShort, SignatureBoxIncomplete, SignatureNotBase64, TrustedCommentAbsent, TrustedCommentPrefix, UnsupportedSignatureAlgorithm, UntrustedCommentPrefix};
+ghost use Rattle.minisign_base.specs.declared.faults.NamedFault.TheVariants.{OutOfMemory, SignatureBoxIncomplete, TrustedCommentAbsent, TrustedCommentPrefix, UnsupportedSignatureAlgorithm, UntrustedCommentPrefix};
 ghost use Rattle.minisign.specs.Records.{CommentsRecord, SignatureBoxRecord, IsKnownAlgorithm};
-ghost use Rattle.minisign.specs.SignatureText.{AreOneLine, EncodesSignature, HasFourLines, SignatureText, AreReadBack, box_read_back, comments_read_back, is_known_algorithm, signature_refusal, signature_text, trusted_comment_label};
-ghost use Rattle.minisign.specs.TextFiles.{IsTextFileFault};
-ghost use Rattle.minisign.specs.Texts.{IsBase64Of, IsRefused, base64_bytes, is_base64, untrusted_comment_label};
+ghost use Rattle.minisign.specs.SignatureText.{AreOneLine, AreReadBack, box_read_back, comments_read_back, is_known_algorithm, read_signature, read_signature_box, signature_in_four, signature_text, trusted_comment_label};
+ghost use Rattle.minisign.specs.TextFiles.{IsReadFromFile};
+ghost use Rattle.minisign.specs.Texts.{IsReadOrNoMemory, untrusted_comment_label};
 
 use crate::constants::{SIGALG, SIGALG_PREHASHED};
+use crate::in_place::read_parts;
 use crate::reading::read_text_file;
 use crate::signature::Signature;
 use crate::signature_bones::SignatureBones;
@@ -82,18 +82,11 @@ impl SignatureBox {
     /// These are refused, in this order: a missing line, the first one first; another beginning of
     /// the first line; a second line that is not base64, or of fewer than 74 bytes; another
     /// beginning of the third line; an algorithm other than `Ed` and `ED`; a fourth line that is
-    /// not base64. It may run out of memory at any time.
+    /// not base64. It may run out of memory once the text is read.
     pub fn from_string(alloc: Global, text: &str) -> Result<SignatureBox>
-        // A signature text is read as the box that its grammar gives it; a text that reads as a box
-        // gives this box or out of memory.
-        ensures read { IfOk result (SignatureText text.now) }
-        ensures exact { (x : SignatureBoxRecord) → SignatureText text.now x →
-            MatchResult result (λ y. y ≡ x) (λ e. e ≡ Named OutOfMemory) }
-
-        // A refusal is out of memory, or the first test that fails, and in the second case the text
-        // reads as no box.
-        ensures refused { IfErr result (λ e. (e ≡ Named OutOfMemory)
-            ⊎ IsRefused (SignatureText text.now) (signature_refusal text.now) e) }
+        // A signature text is read as the box that its grammar has it, a function of the text, or the first case that
+        // fails; otherwise out of memory.
+        ensures { IsReadOrNoMemory result (read_signature_box text.now) }
     {
         read_text(alloc, text)
     }
@@ -101,12 +94,7 @@ impl SignatureBox {
     /// As `from_string`, of a text that is handed over.
     pub fn try_from_string(alloc: Global, text: String) -> Result<SignatureBox>
         // The text is read, and refused, as `SignatureBox::from_string` says.
-        ensures read { IfOk result (SignatureText (string_bytes text)) }
-        ensures exact { (x : SignatureBoxRecord) → SignatureText (string_bytes text) x →
-            MatchResult result (λ y. y ≡ x) (λ e. e ≡ Named OutOfMemory) }
-        ensures refused { IfErr result (λ e. (e ≡ Named OutOfMemory)
-            ⊎ IsRefused (SignatureText (string_bytes text))
-            (signature_refusal (string_bytes text)) e) }
+        ensures { IsReadOrNoMemory result (read_signature_box (string_bytes text)) }
     {
         read_text(alloc, text.as_str())
     }
@@ -122,9 +110,7 @@ impl SignatureBox {
         // ran out of memory, the file could not be opened or read, it is not UTF-8, or these calls
         // refuse a text. No byte of std's files is known, so that it is the text of this file no contract
         // says.
-        ensures read { IfOk result (λ x. (text : List ℕ) × SignatureText text x) }
-        ensures refused { IfErr result (λ e. IsTextFileFault e
-            ⊎ ((text : List ℕ) × IsRefused (SignatureText text) (signature_refusal text) e)) }
+        ensures { IsReadFromFile read_signature_box result }
     {
         let text = read_text_file(files, alloc, path)?;
         SignatureBox::from_string(alloc, text.as_str())
@@ -147,13 +133,13 @@ impl SignatureBox {
         // The text is read as the box if the untrusted comment has no line feed and does not end
         // with a carriage return, and the trusted one has no line feed and is its own trim.
         ensures reads_back { IfSome self.now.comments (λ c. AreReadBack c.untrusted c.trusted)
-            → IfOk result (λ t. SignatureText (string_bytes t) self.now) }
+            → IfOk result (λ t. read_signature_box (string_bytes t) ≡ Ok self.now) }
 
         // One carriage return at the end of the untrusted comment is dropped, and everything else
         // is read as it was written, if neither comment has a line feed and the trusted one is its
         // own trim.
         ensures reads { IfSome self.now.comments (λ c. AreOneLine c.untrusted c.trusted)
-            → IfOk result (λ t. SignatureText (string_bytes t) (box_read_back self.now)) }
+            → IfOk result (λ t. read_signature_box (string_bytes t) ≡ Ok (box_read_back self.now)) }
     {
         match &self.comments {
             Some(comments) => written(alloc, &self.signature, comments),
@@ -168,9 +154,9 @@ impl SignatureBox {
             (λ c. MatchResult result (λ t. string_bytes t ≡ signature_text self.signature c)
             (λ e. e ≡ Named OutOfMemory)) }
         ensures reads_back { IfSome self.comments (λ c. AreReadBack c.untrusted c.trusted)
-            → IfOk result (λ t. SignatureText (string_bytes t) self) }
+            → IfOk result (λ t. read_signature_box (string_bytes t) ≡ Ok self) }
         ensures reads { IfSome self.comments (λ c. AreOneLine c.untrusted c.trusted)
-            → IfOk result (λ t. SignatureText (string_bytes t) (box_read_back self)) }
+            → IfOk result (λ t. read_signature_box (string_bytes t) ≡ Ok (box_read_back self)) }
     {
         self.to_string(alloc)
     }
@@ -261,9 +247,9 @@ impl Comments {
 fn written(alloc: Global, signature: &Signature, comments: &Comments) -> Result<String>
     ensures text { IfOk result (λ t. string_bytes t ≡ signature_text signature.now comments.now) }
     ensures reads_back { AreReadBack comments.now.untrusted comments.now.trusted → IsKnownAlgorithm signature.now.algorithm →
-        IfOk result (λ t. SignatureText (string_bytes t) (record { signature = signature.now; comments = Some comments.now })) }
+        IfOk result (λ t. read_signature_box (string_bytes t) ≡ Ok (record { signature = signature.now; comments = Some comments.now })) }
     ensures reads { AreOneLine comments.now.untrusted comments.now.trusted → IsKnownAlgorithm signature.now.algorithm →
-        IfOk result (λ t. SignatureText (string_bytes t) (record { signature = signature.now; comments = Some (comments_read_back comments.now) })) }
+        IfOk result (λ t. read_signature_box (string_bytes t) ≡ Ok (record { signature = signature.now; comments = Some (comments_read_back comments.now) })) }
     ensures refused { IfErr result (λ e. e ≡ Named OutOfMemory) }
 {
     let bytes = signature.to_bytes(alloc)?;
@@ -287,19 +273,29 @@ pub(crate) struct TextLines<'a> {
 
 // Reads a signature text.
 fn read_text(alloc: Global, text: &str) -> Result<SignatureBox>
-    ensures read { IfOk result (SignatureText text.now) }
-    ensures refused { IfErr result
-        (λ e. (e ≡ Named OutOfMemory) ⊎ (signature_refusal text.now ≡ Some e)) }
+    ensures { IsReadOrNoMemory result (read_signature_box text.now) }
 {
-    let lines = four_lines(text)?;
-    read_lines(alloc, lines)
+    let parts = read_parts(text)?;
+    let Some(global_sig) = decode(alloc, parts.comment_signature)? else {
+        return Err(NamedFault::SignatureNotBase64.into());
+    };
+    let comments = Comments {
+        untrusted_comment: String::from_str(alloc, parts.untrusted_comment)?,
+        trusted_comment: String::from_str(alloc, parts.trusted_comment)?,
+        global_sig,
+    };
+    Ok(SignatureBox {
+        signature: parts.signature,
+        comments: Some(comments),
+    })
 }
 
+// The first four lines of a text.
 pub(crate) fn four_lines(text: &str) -> Result<TextLines<'_>>
     ensures { MatchResult result
-        (λ l. HasFourLines text.now l.untrusted_comment.now l.signature.now l.trusted_comment.now l.global_sig.now
+        (λ l. (read_signature text.now ≡ signature_in_four l.untrusted_comment.now l.signature.now l.trusted_comment.now l.global_sig.now)
         × (length l.signature.now + length l.trusted_comment.now ≤ length text.now))
-        (λ e. signature_refusal text.now ≡ Some e) }
+        (λ e. read_signature text.now ≡ Err e) }
 {
     let mut lines = text.lines();
     let Some(untrusted_comment) = next_line(&mut lines) else {
@@ -319,32 +315,6 @@ pub(crate) fn four_lines(text: &str) -> Result<TextLines<'_>>
         signature,
         trusted_comment,
         global_sig,
-    })
-}
-
-// What stands in the first four lines.
-fn read_lines(alloc: Global, lines: TextLines) -> Result<SignatureBox>
-    ensures { MatchResult result
-        (λ x. (text : List ℕ) → HasFourLines text lines.entry.untrusted_comment.now
-        lines.entry.signature.now lines.entry.trusted_comment.now lines.entry.global_sig.now
-        → SignatureText text x)
-        (λ e. (e ≡ Named OutOfMemory) ⊎ ((text : List ℕ) → HasFourLines text
-        lines.entry.untrusted_comment.now lines.entry.signature.now lines.entry.trusted_comment.now
-        lines.entry.global_sig.now → signature_refusal text ≡ Some e)) }
-{
-    let untrusted_comment = untrusted_comment_in(lines.untrusted_comment)?;
-    let signature = decode_signature(alloc, lines.signature.trim())?;
-    let trusted_comment = trusted_comment_in(lines.trusted_comment)?;
-    let signature = known(signature)?;
-    let global_sig = decode_comment_signature(alloc, lines.global_sig.trim())?;
-    let comments = Comments {
-        untrusted_comment: String::from_str(alloc, untrusted_comment)?,
-        trusted_comment: String::from_str(alloc, trusted_comment.trim())?,
-        global_sig,
-    };
-    Ok(SignatureBox {
-        signature,
-        comments: Some(comments),
     })
 }
 
@@ -374,20 +344,6 @@ pub(crate) fn trusted_comment_in(line: &str) -> Result<&str>
     }
 }
 
-// The signature that a text is the base64 of.
-fn decode_signature(alloc: Global, text: &str) -> Result<Signature>
-    ensures { MatchResult result (EncodesSignature text.now)
-        (λ e. (e ≡ Named OutOfMemory)
-        ⊎ ((e ≡ Named SignatureNotBase64) × (is_base64 text.now ≡ false))
-        ⊎ ((e ≡ Named RecordTooShort) × (is_base64 text.now ≡ true)
-        × (length (base64_bytes text.now) < 74))) }
-{
-    match decode(alloc, text)? {
-        Some(bytes) => Signature::from_bytes(&bytes),
-        None => Err(NamedFault::SignatureNotBase64.into()),
-    }
-}
-
 // A signature of an algorithm that is known.
 pub(crate) fn known(signature: Signature) -> Result<Signature>
     ensures { MatchResult result
@@ -398,16 +354,4 @@ pub(crate) fn known(signature: Signature) -> Result<Signature>
         return Err(NamedFault::UnsupportedSignatureAlgorithm.into());
     }
     Ok(signature)
-}
-
-// The comment signature that a text is the base64 of.
-fn decode_comment_signature(alloc: Global, text: &str) -> Result<Vec<u8>>
-    ensures { MatchResult result
-        (λ v. IsBase64Of text.now v.items)
-        (λ e. (e ≡ Named OutOfMemory) ⊎ ((e ≡ Named SignatureNotBase64) × (is_base64 text.now ≡ false))) }
-{
-    match decode(alloc, text)? {
-        Some(bytes) => Ok(bytes),
-        None => Err(NamedFault::SignatureNotBase64.into()),
-    }
 }

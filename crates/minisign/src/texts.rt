@@ -6,10 +6,10 @@ ghost use Rattle.std.specs.Str.Iter.{lines_rest};
 ghost use Rattle.minisign_base.specs.Fault.{Named};
 ghost use Rattle.minisign_base.specs.declared.faults.NamedFault.TheVariants.{OutOfMemory};
 ghost use Rattle.minisign.specs.Lines.{line};
-ghost use Rattle.minisign.specs.PublicKeyText.{BarePublicKey, PublicKeyText, bare_public_key_refusal, public_key_refusal};
+ghost use Rattle.minisign.specs.PublicKeyText.{BarePublicKey, PublicKeyText, read_bare_public_key, read_public_key};
 ghost use Rattle.minisign.specs.SecretKeyText.{SecretKeyText, secret_key_refusal};
-ghost use Rattle.minisign.specs.SignatureText.{SignatureText, signature_refusal};
-ghost use Rattle.minisign.specs.Texts.{IsBase64Of, IsDecided, base64_of, is_base64};
+ghost use Rattle.minisign.specs.SignatureText.{SignatureText, read_signature};
+ghost use Rattle.minisign.specs.Texts.{IsBase64Of, IsDecided, IsReading, base64_of, is_base64};
 
 use base64::DecodeAllocError;
 use base64::engine::general_purpose::STANDARD;
@@ -17,15 +17,18 @@ use minisign_base::{NamedFault, Result};
 use std::alloc::Global;
 use std::str::Lines;
 
-/// A law, for which nothing is done: the first case that fails decides about each text that the
-/// library reads.
-#[tactic(auto, using(crate::proofs::PublicKeyTexts::decided, crate::proofs::PublicKeyTexts::bare_decided, crate::proofs::SignatureTexts::decided, crate::proofs::SecretKeyTexts::decided))]
+/// A law, for which nothing is done: the functions that read texts, and the first case that fails, agree with the
+/// relations that the grammars are.
+#[tactic(auto, using(crate::proofs::PublicKeyTexts::read_as, crate::proofs::PublicKeyTexts::bare_read_as, crate::proofs::SignatureTexts::read_as, crate::proofs::SecretKeyTexts::decided))]
 pub fn texts_are_decided()
-    // No test fails exactly when a text reads as some public key (from its text, or from bare
-    // base64), as some box, or as some secret key; and it reads as one at most.
-    ensures public_key { (text : List ℕ) → IsDecided (PublicKeyText text) (public_key_refusal text) }
-    ensures bare_public_key { (text : List ℕ) → IsDecided (BarePublicKey text) (bare_public_key_refusal text) }
-    ensures signature { (text : List ℕ) → IsDecided (SignatureText text) (signature_refusal text) }
+    // What is read of a text, by the function of its grammar, is a public key (of its text, or of bare base64) or a
+    // signature with its comments exactly where the text reads as these by the relation that its grammar is; it reads as
+    // one at most, and as none where what is read is a fault.
+    ensures public_key { (text : List ℕ) → IsReading (PublicKeyText text) (read_public_key text) }
+    ensures bare_public_key { (text : List ℕ) → IsReading (BarePublicKey text) (read_bare_public_key text) }
+    ensures signature { (text : List ℕ) → IsReading (SignatureText text) (read_signature text) }
+
+    // No test fails exactly when a text reads as some secret key; and it reads as one at most.
     ensures secret_key { (text : List ℕ) → IsDecided (SecretKeyText text) (secret_key_refusal text) }
 {}
 

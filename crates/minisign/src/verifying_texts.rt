@@ -8,7 +8,7 @@ ghost use Rattle.minisign.specs.Verifying.{wanted_status};
 ghost use Rattle.minisign.specs.VerifyingTexts.{ReadTexts, TextsFail, VerifyingTextsFails, VerifyingTextsSucceeds};
 ghost use Rattle.minisign.specs.Headline.{CopyIsVouchedFor, VerifiesExactly};
 
-use crate::public_key;
+use crate::in_place::read_public_key;
 use crate::public_key::PublicKey;
 use crate::signature_box::SignatureBox;
 use crate::verifying::verify;
@@ -101,7 +101,7 @@ fn read_texts(alloc: Global, pk_text: &str, sig_text: &str) -> Result<(PublicKey
     ensures read { IfOk result (λ both. ReadTexts pk_text.now sig_text.now both.0 both.1) }
     ensures refused { IfErr result (TextsFail pk_text.now sig_text.now) }
 {
-    let pk = public_key::read_text(alloc, pk_text)?;
+    let pk = read_public_key(pk_text)?;
     let signature_box = SignatureBox::from_string(alloc, sig_text)?;
     Ok((pk, signature_box))
 }

@@ -8,11 +8,12 @@ ghost use Rattle.std.specs.Fmt.{decimal};
 ghost use Rattle.std.specs.Option.{option_map};
 ghost use Rattle.std.specs.Str.{IsUtf8};
 ghost use Rattle.minisign_hash.specs.Blake2b.{blake2b_digest};
+ghost use Rattle.minisign.specs.PublicKeyText.{read_bare_public_key, read_public_key};
 ghost use Rattle.minisign.specs.Records.{PublicKeyRecord, SecretKeyRecord, SignatureBoxRecord, CommentsRecord};
 ghost use Rattle.minisign.specs.Acceptance.{Verifier};
 ghost use Rattle.minisign_external.specs.Questions.{AnswersTexts, AreOpen};
 ghost use Rattle.minisign_external.specs.Numbers.{IsAnswer, WritesCut, answer_yes, misuse_number};
-ghost use Rattle.minisign_external.specs.PublicKeys.{IsKeyNumber, TellsPublicKey, bare, two_lines};
+ghost use Rattle.minisign_external.specs.PublicKeys.{read_utf8, told_key_number};
 ghost use Rattle.minisign_external.specs.Making.{HoldsPublicKey, HoldsSecretKey, IsMakingNumber, IsPublicKeyNumber};
 ghost use Rattle.minisign_external.specs.Signing.{AreReadByMinisign, GivesSecretKey, HoldsText, IsSigningNumber, IsWritingNumber, TellsKey, comments_of, passed_in};
 ghost use Rattle.minisign_external.specs.declared.state.Misuse.TheVariants.{BadFirstFlag, NoRoom, NotDue};
@@ -82,11 +83,9 @@ pub extern "C" fn minisign_read_public_key(
     public_key: &mut [u8; 32],
     key_id: &mut [u8; 8],
 ) -> u32
-    // The 32 bytes and the identifier of a public key are told of its text of two lines exactly if it is UTF-8 and
-    // reads as a key; otherwise the number is that of the first reason, and nothing is written.
-    ensures told { result ≡ 0 → TellsPublicKey two_lines pk_text.now public_key.new key_id.new }
-    ensures refused { 0 < result → IsKeyNumber two_lines pk_text.now result }
-    ensures kept { 0 < result → (public_key.new ≡ public_key.old) × (key_id.new ≡ key_id.old) }
+    // The 32 bytes and the identifier are told of the public key that its text of two lines reads as, a function of the
+    // bytes, which have to be UTF-8; otherwise the number is that of the first case that fails, and nothing is written.
+    ensures { (result, public_key.new, key_id.new) ≡ told_key_number (read_utf8 read_public_key pk_text.now) public_key.old key_id.old }
 {
     match tell_public_key(pk_text, public_key, key_id) {
         Ok(()) => 0,
@@ -103,9 +102,7 @@ pub extern "C" fn minisign_read_bare_public_key(
     key_id: &mut [u8; 8],
 ) -> u32
     // The same is told of the base64 of a public key alone.
-    ensures told { result ≡ 0 → TellsPublicKey bare base64.now public_key.new key_id.new }
-    ensures refused { 0 < result → IsKeyNumber bare base64.now result }
-    ensures kept { 0 < result → (public_key.new ≡ public_key.old) × (key_id.new ≡ key_id.old) }
+    ensures { (result, public_key.new, key_id.new) ≡ told_key_number (read_utf8 read_bare_public_key base64.now) public_key.old key_id.old }
 {
     match tell_bare_public_key(base64, public_key, key_id) {
         Ok(()) => 0,

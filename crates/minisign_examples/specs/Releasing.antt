@@ -1,14 +1,14 @@
 -- The texts of a pair of keys, and why a release is not made.
-use Rattle.std.specs.Prelude.{◌≡◌, ◌<◌, ◌⊎◌, ℕ, List, length}
+use Rattle.std.specs.Prelude.{◌≡◌, ◌<◌, ◌⊎◌, ℕ, List, length, Ok}
 use Rattle.minisign.specs.Fault.{Fault, Named}
 use Rattle.minisign.specs.NamedFaults.{OutOfMemory, PasswordTooLong, RandomSourceFailed}
 use Rattle.minisign.specs.Records.{PublicKeyRecord, SecretKeyRecord}
-use Rattle.minisign.specs.PublicKeyText.{PublicKeyText}
+use Rattle.minisign.specs.PublicKeyText.{read_public_key}
 use Rattle.minisign.specs.Generation.{IsGenuinePair, OpensOnlyTo}
 
 -- one text reads as a public key, and the other opens under the password to the secret key that belongs to it
 pub record ArePairTexts (public_of : List ℕ → List ℕ) (password pk_text sk_text : List ℕ) (pk : PublicKeyRecord) (sk : SecretKeyRecord) : Type 0 where
-  pub public : PublicKeyText pk_text pk
+  pub public : read_public_key pk_text ≡ Ok pk
   pub secret : OpensOnlyTo sk_text password sk
   pub pair : IsGenuinePair public_of pk sk
 

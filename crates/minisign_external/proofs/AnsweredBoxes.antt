@@ -25,13 +25,13 @@ answered_vouches accepts public message key_id chosen first second long answers 
 
 -- a text that is that of the answers, and reads as their box
 pub answered_text : (key_id : List ℕ) (chosen : ChosenComments) (first second text : List ℕ) → length second ≡ 64
-    → text ≡ signature_text (answered_signature key_id first) (answered_comments chosen second) → SignatureText text (answered_box key_id chosen first second)
+    → text ≡ signature_text (answered_signature key_id first) (answered_comments chosen second) → read_signature_box text ≡ Ok (answered_box key_id chosen first second)
     → IsAnsweredText key_id chosen first second text
 answered_text key_id chosen first second text long same read = record {
   written = same;
   read_back = read;
   signed = λ sign key message z1 z2 owner answers.
-      subst (SignatureText text) (answered_is_signed sign key message z1 z2 key_id chosen first second owner answers) read;
+      subst (λ x. read_signature_box text ≡ Ok x) (answered_is_signed sign key message z1 z2 key_id chosen first second owner answers) read;
   vouched = λ accepts public message answers.
       (answered_box key_id chosen first second, read, answered_vouches accepts public message key_id chosen first second long answers);
   headline = λ accepts public_of key message owner answers seed genuine one. (

@@ -1,5 +1,5 @@
 -- Which case fails first where a question is answered by no.
-use Rattle.std.proofs.Common.{◌≡◌, ℕ, Bool, true, false, ◌⊎◌, List, Some, IsTrue, IfSome, inl, inr, bytes_eq, nat_le, length, subst, sym, refl, arith}
+use Rattle.std.proofs.Common.{◌≡◌, ℕ, Bool, true, false, ◌⊎◌, List, Some, IsTrue, IfSome, inl, inr, bytes_eq, nat_le, length, subst, sym, ◌∙◌, refl, arith}
 use Rattle.std.proofs.lemmas.Slice.Eq.{bytes_eq-Decides}
 use Rattle.std.proofs.lemmas.Bool.Decides.{nat_tests}
 use Rattle.minisign_base.specs.Fault.{Fault, Named}
@@ -16,8 +16,8 @@ turned_down : (accepts : Verifier) (pk_text sig_text message : List ℕ) (legacy
 turned_down accepts pk_text sig_text message legacy pk x e read first none = record {
   first_case = inr (inr (pk, x, read.key_read, read.box_read, first));
   unvouched = λ v. none (
-      subst (λ k. Vouches accepts k x message legacy) (sym (read.one_key v.key v.key_read))
-      (subst (λ y. Vouches accepts v.key y message legacy) (sym (read.one_box v.box v.box_read)) v.vouches)
+      subst (λ k. Vouches accepts k x message legacy) (let same = sym v.key_read ∙ read.key_read in cc same)
+      (subst (λ y. Vouches accepts v.key y message legacy) (let same = sym v.box_read ∙ read.box_read in cc same) v.vouches)
       );
 }
 

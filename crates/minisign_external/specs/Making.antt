@@ -1,11 +1,11 @@
 -- Texts of keys that are made of their parts, at the front of a buffer.
-use Rattle.std.specs.Prelude.{◌≡◌, ◌⊎◌, ◌<◌, ◌≤◌, ◌+◌, ℕ, List, length, take, Option, Some, IfSome}
+use Rattle.std.specs.Prelude.{◌≡◌, ◌⊎◌, ◌<◌, ◌≤◌, ◌+◌, ℕ, List, length, take, Option, Some, Ok, IfSome}
 use Rattle.std.specs.Str.{IsUtf8}
 use Rattle.std.specs.Str.Iter.{LacksByte}
 use Rattle.minisign_base.specs.Fault.{Named}
 use Rattle.minisign_base.specs.declared.faults.NamedFault.TheVariants.{OutOfMemory, NotUtf8}
 use Rattle.minisign.specs.Making.{GivesParts, IsMakingFault, IsOfParts, made_key}
-use Rattle.minisign.specs.PublicKeyText.{PublicKeyText, commented_public_key_text}
+use Rattle.minisign.specs.PublicKeyText.{read_public_key, commented_public_key_text}
 use Rattle.minisign.specs.Generation.{unsealed_key}
 use Rattle.minisign.specs.Records.{SecretKeyRecord, own_public_key}
 use Rattle.minisign.specs.SecretKeyText.{secret_key_text}
@@ -38,7 +38,7 @@ pub record HoldsPublicKey (keynum secret comment bytes : List ℕ) (len : ℕ) :
   pub fits : len ≤ length bytes
   pub size : len ≡ length comment + 77
   pub written : take len bytes ≡ commented_public_key_text comment (own_public_key (unsealed_key keynum secret))
-  pub reads : (key : SecretKeyRecord) → IsOfParts keynum secret key → PublicKeyText (take len bytes) (own_public_key key)
+  pub reads : (key : SecretKeyRecord) → IsOfParts keynum secret key → read_public_key (take len bytes) ≡ Ok (own_public_key key)
 
 -- a text with a comment, longer by so many bytes, was not written to a buffer: the comment is not on one line, or else
 -- none that Minisign reads, or else there is no room

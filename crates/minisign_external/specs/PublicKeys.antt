@@ -1,36 +1,22 @@
 -- What is told of the text of a public key.
-use Rattle.std.specs.Prelude.{◌≡◌, ℕ, ◌⊎◌, List, Option}
-use Rattle.std.specs.Str.{IsUtf8}
-use Rattle.minisign_base.specs.Fault.{Fault, Named}
+use Rattle.std.specs.Prelude.{ℕ, List, Result, Ok, Err}
+use Rattle.std.specs.Str.{is_utf8}
+use Rattle.minisign_base.specs.Fault.{Fault}
 use Rattle.minisign_base.specs.declared.faults.NamedFault.TheVariants.{NotUtf8}
-use Rattle.minisign.specs.PublicKeyText.{BarePublicKey, PublicKeyText, bare_public_key_refusal, public_key_refusal}
 use Rattle.minisign.specs.Records.{PublicKeyRecord}
-use Rattle.minisign.specs.Texts.{IsRefused}
+use Rattle.minisign.specs.Texts.{require}
 use Rattle.minisign_external.specs.Numbers.{fault_number}
 
--- how a text reads as a public key, and the first case that fails: two lines, or the base64 alone
-pub record KeyGrammar : Type 1 where
-  pub reads : List ℕ → PublicKeyRecord → Type 0
-  pub first_case : List ℕ → Option Fault
+-- what bytes read as, which have to be UTF-8
+abbrev pub read_utf8 : {V : Type 0} → (List ℕ → Result V Fault) → List ℕ → Result V Fault
+read_utf8 read bytes = require (is_utf8 bytes) NotUtf8 (read bytes)
 
-abbrev pub two_lines : KeyGrammar
-two_lines = record { reads = PublicKeyText; first_case = public_key_refusal }
+-- what is answered of a key that is read, its 32 bytes and its identifier; of a fault, and then these two stay
+abbrev pub told_key : Result PublicKeyRecord Fault → List ℕ → List ℕ → Result Unit Fault × List ℕ × List ℕ
+told_key (Ok k) key key_id = (Ok tt, k.key, k.keynum)
+told_key (Err e) key key_id = (Err e, key, key_id)
 
-abbrev pub bare : KeyGrammar
-bare = record { reads = BarePublicKey; first_case = bare_public_key_refusal }
-
--- these are the 32 bytes and the identifier of the key that the text reads as
-pub record TellsPublicKey (g : KeyGrammar) (text key key_id : List ℕ) : Type 0 where
-  pub record_told : PublicKeyRecord
-  pub read : g.reads text record_told
-  pub key_told : key ≡ record_told.key
-  pub id_told : key_id ≡ record_told.keynum
-
--- no key is told: the text is not UTF-8, or otherwise reads as no key, for the first reason
-abbrev pub IsKeyRefusal : KeyGrammar → List ℕ → Fault → Type 0
-IsKeyRefusal g text e =
-    ((e ≡ Named NotUtf8) × ¬ (IsUtf8 text)) ⊎ (IsUtf8 text × IsRefused (g.reads text) (g.first_case text) e)
-
--- its number
-abbrev pub IsKeyNumber : KeyGrammar → List ℕ → ℕ → Type 0
-IsKeyNumber g text n = (e : Fault) × (n ≡ fault_number e) × IsKeyRefusal g text e
+-- the same as a number: 0, or that of the fault
+abbrev pub told_key_number : Result PublicKeyRecord Fault → List ℕ → List ℕ → ℕ × List ℕ × List ℕ
+told_key_number (Ok k) key key_id = (0, k.key, k.keynum)
+told_key_number (Err e) key key_id = (fault_number e, key, key_id)

@@ -1,12 +1,12 @@
 -- What a signature scheme has to be asked before it is known whether two texts vouch for a message, and
 -- what its answers decide.
-use Rattle.std.specs.Prelude.{◌≡◌, ℕ, ◌≤◌, ◌||◌, Bool, IsTrue, nat_le, if◌then◌else◌, List, ◌++◌, length, replicate, take, Some}
+use Rattle.std.specs.Prelude.{◌≡◌, ℕ, ◌≤◌, ◌||◌, Bool, IsTrue, nat_le, if◌then◌else◌, List, ◌++◌, length, replicate, take, Some, Ok}
 use Rattle.minisign_base.specs.Fault.{Fault}
 use Rattle.minisign.specs.Records.{PublicKeyRecord, SignatureRecord, SignatureBoxRecord, CommentsRecord, is_prehashed}
 use Rattle.minisign.specs.InPlace.{SignatureViewRecord, IsViewOf}
 use Rattle.minisign.specs.Acceptance.{Verifier, signed_bytes}
-use Rattle.minisign.specs.PublicKeyText.{PublicKeyText}
-use Rattle.minisign.specs.SignatureText.{SignatureText}
+use Rattle.minisign.specs.PublicKeyText.{read_public_key}
+use Rattle.minisign.specs.SignatureText.{read_signature_box}
 use Rattle.minisign.specs.Headline.{TextsRefuse}
 
 -- a question: whether this signature of the message is accepted under the key
@@ -36,12 +36,10 @@ has_whole_signature c = nat_le 64 (length c.signature)
 abbrev pub told_signature : CommentsRecord → List ℕ
 told_signature c = if has_whole_signature c then take 64 c.signature else replicate 64 0
 
--- the two texts read as this key and this box, and as no others
+-- the two texts read as this key and this box
 pub record AreReadAs (pk_text sig_text : List ℕ) (pk : PublicKeyRecord) (x : SignatureBoxRecord) : Type 0 where
-  pub key_read : PublicKeyText pk_text pk
-  pub box_read : SignatureText sig_text x
-  pub one_key : (other : PublicKeyRecord) → PublicKeyText pk_text other → pk ≡ other
-  pub one_box : (other : SignatureBoxRecord) → SignatureText sig_text other → x ≡ other
+  pub key_read : read_public_key pk_text ≡ Ok pk
+  pub box_read : read_signature_box sig_text ≡ Ok x
 
 -- the two texts read as this key and this box, and all conditions hold that need no scheme: what is left
 -- is to ask the two questions
@@ -64,7 +62,7 @@ IsRefusedUnasked pk_text sig_text legacy e =
 -- the scheme answers the questions of the two texts about the message so
 abbrev pub AnswersTexts : Verifier → List ℕ → List ℕ → List ℕ → Bool → Bool → Type 0
 AnswersTexts accepts pk_text sig_text message first second =
-    (pk : PublicKeyRecord) (x : SignatureBoxRecord) (c : CommentsRecord) → PublicKeyText pk_text pk → SignatureText sig_text x
+    (pk : PublicKeyRecord) (x : SignatureBoxRecord) (c : CommentsRecord) → read_public_key pk_text ≡ Ok pk → read_signature_box sig_text ≡ Ok x
     → x.comments ≡ Some c → AnswersSo accepts pk x c message first second
 
 -- what is told of two texts that were read where they lie

@@ -95,11 +95,11 @@ pub record AcceptsAnswers (accepts : Verifier) (public message trusted first sec
 -- under it. So what is promised of the texts that signing makes holds of this one
 pub record IsAnsweredText (key_id : List ℕ) (chosen : ChosenComments) (first second text : List ℕ) : Type 0 where
   pub written : text ≡ signature_text (answered_signature key_id first) (answered_comments chosen second)
-  pub read_back : SignatureText text (answered_box key_id chosen first second)
+  pub read_back : read_signature_box text ≡ Ok (answered_box key_id chosen first second)
   pub signed : (sign : Signer) (key : SecretKeyRecord) (message z1 z2 : List ℕ) → key_id ≡ key.keynum
-      → SignsSo sign key message chosen.trusted z1 z2 first second → SignatureText text (signed_box sign key message chosen z1 z2)
+      → SignsSo sign key message chosen.trusted z1 z2 first second → read_signature_box text ≡ Ok (signed_box sign key message chosen z1 z2)
   pub vouched : (accepts : Verifier) (public message : List ℕ) → AcceptsAnswers accepts public message chosen.trusted first second
-      → (x : SignatureBoxRecord) × SignatureText text x × VouchesUnderEachKey accepts public key_id message x
+      → (x : SignatureBoxRecord) × (read_signature_box text ≡ Ok x) × VouchesUnderEachKey accepts public key_id message x
   pub headline : (accepts : Verifier) (public_of : List ℕ → List ℕ) (key : SecretKeyRecord) (message : List ℕ) → key_id ≡ key.keynum
       → ((seed : List ℕ) → IsGenuine public_of key seed → AcceptsAnswers accepts (public_of seed) message chosen.trusted first second)
       → SigningHeadline accepts public_of key message chosen text

@@ -1,13 +1,13 @@
 -- What a state that a program in another language holds tells: what it was fed, and what was asked of it.
-use Rattle.std.specs.Prelude.{◌≡◌, ◌==◌, ◌⊎◌, ◌<◌, ◌≤◌, ◌||◌, ℕ, Bool, if◌then◌else◌, List, ◌+◌, length, replicate, MatchResult, Result}
+use Rattle.std.specs.Prelude.{◌≡◌, ◌==◌, ◌⊎◌, ◌<◌, ◌≤◌, ◌||◌, ℕ, Bool, if◌then◌else◌, List, ◌+◌, length, replicate, MatchResult, Result, Ok}
 use Rattle.std.specs.Str.{IsUtf8}
 use Rattle.minisign_hash.specs.Stored.{WasFed}
 use Rattle.minisign_base.specs.Fault.{Fault, Named}
 use Rattle.minisign_base.specs.declared.faults.NamedFault.TheVariants.{NotUtf8, SignatureRefused, CommentSignatureRefused}
 use Rattle.minisign.specs.Records.{PublicKeyRecord, SignatureBoxRecord, CommentsRecord, is_prehashed}
 use Rattle.minisign.specs.Acceptance.{Verifier}
-use Rattle.minisign.specs.PublicKeyText.{PublicKeyText}
-use Rattle.minisign.specs.SignatureText.{SignatureText}
+use Rattle.minisign.specs.PublicKeyText.{read_public_key}
+use Rattle.minisign.specs.SignatureText.{read_signature_box}
 use Rattle.minisign.specs.Headline.{TextsRefuse, TextsVouchFor}
 use Rattle.minisign_external.specs.Questions.{AreOpen, HoldsMessage, IsRefusedUnasked, has_whole_signature, told_signature}
 use Rattle.minisign_external.specs.Numbers.{IsAnswer, answer_yes, fault_number, misuse_number, refusal_number}
@@ -120,7 +120,7 @@ IsAskingRefusal s pk_text sig_text legacy bytes (Refused e) =
 -- where both texts read, their identifiers are told, whether the questions are asked or not
 abbrev pub TellsIdentifiers : List ℕ → List ℕ → Questions → Type 0
 TellsIdentifiers pk_text sig_text q =
-    (pk : PublicKeyRecord) (x : SignatureBoxRecord) → PublicKeyText pk_text pk → SignatureText sig_text x
+    (pk : PublicKeyRecord) (x : SignatureBoxRecord) → read_public_key pk_text ≡ Ok pk → read_signature_box sig_text ≡ Ok x
     → (q.public_key_id ≡ pk.keynum) × (q.signature_key_id ≡ x.signature.keynum)
 
 -- the refusal is a fault of the library, of this kind

@@ -1,11 +1,11 @@
 //! Asking, and the verdict, over the state that a program in another language holds.
 
-ghost use Rattle.std.specs.Prelude.{◌≡◌, ◌⊎◌, ◌<◌, ◌≤◌, ◌+◌, ℕ, Bool, List, Some, OnOk, OnErr, IsOk, IfOk, IfErr, MatchResult, length};
+ghost use Rattle.std.specs.Prelude.{◌≡◌, ◌⊎◌, ◌<◌, ◌≤◌, ◌+◌, ℕ, Bool, List, Some, Ok, OnOk, OnErr, IsOk, IfOk, IfErr, MatchResult, length};
 ghost use Rattle.minisign_hash.specs.Blake2b.{blake2b_digest};
 ghost use Rattle.minisign.specs.Records.{PublicKeyRecord, SignatureBoxRecord, CommentsRecord};
 ghost use Rattle.minisign.specs.InPlace.{IsViewOf};
-ghost use Rattle.minisign.specs.PublicKeyText.{PublicKeyText};
-ghost use Rattle.minisign.specs.SignatureText.{SignatureText};
+ghost use Rattle.minisign.specs.PublicKeyText.{read_public_key};
+ghost use Rattle.minisign.specs.SignatureText.{read_signature_box};
 ghost use Rattle.minisign.specs.Acceptance.{Verifier};
 ghost use Rattle.minisign_base.specs.Fault.{Named};
 ghost use Rattle.minisign_base.specs.declared.faults.NamedFault.TheVariants.{NotUtf8};
@@ -108,7 +108,7 @@ fn read_bytes<'a>(pk_text: &[u8], sig_text: &'a [u8]) -> Result<Texts<'a>>
     ensures size { IfOk result (λ t. 64 + length t.view.trusted ≤ length sig_text.now) }
     ensures utf8 { OnOk result (IsUtf8 pk_text.now × IsUtf8 sig_text.now) }
     ensures exact { IsUtf8 pk_text.now → IsUtf8 sig_text.now → (k : PublicKeyRecord) (x : SignatureBoxRecord)
-        → PublicKeyText pk_text.now k → SignatureText sig_text.now x → IsOk result }
+        → read_public_key pk_text.now ≡ Ok k → read_signature_box sig_text.now ≡ Ok x → IsOk result }
     ensures refused { IfErr result (λ e. ((e ≡ Named NotUtf8) × ¬ (IsUtf8 pk_text.now × IsUtf8 sig_text.now))
         ⊎ (IsUtf8 pk_text.now × IsUtf8 sig_text.now × ((legacy : Bool) → IsRefusedUnasked pk_text.now sig_text.now legacy e))) }
 {

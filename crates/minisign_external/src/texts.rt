@@ -5,13 +5,13 @@ ghost use Rattle.std.specs.Prelude.{◌≡◌, if◌then◌else◌, ◌++◌, �
 ghost use Rattle.minisign_base.specs.Fault.{Named};
 ghost use Rattle.minisign_base.specs.declared.faults.NamedFault.TheVariants.{DifferentKeyIds};
 ghost use Rattle.minisign.specs.InPlace.{IsViewOf, first_64};
-ghost use Rattle.minisign.specs.PublicKeyText.{PublicKeyText};
+ghost use Rattle.minisign.specs.PublicKeyText.{read_public_key};
 ghost use Rattle.minisign.specs.Records.{CommentsRecord, PublicKeyRecord, SignatureBoxRecord, is_prehashed};
-ghost use Rattle.minisign.specs.SignatureText.{SignatureText};
+ghost use Rattle.minisign.specs.SignatureText.{read_signature_box};
 ghost use Rattle.minisign_external.specs.Questions.{AreOpen, AreReadAs, AreTexts, HoldsMessage, IsRefusedUnasked, has_whole_signature, told_signature};
 
 use minisign::{
-    PError, PublicKey, Result, SignatureView, read_public_key, read_signature, texts_are_decided,
+    PError, PublicKey, Result, SignatureView, read_public_key, read_signature,
 };
 use minisign_base::NamedFault;
 use std::marker::Model;
@@ -39,10 +39,9 @@ impl<'a> Texts<'a> {
         // box; the trusted comment and 64 bytes have no more bytes than the signature's text.
         ensures read { IfOk result (AreTexts pk_text.now sig_text.now) }
         ensures size { IfOk result (λ t. 64 + length t.view.trusted ≤ length sig_text.now) }
-        ensures exact { (k : PublicKeyRecord) (x : SignatureBoxRecord) → PublicKeyText pk_text.now k → SignatureText sig_text.now x → IsOk result }
+        ensures exact { (k : PublicKeyRecord) (x : SignatureBoxRecord) → read_public_key pk_text.now ≡ Ok k → read_signature_box sig_text.now ≡ Ok x → IsOk result }
         ensures refused { IfErr result (λ e. (legacy : Bool) → IsRefusedUnasked pk_text.now sig_text.now legacy e) }
     {
-        texts_are_decided();
         let pk = read_public_key(pk_text)?;
         let signature = read_signature(sig_text)?;
         Ok(Texts { pk, signature })

@@ -60,7 +60,8 @@ module _ (accepts : Verifier) (pk_text sig_text m : List ℕ) (pk : PublicKeyRec
       → first ≡ accepts q.digest q.public_key q.signature → second ≡ accepts (take q.message_len bytes) q.public_key q.comment_signature
       → AnswersTexts accepts pk_text sig_text m first second
   answers_texts q bytes first second are digest one two = λ k y d key_read box_read both.
-      let same_key : pk ≡ k = asked.read.one_key k key_read in
+      let keys = sym asked.read.key_read ∙ key_read in
+      let same_key : pk ≡ k = cc keys in
       let same_box : x ≡ y = asked.read.one_box y box_read in
       let same : c ≡ d = same_comments c d (sym asked.comments ∙ ap (λ (b : SignatureBoxRecord). b.comments) same_box ∙ both) in
       subst (λ d. AnswersSo accepts k y d m first second) same

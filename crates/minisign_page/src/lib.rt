@@ -6,11 +6,12 @@
 ghost use Rattle.std.specs.Prelude.{◌≡◌, ◌==◌, ◌<◌, ◌++◌, ℕ, Bool, List, [], length};
 ghost use Rattle.std.specs.Str.{IsUtf8};
 ghost use Rattle.minisign_hash.specs.Blake2b.{blake2b_digest};
+ghost use Rattle.minisign.specs.PublicKeyText.{read_bare_public_key, read_public_key};
 ghost use Rattle.minisign.specs.Records.{PublicKeyRecord, SignatureBoxRecord, CommentsRecord};
 ghost use Rattle.minisign.specs.Acceptance.{Verifier};
 ghost use Rattle.minisign_external.specs.Questions.{AnswersTexts, AreOpen};
 ghost use Rattle.minisign_external.specs.Numbers.{IsAnswer, IsMeaning, WritesCut, answer_yes, misuse_number, refusal_number};
-ghost use Rattle.minisign_external.specs.PublicKeys.{IsKeyNumber, TellsPublicKey, bare, two_lines};
+ghost use Rattle.minisign_external.specs.PublicKeys.{read_utf8, told_key_number};
 ghost use Rattle.minisign_external.specs.States.{AreQuestions, GivesNumber, HasAsked, HasEnded, IsAskingNumber, IsFedState, IsMarkedFed, IsVerdictNumber, TellsIdentifiers, feeding_misuse};
 
 use minisign_external::numbers::{ANSWER_YES, is_answer, write_error_text};
@@ -57,9 +58,7 @@ pub extern "C" fn page_read_public_key(
     public_key: &mut [u8; 32],
     key_id: &mut [u8; 8],
 ) -> u32
-    ensures told { result ≡ 0 → TellsPublicKey two_lines pk_text.now public_key.new key_id.new }
-    ensures refused { 0 < result → IsKeyNumber two_lines pk_text.now result }
-    ensures kept { 0 < result → (public_key.new ≡ public_key.old) × (key_id.new ≡ key_id.old) }
+    ensures { (result, public_key.new, key_id.new) ≡ told_key_number (read_utf8 read_public_key pk_text.now) public_key.old key_id.old }
 {
     match tell_public_key(pk_text, public_key, key_id) {
         Ok(()) => 0,
@@ -75,9 +74,7 @@ pub extern "C" fn page_read_bare_public_key(
     public_key: &mut [u8; 32],
     key_id: &mut [u8; 8],
 ) -> u32
-    ensures told { result ≡ 0 → TellsPublicKey bare base64.now public_key.new key_id.new }
-    ensures refused { 0 < result → IsKeyNumber bare base64.now result }
-    ensures kept { 0 < result → (public_key.new ≡ public_key.old) × (key_id.new ≡ key_id.old) }
+    ensures { (result, public_key.new, key_id.new) ≡ told_key_number (read_utf8 read_bare_public_key base64.now) public_key.old key_id.old }
 {
     match tell_bare_public_key(base64, public_key, key_id) {
         Ok(()) => 0,

@@ -1,12 +1,12 @@
-use Rattle.minisign.specs.PublicKeyText.{BarePublicKey, bare_public_key_refusal}
-use Rattle.minisign.proofs.PublicKeyTexts.{bare_decided}
-use Rattle.minisign.proofs.ReadTexts.{plainly_exact, plainly_refused}
+use Rattle.std.proofs.Common.{◌≢◌, List, ℕ, length, ap, subst, sym, ◌∙◌}
+use Rattle.minisign.proofs.PublicKeyTexts.{bare_length, other_bare_length}
 use Rattle.minisign.proofs.in_place.read_bare_public_key.Goals as goal
 
-pub returns-clause-exact : goal.returns-clause-exact
-returns-clause-exact c =
-    plainly_exact BarePublicKey bare_public_key_refusal bare_decided c.args.text.now c.read_bare.result c.read_bare.ensures.read c.read_bare.ensures.refused
+pub returns-then-trim-ne-ENCODED_BYTES : goal.returns-then-trim-ne-ENCODED_BYTES
+returns-then-trim-ne-ENCODED_BYTES c =
+    let differs = subst (λ (l : List ℕ). length l ≢ 56) c.trim.ensures.trim c.if-trim-ne-ENCODED_BYTES.true in
+    rw c.into.ensures (sym (other_bare_length c.args.text.now differs))
 
-pub returns-clause-refused : goal.returns-clause-refused
-returns-clause-refused c =
-    plainly_refused BarePublicKey bare_public_key_refusal bare_decided c.args.text.now c.read_bare.result c.read_bare.ensures.refused
+pub returns : goal.returns
+returns c =
+    c.decode_key.ensures ∙ sym (bare_length c.args.text.now (ap length (sym c.trim.ensures.trim) ∙ c.if-trim-ne-ENCODED_BYTES.false))

@@ -1,11 +1,12 @@
-use Rattle.std.proofs.Common.{arith, List, ℕ, refl, ◌<◌, length, subst, sym, ap, ◌∙◌, ⊎_elim}
+use Rattle.std.proofs.Common.{◌≡◌, List, ℕ, refl, ◌<◌, true, false, rules, arith, drop, length, subst, sym, ap, ◌∙◌, ⊎_elim}
 use Rattle.std.specs.Str.{trim}
+use Rattle.std.proofs.Math.Seq.{drop-append_seam}
 use Rattle.std.proofs.lemmas.List.{length-append}
 use Rattle.std.proofs.lemmas.Result.{err_from_is_err_and}
 use Rattle.minisign.specs.Records.{SignatureRecord, IsKnownAlgorithm}
-use Rattle.minisign.specs.Texts.{IsBase64Of, is_base64, base64_bytes, untrusted_comment_label}
+use Rattle.minisign.specs.Texts.{is_base64, base64_bytes, untrusted_comment_label}
 use Rattle.minisign.specs.SignatureText.{EncodesSignature, trusted_comment_label}
-use Rattle.minisign.proofs.InPlace.{assembled, long_enough}
+use Rattle.minisign.proofs.InPlace.{long_enough}
 use Rattle.minisign.proofs.SignatureTexts as texts
 use Rattle.minisign.proofs.in_place.read_lines.Goals as goal
 
@@ -13,16 +14,16 @@ pub returns-in_err-untrusted_comment : goal.returns-in_err-untrusted_comment
 returns-in_err-untrusted_comment c =
     let p = err_from_is_err_and c.from_residual.result c.from_residual.ensures.1 in
     let refused = c.in_err-untrusted_comment.ensures in
-    rw (p.1, p.2) (λ text four. rw refused.0 (texts.other_label text _ _ _ _ four (texts.begins_not _ _ refused.1)))
+    rw (p.1, p.2, refused.0) (texts.other_label _ _ _ _ (texts.begins_not _ _ refused.1))
 
 pub returns-in_err-signature : goal.returns-in_err-signature
 returns-in_err-signature c =
     let p = err_from_is_err_and c.from_residual-in_err-signature.result c.from_residual-in_err-signature.ensures.1 in
     let label = texts.begins _ untrusted_comment_label _ c.in_ok-untrusted_comment.ensures in
     let trimmed = c.trim.ensures.trim in
-    rw (p.1, p.2) (λ text four. ⊎_elim
-    (λ n. rw n.0 (texts.no_base64 text _ _ _ _ four label (ap is_base64 (sym trimmed) ∙ n.1)))
-    (λ n. rw n.0 (texts.too_short text _ _ _ _ four label (ap is_base64 (sym trimmed) ∙ n.1) (subst (λ (l : List ℕ). length (base64_bytes l) < 74) trimmed n.2)))
+    rw (p.1, p.2) (⊎_elim
+    (λ n. rw n.0 (texts.no_base64 _ _ _ _ label (ap is_base64 (sym trimmed) ∙ n.1)))
+    (λ n. rw n.0 (texts.too_short _ _ _ _ label (ap is_base64 (sym trimmed) ∙ n.1) (subst (λ (l : List ℕ). length (base64_bytes l) < 74) trimmed n.2)))
     c.in_err-signature.ensures)
 
 pub returns-in_err-trusted_comment : goal.returns-in_err-trusted_comment
@@ -31,7 +32,7 @@ returns-in_err-trusted_comment c =
     let label = texts.begins _ untrusted_comment_label _ c.in_ok-untrusted_comment.ensures in
     let encodes = subst (λ (t : List ℕ). EncodesSignature t c.in_ok-signature.signature) c.trim.ensures.trim c.in_ok-signature.ensures in
     let refused = c.in_err-trusted_comment.ensures in
-    rw (p.1, p.2) (λ text four. rw refused.0 (texts.other_trusted_label text _ _ _ _ four label _ encodes (texts.begins_not _ _ refused.1)))
+    rw (p.1, p.2, refused.0) (texts.other_trusted_label _ _ _ _ label _ encodes (texts.begins_not _ _ refused.1))
 
 pub returns-in_err-signature-2 : goal.returns-in_err-signature-2
 returns-in_err-signature-2 c =
@@ -40,40 +41,34 @@ returns-in_err-signature-2 c =
     let encodes = subst (λ (t : List ℕ). EncodesSignature t c.in_ok-signature.signature) c.trim.ensures.trim c.in_ok-signature.ensures in
     let trusted = texts.begins _ trusted_comment_label _ c.in_ok-trusted_comment.ensures in
     let refused = c.in_err-signature-2.ensures in
-    rw (p.1, p.2) (λ text four. rw refused.0 (texts.unknown text _ _ _ _ four label _ encodes trusted refused.1))
+    rw (p.1, p.2, refused.0) (texts.unknown _ _ _ _ label _ encodes trusted refused.1)
 
-pub returns-in_err-comment_signature : goal.returns-in_err-comment_signature
-returns-in_err-comment_signature c =
-    let p = err_from_is_err_and c.from_residual-in_err-comment_signature.result c.from_residual-in_err-comment_signature.ensures.1 in
+pub returns-then-not-is_base64 : goal.returns-then-not-is_base64
+returns-then-not-is_base64 c =
     let label = texts.begins _ untrusted_comment_label _ c.in_ok-untrusted_comment.ensures in
     let encodes = subst (λ (t : List ℕ). EncodesSignature t c.in_ok-signature.signature) c.trim.ensures.trim c.in_ok-signature.ensures in
     let trusted = texts.begins _ trusted_comment_label _ c.in_ok-trusted_comment.ensures in
     let same = c.in_ok-signature-2.ensures in
     let algorithm = texts.known _ (subst (λ (s : SignatureRecord). IsKnownAlgorithm s.algorithm) same.0 same.1) in
-    let n = c.in_err-comment_signature.ensures in
-    rw (p.1, p.2) (λ text four. rw n.0 (texts.no_comment_base64 text _ _ _ _ four label _ encodes trusted algorithm
-    (ap is_base64 (sym c.trim-2.ensures.trim) ∙ n.1)))
+    let other : is_base64 c.trim-comment_signature.result.now ≡ false = search rules in
+    rw c.into.ensures (texts.no_comment_base64 _ _ _ _ label _ encodes trusted algorithm (ap is_base64 (sym c.trim-comment_signature.ensures.trim) ∙ other))
 
 pub returns : goal.returns
 returns c =
-    let (bytes, base64, first) = c.in_ok-comment_signature.ensures in
-    let signed = subst (λ (t : List ℕ). IsBase64Of t bytes) c.trim-2.ensures.trim base64 in
+    let label = texts.begins _ untrusted_comment_label _ c.in_ok-untrusted_comment.ensures in
     let same = c.in_ok-signature-2.ensures in
-    let encodes = subst (λ (t : List ℕ). EncodesSignature t c.in_ok-signature.signature) c.trim.ensures.trim c.in_ok-signature.ensures in
+    let encoded = subst (λ (t : List ℕ). EncodesSignature t c.in_ok-signature.signature) c.trim.ensures.trim c.in_ok-signature.ensures in
+    let encodes = subst (λ (s : SignatureRecord). EncodesSignature (trim c.args.lines.signature.now) s) (sym same.0) encoded in
+    let trusted = texts.begins _ trusted_comment_label _ c.in_ok-trusted_comment.ensures in
+    let algorithm = texts.known _ same.1 in
+    let signed : is_base64 c.trim-comment_signature.result.now ≡ true = search rules in
     let long = long_enough c.trim.result.now c.in_ok-signature.signature c.in_ok-signature.ensures in
     let comment = ap length c.in_ok-trusted_comment.ensures in (
-      λ text four. (
-        _,
-        assembled text _ _ _ _ _ _ _ bytes c.in_ok-signature-2.signature four c.in_ok-untrusted_comment.ensures
-            (subst (λ (s : SignatureRecord). EncodesSignature (trim c.args.lines.signature.now) s) (sym same.0) encodes) same.1 c.in_ok-trusted_comment.ensures (sym c.trim-3.ensures.trim) signed,
-        record {
-          comments = _;
-          box = refl;
-          signature = refl;
-          untrusted = refl;
-          trusted = refl;
-          comment_signature = first;
-        },
-      ),
-      omega (arith, long, c.trim.ensures.bound, c.trim-3.ensures.bound, comment, length-append trusted_comment_label c.in_ok-trusted_comment.trusted_comment.now),
+      texts.all_passed _ _ _ _ label _ encodes trusted algorithm _ _ _ (ap is_base64 (sym c.trim-comment_signature.ensures.trim) ∙ signed)
+          (ap (drop (length untrusted_comment_label)) c.in_ok-untrusted_comment.ensures ∙ drop-append_seam untrusted_comment_label _)
+          (ap (λ (l : List ℕ). trim (drop (length trusted_comment_label) l)) c.in_ok-trusted_comment.ensures ∙ ap trim (drop-append_seam trusted_comment_label _) ∙ sym c.trim-2.ensures.trim)
+          (ap base64_bytes (sym c.trim-comment_signature.ensures.trim)),
+      signed,
+      same.1,
+      omega (arith, long, c.trim.ensures.bound, c.trim-2.ensures.bound, comment, length-append trusted_comment_label c.in_ok-trusted_comment.trusted_comment.now),
     )

@@ -1,12 +1,18 @@
-use Rattle.minisign.specs.PublicKeyText.{PublicKeyText, public_key_refusal}
-use Rattle.minisign.proofs.PublicKeyTexts.{decided}
-use Rattle.minisign.proofs.ReadTexts.{plainly_exact, plainly_refused}
+use Rattle.std.proofs.Common.{◌∷◌, ap, sym, ◌∙◌}
+use Rattle.std.specs.Str.Lines.{lines}
+use Rattle.minisign.proofs.PublicKeyTexts.{of_lines}
 use Rattle.minisign.proofs.in_place.read_public_key.Goals as goal
 
-pub returns-clause-exact : goal.returns-clause-exact
-returns-clause-exact c =
-    plainly_exact PublicKeyText public_key_refusal decided c.args.text.now c.read_key_text.result c.read_key_text.ensures.read c.read_key_text.ensures.refused
+pub returns-in_default : goal.returns-in_default
+returns-in_default c =
+    rw c.into.ensures (sym (of_lines c.args.text.now _ (ap lines (sym c.lines-lines.ensures.rest) ∙ c.in_default.ensures.none)))
 
-pub returns-clause-refused : goal.returns-clause-refused
-returns-clause-refused c =
-    plainly_refused PublicKeyText public_key_refusal decided c.args.text.now c.read_key_text.result c.read_key_text.ensures.refused
+pub returns-in_default-next_line : goal.returns-in_default-next_line
+returns-in_default-next_line c =
+    rw c.into-in_default-next_line.ensures (sym (of_lines c.args.text.now _
+    (ap lines (sym c.lines-lines.ensures.rest) ∙ c.in-Some.ensures.some ∙ ap (λ l. c.in-Some._comment.now ∷ l) c.in_default-next_line.ensures.none)))
+
+pub returns : goal.returns
+returns c =
+    c.read_key_line.ensures ∙ sym (of_lines c.args.text.now _
+    (ap lines (sym c.lines-lines.ensures.rest) ∙ c.in-Some.ensures.some ∙ ap (λ l. c.in-Some._comment.now ∷ l) c.in-Some-next_line.ensures.some))

@@ -1,7 +1,7 @@
-use Rattle.std.proofs.Common.{List, ℕ, Some, string_bytes, ◌∙◌, ap, sym, subst}
+use Rattle.std.proofs.Common.{◌≡◌, List, ℕ, Some, Ok, string_bytes, ◌∙◌, ap, sym, subst}
 use Rattle.minisign.specs.Records.{CommentsRecord, SignatureRecord, SignatureBoxRecord, ReadsSignature, signature_bytes}
 use Rattle.minisign.specs.Texts.{IsBase64Of, base64_of}
-use Rattle.minisign.specs.SignatureText.{SignatureText, EncodesSignature, comments_read_back}
+use Rattle.minisign.specs.SignatureText.{EncodesSignature, comments_read_back, read_signature_box}
 use Rattle.minisign.proofs.Base64Texts.{own_base64}
 use Rattle.minisign.proofs.SignatureTexts.{same_comments, spelled_text, written_text}
 use Rattle.minisign.proofs.signature_box.written.Goals as goal
@@ -26,11 +26,11 @@ returns-clause-reads c = λ one algorithm.
     let signed : IsBase64Of (base64_of x.signature) x.signature =
     own_base64 _ _ x.signature c.in_ok-global_sig.ensures.base64 (c.deref-2.ensures.value ∙ ap (λ (y : CommentsRecord). y.signature) c.comments.view_is) in
     let box : SignatureBoxRecord = record { signature = s; comments = Some (comments_read_back x) } in
-    subst (λ (t : List ℕ). SignatureText t box) (sym (returns-clause-text c)) (written_text s x encodes signed one algorithm)
+    subst (λ (t : List ℕ). read_signature_box t ≡ Ok box) (sym (returns-clause-text c)) (written_text s x encodes signed one algorithm)
 
 pub returns-clause-reads_back : goal.returns-clause-reads_back
 returns-clause-reads_back c = λ keeps algorithm.
     let s : SignatureRecord = c.args.signature.now in
     let x : CommentsRecord = c.args.comments.now in
-    subst (λ (y : CommentsRecord). SignatureText (string_bytes c.in_ok-text.text) (record { signature = s; comments = Some y })) (same_comments x keeps)
+    subst (λ (y : CommentsRecord). read_signature_box (string_bytes c.in_ok-text.text) ≡ Ok (record { signature = s; comments = Some y })) (same_comments x keeps)
     (returns-clause-reads c keeps.one_line algorithm)

@@ -3,8 +3,8 @@ use Rattle.std.specs.declared.result.Result.{Result}
 use Rattle.std.specs.declared.result.Result.TheVariants.{Ok, Err}
 use Rattle.minisign_base.specs.Fault.{Fault, Named}
 use Rattle.minisign_base.specs.declared.faults.NamedFault.TheVariants.{NotUtf8}
-use Rattle.minisign.specs.PublicKeyText.{PublicKeyText}
-use Rattle.minisign.specs.SignatureText.{SignatureText}
+use Rattle.minisign.specs.PublicKeyText.{read_public_key}
+use Rattle.minisign.specs.SignatureText.{read_signature_box}
 use Rattle.minisign_external.specs.Questions.{IsRefusedUnasked}
 use Rattle.minisign_external.proofs.asking.read_bytes.Goals as goal
 
@@ -24,5 +24,5 @@ returns-clause-refused c =
 
 pub returns-clause-exact : goal.returns-clause-exact
 returns-clause-exact c = λ pk_utf8 sig_utf8 k x key box.
-    c.read.ensures.exact k x (subst (λ (t : List ℕ). PublicKeyText t k) (sym c.in-Ok.ensures.cases.0) key)
-    (subst (λ (t : List ℕ). SignatureText t x) (sym c.in-Ok-from_utf8.ensures.cases.0) box)
+    c.read.ensures.exact k x (subst (λ (t : List ℕ). read_public_key t ≡ Ok k) (sym c.in-Ok.ensures.cases.0) key)
+    (subst (λ (t : List ℕ). read_signature_box t ≡ Ok x) (sym c.in-Ok-from_utf8.ensures.cases.0) box)
