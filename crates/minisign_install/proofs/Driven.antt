@@ -9,7 +9,7 @@ use Rattle.minisign_install.specs.Hosts.{DeviceFails, Explains, FolderFails, Hos
 use Rattle.minisign_install.specs.Installing.{HasInstalled, InstallsOnlyUpdates, IsVouched, Terms}
 use Rattle.minisign_install.specs.Names.{drawn_bytes}
 use Rattle.minisign_install.specs.Order.{has_ended, next}
-use Rattle.minisign_install.specs.Refusals.{Counts, IsCause, IsDataCause, IsDeviceFault, IsLibraryFault, IsRefusal, counts}
+use Rattle.minisign_install.specs.Refusals.{Counts, IsCause, IsCallFault, IsDataCause, IsLibraryFault, IsRefusal, counts}
 use Rattle.minisign_install.specs.Runs.{OwnsNoMore}
 use Rattle.minisign_install.specs.declared.calls.Stage.{Stage}
 use Rattle.minisign_install.specs.declared.calls.Work.{Work}
@@ -18,7 +18,7 @@ use Rattle.minisign_install.specs.declared.order.Due.{Due}
 use Rattle.minisign_install.specs.declared.order.Due.TheVariants.{Lock, Clear, ReadRecord, Create, Copy, ReadBack, Answer, TakeRights, Settle, CreateRecord, WriteRecord, SettleRecord, RenameRecord, SettleRecordName, Rename, SettleName, RemoveRecord, Remove, Installed, Refused}
 use Rattle.minisign_install.specs.declared.order.Outcome.{Outcome}
 use Rattle.minisign_install.specs.declared.order.Outcome.TheVariants.{Done, More, Number, Failed}
-use Rattle.minisign_install.proofs.Counts.{same_counts}
+use Rattle.minisign_install.proofs.Counts.{run_fault, same_counts}
 use Rattle.minisign_install.proofs.Driving.{Goes}
 use Rattle.minisign_install.proofs.Orders.{Holds, from, refusing_own, still_staged}
 use Rattle.minisign_install.proofs.Reasons.{Reason, lasting_rise, why}
@@ -66,7 +66,7 @@ module _ (accepts : Verifier) (terms : Terms) (first : Bool) where
   Counted before due after = after ≡ before
 
   device : (before : Counts) (h h' : Host) (e : InstallFault) → h.faults ≡ before → DeviceFails e h h' → IsDataCause accepts terms before h'.faults e
-  device before h h' e same fails = inl (subst (λ f. IsLibraryFault (IsDeviceFault f h'.faults) e) same fails)
+  device before h h' e same fails = let (fault, is, call) = subst (λ f. IsLibraryFault (IsCallFault f h'.faults) e) same fails in inl (fault, is, run_fault before h'.faults fault call)
 
   risen : (before : Counts) (h h' : Host) (e : InstallFault) → FolderFails h h' → IsDataCause accepts terms before h.faults e → IsDataCause accepts terms before h'.faults e
   risen before h h' e (random, update, rose) cause =

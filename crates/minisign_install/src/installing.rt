@@ -71,6 +71,8 @@ pub fn install_update<S: Scheme, Z: RandomSource, R: Source, F: Folder>(
     // the lock held by another run; or a device's fault, where its count of faults rose, or the
     // record's, with nothing brought: the record was absent, or no number, when the lock was got,
     // and it is not the first installation (`IsLockedRefusal`, `IsDeviceFault`, `IsRecordRefused`).
+    // Or out of memory, where no count rose, but for the folder's, where the stage could not be
+    // removed behind that (`IsCallFault`, `IsRunFault`).
     //
     // Or, with the number that the record held when the lock was got: the first failing case of the
     // texts over the data ahead, or what the vouched-for comment lacks, with nothing brought; a
@@ -94,7 +96,8 @@ pub fn install_update<S: Scheme, Z: RandomSource, R: Source, F: Folder>(
     // the file and has a number.
     ensures vouched { OnOk result (IsVouched (S.accepts scheme.now) (terms_of wanted.entry)) }
 
-    // Why a fault may come: a device's only where its count of faults rose; the record is refused
+    // Why a fault may come: a device's only where its count of faults rose; out of memory only where
+    // neither the random source nor the source of the data has failed; the record is refused
     // only where it is not the first installation, and all that is said of the data only where some
     // data has it.
     ensures causes { IfErr result (IsCause (S.accepts scheme.now) (terms_of wanted.entry) is_first (counts (Z.random_faults random.old) (R.faults update.old) (F.folder_faults folder.old)) (counts (Z.random_faults random.new) (R.faults update.new) (F.folder_faults folder.new))) }
