@@ -119,6 +119,10 @@ IsRefusal accepts terms first ahead before after old new e =
     ⊎ (HasStepped old new IsStill × IsLibraryFault (IsCallFault before after) e)
     ⊎ ((locked : Run) × HasLocked old locked × IsLockedRefusal accepts terms first ahead before after locked new e)
 
+-- the lock was got, and since then nothing was brought
+abbrev pub LocksAlone : Run → Run → Type 0
+LocksAlone old new = (locked : Run) × HasLocked old locked × BringsNothing locked new
+
 -- == When an update is installed ==
 
 -- the record has a number, or this is the first installation, and the data is an update that is not older

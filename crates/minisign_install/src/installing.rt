@@ -1,10 +1,13 @@
 //! Installing an update in a folder: each call is made as the table of `Due` has it due.
 
 ghost use Rattle.std.specs.Prelude.{◌≡◌, IfErr, OnOk};
+ghost use Rattle.minisign_base.specs.Fault.{Named};
+ghost use Rattle.minisign_base.specs.declared.faults.NamedFault.TheVariants.{OutOfMemory};
 ghost use Rattle.minisign_install.specs.Folders.{HasLocked, Run, Known};
 ghost use Rattle.minisign_install.specs.Installing.{HasInstalled, InstallsOnlyUpdates, IsVouched, terms_of};
-ghost use Rattle.minisign_install.specs.Refusals.{InstallsExactly, IsCause, IsRefusal, counts};
+ghost use Rattle.minisign_install.specs.Refusals.{InstallsExactly, IsCause, IsRefusal, LocksAlone, counts};
 ghost use Rattle.minisign_install.specs.Runs.{OwnsNoMore};
+ghost use Rattle.minisign_install.specs.declared.faults.InstallFault.TheVariants.{Library};
 
 use crate::calls::{Work, make};
 use crate::faults::InstallFault;
@@ -32,7 +35,8 @@ use std::alloc::Global;
 /// place's name and brings the folder to the disk.
 ///
 /// A device that fails is `ReadingFailed`, `WritingFailed` or `RandomSourceFailed`, and memory
-/// may run out at any time. After a refusal this run has brought nothing to the place, unless the
+/// may run out in copying, reading back and judging (a record that is read without memory is
+/// `ReadingFailed`). After a refusal this run has brought nothing to the place, unless the
 /// renaming failed (`WritingFailed`), which may have been done, or bringing it to the disk
 /// (`FolderNotOnDisk`): then the update stands there. The record has changed only if keeping
 /// the number failed or a later step did. The new file is removed if it can be, or by the next run.
@@ -101,6 +105,10 @@ pub fn install_update<S: Scheme, Z: RandomSource, R: Source, F: Folder>(
     // only where it is not the first installation, and all that is said of the data only where some
     // data has it.
     ensures causes { IfErr result (IsCause (S.accepts scheme.now) (terms_of wanted.entry) is_first (counts (Z.random_faults random.old) (R.faults update.old) (F.folder_faults folder.old)) (counts (Z.random_faults random.new) (R.faults update.new) (F.folder_faults folder.new))) }
+
+    // Memory runs out only with the lock held, and before anything is brought to the place or to the
+    // record. What says so may have given up before that: no clause tells the two apart.
+    ensures memory { IfErr result (λ e. e ≡ Library (Named OutOfMemory) → Known (F.run folder.old) (LocksAlone (F.run folder.old) (F.run folder.new))) }
 
     // On success no device failed.
     ensures no_new_fault { OnOk result (counts (Z.random_faults random.new) (R.faults update.new) (F.folder_faults folder.new) ≡ counts (Z.random_faults random.old) (R.faults update.old) (F.folder_faults folder.old)) }
