@@ -107,7 +107,9 @@ pub fn install_update<S: Scheme, Z: RandomSource, R: Source, F: Folder>(
     ensures causes { IfErr result (IsCause (S.accepts scheme.now) (terms_of wanted.entry) is_first (counts (Z.random_faults random.old) (R.faults update.old) (F.folder_faults folder.old)) (counts (Z.random_faults random.new) (R.faults update.new) (F.folder_faults folder.new))) }
 
     // Memory runs out only with the lock held, and before anything is brought to the place or to the
-    // record. What says so may have given up before that: no clause tells the two apart.
+    // record. A run that says so may have given up there, or have met a fault of the folder before it
+    // removed the stage: no clause of the whole run tells these apart, and that of each call does the
+    // latter.
     ensures memory { IfErr result (λ e. e ≡ Library (Named OutOfMemory) → Known (F.run folder.old) (LocksAlone (F.run folder.old) (F.run folder.new))) }
 
     // On success no device failed.
