@@ -1,4 +1,5 @@
-"""Changed texts, whose verdicts and reasons are compared with those of the program of c/ that verifies."""
+"""Changed texts, whose verdicts and reasons are compared with those of the program of c/ that verifies, and numbers for a
+flag that only who calls the module without the page can pass, compared with the library for C."""
 
 import ctypes
 import os
@@ -12,6 +13,21 @@ from minisign_cases import random_cases
 
 TOP = os.path.join(os.path.dirname(os.path.realpath(__file__)), "..", "..")
 TEXTS = 500
+# What may be passed as `allow_legacy`: two numbers that are flags, and others.
+FLAGS = (0, 1, 2, 3, 2**31, 2**32 - 1)
+# The errors of the header: none, a state that was never begun, and a number that is no flag.
+OK, NOT_BEGUN, BAD_LEGACY_FLAG = 0, 1, 6
+STATE_BYTES, QUESTIONS_BYTES, MESSAGE_BYTES = 512, 256, 65536
+# Has the module ask with any number as `allow_legacy`, where the page passes 0 or 1: its answer, and whether the state stays.
+ASK = """const [key, signature, flag, isBegun] = arguments;
+  library.memory.fill(0, library.state, library.state + STATE_BYTES);
+  if (isBegun) { library.begin(); }
+  const before = library.bytesAt(library.state, STATE_BYTES);
+  const number = library.calls.page_ask(
+    BigInt(library.state), ...library.put(library.keyText, TEXT_BYTES, Uint8Array.from(key)),
+    ...library.put(library.signatureText, TEXT_BYTES, Uint8Array.from(signature)), flag, BigInt(library.questions),
+    BigInt(library.message), BigInt(TEXT_BYTES)) >>> 0;
+  return [number, library.bytesAt(library.state, STATE_BYTES).every((byte, at) => byte === before[at])];"""
 
 
 def check_texts(person):
@@ -43,6 +59,19 @@ def check_texts(person):
     checks.check(min(counted.values()) >= 20 and sum(counted.values()) == TEXTS, f"the changed texts are {counted}")
 
 
+def check_flags(person):
+    """A number that is no flag is refused, and before the state is looked at, by the module as by the library for C."""
+    browser, checks = person.browser, person.checks
+    browser.open(person.address)
+    key, sig = cases.read_kept("first.pub"), cases.read_kept("hello.minisig")
+    for flag in FLAGS:
+        for is_begun in (True, False):
+            wanted = BAD_LEGACY_FLAG if flag > 1 else OK if is_begun else NOT_BEGUN
+            what = f"`allow_legacy` {flag} and a state that was {'begun' if is_begun else 'never begun'}"
+            checks.same(browser.run(ASK, list(key), list(sig), flag, is_begun), [wanted, wanted != OK], f"{what}: what the module says")
+            checks.same(person.programs.ask(key, sig, flag, is_begun), [wanted, wanted != OK], f"{what}: what the library for C says")
+
+
 def is_same_verdict(programs, case, ours, theirs):
     """Whether a row and the answer of the C program are one verdict for one reason."""
     status, output, said = theirs
@@ -72,6 +101,16 @@ class Programs:
     def verify(self, key, data, sig):
         ran = subprocess.run([self.program, "-V", "-p", key, "-m", data, "-x", sig], stdin=subprocess.DEVNULL, stdout=subprocess.PIPE, stderr=subprocess.PIPE)
         return ran.returncode, ran.stdout, ran.stderr
+
+    def ask(self, key, sig, flag, is_begun):
+        """Has the library ask with any number as `allow_legacy`: its answer, and whether the state stays."""
+        state, questions, message = (ctypes.create_string_buffer(size) for size in (STATE_BYTES, QUESTIONS_BYTES, MESSAGE_BYTES))
+        if is_begun:
+            self.library.minisign_init(state)
+        before = state.raw
+        sized = (key, ctypes.c_size_t(len(key)), sig, ctypes.c_size_t(len(sig)))
+        number = self.library.minisign_ask(state, *sized, ctypes.c_uint32(flag), questions, message, ctypes.c_size_t(MESSAGE_BYTES))
+        return [number, state.raw == before]
 
     def meaning(self, number):
         """What the library says of a number."""

@@ -7,7 +7,8 @@ The module's calls have the contracts of those from C, word for word but for wha
 its module proved for WebAssembly before (`page/build.py`), where no PAGE is named. Then Chromium, without a window, is
 given the kept corpus of Minisign's own program, keys and signatures that are made now, each fault, hostile comments and
 names, files that are dropped and stopped, 2 GB, and 500 changed texts, of which the verdicts and their reasons are
-compared with those of `c/minisign-verify`. It looks at what is asked for from outside, at the names for a screen reader, the order of the keyboard,
+compared with those of `c/minisign-verify`. Numbers that are no flag are passed to the module itself, beside
+the library for C. It looks at what is asked for from outside, at the names for a screen reader, the order of the keyboard,
 the contrast of colours and a narrow screen, and at what is said where the browser lacks something. It prints a line for
 each failure; the last line is `N passed, M failed`.
 
@@ -40,7 +41,7 @@ import traceback
 
 import build
 import static_library
-from beside_c import Programs, check_texts
+from beside_c import Programs, check_flags, check_texts
 from browser import Browser
 from hostile import check_hostile
 from long_files import check_big, check_stopping
@@ -77,7 +78,7 @@ def run_all(checks, room):
     person = Person(checks, browser, f"file://{page}", room, programs)
     steps = [check_lacking, check_corpus, functools.partial(check_made, minisign=minisign), functools.partial(check_several, minisign=minisign),
              functools.partial(check_faults, minisign=minisign, meaning=programs.meaning), functools.partial(check_hostile, minisign=minisign),
-             functools.partial(check_use, minisign=minisign), functools.partial(check_alone, minisign=minisign, page=page), check_texts,
+             functools.partial(check_use, minisign=minisign), functools.partial(check_alone, minisign=minisign, page=page), check_flags, check_texts,
              lambda it: check_big(it, check_stopping(it, minisign))]
     try:
         for step in steps:

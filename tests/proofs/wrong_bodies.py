@@ -183,8 +183,8 @@ def assume(folder, crate, functions):
     """Puts a hole in place of the proof of each of these functions of a crate, whose files are in this folder."""
     for it in functions:
         *_, name = path = it.split("::")
-        if "fn" in path or "+" in it:
-            # (a closure goes with the body that it stands in)
+        if "fn" in path or "++" in it:
+            # (a closure goes with the body that it stands in, and what ends a value is no function of the crate's)
             continue
         proof = f"{folder}/proofs/{'/'.join(path)}"
         os.makedirs(proof, exist_ok=True)

@@ -128,8 +128,9 @@ pub extern "C" fn minisign_ask(
     ensures digest { result ≡ 0 → (m : List ℕ) → IsFedState state.old m → questions.new.digest ≡ blake2b_digest 64 m }
     ensures asking { result ≡ 0 → HasAsked state.new pk_text.now sig_text.now (allow_legacy == 1) }
 
-    // They are asked of a state that is being fed alone.
+    // They are asked of a state that is being fed alone, and with an `allow_legacy` of 0 or 1 alone.
     ensures begun { result ≡ 0 → IsMarkedFed state.old }
+    ensures number { result ≡ 0 → allow_legacy < 2 }
 
     // The identifiers are answered as `State::ask` says.
     ensures identifiers { allow_legacy < 2 → (m : List ℕ) → IsFedState state.old m → IsUtf8 pk_text.now → IsUtf8 sig_text.now
@@ -198,8 +199,8 @@ pub extern "C" fn minisign_ask_signing(
 
     // What is refused comes in this order: a number that is neither 0 nor 1, with no state looked at; a wrong use of
     // the state, with no text read and no key opened; a text or a password that is not UTF-8; and the first reason for
-    // which the text gives no key within the greatest work; only once the state was looked at it may run out of memory.
-    // The state and the questions are then as they were.
+    // which the text gives no key within the greatest work; only behind the first three it may run out of memory. The
+    // state and the questions are then as they were.
     ensures refused { 0 < result → IsSigningNumber state.old sk_text.now (passed_in with_password password.now) with_password greatest_work result }
     ensures kept { 0 < result → (state.new ≡ state.old) × (questions.new ≡ questions.old) }
 {
@@ -478,13 +479,14 @@ pub extern "C" fn minisign_install_ask(
     message: &mut [u8],
 ) -> u32
     // The questions are those of what the texts read as, as `Installation::ask` says; they are then asked, and the
-    // comment of the second text is judged, against the number that was kept.
+    // comment of the second text is judged, against the number that was kept; with a `numbering` of 0 or 1 alone.
     ensures asked { result ≡ 0 → (pk : PublicKeyRecord) × (x : SignatureBoxRecord) × (c : CommentsRecord)
         × AreOpen pk_text.now sig_text.now false pk x c
         × AreQuestions questions.new message.new pk x c }
     ensures digest { result ≡ 0 → (m : List ℕ) → IsFedState installation.old.state m → questions.new.digest ≡ blake2b_digest 64 m }
     ensures asking { result ≡ 0 → (k : Numbering) × (numbering ≡ numbering_number k) × (kept : ℕ) × IsDue installation.old (Answer kept)
         × IsAsking installation.new (wanted_by pk_text.now sig_text.now file.now k) kept }
+    ensures number { result ≡ 0 → numbering < 2 }
 
     // The identifiers are answered as `Installation::ask` says.
     ensures identifiers { numbering < 2 → (kept : ℕ) → IsDue installation.old (Answer kept) → (m : List ℕ) → IsFedState installation.old.state m
@@ -497,10 +499,10 @@ pub extern "C" fn minisign_install_ask(
     ensures refused { 0 < result → IsAskNumber installation.old installation.new pk_text.now sig_text.now file.now numbering message.old result }
     ensures kept { 0 < result → message.new ≡ message.old }
 {
-    let Some(numbering) = Numbering::of_number(numbering) else {
+    let Some(field) = Numbering::of_number(numbering) else {
         return Misuse::BadNumbering.number();
     };
-    match installation.ask(pk_text, sig_text, file, numbering, questions, message) {
+    match installation.ask(pk_text, sig_text, file, field, questions, message) {
         Ok(()) => 0,
         Err(refusal) => refusal.number(),
     }

@@ -56,12 +56,11 @@ pub record TellsKey (q : SigningQuestions) (key : SecretKeyRecord) : Type 0 wher
 abbrev pub AreKeyTexts : List ℕ → Option (List ℕ) → Type 0
 AreKeyTexts text password = IsUtf8 text × IfSome password IsUtf8
 
--- a key was not told, of a text and a password: memory ran out, one of them is not UTF-8, or else the text gives no key
+-- a key was not told, of a text and a password: one of them is not UTF-8, or else memory ran out, or the text gives no key
 abbrev pub IsOpeningFault : List ℕ → Option (List ℕ) → ℕ → Fault → Type 0
 IsOpeningFault text password greatest_work e =
-    (e ≡ Named OutOfMemory)
-    ⊎ ((e ≡ Named NotUtf8) × ¬ (AreKeyTexts text password))
-    ⊎ (AreKeyTexts text password × RefusesSecretKey text password greatest_work e)
+    ((e ≡ Named NotUtf8) × ¬ (AreKeyTexts text password))
+    ⊎ (AreKeyTexts text password × ((e ≡ Named OutOfMemory) ⊎ RefusesSecretKey text password greatest_work e))
 
 -- the questions were not told: the state is used wrongly, or else the key is not told
 abbrev pub IsSigningRefusal : State → List ℕ → Option (List ℕ) → ℕ → Refusal → Type 0
@@ -139,14 +138,15 @@ HasNoRoom key_id chosen first second bytes =
     length bytes < length (signature_text (answered_signature key_id first) (answered_comments chosen second))
 
 -- the text was not written, and this is the first reason: the state has told no key, a comment is not UTF-8, a comment
--- is refused, or the text has no room; or memory ran out
+-- is refused, or the text has no room; or memory ran out, of comments that are not refused
 abbrev pub IsWritingRefusal : State → ChosenComments → List ℕ → List ℕ → List ℕ → Refusal → Type 0
 IsWritingRefusal s chosen first second bytes (WrongUse m) =
     IsNotTold s m
     ⊎ (HasToldKey s s.key_id × AreUtf8 chosen × IsCommentMisuse chosen m)
     ⊎ ((m ≡ NoRoom) × HasToldKey s s.key_id × AreUtf8 chosen × AreChosenReadBack chosen × AreReadByMinisign chosen × HasNoRoom s.key_id chosen first second bytes)
 IsWritingRefusal s chosen first second bytes (Refused e) =
-    HasToldKey s s.key_id × ((e ≡ Named OutOfMemory) ⊎ ((e ≡ Named NotUtf8) × ¬ (AreUtf8 chosen)))
+    HasToldKey s s.key_id
+    × (((e ≡ Named OutOfMemory) × AreUtf8 chosen × AreChosenReadBack chosen × AreReadByMinisign chosen) ⊎ ((e ≡ Named NotUtf8) × ¬ (AreUtf8 chosen)))
 
 -- the number of a refusal of asking for signatures, and of writing a text
 abbrev pub IsSigningNumber : State → List ℕ → Option (List ℕ) → ℕ → ℕ → ℕ → Type 0

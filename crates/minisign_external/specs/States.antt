@@ -93,6 +93,12 @@ telling_misuse s = if (s.mark == fed_mark) || (s.mark == asked_mark) then NotAsk
 abbrev pub IsNotTold : State → Misuse → Type 0
 IsNotTold s e = (e ≡ telling_misuse s) × ((key_id : List ℕ) → ¬ (HasToldKey s key_id))
 
+-- what a new state holds beside what it was fed: nothing was asked of it, and no key was told
+pub record IsBlank (s : State) : Type 0 where
+  pub whole : s.whole ≡ 0
+  pub key_id : s.key_id ≡ replicate 8 0
+  pub reserved : s.reserved ≡ replicate 18 0
+
 -- the state is marked as one that is being fed
 abbrev pub IsMarkedFed : State → Type 0
 IsMarkedFed s = s.mark ≡ fed_mark
@@ -159,8 +165,8 @@ IsVerdictNumber old new first second n =
     ((n ≡ misuse_number BadAnswer) × (¬ (IsAnswer first) ⊎ ¬ (IsAnswer second)) × (new ≡ old))
     ⊎ (IsAnswer first × IsAnswer second × (r : Refusal) × (n ≡ refusal_number r) × IsVerdictRefusal old new (first == answer_yes) r)
 
--- the number of a refusal of asking
+-- the number of a refusal of asking: a number that is no flag is refused, and only then the other reasons come
 abbrev pub IsAskingNumber : State → List ℕ → List ℕ → ℕ → List ℕ → ℕ → Type 0
 IsAskingNumber s pk_text sig_text legacy bytes n =
     ((n ≡ misuse_number BadLegacyFlag) × (1 < legacy))
-    ⊎ ((r : Refusal) × (n ≡ refusal_number r) × IsAskingRefusal s pk_text sig_text (legacy == 1) bytes r)
+    ⊎ ((legacy < 2) × (r : Refusal) × (n ≡ refusal_number r) × IsAskingRefusal s pk_text sig_text (legacy == 1) bytes r)

@@ -62,8 +62,8 @@ impl State {
 
         // What is refused comes in this order: a wrong use of the state, with no text read and no key opened; a text or
         // a password that is not UTF-8; and the first reason for which the text gives no key within the greatest work,
-        // as `open_unsealed` says without a password and `SecretKey::from_box_keeping_within` with one. Once the state
-        // was looked at memory may run out. State and questions are then as they were.
+        // as `open_unsealed` says without a password and `SecretKey::from_box_keeping_within` with one. Only behind the
+        // first two may memory run out: what says so may have given up. State and questions are then as they were.
         ensures refused { IfErr result (IsSigningRefusal self.old sk_text.now (option_map (λ p. p.now) password.entry) greatest_work) }
         ensures kept { OnErr result ((self.new ≡ self.old) × (questions.new ≡ questions.old)) }
     {

@@ -4,7 +4,7 @@
 ghost use Rattle.std.specs.Prelude.{◌≡◌, ◌++◌, ℕ, List, [], false, Ok, OnOk, IfOk, IfErr, MatchResult, length};
 ghost use Rattle.minisign_hash.specs.Blake2b.{blake2b_digest};
 ghost use Rattle.minisign_hash.specs.Fed.{IsFed, has_finalized, output_length};
-ghost use Rattle.minisign_external.specs.States.{HasToldKey, IsFedState, IsMarkedFed, IsNotFed, IsNotTold, fed_mark, no_questions};
+ghost use Rattle.minisign_external.specs.States.{HasToldKey, IsBlank, IsFedState, IsMarkedFed, IsNotFed, IsNotTold, fed_mark, no_questions};
 ghost use Rattle.minisign_external.specs.declared.state.Refusal.TheVariants.{Refused, WrongUse};
 
 use minisign_base::PError;
@@ -137,7 +137,9 @@ impl Questions {
 impl State {
     /// A state that was fed nothing. Takes no memory.
     pub fn new() -> State
-        ensures { IsFedState result [] }
+        // A new state was fed nothing, and all else in it is 0.
+        ensures fed { IsFedState result [] }
+        ensures blank { IsBlank result }
     {
         State {
             mark: FED,

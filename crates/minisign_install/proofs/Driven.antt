@@ -9,7 +9,7 @@ use Rattle.minisign_install.specs.Hosts.{DeviceFails, Explains, FolderFails, Hos
 use Rattle.minisign_install.specs.Installing.{HasInstalled, InstallsOnlyUpdates, IsVouched, Terms}
 use Rattle.minisign_install.specs.Names.{drawn_bytes}
 use Rattle.minisign_install.specs.Order.{has_ended, next}
-use Rattle.minisign_install.specs.Refusals.{Counts, IsCause, IsDataCause, IsDeviceFault, IsLibraryFault, IsRefusal, counts}
+use Rattle.minisign_install.specs.Refusals.{Counts, IsCause, IsCallFault, IsDataCause, IsLibraryFault, IsRefusal, counts}
 use Rattle.minisign_install.specs.Runs.{OwnsNoMore}
 use Rattle.minisign_install.specs.declared.calls.Stage.{Stage}
 use Rattle.minisign_install.specs.declared.calls.Work.{Work}
@@ -18,11 +18,12 @@ use Rattle.minisign_install.specs.declared.order.Due.{Due}
 use Rattle.minisign_install.specs.declared.order.Due.TheVariants.{Lock, Clear, ReadRecord, Create, Copy, ReadBack, Answer, TakeRights, Settle, CreateRecord, WriteRecord, SettleRecord, RenameRecord, SettleRecordName, Rename, SettleName, RemoveRecord, Remove, Installed, Refused}
 use Rattle.minisign_install.specs.declared.order.Outcome.{Outcome}
 use Rattle.minisign_install.specs.declared.order.Outcome.TheVariants.{Done, More, Number, Failed}
-use Rattle.minisign_install.proofs.Counts.{same_counts}
+use Rattle.minisign_install.proofs.Counts.{run_fault, same_counts}
 use Rattle.minisign_install.proofs.Driving.{Goes}
 use Rattle.minisign_install.proofs.Orders.{Holds, from, refusing_own, still_staged}
 use Rattle.minisign_install.proofs.Reasons.{Reason, lasting_rise, why}
 use Rattle.minisign_install.proofs.Refused.{cause_lasts}
+use Rattle.minisign_install.proofs.Wants.{Wants, wants}
 
 -- a call that is due can be made: the run is still known, and the lock is held
 ready : (s : Setting) (a : Host) (due : Due InstallFault) (h : Host) → a.run.known ≡ true → has_ended due ≡ false → Holds s a due h → (h.run.known ≡ true) × MayCall due h.run
@@ -66,7 +67,7 @@ module _ (accepts : Verifier) (terms : Terms) (first : Bool) where
   Counted before due after = after ≡ before
 
   device : (before : Counts) (h h' : Host) (e : InstallFault) → h.faults ≡ before → DeviceFails e h h' → IsDataCause accepts terms before h'.faults e
-  device before h h' e same fails = inl (subst (λ f. IsLibraryFault (IsDeviceFault f h'.faults) e) same fails)
+  device before h h' e same fails = let (fault, is, call) = subst (λ f. IsLibraryFault (IsCallFault f h'.faults) e) same fails in inl (fault, is, run_fault before h'.faults fault call)
 
   risen : (before : Counts) (h h' : Host) (e : InstallFault) → FolderFails h h' → IsDataCause accepts terms before h.faults e → IsDataCause accepts terms before h'.faults e
   risen before h h' e (random, update, rose) cause =
@@ -161,7 +162,7 @@ module _ (accepts : Verifier) (terms : Terms) (first : Bool) where
     abbrev pub Driven : Due InstallFault → Work H → Host → Type 0
     Driven due w h =
         HasMade due w × Knows accepts terms due w h.read × Counted a.faults due h.faults
-        × (a.run.known ≡ true → (names : Names) → AreNamed file_of w names → Holds (setting accepts terms first names) a due h × Reason (setting accepts terms first names) a due h)
+        × (a.run.known ≡ true → (names : Names) → AreNamed file_of w names → Holds (setting accepts terms first names) a due h × Reason (setting accepts terms first names) a due h × Wants a due h)
 
     name_of : Option (Stage H) → List ℕ
     name_of None = []
@@ -191,14 +192,14 @@ module _ (accepts : Verifier) (terms : Terms) (first : Bool) where
       λ known names named.
           let s = setting accepts terms first names in
           let (before, so) = went names named in
-          let (held, reason) = holds known names before in
+          let (held, reason, wanted) = holds known names before in
           let (is_known, may) = ready s a due h known going held in
           let makes = so.made is_known may in
-          (from s a known due o h h' held makes, why s a known due o h h' held makes so.explained reason),
+          (from s a known due o h h' held makes, why s a known due o h h' held makes so.explained reason, wants s a due o h h' held makes so.memory wanted),
     )
 
     pub begin : (w : Work H) → HasMade {E = InstallFault} Lock w → Driven Lock w a
-    begin w made = (made, tt, refl, λ known names named. ((refl, (refl, refl)), refl))
+    begin w made = (made, tt, refl, λ known names named. ((refl, (refl, refl)), refl, tt))
 
     -- == At the end ==
 
@@ -209,10 +210,10 @@ module _ (accepts : Verifier) (terms : Terms) (first : Bool) where
         (inr (locked, lock, so), (locked, lock, installs), own)
 
     pub refused_runs : (e : InstallFault) (w : Work H) (h : Host) → Driven (Refused e) w h → a.run.known ≡ true
-        → InstallsOnlyUpdates accepts terms first a.run h.run × IsRefusal accepts terms first a.ahead a.faults h.faults a.run h.run e × OwnsNoMore a.run h.run
+        → InstallsOnlyUpdates accepts terms first a.run h.run × IsRefusal accepts terms first a.ahead a.faults h.faults a.run h.run e × OwnsNoMore a.run h.run × Wants a (Refused e) h
     refused_runs e w h (has, knows, counted, holds) known =
-        let (refusing, reason) = holds known (names_of w) (are_named w) in
-        (⊎_elim (λ still. inl still.0) (λ locked. inr (locked.0, locked.1, locked.2)) refusing, reason, refusing_own (setting accepts terms first (names_of w)) a h refusing)
+        let (refusing, reason, wanted) = holds known (names_of w) (are_named w) in
+        (⊎_elim (λ still. inl still.0) (λ locked. inr (locked.0, locked.1, locked.2)) refusing, reason, refusing_own (setting accepts terms first (names_of w)) a h refusing, wanted)
 
 -- what is due where the run has not ended
 pub goes_on : (due : Due InstallFault) → ¬ (due ≡ Installed) → ((e : InstallFault) → ¬ (due ≡ Refused e)) → has_ended due ≡ false

@@ -83,10 +83,10 @@ asking_refused accepts s pk_text sig_text bytes m (Refused e) fed pk_utf8 sig_ut
 asking_refused accepts s pk_text sig_text bytes m (Refused e) fed pk_utf8 sig_utf8 room (marked, (inr (u, v, refused))) = refused accepts m
 
 -- memory may run out besides
-pub else_memory : {T : Type 0} (accepts : Verifier) (pk_text sig_text m : List ℕ) (r : Result T Fault) → IsVerdict accepts pk_text sig_text m false r
-    → MatchResult r (λ _. TextsVouchFor accepts pk_text sig_text m false) (λ e. (e ≡ Named OutOfMemory) ⊎ TextsRefuse accepts pk_text sig_text m false e)
-else_memory accepts pk_text sig_text m (Ok t) vouched = vouched
-else_memory accepts pk_text sig_text m (Err e) refused = inr refused
+pub else_memory : {T : Type 0} (S : Type 0) (accepts : Verifier) (pk_text sig_text m : List ℕ) (r : Result T Fault) → IsVerdict accepts pk_text sig_text m false r
+    → MatchResult r (λ _. TextsVouchFor accepts pk_text sig_text m false) (λ e. ((e ≡ Named OutOfMemory) × S) ⊎ TextsRefuse accepts pk_text sig_text m false e)
+else_memory S accepts pk_text sig_text m (Ok t) vouched = vouched
+else_memory S accepts pk_text sig_text m (Err e) refused = inr refused
 
 -- == What comes of the comment ==
 
@@ -97,13 +97,13 @@ vouched_with accepts pk_text sig_text message v = record { vouched = v; comments
 
 module _ (accepts : Verifier) (terms : Terms) (kept : ℕ) (m : List ℕ) where
   -- the texts vouch for the data: it is an update, or the comment is refused
-  pub judged_comment : (r : Result ℕ InstallFault) (v : TextsVouchFor accepts terms.pk_text terms.sig_text m false)
+  pub judged_comment : (S : Type 0) (r : Result ℕ InstallFault) (v : TextsVouchFor accepts terms.pk_text terms.sig_text m false)
       → MatchResult r (λ n. Says v.box_read.comments.trusted terms.file terms.numbering n × (kept ≤ n)) (IsCommentRefused terms kept v.box_read.comments.trusted)
-      → MatchResult r (IsUpdate accepts terms kept m) (λ e. IsLibraryFault (λ f. f ≡ Named OutOfMemory) e ⊎ IsDataRefused accepts terms kept m e)
-  judged_comment (Ok n) v (says, newer) = record {
+      → MatchResult r (IsUpdate accepts terms kept m) (λ e. IsLibraryFault (λ f. (f ≡ Named OutOfMemory) × S) e ⊎ IsDataRefused accepts terms kept m e)
+  judged_comment S (Ok n) v (says, newer) = record {
     comment = v.box_read.comments.trusted;
     vouched = vouched_with accepts terms.pk_text terms.sig_text m v;
     says = says;
     newer = newer;
   }
-  judged_comment (Err e) v refused = inr (inr (_, vouched_with accepts terms.pk_text terms.sig_text m v, refused))
+  judged_comment S (Err e) v refused = inr (inr (_, vouched_with accepts terms.pk_text terms.sig_text m v, refused))

@@ -7,7 +7,7 @@ use Rattle.minisign_install.specs.Folders.{HasStepped, IsBusy, IsStill, Run}
 use Rattle.minisign_install.specs.Hosts.{DeviceFails, Event, Explains, FolderFails, HasRun, Host, IsExplained, Makes, RunIsRefused, Setting}
 use Rattle.minisign_install.specs.Installing.{IsBrought, IsRecordBrought, IsUpdate, Terms}
 use Rattle.minisign_install.specs.Order.{next}
-use Rattle.minisign_install.specs.Refusals.{Counts, HasNamed, IsDataRefusal, IsDeviceFault, IsLibraryFault, counts}
+use Rattle.minisign_install.specs.Refusals.{Counts, HasNamed, IsCallFault, IsDataRefusal, IsLibraryFault, IsRunFault, counts}
 use Rattle.minisign_install.specs.Runs.{BringsNothing, BringsOnly}
 use Rattle.minisign_install.specs.declared.faults.InstallFault.{InstallFault}
 use Rattle.minisign_install.specs.declared.folders.Name.TheVariants.{Place, Record}
@@ -15,7 +15,7 @@ use Rattle.minisign_install.specs.declared.order.Due.{Due}
 use Rattle.minisign_install.specs.declared.order.Due.TheVariants.{Lock, Clear, ReadRecord, Create, Copy, ReadBack, Answer, TakeRights, Settle, CreateRecord, WriteRecord, SettleRecord, RenameRecord, SettleRecordName, Rename, SettleName, RemoveRecord, Remove, Installed, Refused}
 use Rattle.minisign_install.specs.declared.order.Outcome.{Outcome}
 use Rattle.minisign_install.specs.declared.order.Outcome.TheVariants.{Done, More, Number, Failed}
-use Rattle.minisign_install.proofs.Counts.{Lasts, rose_more, same_counts}
+use Rattle.minisign_install.proofs.Counts.{Lasts, rose_more, run_fault, same_counts}
 use Rattle.minisign_install.proofs.Installs.{found_first}
 use Rattle.minisign_install.proofs.Orders.{Front, Holds, Recording, Staging, begin_record, cleared_more, from, more_record, more_work, nothing_brings, part_works, place_goes, placing, record_brings, record_goes, recorded_brings, recording_nothing, removal_brings, staging_nothing, still_on_disk, still_staged}
 use Rattle.minisign_install.proofs.Refused.{data_after, data_more, named_after, refusal_lasts, unsettled}
@@ -57,13 +57,16 @@ refusal_rises accepts terms kept ahead before old new e h h' (random, update, ro
 
 module _ (s : Setting) (a : Host) (known : a.run.known ≡ true) where
   device : (h h' : Host) (e : InstallFault) → h.faults ≡ a.faults → DeviceFails e h h' → DeviceFails e a h'
-  device h h' e same fails = subst (λ f. IsLibraryFault (IsDeviceFault f h'.faults) e) same fails
+  device h h' e same fails = subst (λ f. IsLibraryFault (IsCallFault f h'.faults) e) same fails
+
+  run_device : (h h' : Host) (e : InstallFault) → h.faults ≡ a.faults → DeviceFails e h h' → IsLibraryFault (IsRunFault a.faults h'.faults) e
+  run_device h h' e same fails = let (fault, is, call) = device h h' e same fails in (fault, is, run_fault a.faults h'.faults fault call)
 
   rising : (h h' : Host) → h.faults ≡ a.faults → Rose h.faults.folder h'.faults.folder → Rose a.faults.folder h'.faults.folder
   rising h h' same rose = subst (λ f. Rose f.folder h'.faults.folder) same rose
 
   nothing_unfit : (kept : ℕ) (ready : Run) (h h' : Host) (e : InstallFault) → Front s a ready kept → BringsNothing ready h'.run → h.faults ≡ a.faults → DeviceFails e h h' → Unfit s a h' e
-  nothing_unfit kept ready h h' e front none same fails = (kept, ready, front, inl (none, device h h' e same fails))
+  nothing_unfit kept ready h h' e front none same fails = (kept, ready, front, inl (none, run_device h h' e same fails))
 
   staging_unfit : (kept : ℕ) (h h' : Host) (e : InstallFault) → Staging s a h'.run kept → h.faults ≡ a.faults → DeviceFails e h h' → Unfit s a h' e
   staging_unfit kept h h' e x same fails = nothing_unfit kept x.ready h h' e x.front (staging_nothing s a h'.run kept x) same fails
@@ -149,7 +152,7 @@ module _ (s : Setting) (a : Host) (known : a.run.known ≡ true) where
         kept,
         staging.ready,
         staging.front,
-        ⊎_elim (λ refused. inr (inl (none, (h.read, subst (IsAhead a.ahead) all given, refused)))) (λ fails. inl (none, device h h' e same fails)) blamed,
+        ⊎_elim (λ refused. inr (inl (none, (h.read, subst (IsAhead a.ahead) all given, refused)))) (λ fails. inl (none, run_device h h' e same fails)) blamed,
       )
   why (Answer kept) Done h h' x never no_new_fault same = absurd never
   why (Answer kept) More h h' x never no_new_fault same = absurd never
@@ -187,7 +190,7 @@ module _ (s : Setting) (a : Host) (known : a.run.known ≡ true) where
     x.staged.staging.front,
     inr (inr (inl (
       record_brings s a h.run h'.run n x holds (perhaps_renamed_goes s.record_name Record s.record_file h.run h'.run x.works.stage on_disk step own),
-      device h h' e same fails,
+      run_device h h' e same fails,
     ))),
   )
   why (RenameRecord n) More h h' x never no_new_fault same = absurd never
@@ -197,7 +200,7 @@ module _ (s : Setting) (a : Host) (known : a.run.known ≡ true) where
     x.staged.kept,
     x.staged.staging.ready,
     x.staged.staging.front,
-    inr (inr (inl (record_brings s a v h'.run n x holds (record_goes s a n v h.run h'.run x on_disk renamed (step, own)), device h h' e same fails))),
+    inr (inr (inl (record_brings s a v h'.run n x holds (record_goes s a n v h.run h'.run x on_disk renamed (step, own)), run_device h h' e same fails))),
   )
   why (SettleRecordName n) More h h' x never no_new_fault same = absurd never
   why (SettleRecordName n) (Number k) h h' x never no_new_fault same = absurd never

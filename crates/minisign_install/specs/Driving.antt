@@ -1,5 +1,7 @@
 -- What an installation over a folder holds between two calls, and what each call that is due does to it.
-use Rattle.std.specs.Prelude.{◌≡◌, ⊤, ℕ, Bool, true, List, Option, IsNone, IsSome, IfSome}
+use Rattle.std.specs.Prelude.{◌≡◌, ◌≢◌, ⊤, ℕ, Bool, true, false, List, Option, IsNone, IsSome, IfSome}
+use Rattle.minisign_base.specs.Fault.{Named}
+use Rattle.minisign_base.specs.declared.faults.NamedFault.TheVariants.{OutOfMemory}
 use Rattle.minisign.specs.Acceptance.{Verifier}
 use Rattle.minisign_external.specs.States.{IsFedState}
 use Rattle.minisign_install.specs.Folders.{Run}
@@ -10,6 +12,7 @@ use Rattle.minisign_install.specs.Refusals.{Counts}
 use Rattle.minisign_install.specs.declared.calls.Stage.{Stage}
 use Rattle.minisign_install.specs.declared.calls.Work.{Work}
 use Rattle.minisign_install.specs.declared.faults.InstallFault.{InstallFault}
+use Rattle.minisign_install.specs.declared.faults.InstallFault.TheVariants.{Library}
 use Rattle.minisign_install.specs.declared.order.Due.{Due}
 use Rattle.minisign_install.specs.declared.order.Due.TheVariants.{Lock, Clear, ReadRecord, Create, Copy, ReadBack, Answer, TakeRights, Settle, CreateRecord, WriteRecord, SettleRecord, RenameRecord, SettleRecordName, Rename, SettleName, RemoveRecord, Remove, Installed, Refused}
 use Rattle.minisign_install.specs.declared.order.Outcome.{Outcome}
@@ -83,10 +86,25 @@ abbrev pub MayCall : {E : Type 0} → Due E → Run → Type 0
 MayCall Lock run = ⊤
 MayCall due run = run.locked ≡ true
 
+-- The calls that ask for memory: copying and reading back take a buffer, and judging one for the message of the second
+-- question. Locking, clearing, creating, writing a number, rights, bringing to the disk, renaming and removing ask for
+-- none, and reading the record says of memory that it could not be read.
+abbrev pub asks_for_memory : {E : Type 0} → Due E → Bool
+asks_for_memory (Copy kept) = true
+asks_for_memory (ReadBack kept) = true
+asks_for_memory (Answer kept) = true
+asks_for_memory due = false
+
+-- a call that asks for no memory does not fail for want of it
+abbrev pub WantsNoMemory : Due InstallFault → Outcome InstallFault → Type 0
+WantsNoMemory due (Failed e) = asks_for_memory due ≡ false → e ≢ Library (Named OutOfMemory)
+WantsNoMemory due outcome = ⊤
+
 -- the call that was due was made, and went so; of a folder whose run is not known, only why it failed is said
 pub record Went (s : Setting) (due : Due InstallFault) (outcome : Outcome InstallFault) (h h' : Host) : Type 0 where
   pub made : h.run.known ≡ true → MayCall due h.run → Makes s due outcome h h'
   pub explained : Explains s due outcome h h'
+  pub memory : WantsNoMemory due outcome
 
 -- how many calls there may still be
 abbrev pub calls_left : {E : Type 0} → Due E → ℕ

@@ -10,7 +10,7 @@ use Rattle.minisign.specs.Acceptance.{Verifier}
 use Rattle.minisign.specs.Records.{CommentsRecord, SignatureBoxRecord}
 use Rattle.minisign.specs.SignatureText.{SignatureText}
 use Rattle.minisign_external.specs.Numbers.{IsAnswer, misuse_number}
-use Rattle.minisign_external.specs.States.{HasAsked, IsAskingRefusal, IsNotFed, verdict_misuse}
+use Rattle.minisign_external.specs.States.{HasAsked, IsAskingRefusal, IsBlank, IsNotFed, verdict_misuse}
 use Rattle.minisign_external.specs.declared.state.Misuse.{Misuse}
 use Rattle.minisign_external.specs.declared.state.Misuse.TheVariants.{BadAnswer, BadNumbering, NotDue}
 use Rattle.minisign_external.specs.declared.state.Refusal.TheVariants as asking
@@ -124,6 +124,14 @@ pub record KeepsRest (old new : Installation) : Type 0 where
   pub is_first : new.is_first ≡ old.is_first
   pub comment : new.comment ≡ old.comment
   pub update : new.update ≡ old.update
+
+-- what a new installation holds beside what is due: no number and no fault, and nothing came of a signed comment
+pub record IsUnused (i : Installation) : Type 0 where
+  pub number : i.number ≡ 0
+  pub fault : i.fault ≡ 0
+  pub comment : i.comment ≡ 0
+  pub update : i.update ≡ 0
+  pub state : IsBlank i.state
 
 -- == Calls that go as they are told ==
 
@@ -270,11 +278,11 @@ IsCommentFault comment terms kept e =
 
 -- == The same by numbers ==
 
--- asking was refused, by number: a numbering that is none, or as above
+-- asking was refused, by number: a numbering that is none; or else as above
 abbrev pub IsAskNumber : Installation → Installation → List ℕ → List ℕ → List ℕ → ℕ → List ℕ → ℕ → Type 0
 IsAskNumber old new pk_text sig_text file numbering bytes n =
     ((n ≡ misuse_number BadNumbering) × (1 < numbering) × (new ≡ old))
-    ⊎ ((r : HostRefusal) × (n ≡ host_number r) × IsAskRefusal old new pk_text sig_text file bytes r)
+    ⊎ ((numbering < 2) × (r : HostRefusal) × (n ≡ host_number r) × IsAskRefusal old new pk_text sig_text file bytes r)
 
 -- what is read back is an update, and its rights are due; or it is none, and the stage is to be removed for the first
 -- reason, whose number this is

@@ -11,7 +11,7 @@ use Rattle.minisign.specs.Acceptance.{Verifier}
 use Rattle.minisign_install.specs.Folders.{Appends, Clears, ClearsAll, GivesRights, HasCreated, HasLocked, HasRenamed, HasStepped, IsBusy, IsStill, KeepsNames, KeepsOwn, Moment, OwnsLess, Perhaps, Finds, Removes, Renames, Run, Settles, SettlesNames, Spoils, Known}
 use Rattle.minisign_install.specs.Installing.{HasInstalled, InstallsOnlyUpdates, IsKeptNumber, IsUpdate, Terms}
 use Rattle.minisign_install.specs.Order.{next}
-use Rattle.minisign_install.specs.Refusals.{Counts, IsDataRefused, IsDeviceFault, IsLibraryFault, IsRecordFault, IsRecordRefused, IsRefusal}
+use Rattle.minisign_install.specs.Refusals.{Counts, IsDataRefused, IsCallFault, IsLibraryFault, IsRecordFault, IsRecordRefused, IsRefusal}
 use Rattle.minisign_install.specs.declared.faults.InstallFault.{InstallFault}
 use Rattle.minisign_install.specs.declared.faults.InstallFault.TheVariants.{FolderNotOnDisk, Library, PlaceInUse}
 use Rattle.minisign_install.specs.declared.folders.Name.TheVariants.{Place, Record}
@@ -119,9 +119,9 @@ HasRun s due h (event ∷ more) due' h' = Makes s due event.outcome h event.host
 
 -- == Why a call failed ==
 
--- memory ran out, or the device failed that the fault speaks of
+-- the device failed that the fault speaks of; or memory ran out, and no device failed
 abbrev pub DeviceFails : InstallFault → Host → Host → Type 0
-DeviceFails e h h' = IsLibraryFault (IsDeviceFault h.faults h'.faults) e
+DeviceFails e h h' = IsLibraryFault (IsCallFault h.faults h'.faults) e
 
 -- only the folder failed
 abbrev pub FolderFails : Host → Host → Type 0

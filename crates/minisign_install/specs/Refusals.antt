@@ -32,17 +32,26 @@ counts random update folder = record { random = random; update = update; folder 
 abbrev pub HasFailed : Counts → Counts → Type 0
 HasFailed before after = Rose before.random after.random ⊎ Rose before.update after.update ⊎ Rose before.folder after.folder
 
--- memory ran out, or the device failed that the fault speaks of
+-- the device failed that the fault speaks of
 abbrev pub IsDeviceFault : Counts → Counts → Fault → Type 0
 IsDeviceFault before after e =
-    (e ≡ Named OutOfMemory)
-    ⊎ ((e ≡ Named ReadingFailed) × (Rose before.update after.update ⊎ Rose before.folder after.folder))
+    ((e ≡ Named ReadingFailed) × (Rose before.update after.update ⊎ Rose before.folder after.folder))
     ⊎ ((e ≡ Named WritingFailed) × Rose before.folder after.folder)
     ⊎ ((e ≡ Named RandomSourceFailed) × Rose before.random after.random)
 
--- memory ran out, or the device failed that a stage is read from
+-- why one call failed: memory ran out, and no device failed; or the device that the fault speaks of
+abbrev pub IsCallFault : Counts → Counts → Fault → Type 0
+IsCallFault before after e = ((e ≡ Named OutOfMemory) × (after ≡ before)) ⊎ IsDeviceFault before after e
+
+-- why a run failed that has made a stage: the same, but where memory ran out the folder may have failed behind that, in
+-- removing the stage
+abbrev pub IsRunFault : Counts → Counts → Fault → Type 0
+IsRunFault before after e =
+    ((e ≡ Named OutOfMemory) × (after.random ≡ before.random) × (after.update ≡ before.update)) ⊎ IsDeviceFault before after e
+
+-- the device failed that a stage is read from; or memory ran out, and none failed
 abbrev pub IsReadingFault : ℕ → ℕ → Fault → Type 0
-IsReadingFault before after e = (e ≡ Named OutOfMemory) ⊎ ((e ≡ Named ReadingFailed) × Rose before after)
+IsReadingFault before after e = ((e ≡ Named OutOfMemory) × (after ≡ before)) ⊎ ((e ≡ Named ReadingFailed) × Rose before after)
 
 -- a fault of the library that is as P says
 abbrev pub IsLibraryFault : (Fault → Type 0) → InstallFault → Type 0
@@ -81,14 +90,14 @@ abbrev pub HasPlaced : Verifier → Terms → ℕ → Run → Run → Type 0
 HasPlaced accepts terms kept old new = (bytes : List ℕ) × (n : ℕ) × IsUpdate accepts terms kept bytes n × HasNamed Place bytes old new
 
 -- Why the data ahead is not installed where the lock is held and the kept number is known, and what is brought then.
--- A device failed, or the data is refused: nothing. The number could not be kept: at most the record. The renaming
+-- A device failed, or memory ran out, or the data is refused: nothing. The number could not be kept: at most the record. The renaming
 -- failed: at most what a whole installation brings. The folder could not be brought to the disk: the update stands
 -- at the place, and a crash may still bring back what stood there.
 abbrev pub IsDataRefusal : Verifier → Terms → ℕ → Option (List ℕ) → Counts → Counts → Run → Run → InstallFault → Type 0
 IsDataRefusal accepts terms kept ahead before after old new e =
-    (BringsNothing old new × IsLibraryFault (IsDeviceFault before after) e)
+    (BringsNothing old new × IsLibraryFault (IsRunFault before after) e)
     ⊎ (BringsNothing old new × ((message : List ℕ) × IsAhead ahead message × IsDataRefused accepts terms kept message e))
-    ⊎ (BringsOnly (IsRecordBrought accepts terms kept) old new × IsLibraryFault (IsDeviceFault before after) e)
+    ⊎ (BringsOnly (IsRecordBrought accepts terms kept) old new × IsLibraryFault (IsRunFault before after) e)
     ⊎ (BringsOnly (IsBrought accepts terms kept) old new × (e ≡ Library (Named WritingFailed)) × Rose before.folder after.folder)
     ⊎ (BringsOnly (IsBrought accepts terms kept) old new × HasPlaced accepts terms kept old new × (e ≡ FolderNotOnDisk) × Rose before.folder after.folder)
 
@@ -97,7 +106,7 @@ IsDataRefusal accepts terms kept ahead before after old new e =
 -- it was found to hold a number, and the data is refused.
 abbrev pub IsLockedRefusal : Verifier → Terms → Bool → Option (List ℕ) → Counts → Counts → Run → Run → InstallFault → Type 0
 IsLockedRefusal accepts terms first ahead before after old new e =
-    (BringsNothing old new × IsLibraryFault (IsDeviceFault before after) e)
+    (BringsNothing old new × IsLibraryFault (IsCallFault before after) e)
     ⊎ (HasCleared old new × BringsNothing old new × ((found : Option (List ℕ)) × IsFound old.now Record found × IsRecordRefused first found e))
     ⊎ (HasCleared old new × ((found : Option (List ℕ)) × (kept : ℕ) × IsFound old.now Record found × IsKeptNumber first found kept
     × IsDataRefusal accepts terms kept ahead before after old new e))
@@ -107,8 +116,12 @@ IsLockedRefusal accepts terms first ahead before after old new e =
 abbrev pub IsRefusal : Verifier → Terms → Bool → Option (List ℕ) → Counts → Counts → Run → Run → InstallFault → Type 0
 IsRefusal accepts terms first ahead before after old new e =
     (HasStepped old new IsBusy × (e ≡ PlaceInUse))
-    ⊎ (HasStepped old new IsStill × IsLibraryFault (IsDeviceFault before after) e)
+    ⊎ (HasStepped old new IsStill × IsLibraryFault (IsCallFault before after) e)
     ⊎ ((locked : Run) × HasLocked old locked × IsLockedRefusal accepts terms first ahead before after locked new e)
+
+-- the lock was got, and since then nothing was brought
+abbrev pub LocksAlone : Run → Run → Type 0
+LocksAlone old new = (locked : Run) × HasLocked old locked × BringsNothing locked new
 
 -- == When an update is installed ==
 
@@ -138,7 +151,7 @@ InstallsExactly accepts terms first ahead before after old new answer =
 -- why some data is not installed
 abbrev pub IsDataCause : Verifier → Terms → Counts → Counts → InstallFault → Type 0
 IsDataCause accepts terms before after e =
-    IsLibraryFault (IsDeviceFault before after) e ⊎ ((message : List ℕ) × (kept : ℕ) × IsDataRefused accepts terms kept message e)
+    IsLibraryFault (IsRunFault before after) e ⊎ ((message : List ℕ) × (kept : ℕ) × IsDataRefused accepts terms kept message e)
     ⊎ ((e ≡ FolderNotOnDisk) × Rose before.folder after.folder)
 
 -- the record is refused, which it never is at the first installation

@@ -77,7 +77,8 @@ pub(crate) fn make<S: Scheme, Z: RandomSource, R: Source, F: Folder>(
     due: &Due<InstallFault>,
     work: &mut Work<F::Handle>,
 ) -> Outcome<InstallFault>
-    // The call that is due was made, and went as it is said; where it failed, this is why.
+    // The call that is due was made, and went as it is said; where it failed, this is why: for want of memory only where
+    // it asks for memory and no device failed.
     ensures went { has_ended due.now ≡ false → (read : List ℕ) → HasMade due.now work.old → Knows (S.accepts scheme.now) (terms_of wanted.entry) due.now work.old read
         → HasMade (next due.now result) work.new × ((then : List ℕ) × Knows (S.accepts scheme.now) (terms_of wanted.entry) (next due.now result) work.new then
         × ((names : Names) → AreNamed F.Handle.file work.new names → AreNamed F.Handle.file work.old names
@@ -193,7 +194,7 @@ fn copy<R: Source, F: Folder>(
         (λ _. (pieces : List (List ℕ)) × Writes (F.Handle.file made.handle) pieces (F.run folder.old) (F.run folder.new)
         × Consumes (R.ahead update.old) (R.ahead update.new) (concat pieces) × IsAtEnd (R.ahead update.new))
         (λ _. WritesInPart (F.Handle.file made.handle) (F.run folder.old) (F.run folder.new)))) }
-    ensures refused { IfSome stage.now (λ _. IfErr result (λ e. (fault : Fault) × (e ≡ Library fault) × ((fault ≡ Named OutOfMemory) ⊎ ((fault ≡ Named ReadingFailed) × Rose (R.faults update.old) (R.faults update.new))
+    ensures refused { IfSome stage.now (λ _. IfErr result (λ e. (fault : Fault) × (e ≡ Library fault) × (((fault ≡ Named OutOfMemory) × (folder.new ≡ folder.old) × (update.new ≡ update.old)) ⊎ ((fault ≡ Named ReadingFailed) × Rose (R.faults update.old) (R.faults update.new))
         ⊎ ((fault ≡ Named WritingFailed) × Rose (F.folder_faults folder.old) (F.folder_faults folder.new))))) }
     ensures no_new_fault { OnOk result ((R.faults update.new ≡ R.faults update.old) × (F.folder_faults folder.new ≡ F.folder_faults folder.old)) }
 {
@@ -324,7 +325,7 @@ fn remove<F: Folder>(folder: &mut F, stage: &Option<Stage<F::Handle>>) -> Result
     ensures removed { IfSome stage.now (λ made. Held (F.run folder.old) (MatchResult result
         (λ _. Lets (drawn_bytes made.name) (Removes (drawn_bytes made.name)) (F.run folder.old) (F.run folder.new))
         (λ _. Lets (drawn_bytes made.name) (Perhaps (Removes (drawn_bytes made.name))) (F.run folder.old) (F.run folder.new)))) }
-    ensures refused { IfSome stage.now (λ _. OnErr result (Rose (F.folder_faults folder.old) (F.folder_faults folder.new))) }
+    ensures refused { IfSome stage.now (λ _. IfErr result (λ e. (e ≡ Library (Named WritingFailed)) × Rose (F.folder_faults folder.old) (F.folder_faults folder.new))) }
     ensures no_new_fault { OnOk result (F.folder_faults folder.new ≡ F.folder_faults folder.old) }
 {
     match stage {

@@ -1,6 +1,6 @@
 //! Asking a signature scheme about what a host has read back, and judging the signed comment. None of it takes memory.
 
-ghost use Rattle.std.specs.Prelude.{◌≡◌, ◌≤◌, ℕ, Bool, List, Some, false, OnOk, OnErr, IfErr, IfOk, MatchOption, MatchResult, [], true};
+ghost use Rattle.std.specs.Prelude.{◌≡◌, ◌≤◌, ℕ, Bool, List, Some, false, OnOk, OnErr, Err, IfErr, IfOk, IfSome, MatchOption, MatchResult, [], true};
 ghost use Rattle.std.specs.Str.{IsUtf8};
 ghost use Rattle.minisign_hash.specs.Blake2b.{blake2b_digest};
 ghost use Rattle.minisign.specs.Records.{CommentsRecord, PublicKeyRecord, SignatureBoxRecord};
@@ -13,7 +13,7 @@ ghost use Rattle.minisign_install.specs.HostNumbers.{install_number};
 ghost use Rattle.minisign_install.specs.Hosted.{GivesUpdate, IsAnswerRefusal, IsAskRefusal, IsAsking, IsCommentFault, IsJudged, IsTextJudged, KeepsRest, IsDue, wanted_by};
 ghost use Rattle.minisign_install.specs.Installing.{Terms};
 ghost use Rattle.minisign_install.specs.Refusals.{IsCommentRefused};
-ghost use Rattle.minisign_install.specs.declared.faults.InstallFault.TheVariants.{Library};
+ghost use Rattle.minisign_install.specs.declared.faults.InstallFault.TheVariants.{Library, OtherFile};
 ghost use Rattle.minisign_install.specs.declared.hosted.HostRefusal.TheVariants.{Refused};
 ghost use Rattle.minisign_install.specs.declared.order.Due.TheVariants.{Answer, Remove, TakeRights};
 
@@ -181,16 +181,17 @@ impl Installation {
     }
 }
 
-// Judges the comment that the text of a signature has.
+// Judges the comment that the text of a signature has. A text that reads as no signature names no file.
 pub(crate) fn judge_text(
     sig_text: &[u8],
     file: &str,
     numbering: Numbering,
     kept: u64,
 ) -> Result<u64, InstallFault>
-    ensures { IsUtf8 sig_text.now → (x : SignatureBoxRecord) (c : CommentsRecord) → SignatureText sig_text.now x → x.comments ≡ Some c
+    ensures judged { IsUtf8 sig_text.now → (x : SignatureBoxRecord) (c : CommentsRecord) → SignatureText sig_text.now x → x.comments ≡ Some c
         → (pk_text : List ℕ) → MatchResult result (λ n. Says c.trusted file.now numbering n × (kept ≤ n))
         (IsCommentRefused (wanted_by pk_text sig_text.now file.now numbering) kept c.trusted) }
+    ensures unread { ((x : SignatureBoxRecord) → ¬ (SignatureText sig_text.now x)) → result ≡ Err OtherFile }
 {
     match comment_of(sig_text) {
         Some(comment) => match check_comment(comment, file, numbering, kept) {
@@ -203,8 +204,9 @@ pub(crate) fn judge_text(
 
 // The trusted comment of the text of a signature, where it reads as one.
 fn comment_of(sig_text: &[u8]) -> Option<&str>
-    ensures { IsUtf8 sig_text.now → (x : SignatureBoxRecord) (c : CommentsRecord) → SignatureText sig_text.now x → x.comments ≡ Some c
+    ensures comment { IsUtf8 sig_text.now → (x : SignatureBoxRecord) (c : CommentsRecord) → SignatureText sig_text.now x → x.comments ≡ Some c
         → MatchOption result ⊥ (λ t. t.now ≡ c.trusted) }
+    ensures reads { IfSome result (λ _. (x : SignatureBoxRecord) × SignatureText sig_text.now x) }
 {
     let Ok(text) = str::from_utf8(sig_text) else {
         return None;

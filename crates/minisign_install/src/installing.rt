@@ -1,10 +1,13 @@
 //! Installing an update in a folder: each call is made as the table of `Due` has it due.
 
 ghost use Rattle.std.specs.Prelude.{◌≡◌, IfErr, OnOk};
+ghost use Rattle.minisign_base.specs.Fault.{Named};
+ghost use Rattle.minisign_base.specs.declared.faults.NamedFault.TheVariants.{OutOfMemory};
 ghost use Rattle.minisign_install.specs.Folders.{HasLocked, Run, Known};
 ghost use Rattle.minisign_install.specs.Installing.{HasInstalled, InstallsOnlyUpdates, IsVouched, terms_of};
-ghost use Rattle.minisign_install.specs.Refusals.{InstallsExactly, IsCause, IsRefusal, counts};
+ghost use Rattle.minisign_install.specs.Refusals.{InstallsExactly, IsCause, IsRefusal, LocksAlone, counts};
 ghost use Rattle.minisign_install.specs.Runs.{OwnsNoMore};
+ghost use Rattle.minisign_install.specs.declared.faults.InstallFault.TheVariants.{Library};
 
 use crate::calls::{Work, make};
 use crate::faults::InstallFault;
@@ -32,7 +35,8 @@ use std::alloc::Global;
 /// place's name and brings the folder to the disk.
 ///
 /// A device that fails is `ReadingFailed`, `WritingFailed` or `RandomSourceFailed`, and memory
-/// may run out at any time. After a refusal this run has brought nothing to the place, unless the
+/// may run out in copying, reading back and judging (a record that is read without memory is
+/// `ReadingFailed`). After a refusal this run has brought nothing to the place, unless the
 /// renaming failed (`WritingFailed`), which may have been done, or bringing it to the disk
 /// (`FolderNotOnDisk`): then the update stands there. The record has changed only if keeping
 /// the number failed or a later step did. The new file is removed if it can be, or by the next run.
@@ -71,6 +75,8 @@ pub fn install_update<S: Scheme, Z: RandomSource, R: Source, F: Folder>(
     // the lock held by another run; or a device's fault, where its count of faults rose, or the
     // record's, with nothing brought: the record was absent, or no number, when the lock was got,
     // and it is not the first installation (`IsLockedRefusal`, `IsDeviceFault`, `IsRecordRefused`).
+    // Or out of memory, where no count rose, but for the folder's, where the stage could not be
+    // removed behind that (`IsCallFault`, `IsRunFault`).
     //
     // Or, with the number that the record held when the lock was got: the first failing case of the
     // texts over the data ahead, or what the vouched-for comment lacks, with nothing brought; a
@@ -94,10 +100,17 @@ pub fn install_update<S: Scheme, Z: RandomSource, R: Source, F: Folder>(
     // the file and has a number.
     ensures vouched { OnOk result (IsVouched (S.accepts scheme.now) (terms_of wanted.entry)) }
 
-    // Why a fault may come: a device's only where its count of faults rose; the record is refused
+    // Why a fault may come: a device's only where its count of faults rose; out of memory only where
+    // neither the random source nor the source of the data has failed; the record is refused
     // only where it is not the first installation, and all that is said of the data only where some
     // data has it.
     ensures causes { IfErr result (IsCause (S.accepts scheme.now) (terms_of wanted.entry) is_first (counts (Z.random_faults random.old) (R.faults update.old) (F.folder_faults folder.old)) (counts (Z.random_faults random.new) (R.faults update.new) (F.folder_faults folder.new))) }
+
+    // Memory runs out only with the lock held, and before anything is brought to the place or to the
+    // record. A run that says so may have given up there, or have met a fault of the folder before it
+    // removed the stage: no clause of the whole run tells these apart, and that of each call does the
+    // latter.
+    ensures memory { IfErr result (λ e. e ≡ Library (Named OutOfMemory) → Known (F.run folder.old) (LocksAlone (F.run folder.old) (F.run folder.new))) }
 
     // On success no device failed.
     ensures no_new_fault { OnOk result (counts (Z.random_faults random.new) (R.faults update.new) (F.folder_faults folder.new) ≡ counts (Z.random_faults random.old) (R.faults update.old) (F.folder_faults folder.old)) }

@@ -23,7 +23,8 @@ use minisign_base::scheme::Scheme;
 use minisign_external::state::{Questions, Refusal, State};
 use std::alloc::Global;
 
-// Reads back all that the stage holds, in pieces. A fault of reading it is counted.
+// Reads back all that the stage holds, in pieces. A fault of reading it is counted. Memory runs out only before anything
+// is read.
 pub(crate) fn read_back<F: Folder>(
     alloc: Global,
     folder: &mut F,
@@ -66,7 +67,8 @@ fn feed<F: Folder>(folder: &F, handle: &F::Handle, buf: &mut [u8]) -> Result<Sta
 }
 
 // Whether what the state was fed is an update: the signature scheme answers the two questions of
-// the texts, and the comment that was signed is judged. Returns the number of the update.
+// the texts, and the comment that was signed is judged. Returns the number of the update. Memory runs out only before
+// anything is asked: what says so then may have given up.
 pub(crate) fn judge<S: Scheme>(
     alloc: Global,
     scheme: &S,
@@ -76,7 +78,7 @@ pub(crate) fn judge<S: Scheme>(
 ) -> Result<u64, InstallFault>
     ensures judged { (m : List ℕ) → IsFedState state.old m
         → MatchResult result (IsUpdate (S.accepts scheme.now) (terms_of wanted.entry) kept m)
-        (λ e. IsLibraryFault (λ f. f ≡ Named OutOfMemory) e ⊎ IsDataRefused (S.accepts scheme.now) (terms_of wanted.entry) kept m e) }
+        (λ e. IsLibraryFault (λ f. (f ≡ Named OutOfMemory) × (state.new ≡ state.old)) e ⊎ IsDataRefused (S.accepts scheme.now) (terms_of wanted.entry) kept m e) }
 {
     match vouch(alloc, scheme, wanted.pk_text, wanted.sig_text, state) {
         Ok(()) => judge_text(
@@ -99,7 +101,7 @@ fn vouch<S: Scheme>(
 ) -> Result<(), PError>
     ensures { (m : List ℕ) → IsFedState state.old m
         → MatchResult result (λ _. TextsVouchFor (S.accepts scheme.now) pk_text.now sig_text.now m false)
-        (λ e. (e ≡ Named OutOfMemory) ⊎ TextsRefuse (S.accepts scheme.now) pk_text.now sig_text.now m false e) }
+        (λ e. ((e ≡ Named OutOfMemory) × (state.new ≡ state.old)) ⊎ TextsRefuse (S.accepts scheme.now) pk_text.now sig_text.now m false e) }
 {
     let mut message = zeros(alloc, sig_text.len())?;
     decide(

@@ -19,7 +19,7 @@ use std::alloc::{AllocError, Global};
 // The size of the pieces in which data is copied.
 pub(crate) const PIECE: usize = 65536;
 
-// Copies all the data ahead behind what the stage holds.
+// Copies all the data ahead behind what the stage holds. Memory runs out only before anything is read or written.
 pub(crate) fn fill<F: Folder, R: Source>(
     alloc: Global,
     folder: &mut F,
@@ -30,7 +30,7 @@ pub(crate) fn fill<F: Folder, R: Source>(
         × Consumes (R.ahead update.old) (R.ahead update.new) (concat pieces) × IsAtEnd (R.ahead update.new))) }
     ensures broken { OnErr result (Known (F.run folder.old) (WritesInPart (F.Handle.file handle.now) (F.run folder.old) (F.run folder.new))) }
     ensures no_new_fault { OnOk result ((R.faults update.new ≡ R.faults update.old) × (F.folder_faults folder.new ≡ F.folder_faults folder.old)) }
-    ensures refused { IfErr result (λ e. (e ≡ Named OutOfMemory) ⊎ ((e ≡ Named ReadingFailed) × Rose (R.faults update.old) (R.faults update.new))
+    ensures refused { IfErr result (λ e. ((e ≡ Named OutOfMemory) × (folder.new ≡ folder.old) × (update.new ≡ update.old)) ⊎ ((e ≡ Named ReadingFailed) × Rose (R.faults update.old) (R.faults update.new))
         ⊎ ((e ≡ Named WritingFailed) × Rose (F.folder_faults folder.old) (F.folder_faults folder.new))) }
 {
     let mut buf = zeros(alloc, PIECE)?;

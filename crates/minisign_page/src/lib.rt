@@ -101,12 +101,13 @@ pub extern "C" fn page_ask(
     ensures asking { result ≡ 0 → HasAsked state.new pk_text.now sig_text.now (allow_legacy == 1) }
 
     ensures begun { result ≡ 0 → IsMarkedFed state.old }
+    ensures number { result ≡ 0 → allow_legacy < 2 }
 
     // The identifiers of texts that read, asked or refused.
     ensures identifiers { allow_legacy < 2 → (m : List ℕ) → IsFedState state.old m → IsUtf8 pk_text.now → IsUtf8 sig_text.now
         → TellsIdentifiers pk_text.now sig_text.now questions.new }
 
-    // Why they were not asked.
+    // Why they were not asked: first a number that is neither 0 nor 1.
     ensures refused { 0 < result → IsAskingNumber state.old pk_text.now sig_text.now allow_legacy message.old result }
     ensures kept { 0 < result → (state.new ≡ state.old) × (message.new ≡ message.old) }
 {

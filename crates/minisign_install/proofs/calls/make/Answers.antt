@@ -3,7 +3,7 @@ use Rattle.minisign_install.specs.Driving.{host}
 use Rattle.minisign_install.specs.Installing.{terms_of}
 use Rattle.minisign_install.specs.Refusals.{counts}
 use Rattle.minisign_install.proofs.Counts.{same_counts}
-use Rattle.minisign_install.proofs.Driving.{answer_goes, clear_goes, copy_goes, create_goes, create_record_goes, lock_goes, read_back_step, read_goes, remove_goes, remove_record_goes, rename_goes, rename_record_goes, settle_goes, settle_name_goes, settle_record_goes, settle_record_name_goes, take_rights_goes, write_record_goes, map_ok}
+use Rattle.minisign_install.proofs.Driving.{untouched, answer_goes, clear_goes, copy_goes, create_goes, create_record_goes, lock_goes, read_back_step, read_goes, remove_goes, remove_record_goes, rename_goes, rename_record_goes, settle_goes, settle_name_goes, settle_record_goes, settle_record_name_goes, take_rights_goes, write_record_goes, map_ok}
 use Rattle.minisign_install.proofs.calls.make.Goals as goal
 
 pub returns-in-Lock-clause-went : goal.returns-in-Lock-clause-went
@@ -38,7 +38,7 @@ pub returns-in-Copy-clause-went : goal.returns-in-Copy-clause-went
 returns-in-Copy-clause-went g c = rw (c.in-Copy.is, c.done_or-in-Copy.ensures) (λ going read made knows.
     let h = host (g.F.Folder.run c.args.folder.now) (g.R.Source.ahead c.args.update.now) read (counts (g.Z.RandomSource.random_faults c.args.random.now) (g.R.Source.faults c.args.update.now) (g.F.Folder.folder_faults c.args.folder.now)) in
     let then = host (g.F.Folder.run c.copy.new.folder) (g.R.Source.ahead c.copy.new.update) read (counts (g.Z.RandomSource.random_faults c.args.random.now) (g.R.Source.faults c.copy.new.update) (g.F.Folder.folder_faults c.copy.new.folder)) in
-    let (has, known, went) = copy_goes (g.S.Scheme.accepts c.args.scheme.now) (terms_of c.args.wanted) c.args.is_first g.F.Handle.Handle.file c.in-Copy.field-0 c.args.work.now h then c.copy.result made refl c.copy.ensures.copied c.copy.ensures.refused (map_ok c.copy.result (λ no_new_fault. same_counts _ _ _ _ _ _ refl no_new_fault.0 no_new_fault.1) c.copy.ensures.no_new_fault) in
+    let (has, known, went) = copy_goes (g.S.Scheme.accepts c.args.scheme.now) (terms_of c.args.wanted) c.args.is_first g.F.Handle.Handle.file c.in-Copy.field-0 c.args.work.now h then c.copy.result made refl c.copy.ensures.copied (untouched (g.R.Source.faults) (g.F.Folder.folder_faults) _ _ _ _ _ c.args.work.now.stage c.copy.result c.copy.ensures.refused) (map_ok c.copy.result (λ no_new_fault. same_counts _ _ _ _ _ _ refl no_new_fault.0 no_new_fault.1) c.copy.ensures.no_new_fault) in
     (has, (read, known, went)))
 
 pub returns-in-ReadBack-clause-went : goal.returns-in-ReadBack-clause-went
@@ -46,7 +46,7 @@ returns-in-ReadBack-clause-went g c = rw (c.in-ReadBack.is, c.done_or-in-ReadBac
     read_back_step (g.S.Scheme.accepts c.args.scheme.now) (terms_of c.args.wanted) c.args.is_first g.F.Handle.Handle.file c.in-ReadBack.field-0 c.args.work.now c.read_stage.new.state (g.F.Folder.run c.args.folder.now) (g.F.Folder.run c.read_stage.new.folder) (g.R.Source.ahead c.args.update.now) read
     (counts (g.Z.RandomSource.random_faults c.args.random.now) (g.R.Source.faults c.args.update.now) (g.F.Folder.folder_faults c.args.folder.now))
     (counts (g.Z.RandomSource.random_faults c.args.random.now) (g.R.Source.faults c.args.update.now) (g.F.Folder.folder_faults c.read_stage.new.folder))
-    c.read_stage.result made c.read_stage.ensures.still c.read_stage.ensures.fed c.read_stage.ensures.refused (map_ok c.read_stage.result (λ no_new_fault. same_counts _ _ _ _ _ _ refl refl no_new_fault) c.read_stage.ensures.no_new_fault))
+    c.read_stage.result made c.read_stage.ensures.still c.read_stage.ensures.fed c.read_stage.ensures.refused (map_ok c.read_stage.result (λ no_new_fault. same_counts _ _ _ _ _ _ refl refl no_new_fault) c.read_stage.ensures.no_new_fault) (λ same. same_counts _ _ _ _ _ _ refl refl same))
 
 pub returns-in-Answer-clause-went : goal.returns-in-Answer-clause-went
 returns-in-Answer-clause-went g c = rw (c.in-Answer.is, c.number_or-in-Answer.ensures) (λ going read made knows.

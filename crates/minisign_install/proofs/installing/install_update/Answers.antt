@@ -57,6 +57,11 @@ returns-in-Refused-clause-lets_go g c = λ known.
     let (read, driven) = rw c.in-Refused.is at c.calls.invariant in
     (refused_runs (g.S.Scheme.accepts c.args.scheme.now) (terms_of c.args.wanted) c.args.is_first g.F.Handle.Handle.file (host (g.F.Folder.run c.args.folder.now) (g.R.Source.ahead c.args.update.now) [] (counts (g.Z.RandomSource.random_faults c.args.random.now) (g.R.Source.faults c.args.update.now) (g.F.Folder.folder_faults c.args.folder.now))) c.in-Refused.fault c.calls.work (host (g.F.Folder.run c.calls.folder) (g.R.Source.ahead c.calls.update) read (counts (g.Z.RandomSource.random_faults c.calls.random) (g.R.Source.faults c.calls.update) (g.F.Folder.folder_faults c.calls.folder))) driven known).2
 
+pub returns-in-Refused-clause-memory : goal.returns-in-Refused-clause-memory
+returns-in-Refused-clause-memory g c = λ is known.
+    let (read, driven) = rw c.in-Refused.is at c.calls.invariant in
+    (refused_runs (g.S.Scheme.accepts c.args.scheme.now) (terms_of c.args.wanted) c.args.is_first g.F.Handle.Handle.file (host (g.F.Folder.run c.args.folder.now) (g.R.Source.ahead c.args.update.now) [] (counts (g.Z.RandomSource.random_faults c.args.random.now) (g.R.Source.faults c.args.update.now) (g.F.Folder.folder_faults c.args.folder.now))) c.in-Refused.fault c.calls.work (host (g.F.Folder.run c.calls.folder) (g.R.Source.ahead c.calls.update) read (counts (g.Z.RandomSource.random_faults c.calls.random) (g.R.Source.faults c.calls.update) (g.F.Folder.folder_faults c.calls.folder))) driven known).3 is
+
 pub returns-in-Refused-clause-exactly : goal.returns-in-Refused-clause-exactly
 returns-in-Refused-clause-exactly g c = λ known.
     let (read, driven) = rw c.in-Refused.is at c.calls.invariant in

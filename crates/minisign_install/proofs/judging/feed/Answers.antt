@@ -3,7 +3,7 @@ use Rattle.minisign_install.proofs.Pieces.{read_more}
 use Rattle.minisign_install.proofs.judging.feed.Goals as goal
 
 pub pieces-init : goal.pieces-init
-pieces-init g c = ([], c.new-state.ensures, λ known. refl)
+pieces-init g c = ([], c.new-state.ensures.fed, λ known. refl)
 
 pub pieces-preserved : goal.pieces-preserved
 pieces-preserved g c =

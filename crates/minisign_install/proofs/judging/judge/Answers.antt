@@ -9,6 +9,6 @@ returns-in-Ok g c = record {
   judged = λ m fed.
       let v = c.in-Ok.ensures m fed in
       let read = subst (λ (t : List ℕ). SignatureText t v.box) (sym c.as_bytes.ensures.value) v.box_read in
-      judged_comment (g.S.Scheme.accepts c.args.scheme.now) (terms_of c.args.wanted) c.args.kept m c.judge_text.result v
-      (c.judge_text.ensures c.as_bytes.ensures.utf8 v.box v.box_read.comments read v.box_read.box c.args.wanted.pk_text.now);
+      judged_comment (g.S.Scheme.accepts c.args.scheme.now) (terms_of c.args.wanted) c.args.kept m _ c.judge_text.result v
+      (c.judge_text.ensures.judged c.as_bytes.ensures.utf8 v.box v.box_read.comments read v.box_read.box c.args.wanted.pk_text.now);
 }
