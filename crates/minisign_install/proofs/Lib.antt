@@ -11,6 +11,7 @@ mod Orders
 mod Pasts
 mod Pieces
 mod Reasons
+mod RecordTexts
 mod Refused
 mod Verdicts
 mod Works

@@ -10,5 +10,6 @@ pub mod Installing
 pub mod Memory
 pub mod Names
 pub mod Order
+pub mod RecordTexts
 pub mod Refusals
 pub mod Runs
