@@ -497,6 +497,9 @@ pub extern "C" fn minisign_install_ask(
     ensures asking { result ≡ 0 → (kept : ℕ) × IsDue installation.old (Answer kept)
         × IsAsking installation.new (wanted_by pk_text.now sig_text.now file.now (numbering_of installation.old)) kept }
 
+    // The field that the number stands in stays.
+    ensures field { numbering_of installation.new ≡ numbering_of installation.old }
+
     // The identifiers are answered as `Installation::ask` says.
     ensures identifiers { (kept : ℕ) → IsDue installation.old (Answer kept) → (m : List ℕ) → IsFedState installation.old.state m
         → IsUtf8 file.now → IsUtf8 pk_text.now → IsUtf8 sig_text.now
@@ -534,6 +537,9 @@ pub extern "C" fn minisign_install_answer(
     ensures due { result ≡ 0 → ((kept : ℕ) × IsDue installation.old (Answer kept)) × ((n : ℕ) × IsDue installation.new (TakeRights n))
         × HasEnded installation.old.state installation.new.state × IsAnswer first × IsAnswer second }
     ensures refused { 0 < result → IsAnswerNumber installation.old installation.new first second result }
+
+    // The field that the number stands in stays.
+    ensures field { numbering_of installation.new ≡ numbering_of installation.old }
 {
     if !(is_answer(first) && is_answer(second)) {
         return Misuse::BadAnswer.number();

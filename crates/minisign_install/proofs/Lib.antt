@@ -3,6 +3,7 @@ mod Counts
 mod Driven
 mod Driving
 mod Fields
+mod Hosting
 mod InMemory
 mod Installs
 mod Judgements

@@ -199,11 +199,12 @@ wanted_by pk_text sig_text file numbering = record { pk_text = pk_text; sig_text
 abbrev pub read_outcome : List ℕ → Outcome ℕ
 read_outcome piece = if length piece == 0 then Done else More
 
--- the stage is read back, and this piece was, or its end
+-- the stage is read back, and this piece was, or its end; the field that the number stands in stays
 pub record HasReadBack (piece : List ℕ) (old new : Installation) : Type 0 where
   pub kept : ℕ
   pub due : IsDue old (ReadBack kept)
   pub next_due : IsDue new (next (ReadBack kept) (read_outcome piece))
+  pub numbering : new.numbering ≡ old.numbering
 
 -- no stage is read back, or the state was never begun
 abbrev pub CannotBeFed : Installation → Misuse → Type 0

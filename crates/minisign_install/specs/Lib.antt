@@ -4,6 +4,7 @@ pub mod Faults
 pub mod Folders
 pub mod HostNumbers
 pub mod Hosted
+pub mod Hosting
 pub mod Hosts
 pub mod InMemory
 pub mod Installing

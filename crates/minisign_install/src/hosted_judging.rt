@@ -51,6 +51,9 @@ impl Installation {
         ensures asking { OnOk result ((kept : ℕ) × IsDue self.old (Answer kept)
             × IsAsking self.new (wanted_by pk_text.now sig_text.now file.now (numbering_of self.old)) kept) }
 
+        // The field that the number stands in stays.
+        ensures field { numbering_of self.new ≡ numbering_of self.old }
+
         // Where the answers are due, and texts and name are UTF-8, both identifiers are told where both texts read.
         ensures identifiers { (kept : ℕ) → IsDue self.old (Answer kept) → (m : List ℕ) → IsFedState self.old.state m
             → IsUtf8 file.now → IsUtf8 pk_text.now → IsUtf8 sig_text.now
@@ -100,6 +103,9 @@ impl Installation {
         ensures due { OnOk result (((kept : ℕ) × IsDue self.old (Answer kept)) × ((n : ℕ) × IsDue self.new (TakeRights n))
             × HasEnded self.old.state self.new.state) }
         ensures refused { IfErr result (IsAnswerRefusal self.old self.new) }
+
+        // The field that the number stands in stays.
+        ensures field { numbering_of self.new ≡ numbering_of self.old }
     {
         if !self.is_answer_due() {
             return Err(HostRefusal::WrongUse(Misuse::NotDue));
@@ -147,6 +153,7 @@ impl Installation {
             → IsTextJudged self.new.comment self.new.update (wanted_by pk_text sig_text.now file.now (numbering_of self.old)) kept }
         ensures due { (kept : ℕ) → IsDue self.old (Answer kept) → IsDue self.new (Answer kept) }
         ensures state { self.new.state ≡ self.old.state }
+        ensures numbering { self.new.numbering ≡ self.old.numbering }
     {
         let kept = self.kept();
         match judge_text(sig_text, file, self.numbering(), kept) {
@@ -169,6 +176,7 @@ impl Installation {
         ensures due { OnOk result ((n : ℕ) × IsDue self.new (TakeRights n)) }
         ensures refused { IfErr result (λ r. (e : InstallFault) × (r ≡ Refused e) × IsDue self.new (Remove (install_number e))) }
         ensures state { self.new.state ≡ self.old.state }
+        ensures numbering { self.new.numbering ≡ self.old.numbering }
     {
         if self.comment == IS_UPDATE {
             self.set(Due::TakeRights(self.update));
