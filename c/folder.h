@@ -14,7 +14,7 @@
 
 #include "minisign.h"
 
-/* How long the record may be: more than the 20 digits of the greatest number. */
+/* How long the record may be: more than the label of a field and the 20 digits of the greatest number. */
 #define RECORD_BYTES 64
 
 /* A file or a folder: its path, as it is shown, and its name in the folder. */

@@ -205,7 +205,7 @@ static void answer(minisign_installation *machine, const struct request *request
     minisign_external q;
 
     if (minisign_install_ask(machine, key.bytes, key.len, signature.bytes, signature.len, (const uint8_t *) name,
-                             strlen(name), request->numbering, &q, message, sizeof message)
+                             strlen(name), &q, message, sizeof message)
         == MINISIGN_OK) {
         enum minisign_answer first = answer_of(q.signature, q.digest, sizeof q.digest, q.public_key);
         enum minisign_answer second = answer_of(q.comment_signature, message, q.message_len, q.public_key);
@@ -267,7 +267,9 @@ static enum status status_of(enum minisign_error error)
     case MINISIGN_PLACE_IN_USE: return IN_USE;
     case MINISIGN_FOLDER_NOT_ON_DISK: return NOT_ON_DISK;
     case MINISIGN_NO_RECORD:
-    case MINISIGN_DAMAGED_RECORD: return UNRECORDED;
+    case MINISIGN_DAMAGED_RECORD:
+    case MINISIGN_KEPT_BY_TIMESTAMP:
+    case MINISIGN_KEPT_BY_VERSION: return UNRECORDED;
     default: return REFUSED;
     }
 }
@@ -287,6 +289,8 @@ static const char *blamed(const struct request *request, enum minisign_error err
     case MINISIGN_PLACE_IN_USE:
     case MINISIGN_NO_RECORD:
     case MINISIGN_DAMAGED_RECORD:
+    case MINISIGN_KEPT_BY_TIMESTAMP:
+    case MINISIGN_KEPT_BY_VERSION:
     case MINISIGN_FOLDER_NOT_ON_DISK: return request->place;
     default:
         return minisign_read_public_key(key.bytes, key.len, public_key, key_id) == MINISIGN_OK ? request->signature
@@ -355,7 +359,7 @@ int main(int argc, char *argv[])
     read_text(&key, request.key);
     read_text(&signature, request.signature);
     data = open_data(&request);
-    must(minisign_install_init(&machine, request.is_first ? 1 : 0));
+    must(minisign_install_init(&machine, request.is_first ? 1 : 0, request.numbering));
     install(&machine, &request, &data, &folder);
     error = minisign_install_error(&machine);
     return error == MINISIGN_OK ? INSTALLED : report(&request, &data, &folder, error);

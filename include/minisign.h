@@ -415,12 +415,16 @@ enum minisign_error {
     MINISIGN_DAMAGED_RECORD = 48,
     /* The trusted comment does not name the file that the caller expects. */
     MINISIGN_OTHER_FILE = 49,
-    /* The trusted comment has no number under the label that the caller chose, or none below 2^64. */
+    /* The trusted comment has no number in decimal digits alone under the label that the caller chose, or none below 2^64. */
     MINISIGN_NO_NUMBER = 50,
     /* The number of the trusted comment is below the one that is kept. */
     MINISIGN_OLDER_UPDATE = 51,
     /* The update stands at the place, but a crash may still bring back what stood there before. */
     MINISIGN_FOLDER_NOT_ON_DISK = 52,
+    /* The number that is kept is a timestamp and not a version, and this was not said to be the first installation. */
+    MINISIGN_KEPT_BY_TIMESTAMP = 53,
+    /* The number that is kept is a version and not a timestamp, and this was not said to be the first installation. */
+    MINISIGN_KEPT_BY_VERSION = 54,
     /* A source, a file or a prompt's reader failed at a read. */
     MINISIGN_READING_FAILED = 64,
     /* A sink or a prompt's writer failed at a write or a flush. */
@@ -681,8 +685,8 @@ MINISIGN_MUST_USE enum minisign_error minisign_make_public_key(
  * call is due; you make it, and say how it went. A program that does no more than that, over calls of the system relative to
  * a folder that is open, is c/minisign-install.c of the sources.
  *
- * Both are files of one folder: the place, and the record with the number. A stage is a new file beside them, of a name that
- * nobody else has; what is renamed is always whole and on the disk.
+ * Both are files of one folder: the place, and the record with the number and the field that it stands in. A stage is a new
+ * file beside them, of a name that nobody else has; what is renamed is always whole and on the disk.
  *
  * What is outside, and what you owe beyond the head of this page: the lock is held from MINISIGN_DUE_LOCK to the end of the
  * run, and others keep to it; you say that a call was done only where it was made and went well, and what it is about is
@@ -753,12 +757,14 @@ typedef struct minisign_installation {
 } minisign_installation;
 
 /*
- * Begins: MINISIGN_DUE_LOCK is due. With is_first 1 an update is taken also where no number is kept, or none that reads as
- * one; otherwise is_first is 0.
+ * Begins: MINISIGN_DUE_LOCK is due. The numbering says which field of the signed comment has the number: stay with one at a
+ * place, since the record is kept by it. With is_first 1 an update is taken also where no number of that field is kept: none
+ * at all, none that reads as one, or one of the other field. Otherwise is_first is 0.
  *
- * MINISIGN_BAD_FIRST_FLAG: nothing is written.
+ * MINISIGN_BAD_FIRST_FLAG, then MINISIGN_BAD_NUMBERING: nothing is written.
  */
-MINISIGN_MUST_USE enum minisign_error minisign_install_init(minisign_installation *installation, uint32_t is_first);
+MINISIGN_MUST_USE enum minisign_error minisign_install_init(
+    minisign_installation *installation, uint32_t is_first, uint32_t numbering);
 
 /*
  * What is due: a number of enum minisign_due, or 0 of an installation that was never begun. Make that call, and tell its
@@ -789,10 +795,11 @@ MINISIGN_MUST_USE enum minisign_error minisign_install_more(minisign_installatio
 MINISIGN_MUST_USE enum minisign_error minisign_install_failed(minisign_installation *installation, enum minisign_error why);
 
 /*
- * MINISIGN_DUE_READ_RECORD: the bytes of the record, of which one line feed at the end is left out; more than 64 of them are
- * no number, so there is no need to read more than 65. Or there is no record. Where there is no number and this is not
- * the first installation, the run is refused, with MINISIGN_DAMAGED_RECORD or MINISIGN_NO_RECORD; the call is MINISIGN_OK
- * then too.
+ * MINISIGN_DUE_READ_RECORD: the bytes of the record, as minisign_install_number_text writes them: "timestamp:" or "version:"
+ * and a number; or a number alone, as earlier versions wrote it, which counts for either field. One line feed at the end is
+ * left out; more than 64 bytes are no number, so there is no need to read more than 65. Or there is no record. Where there
+ * is no number of the field and this is not the first installation, the run is refused, with MINISIGN_NO_RECORD,
+ * MINISIGN_DAMAGED_RECORD, MINISIGN_KEPT_BY_TIMESTAMP or MINISIGN_KEPT_BY_VERSION; the call is MINISIGN_OK then too.
  *
  * MINISIGN_NOT_DUE: nothing changes.
  */
@@ -812,17 +819,16 @@ MINISIGN_MUST_USE enum minisign_error minisign_install_piece(
 /*
  * MINISIGN_DUE_ANSWER, first: what Ed25519 has to answer, as minisign_ask tells it; signatures over the data itself are never
  * taken. The signed comment is judged too: whether it has a field "file:" with exactly this name, and, behind the label of
- * the numbering, a number below 2^64 that is not below the one that is kept. What came of that is told only behind the
- * answers, since nothing vouches for it before.
+ * the numbering, a number below 2^64 in decimal digits alone that is not below the one that is kept. What came of that is told
+ * only behind the answers, since nothing vouches for it before.
  *
- * The errors, in this order: MINISIGN_BAD_NUMBERING; MINISIGN_NOT_DUE; MINISIGN_NOT_UTF8 of the name; those of minisign_ask.
- * Behind MINISIGN_BAD_NUMBERING, MINISIGN_NOT_DUE, MINISIGN_ALREADY_ASKED and MINISIGN_NO_ROOM nothing changes. Behind the
- * others the run is refused for that, and MINISIGN_DUE_REMOVE is due.
+ * The errors, in this order: MINISIGN_NOT_DUE; MINISIGN_NOT_UTF8 of the name; those of minisign_ask. Behind MINISIGN_NOT_DUE,
+ * MINISIGN_ALREADY_ASKED and MINISIGN_NO_ROOM nothing changes. Behind the others the run is refused for that, and
+ * MINISIGN_DUE_REMOVE is due.
  */
 MINISIGN_MUST_USE enum minisign_error minisign_install_ask(
     minisign_installation *installation, const uint8_t *pk_text, size_t pk_text_len, const uint8_t *sig_text,
-    size_t sig_text_len, const uint8_t *file, size_t file_len, uint32_t numbering, minisign_external *questions,
-    uint8_t *message, size_t room);
+    size_t sig_text_len, const uint8_t *file, size_t file_len, minisign_external *questions, uint8_t *message, size_t room);
 
 /*
  * MINISIGN_DUE_ANSWER, then: what Ed25519 answered to the two questions. MINISIGN_OK, and MINISIGN_DUE_TAKE_RIGHTS is due,
@@ -837,11 +843,11 @@ MINISIGN_MUST_USE enum minisign_error minisign_install_answer(
     minisign_installation *installation, enum minisign_answer first, enum minisign_answer second);
 
 /*
- * MINISIGN_DUE_WRITE_RECORD: writes the number of the update to the front of text, of room bytes, in decimal digits, as it is
- * to be written into the stage of the record: at most MINISIGN_NUMBER_TEXT_BYTES, with no 0 behind them. Returns how many,
- * and 0 where no number is to be written or there is no room; then nothing is written.
+ * MINISIGN_DUE_WRITE_RECORD: writes the number of the update to the front of text, of room bytes, as it is to be written into
+ * the stage of the record: the label of its field and decimal digits, as "version:2", at most MINISIGN_NUMBER_TEXT_BYTES, with
+ * no 0 behind them. Returns how many, and 0 where no number is to be written or there is no room; then nothing is written.
  */
-#define MINISIGN_NUMBER_TEXT_BYTES 20
+#define MINISIGN_NUMBER_TEXT_BYTES 30
 size_t minisign_install_number_text(const minisign_installation *installation, uint8_t *text, size_t room);
 
 /* MINISIGN_DUE_REFUSED: why the run was refused. MINISIGN_OK before its end, and where the update is installed. */
@@ -850,7 +856,7 @@ enum minisign_error minisign_install_error(const minisign_installation *installa
 /*
  * Judges a signed comment by itself, for programs that install in other ways: one that minisign_verdict has vouched for.
  * Writes its number where the comment has a field "file:" with exactly this name, and, behind the label of the numbering, a
- * number below 2^64 that is not below kept. Fields end at tabs, and the first with a label counts.
+ * number below 2^64 in decimal digits alone that is not below kept. Fields end at tabs, and the first with a label counts.
  *
  * After an error the number stays as it was. The errors, in this order: MINISIGN_BAD_NUMBERING; MINISIGN_NOT_UTF8 of the
  * comment or the name; MINISIGN_OTHER_FILE; MINISIGN_NO_NUMBER; MINISIGN_OLDER_UPDATE. Takes no memory.

@@ -154,7 +154,7 @@ static void signing(void)
 static minisign_installation *installing(uint32_t due)
 {
     minisign_installation *i = (minisign_installation *) (void *) buffer(sizeof *i);
-    enum minisign_error error = minisign_install_init(i, 0);
+    enum minisign_error error = minisign_install_init(i, 0, MINISIGN_NUMBERING_TIMESTAMP);
 
     while (error == MINISIGN_OK && minisign_install_due(i) != due) {
         switch (minisign_install_due(i)) {
@@ -164,7 +164,7 @@ static minisign_installation *installing(uint32_t due)
             minisign_external *q = (minisign_external *) (void *) buffer(sizeof *q);
 
             error = minisign_install_ask(i, (const uint8_t *) KEY, sizeof KEY - 1, (const uint8_t *) SIGNATURE, sizeof SIGNATURE - 1,
-                                         copied("test", 4), 4, MINISIGN_NUMBERING_TIMESTAMP, q, buffer(MESSAGE_LEN), MESSAGE_LEN);
+                                         copied("test", 4), 4, q, buffer(MESSAGE_LEN), MESSAGE_LEN);
             if (error == MINISIGN_OK) {
                 error = minisign_install_answer(i, MINISIGN_ANSWER_YES, MINISIGN_ANSWER_YES);
             }
@@ -203,7 +203,7 @@ static void installations(void)
         used = 1;
         q = (minisign_external *) (void *) buffer(sizeof *q);
         CHECK(minisign_install_ask(i, copied(KEY, sizeof KEY - 1), sizeof KEY - 1, copied(SIGNATURE, sizeof SIGNATURE - 1),
-                                   sizeof SIGNATURE - 1, copied("test", 4), 4, MINISIGN_NUMBERING_TIMESTAMP, q, buffer(room), room)
+                                   sizeof SIGNATURE - 1, copied("test", 4), 4, q, buffer(room), room)
               == (room < MESSAGE_LEN ? MINISIGN_NO_ROOM : MINISIGN_OK));
     }
     for (size_t room = 0; room <= MINISIGN_NUMBER_TEXT_BYTES; room++) {
@@ -212,7 +212,7 @@ static void installations(void)
         used = 0;
         i = installing(MINISIGN_DUE_WRITE_RECORD);
         used = 1;
-        CHECK(minisign_install_number_text(i, buffer(room), room) == (room < 10 ? 0 : 10));
+        CHECK(minisign_install_number_text(i, buffer(room), room) == (room < 20 ? 0 : 20));
     }
     for (size_t len = 0; len < sizeof comment; len++) {
         uint64_t *number;

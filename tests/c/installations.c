@@ -57,7 +57,8 @@ static const char LEGACY[] =
     "trusted comment: timestamp:1555779966\tfile:test\n"
     "QtKMXWyYcwdpZAlPF7tE2ENJkRd1ujvKjlj1m9RtHTBnZPa5WKU5uWRs5GoP5M/VqE81QFuMKI5k/SfNQUaOAA==";
 #define COMMENT "timestamp:1556193335\tfile:test"
-#define NUMBER "1556193335"
+/* What is written into the record of it. */
+#define RECORD "timestamp:1556193335"
 
 #define YES MINISIGN_ANSWER_YES
 #define NO MINISIGN_ANSWER_NO
@@ -103,15 +104,15 @@ static minisign_external questions;
 static uint8_t message[4096];
 
 static enum minisign_error ask_of(minisign_installation *i, const char *key, const char *signature, const char *file,
-                                  uint32_t numbering, size_t room)
+                                  size_t room)
 {
     return minisign_install_ask(i, (const uint8_t *) key, strlen(key), (const uint8_t *) signature, strlen(signature),
-                                (const uint8_t *) file, strlen(file), numbering, &questions, message, room);
+                                (const uint8_t *) file, strlen(file), &questions, message, room);
 }
 
 static enum minisign_error ask(minisign_installation *i)
 {
-    return ask_of(i, KEY, SIGNATURE, "test", MINISIGN_NUMBERING_TIMESTAMP, sizeof message);
+    return ask_of(i, KEY, SIGNATURE, "test", sizeof message);
 }
 
 static enum minisign_error record(minisign_installation *i, const char *text)
@@ -146,11 +147,11 @@ static void step(minisign_installation *i)
     }
 }
 
-/* An installation at which this is due. */
-static minisign_installation at_after(uint32_t due, const char *kept)
+/* An installation by this field at which this is due. */
+static minisign_installation at_after(uint32_t due, const char *kept, uint32_t numbering)
 {
     minisign_installation i;
-    enum minisign_error error = minisign_install_init(&i, 0);
+    enum minisign_error error = minisign_install_init(&i, 0, numbering);
     uint32_t by = due == MINISIGN_DUE_REMOVE_RECORD ? MINISIGN_DUE_WRITE_RECORD
                   : due == MINISIGN_DUE_REMOVE      ? MINISIGN_DUE_COPY
                   : due == MINISIGN_DUE_REFUSED     ? MINISIGN_DUE_LOCK
@@ -175,7 +176,7 @@ static minisign_installation at_after(uint32_t due, const char *kept)
 
 static minisign_installation at(uint32_t due)
 {
-    return at_after(due, "5");
+    return at_after(due, "5", MINISIGN_NUMBERING_TIMESTAMP);
 }
 
 static int same(const minisign_installation *one, const minisign_installation *other)
@@ -239,10 +240,10 @@ static void order(void)
         }
         memset(message, 0xaa, sizeof message);
         if (due == MINISIGN_DUE_WRITE_RECORD) {
-            CHECK_AT(due, minisign_install_number_text(&begun, message, sizeof NUMBER - 1) == sizeof NUMBER - 1
-                              && memcmp(message, NUMBER "\xaa", sizeof NUMBER) == 0);
+            CHECK_AT(due, minisign_install_number_text(&begun, message, sizeof RECORD - 1) == sizeof RECORD - 1
+                              && memcmp(message, RECORD "\xaa", sizeof RECORD) == 0);
             memset(message, 0xaa, sizeof message);
-            CHECK_AT(due, minisign_install_number_text(&begun, message, sizeof NUMBER - 2) == 0 && message[0] == 0xaa);
+            CHECK_AT(due, minisign_install_number_text(&begun, message, sizeof RECORD - 2) == 0 && message[0] == 0xaa);
         } else {
             CHECK_AT(due, minisign_install_number_text(&begun, message, sizeof message) == 0 && message[0] == 0xaa);
         }
@@ -300,18 +301,20 @@ static void beginnings(void)
         CHECK(piece(&i, "abc") == MINISIGN_NOT_DUE && ask(&i) == MINISIGN_NOT_DUE);
         CHECK(minisign_install_answer(&i, YES, YES) == MINISIGN_NOT_DUE);
         CHECK(minisign_install_number_text(&i, message, sizeof message) == 0);
-        CHECK(minisign_install_init(&i, 2) == MINISIGN_BAD_FIRST_FLAG);
+        CHECK(minisign_install_init(&i, 2, MINISIGN_NUMBERING_TIMESTAMP) == MINISIGN_BAD_FIRST_FLAG);
+        CHECK(minisign_install_init(&i, 2, 2) == MINISIGN_BAD_FIRST_FLAG);
+        CHECK(minisign_install_init(&i, 0, 2) == MINISIGN_BAD_NUMBERING && minisign_install_init(&i, 1, UINT32_MAX) == MINISIGN_BAD_NUMBERING);
         CHECK(same(&i, &before));
-        CHECK(minisign_install_init(&i, 1) == MINISIGN_OK && minisign_install_due(&i) == MINISIGN_DUE_LOCK);
+        CHECK(minisign_install_init(&i, 1, MINISIGN_NUMBERING_VERSION) == MINISIGN_OK && minisign_install_due(&i) == MINISIGN_DUE_LOCK);
     }
 }
 
-/* A record where it is the first installation or not: what is due then, and the refusal. */
-static void record_gives(const uint8_t *text, size_t len, uint32_t is_first, enum minisign_error refused)
+/* A record where it is the first installation by this field or not: what is due then, and the refusal. */
+static void record_gives(const uint8_t *text, size_t len, uint32_t is_first, uint32_t numbering, enum minisign_error refused)
 {
     minisign_installation i;
 
-    CHECK(minisign_install_init(&i, is_first) == MINISIGN_OK);
+    CHECK(minisign_install_init(&i, is_first, numbering) == MINISIGN_OK);
     step(&i);
     step(&i);
     CHECK((text == NULL ? minisign_install_no_record(&i) : minisign_install_record(&i, text, len)) == MINISIGN_OK);
@@ -319,39 +322,81 @@ static void record_gives(const uint8_t *text, size_t len, uint32_t is_first, enu
     CHECK(minisign_install_error(&i) == refused);
 }
 
+/* A text of a record, by each field and at the first installation or not. */
+static void text_gives(const char *text, enum minisign_error by_time, enum minisign_error by_version)
+{
+    const uint8_t *bytes = (const uint8_t *) text;
+
+    record_gives(bytes, strlen(text), 0, MINISIGN_NUMBERING_TIMESTAMP, by_time);
+    record_gives(bytes, strlen(text), 0, MINISIGN_NUMBERING_VERSION, by_version);
+    record_gives(bytes, strlen(text), 1, MINISIGN_NUMBERING_TIMESTAMP, MINISIGN_OK);
+    record_gives(bytes, strlen(text), 1, MINISIGN_NUMBERING_VERSION, MINISIGN_OK);
+}
+
 static void records(void)
 {
-    static const char *const numbers[] = { "0", "5", "5\n", "+5", "18446744073709551615",
+    /* A number alone counts for either field. */
+    static const char *const numbers[] = { "0", "5", "5\n", "18446744073709551615",
                                            "0000000000000000000000000000000000000000000000000000000000000005",
                                            "000000000000000000000000000000000000000000000000000000000000005\n" };
-    static const char *const none[] = { "", "\n", "5\n\n", "5\n5", " 5", "5 ", "five", "-5", "18446744073709551616",
+    static const char *const timestamps[] = { "timestamp:0", "timestamp:5", "timestamp:5\n", "timestamp:18446744073709551615",
+                                              "timestamp:000000000000000000000000000000000000000000000000000005",
+                                              "timestamp:00000000000000000000000000000000000000000000000000005\n" };
+    static const char *const versions[] = { "version:0", "version:5", "version:5\n", "version:18446744073709551615" };
+    static const char *const none[] = { "", "\n", "5\n\n", "5\n5", " 5", "5 ", "five", "-5", "+5", "18446744073709551616",
+                                        "timestamp:", "timestamp:\n", "timestamp:+5", "timestamp:-5", "timestamp: 5",
+                                        "timestamp:5 ", "timestamp:5\n\n", "timestamp:five", "timestamp:18446744073709551616",
+                                        " timestamp:5", "Timestamp:5", "timestamp5", "timestamp:timestamp:5", "timestamp:version:5",
+                                        "version:", "version:+5", "version:timestamp:5", "versions:5", "number:5", ":5", "5:",
+                                        "timestamp:5\tversion:5", "file:5",
+                                        "timestamp:0000000000000000000000000000000000000000000000000000005",
                                         "00000000000000000000000000000000000000000000000000000000000000005",
                                         "0000000000000000000000000000000000000000000000000000000000000005\n" };
 
     for (size_t n = 0; n < sizeof numbers / sizeof numbers[0]; n++) {
-        size_t len = strlen(numbers[n]);
-
-        record_gives((const uint8_t *) numbers[n], len, 0, MINISIGN_OK);
-        record_gives((const uint8_t *) numbers[n], len, 1, MINISIGN_OK);
+        text_gives(numbers[n], MINISIGN_OK, MINISIGN_OK);
+    }
+    for (size_t n = 0; n < sizeof timestamps / sizeof timestamps[0]; n++) {
+        text_gives(timestamps[n], MINISIGN_OK, MINISIGN_KEPT_BY_TIMESTAMP);
+    }
+    for (size_t n = 0; n < sizeof versions / sizeof versions[0]; n++) {
+        text_gives(versions[n], MINISIGN_KEPT_BY_VERSION, MINISIGN_OK);
     }
     for (size_t n = 0; n < sizeof none / sizeof none[0]; n++) {
-        record_gives((const uint8_t *) none[n], strlen(none[n]), 0, MINISIGN_DAMAGED_RECORD);
-        record_gives((const uint8_t *) none[n], strlen(none[n]), 1, MINISIGN_OK);
+        text_gives(none[n], MINISIGN_DAMAGED_RECORD, MINISIGN_DAMAGED_RECORD);
     }
-    record_gives((const uint8_t *) "5\0", 2, 0, MINISIGN_DAMAGED_RECORD);
-    record_gives((const uint8_t *) "\xff", 1, 0, MINISIGN_DAMAGED_RECORD);
-    record_gives(NULL, 0, 0, MINISIGN_NO_RECORD);
-    record_gives(NULL, 0, 1, MINISIGN_OK);
+    for (uint32_t numbering = 0; numbering < 2; numbering++) {
+        record_gives((const uint8_t *) "5\0", 2, 0, numbering, MINISIGN_DAMAGED_RECORD);
+        record_gives((const uint8_t *) "\xff", 1, 0, numbering, MINISIGN_DAMAGED_RECORD);
+        record_gives(NULL, 0, 0, numbering, MINISIGN_NO_RECORD);
+        record_gives(NULL, 0, 1, numbering, MINISIGN_OK);
+    }
+}
+
+/* What a record of these bytes holds back at the first installation: a number of the other field does not, one of the same
+ * field and one alone do. */
+static void first_gives(const char *kept, enum minisign_error answered)
+{
+    minisign_installation i;
+
+    CHECK(minisign_install_init(&i, 1, MINISIGN_NUMBERING_TIMESTAMP) == MINISIGN_OK);
+    step(&i);
+    step(&i);
+    CHECK(record(&i, kept) == MINISIGN_OK);
+    while (minisign_install_due(&i) != MINISIGN_DUE_ANSWER) {
+        step(&i);
+    }
+    CHECK(ask(&i) == MINISIGN_OK && minisign_install_answer(&i, YES, YES) == answered);
 }
 
 /* What the texts, the answers and the comment give, over a number that is kept. */
 static void gives(const char *kept, const char *signature, const char *file, uint32_t numbering, enum minisign_answer first,
                   enum minisign_answer second, enum minisign_error asked, enum minisign_error answered)
 {
-    minisign_installation i = at_after(MINISIGN_DUE_ANSWER, kept);
+    minisign_installation i = at_after(MINISIGN_DUE_ANSWER, kept, numbering);
     enum minisign_error refused = asked == MINISIGN_OK ? answered : asked;
 
-    CHECK(ask_of(&i, KEY, signature, file, numbering, sizeof message) == asked);
+    CHECK(ask_of(&i, KEY, signature, file, sizeof message) == asked);
     if (asked == MINISIGN_OK) {
         CHECK(minisign_install_error(&i) == MINISIGN_OK && minisign_install_due(&i) == MINISIGN_DUE_ANSWER);
         CHECK(minisign_install_answer(&i, first, second) == answered);
@@ -368,8 +413,13 @@ static void answers(void)
     minisign_installation i, before;
 
     gives("0", SIGNATURE, "test", by_time, YES, YES, MINISIGN_OK, MINISIGN_OK);
-    gives(NUMBER, SIGNATURE, "test", by_time, YES, YES, MINISIGN_OK, MINISIGN_OK);
+    gives("1556193335", SIGNATURE, "test", by_time, YES, YES, MINISIGN_OK, MINISIGN_OK);
+    gives(RECORD, SIGNATURE, "test", by_time, YES, YES, MINISIGN_OK, MINISIGN_OK);
     gives("1556193336", SIGNATURE, "test", by_time, YES, YES, MINISIGN_OK, MINISIGN_OLDER_UPDATE);
+    gives("timestamp:1556193336", SIGNATURE, "test", by_time, YES, YES, MINISIGN_OK, MINISIGN_OLDER_UPDATE);
+    first_gives("version:1556193336", MINISIGN_OK);
+    first_gives("timestamp:1556193336", MINISIGN_OLDER_UPDATE);
+    first_gives("1556193336", MINISIGN_OLDER_UPDATE);
     gives("0", SIGNATURE, "tes", by_time, YES, YES, MINISIGN_OK, MINISIGN_OTHER_FILE);
     gives("0", SIGNATURE, "", by_time, YES, YES, MINISIGN_OK, MINISIGN_OTHER_FILE);
     gives("0", SIGNATURE, "test", by_version, YES, YES, MINISIGN_OK, MINISIGN_NO_NUMBER);
@@ -384,9 +434,8 @@ static void answers(void)
 
     /* Wrong use changes nothing. */
     i = before = at(MINISIGN_DUE_ANSWER);
-    CHECK(ask_of(&i, KEY, SIGNATURE, "test", 2, sizeof message) == MINISIGN_BAD_NUMBERING && same(&i, &before));
-    CHECK(ask_of(&i, KEY, SIGNATURE, "test", by_time, 64 + sizeof COMMENT - 2) == MINISIGN_NO_ROOM && same(&i, &before));
-    CHECK(ask_of(&i, KEY, SIGNATURE, "test", by_time, 64 + sizeof COMMENT - 1) == MINISIGN_OK);
+    CHECK(ask_of(&i, KEY, SIGNATURE, "test", 64 + sizeof COMMENT - 2) == MINISIGN_NO_ROOM && same(&i, &before));
+    CHECK(ask_of(&i, KEY, SIGNATURE, "test", 64 + sizeof COMMENT - 1) == MINISIGN_OK);
     before = i;
     CHECK(ask(&i) == MINISIGN_ALREADY_ASKED && same(&i, &before));
     CHECK(minisign_install_answer(&i, (enum minisign_answer) 1, YES) == MINISIGN_BAD_ANSWER && same(&i, &before));
@@ -426,6 +475,11 @@ static void comments(void)
     comment_gives("file:a\tversion:1\tversion:2\tfile:b", "b", by_version, 0, MINISIGN_OTHER_FILE, 0);
     comment_gives("file:a\tversion:x\tversion:2", "a", by_version, 0, MINISIGN_NO_NUMBER, 0);
     comment_gives("file:a\tversion:", "a", by_version, 0, MINISIGN_NO_NUMBER, 0);
+    comment_gives("file:a\tversion:+5", "a", by_version, 0, MINISIGN_NO_NUMBER, 0);
+    comment_gives("timestamp:+5\tfile:a", "a", by_time, 0, MINISIGN_NO_NUMBER, 0);
+    comment_gives("timestamp:-5\tfile:a", "a", by_time, 0, MINISIGN_NO_NUMBER, 0);
+    comment_gives("timestamp:+\tfile:a", "a", by_time, 0, MINISIGN_NO_NUMBER, 0);
+    comment_gives("timestamp:005\tfile:a", "a", by_time, 0, MINISIGN_OK, 5);
     comment_gives("file:a version:1", "a", by_version, 0, MINISIGN_OTHER_FILE, 0);
     comment_gives("", "", by_version, 0, MINISIGN_OTHER_FILE, 0);
     comment_gives("file:\tversion:0", "", by_version, 0, MINISIGN_OK, 0);
@@ -444,9 +498,9 @@ static void nulls(void)
     i = at(MINISIGN_DUE_READ_BACK);
     CHECK(minisign_install_piece(&i, NULL, 0) == MINISIGN_OK && minisign_install_due(&i) == MINISIGN_DUE_ANSWER);
     CHECK(minisign_install_ask(&i, (const uint8_t *) KEY, sizeof KEY - 1, (const uint8_t *) SIGNATURE, sizeof SIGNATURE - 1, NULL, 0,
-                               MINISIGN_NUMBERING_TIMESTAMP, &questions, NULL, 0)
+                               &questions, NULL, 0)
           == MINISIGN_NO_ROOM);
-    CHECK(minisign_install_ask(&i, NULL, 0, NULL, 0, NULL, 0, MINISIGN_NUMBERING_TIMESTAMP, &questions, NULL, 0)
+    CHECK(minisign_install_ask(&i, NULL, 0, NULL, 0, NULL, 0, &questions, NULL, 0)
           == MINISIGN_MISSING_PUBLIC_KEY_COMMENT);
     i = at(MINISIGN_DUE_WRITE_RECORD);
     CHECK(minisign_install_number_text(&i, NULL, 0) == 0);

@@ -96,7 +96,9 @@ class Folder:
         return [*options, PK, name, name + ".sig", PLACE]
 
     def holds(self, name=PLACE):
-        return content(self.path, name)
+        """What the file holds; of a record whose number is a timestamp the number alone."""
+        found = content(self.path, name)
+        return found.removeprefix(b"timestamp:") if found and name.endswith(".number") else found
 
     def stages(self):
         return [name for name in os.listdir(self.path) if name.startswith(STAGE)]
@@ -151,9 +153,37 @@ class Installing:
             folder.offer("later", LATER, 6)
             self.check(folder, "later", 0)
             folder.expect(LATER, b"6")
+
+    def keeps_field(self):
+        """The record has the field's name beside the number, and a place stays with its field, but for `--first`."""
+        version = ("--numbering", "version")
+        with self.folder() as path:
+            folder = Folder(path, self.kind)
             folder.offer("version", NEW, 2 ** 64 - 1, label="version")
-            self.check(folder, "version", 0, "--numbering", "version")
-            folder.expect(NEW, str(2 ** 64 - 1).encode())
+            self.check(folder, "version", 0, *version)
+            self.is_kept(folder, NEW, b"version:18446744073709551615")
+            folder.offer("time", OLD, 1700000000)
+            self.check(folder, "time", UNRECORDED,
+                       said=b"error: place: the number that is kept beside the place is a version, and no timestamp\n")
+            self.is_kept(folder, NEW, b"version:18446744073709551615")
+            self.check(folder, "time", 0, "--first")
+            self.is_kept(folder, OLD, b"timestamp:1700000000")
+            folder.offer("version", NEW, 2, label="version")
+            self.check(folder, "version", UNRECORDED, *version,
+                       said=b"error: place: the number that is kept beside the place is a timestamp, and no version\n")
+            self.is_kept(folder, OLD, b"timestamp:1700000000")
+            self.check(folder, "version", 0, "--first", *version)
+            self.is_kept(folder, NEW, b"version:2")
+            folder.offer("version", LATER, 1, label="version")
+            self.check(folder, "version", OLDER, "--first", *version)
+            folder.offer("version", LATER, 3, label="version")
+            self.check(folder, "version", 0, *version)
+            self.is_kept(folder, LATER, b"version:3")
+
+    @staticmethod
+    def is_kept(folder, data, record):
+        if (content(folder.path, PLACE), content(folder.path, RECORD)) != (data, record):
+            raise Failure(f"the place holds {str(folder.holds())[:40]}, and the record {content(folder.path, RECORD)}")
 
     def installs_first(self):
         with self.folder() as path:
@@ -173,11 +203,11 @@ class Installing:
             self.check(folder, "old", OLDER, "--first", said=b"error: old: the update is older than what was installed\n")
             folder.expect(NEW, b"6")
 
-    def refuses(self, said, data=NEW, number=6, status=REFUSED, **how):
+    def refuses(self, said, data=NEW, number=6, status=REFUSED, words=(), **how):
         with self.folder() as path:
             folder = Folder(path, self.kind)
             folder.offer("bad", data, number, **how)
-            self.check(folder, "bad", status, said=said)
+            self.check(folder, "bad", status, *words, said=said)
             folder.expect(OLD, b"5")
 
     def refuses_legacy(self):
@@ -219,7 +249,7 @@ class Installing:
             folder.put(RECORD, record)
             folder.offer("new", NEW, 6)
             self.check(folder, "new", status, said=said)
-            folder.expect(OLD, record)
+            self.is_kept(folder, OLD, record)
 
     def takes_record(self, record):
         with self.folder() as path:
@@ -227,10 +257,10 @@ class Installing:
             folder.put(RECORD, record)
             folder.offer("old", LATER, 4)
             self.check(folder, "old", OLDER)
-            folder.expect(OLD, record)
+            self.is_kept(folder, OLD, record)
             folder.offer("new", NEW, 6)
             self.check(folder, "new", 0)
-            folder.expect(NEW, b"6")
+            self.is_kept(folder, NEW, b"timestamp:6")
 
     def refuses_beside(self, name, make, said):
         """A record or a lock file that is a link, or no regular file, is refused, left alone, and not waited for."""
@@ -905,6 +935,7 @@ class Installing:
 def cases(it):
     yield "newer updates", it.installs
     yield "the first update", it.installs_first
+    yield "the field that a place is kept by", it.keeps_field
     yield "other data", lambda: it.refuses(b"error: bad: Signature verification failed\n", signed=LATER)
     yield "no data", lambda: it.refuses(b"error: bad: Signature verification failed\n", data=b"", signed=LATER)
     yield "an older update", lambda: it.refuses(b"error: bad: the update is older than what was installed\n", number=4, status=OLDER)
@@ -913,6 +944,10 @@ def cases(it):
     yield "no number", lambda: it.refuses(no_number, label="version")
     yield "a number too great", lambda: it.refuses(no_number, number=2 ** 64)
     yield "a word for a number", lambda: it.refuses(no_number, number="six")
+    yield "a plus before a number", lambda: it.refuses(no_number, number="+6")
+    yield "a minus before a number", lambda: it.refuses(no_number, number="-6")
+    yield "a blank before a number", lambda: it.refuses(no_number, number=" 6")
+    yield "a version with a plus", lambda: it.refuses(no_number, number="+6", label="version", words=("--numbering", "version"))
     yield "a legacy signature", it.refuses_legacy
     yield "leftovers", it.removes_leftovers
     yield "a folder with a name that is not UTF-8", lambda: it.passes_over(os.mkdir, b"caf\xe9")
@@ -924,6 +959,13 @@ def cases(it):
     yield "a record of two lines", lambda: it.refuses_record(b"5\n5\n", UNRECORDED, no_text)
     yield "a record with a line feed", lambda: it.takes_record(b"5\n")
     yield "a record of 64 digits", lambda: it.takes_record(b"5".rjust(64, b"0"))
+    yield "a record with its field", lambda: it.takes_record(b"timestamp:5")
+    yield "a record with its field and a line feed", lambda: it.takes_record(b"timestamp:5\n")
+    for record in (b"", b"\n", b"+5", b"timestamp:", b"timestamp:+5", b"timestamp: 5", b"Timestamp:5", b"time:5", b"5timestamp:",
+                   b"timestamp:version:5", b"timestamp:5\tversion:5", b"timestamp:18446744073709551616", b"version:", b"version:x"):
+        yield f"a record of {record}", lambda record=record: it.refuses_record(record, UNRECORDED, no_text)
+    kept_by_version = b"error: place: the number that is kept beside the place is a version, and no timestamp\n"
+    yield "a record of the other field", lambda: it.refuses_record(b"version:5\n", UNRECORDED, kept_by_version)
     others = [("pipe", os.mkfifo, "what stands there is no regular file"),
               ("link", lambda at: os.symlink("behind", at), "a link stands there, which is not followed"),
               ("link to nothing", lambda at: os.symlink("nothing", at), "a link stands there, which is not followed"),

@@ -112,12 +112,22 @@ int openat(int folder, const char *path, int flags, ...)
     return say_open(folder, path, flags, mode);
 }
 
+/* Whether a number of two digits or more is written, behind the label of a field or alone. */
+static int is_record(const char *bytes, size_t length)
+{
+    const char *colon = length < 64 ? memchr(bytes, ':', length) : NULL;
+    const char *digits = colon ? colon + 1 : bytes;
+    size_t count = length - (size_t)(digits - bytes);
+
+    return count > 1 && count < 21 && strspn(digits, "0123456789") >= count;
+}
+
 ssize_t write(int fd, const void *bytes, size_t length)
 {
     ssize_t (*real)(int, const void *, size_t) = (ssize_t (*)(int, const void *, size_t))dlsym(RTLD_NEXT, "write");
     char room[4096];
     const char *name = fd > 2 ? name_of(fd, room, sizeof room) : NULL;
-    int is_number = name && length > 1 && length < 21 && strspn((const char *)bytes, "0123456789") >= length;
+    int is_number = name && is_record(bytes, length);
     ssize_t n;
 
     if (name)

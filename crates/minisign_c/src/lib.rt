@@ -4,7 +4,6 @@
 #![tactic(auto)]
 
 ghost use Rattle.std.specs.Prelude.{◌≡◌, ◌==◌, ◌⊎◌, ◌<◌, ◌≤◌, ◌+◌, ◌++◌, ℕ, Bool, List, [], Some, None, false, MatchOption, length, take};
-ghost use Rattle.std.specs.Fmt.{decimal};
 ghost use Rattle.std.specs.Option.{option_map};
 ghost use Rattle.std.specs.Str.{IsUtf8};
 ghost use Rattle.minisign_hash.specs.Blake2b.{blake2b_digest};
@@ -16,11 +15,12 @@ ghost use Rattle.minisign_external.specs.Numbers.{IsAnswer, WritesCut, answer_ye
 ghost use Rattle.minisign_external.specs.PublicKeys.{read_utf8, told_key_number};
 ghost use Rattle.minisign_external.specs.Making.{HoldsPublicKey, HoldsSecretKey, IsMakingNumber, IsPublicKeyNumber};
 ghost use Rattle.minisign_external.specs.Signing.{AreReadByMinisign, GivesSecretKey, HoldsText, IsSigningNumber, IsWritingNumber, TellsKey, comments_of, passed_in};
-ghost use Rattle.minisign_external.specs.declared.state.Misuse.TheVariants.{BadFirstFlag, NoRoom, NotDue};
+ghost use Rattle.minisign_external.specs.declared.state.Misuse.TheVariants.{BadFirstFlag, BadNumbering, NoRoom, NotDue};
 ghost use Rattle.minisign_install.specs.Comments.{Says};
 ghost use Rattle.minisign_install.specs.HostNumbers.{IsHostMeaning, numbering_number};
-ghost use Rattle.minisign_install.specs.Hosted.{CannotBeFed, CannotFail, CannotGo, GivesUpdateNumber, CallHasFailed, HasGone, HasReadRecord, HasReadBack, IsAnswerNumber, IsAskNumber, IsAsking, IsCommentNumber, IsDue, due_number, due_of, record_text, wanted_by};
+ghost use Rattle.minisign_install.specs.Hosted.{CannotBeFed, CannotFail, CannotGo, GivesUpdateNumber, CallHasFailed, HasGone, HasReadRecord, HasReadBack, IsAnswerNumber, IsAskNumber, IsAsking, IsCommentNumber, IsDue, due_number, due_of, numbering_of, wanted_by};
 ghost use Rattle.minisign_install.specs.Installing.{Terms};
+ghost use Rattle.minisign_install.specs.RecordTexts.{record_of};
 ghost use Rattle.minisign_install.specs.declared.order.Due.TheVariants.{Answer, Lock, ReadBack, ReadRecord, TakeRights, WriteRecord};
 ghost use Rattle.minisign_install.specs.declared.order.Due.TheVariants as ended;
 ghost use Rattle.minisign_install.specs.declared.order.Outcome.TheVariants.{Done, More};
@@ -359,17 +359,26 @@ pub extern "C" fn minisign_signed_text(
 
 /// Begins an installation: the lock is due.
 #[unsafe(no_mangle)]
-pub extern "C" fn minisign_install_init(installation: &mut Installation, is_first: u32) -> u32
-    // The lock is due, nothing was read back, and whether this is the first installation is kept. A number that is
-    // neither 0 nor 1 is refused, and nothing is written.
+pub extern "C" fn minisign_install_init(
+    installation: &mut Installation,
+    is_first: u32,
+    numbering: u32,
+) -> u32
+    // The lock is due, nothing was read back, and whether this is the first installation and which field has the number
+    // are kept. Of each a number that is neither 0 nor 1 is refused, that of the former first, and nothing is written.
     ensures due { result ≡ 0 → IsDue installation.new Lock × IsFedState installation.new.state [] }
     ensures first { result ≡ 0 → (is_first < 2) × ((installation.new.is_first == 1) ≡ (is_first == 1)) }
-    ensures refused { 0 < result → (result ≡ misuse_number BadFirstFlag) × (1 < is_first) × (installation.new ≡ installation.old) }
+    ensures numbering { result ≡ 0 → numbering ≡ numbering_number (numbering_of installation.new) }
+    ensures refused { 0 < result → (((result ≡ misuse_number BadFirstFlag) × (1 < is_first))
+        ⊎ ((result ≡ misuse_number BadNumbering) × (is_first < 2) × (1 < numbering))) × (installation.new ≡ installation.old) }
 {
     if is_first > 1 {
         return Misuse::BadFirstFlag.number();
     }
-    *installation = Installation::new(is_first == 1);
+    let Some(numbering) = Numbering::of_number(numbering) else {
+        return Misuse::BadNumbering.number();
+    };
+    *installation = Installation::new(is_first == 1, numbering);
     0
 }
 
@@ -427,9 +436,9 @@ pub extern "C" fn minisign_install_failed(installation: &mut Installation, why: 
 /// The record holds these bytes.
 #[unsafe(no_mangle)]
 pub extern "C" fn minisign_install_record(installation: &mut Installation, bytes: &[u8]) -> u32
-    // The number that the record holds is kept, or the run is refused where it holds none and this is not the first
-    // installation. Where the record is not to be read, nothing changes.
-    ensures read { result ≡ 0 → HasReadRecord (Some (record_text bytes.now)) installation.old installation.new }
+    // The number that the record holds for the field is kept, or the run is refused where it holds none and this is not
+    // the first installation. Where the record is not to be read, nothing changes.
+    ensures read { result ≡ 0 → HasReadRecord (Some bytes.now) installation.old installation.new }
     ensures refused { 0 < result → (result ≡ misuse_number NotDue) × (installation.new ≡ installation.old) × ¬ (IsDue installation.old ReadRecord) }
 {
     match installation.record(bytes) {
@@ -474,7 +483,6 @@ pub extern "C" fn minisign_install_ask(
     pk_text: &[u8],
     sig_text: &[u8],
     file: &[u8],
-    numbering: u32,
     questions: &mut Questions,
     message: &mut [u8],
 ) -> u32
@@ -484,25 +492,23 @@ pub extern "C" fn minisign_install_ask(
         × AreOpen pk_text.now sig_text.now false pk x c
         × AreQuestions questions.new message.new pk x c }
     ensures digest { result ≡ 0 → (m : List ℕ) → IsFedState installation.old.state m → questions.new.digest ≡ blake2b_digest 64 m }
-    ensures asking { result ≡ 0 → (k : Numbering) × (numbering ≡ numbering_number k) × (kept : ℕ) × IsDue installation.old (Answer kept)
-        × IsAsking installation.new (wanted_by pk_text.now sig_text.now file.now k) kept }
-    ensures number { result ≡ 0 → numbering < 2 }
+    ensures asking { result ≡ 0 → (kept : ℕ) × IsDue installation.old (Answer kept)
+        × IsAsking installation.new (wanted_by pk_text.now sig_text.now file.now (numbering_of installation.old)) kept }
+
+    // The field that the number stands in stays.
+    ensures field { numbering_of installation.new ≡ numbering_of installation.old }
 
     // The identifiers are answered as `Installation::ask` says.
-    ensures identifiers { numbering < 2 → (kept : ℕ) → IsDue installation.old (Answer kept) → (m : List ℕ) → IsFedState installation.old.state m
+    ensures identifiers { (kept : ℕ) → IsDue installation.old (Answer kept) → (m : List ℕ) → IsFedState installation.old.state m
         → IsUtf8 file.now → IsUtf8 pk_text.now → IsUtf8 sig_text.now
         → TellsIdentifiers pk_text.now sig_text.now questions.new }
 
-    // A number that is no numbering is refused first, and then the number is that of the first reason of
-    // `Installation::ask`: a wrong use changes nothing, and for any other reason the stage is to be removed. The message
-    // buffer is as it was.
-    ensures refused { 0 < result → IsAskNumber installation.old installation.new pk_text.now sig_text.now file.now numbering message.old result }
+    // The number is that of the first reason of `Installation::ask`: a wrong use changes nothing, and for any other reason
+    // the stage is to be removed. The message buffer is as it was.
+    ensures refused { 0 < result → IsAskNumber installation.old installation.new pk_text.now sig_text.now file.now message.old result }
     ensures kept { 0 < result → message.new ≡ message.old }
 {
-    let Some(field) = Numbering::of_number(numbering) else {
-        return Misuse::BadNumbering.number();
-    };
-    match installation.ask(pk_text, sig_text, file, field, questions, message) {
+    match installation.ask(pk_text, sig_text, file, questions, message) {
         Ok(()) => 0,
         Err(refusal) => refusal.number(),
     }
@@ -529,6 +535,9 @@ pub extern "C" fn minisign_install_answer(
     ensures due { result ≡ 0 → ((kept : ℕ) × IsDue installation.old (Answer kept)) × ((n : ℕ) × IsDue installation.new (TakeRights n))
         × HasEnded installation.old.state installation.new.state × IsAnswer first × IsAnswer second }
     ensures refused { 0 < result → IsAnswerNumber installation.old installation.new first second result }
+
+    // The field that the number stands in stays.
+    ensures field { numbering_of installation.new ≡ numbering_of installation.old }
 {
     if !(is_answer(first) && is_answer(second)) {
         return Misuse::BadAnswer.number();
@@ -539,16 +548,17 @@ pub extern "C" fn minisign_install_answer(
     }
 }
 
-/// Writes the number as it is to be written into the record, and returns how many digits that are.
+/// Writes the number as it is to be written into the record, behind the label of its field, and returns how long
+/// that is.
 #[unsafe(no_mangle)]
 pub extern "C" fn minisign_install_number_text(
     installation: &Installation,
     text: &mut [u8],
 ) -> usize
-    // The digits of the number stand at the front of the buffer where they are to be written and have room, and
-    // otherwise nothing is written.
-    ensures written { 0 < result → (n : ℕ) × IsDue installation.now (WriteRecord n) × (result ≤ length text.new) × (take result text.new ≡ decimal n) }
-    ensures unwritten { result ≡ 0 → (text.new ≡ text.old) × ((n : ℕ) → IsDue installation.now (WriteRecord n) → length text.old < length (decimal n)) }
+    // The label of the field and the digits of the number stand at the front of the buffer where they are to be written
+    // and have room, and otherwise nothing is written.
+    ensures written { 0 < result → (n : ℕ) × IsDue installation.now (WriteRecord n) × (result ≤ length text.new) × (take result text.new ≡ record_of (numbering_of installation.now) n) }
+    ensures unwritten { result ≡ 0 → (text.new ≡ text.old) × ((n : ℕ) → IsDue installation.now (WriteRecord n) → length text.old < length (record_of (numbering_of installation.now) n)) }
 {
     installation.write_number(text)
 }

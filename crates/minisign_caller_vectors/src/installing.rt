@@ -198,6 +198,18 @@ fn each_fault_shows_its_text(rt: HostRuntime) {
         ),
         shows(
             alloc,
+            KeptByTimestamp,
+            Io,
+            "the number that is kept beside the place is a timestamp, and no version",
+        ),
+        shows(
+            alloc,
+            KeptByVersion,
+            Io,
+            "the number that is kept beside the place is a version, and no timestamp",
+        ),
+        shows(
+            alloc,
             OtherFile,
             Verify,
             "the signed comment does not name this file",
@@ -221,5 +233,5 @@ fn each_fault_shows_its_text(rt: HostRuntime) {
             "installed, but the folder could not be brought to the disk",
         ),
     ];
-    assert!(rt; shown == [true; 8]);
+    assert!(rt; shown == [true; 10]);
 }

@@ -1,7 +1,6 @@
 -- An installation over a folder makes each call as it is due: what each call that went does to what is held between two.
 use Rattle.std.proofs.Common.{◌≡◌, ◌≢◌, ◌⊎◌, inl, inr, ⊎_elim, ℕ, List, Option, Some, None, Bool, true, ap, sym, subst, refl, OnOk, OnErr, IfErr, IfOk, IfSome, IsNone, IsSome, IsSomeAnd, MatchResult}
 use Rattle.std.proofs.lemmas.Bool.{true≢false}
-use Rattle.std.specs.Fmt.{decimal}
 use Rattle.std.specs.Io.KnownBytes.{Consumes, IsAtEnd}
 use Rattle.std.specs.List.{concat}
 use Rattle.std.specs.declared.result.Result.{Result}
@@ -20,6 +19,7 @@ use Rattle.minisign_install.specs.Names.{drawn_bytes}
 use Rattle.minisign_install.specs.Order.{next}
 use Rattle.minisign_install.specs.Refusals.{Counts, IsDataRefused, IsLibraryFault, IsReadingFault, IsRecordFault, IsRecordRefused, counts}
 use Rattle.minisign_install.proofs.Counts.{same_counts}
+use Rattle.minisign_install.specs.RecordTexts.{record_of}
 use Rattle.minisign_install.specs.declared.calls.Stage.{Stage}
 use Rattle.minisign_install.specs.declared.calls.Work.{Work}
 use Rattle.minisign_install.specs.declared.faults.InstallFault.{InstallFault}
@@ -136,9 +136,9 @@ module _ (accepts : Verifier) (terms : Terms) (first : Bool) {H : Type 0} (file_
       ((tt, tt), tt, λ names named. (named, record { made = λ known may. (cleared known may, ahead, read); explained = writing_fails h h' e why; memory = λ no. writing_wants _ e why }))
 
   pub read_goes : (w : Work H) (h h' : Host) (r : Result ℕ InstallFault) → HasMade {E = InstallFault} ReadRecord w → h'.ahead ≡ h.ahead → h'.read ≡ h.read
-      → IfOk r (λ kept. h.run.known ≡ true → (found : Option (List ℕ)) × Calls (Finds Record found) h.run h'.run × IsKeptNumber first found kept)
+      → IfOk r (λ kept. h.run.known ≡ true → (found : Option (List ℕ)) × Calls (Finds Record found) h.run h'.run × IsKeptNumber terms.numbering first found kept)
       → OnErr r (h.run.known ≡ true → Calls IsStill h.run h'.run)
-      → IfErr r (λ e. (IsRecordFault first e × (h.run.known ≡ true → (found : Option (List ℕ)) × HasStepped h.run h'.run (Finds Record found) × IsRecordRefused first found e))
+      → IfErr r (λ e. (IsRecordFault first e × (h.run.known ≡ true → (found : Option (List ℕ)) × HasStepped h.run h'.run (Finds Record found) × IsRecordRefused terms.numbering first found e))
       ⊎ ((e ≡ Library (Named ReadingFailed)) × Rose h.faults.folder h'.faults.folder))
       → OnOk r (h'.faults ≡ h.faults) → Goes ReadRecord (number_or r) w w h h'
   read_goes w h h' (Ok kept) made ahead read number still why no_new_fault = (made, tt, λ names named. (named, record { made = λ known may. (number known, ahead, read); explained = no_new_fault; memory = tt }))
@@ -305,10 +305,10 @@ module _ (accepts : Verifier) (terms : Terms) (first : Bool) {H : Type 0} (file_
 
   pub write_record_goes : (n : ℕ) (w : Work H) (h h' : Host) (r : Result Unit InstallFault) → HasMade {E = InstallFault} (WriteRecord n) w → h'.ahead ≡ h.ahead → h'.read ≡ h.read
       → IfSome w.record_stage (λ stage. h.run.known ≡ true → MatchResult r
-      (λ _. (pieces : List (List ℕ)) × Writes (file_of stage.handle) pieces h.run h'.run × (concat pieces ≡ decimal n)) (λ _. WritesInPart (file_of stage.handle) h.run h'.run))
+      (λ _. (pieces : List (List ℕ)) × Writes (file_of stage.handle) pieces h.run h'.run × (concat pieces ≡ record_of terms.numbering n)) (λ _. WritesInPart (file_of stage.handle) h.run h'.run))
       → IfSome w.record_stage (λ _. IfErr r (λ e. (e ≡ Library (Named WritingFailed)) × Rose h.faults.folder h'.faults.folder)) → OnOk r (h'.faults ≡ h.faults) → Goes (WriteRecord n) (done_or r) w w h h'
   write_record_goes n w h h' (Ok x) has ahead read written why no_new_fault =
-      with_record (WriteRecord n) Done w h h' (λ name file. h.run.known ≡ true → (pieces : List (List ℕ)) × Writes file pieces h.run h'.run × (concat pieces ≡ decimal n)) has tt has.1 written (λ names known may fact. (fact known, ahead, read)) (λ names. no_new_fault) tt
+      with_record (WriteRecord n) Done w h h' (λ name file. h.run.known ≡ true → (pieces : List (List ℕ)) × Writes file pieces h.run h'.run × (concat pieces ≡ record_of terms.numbering n)) has tt has.1 written (λ names known may fact. (fact known, ahead, read)) (λ names. no_new_fault) tt
   write_record_goes n w h h' (Err e) has ahead read written why no_new_fault =
       with_record (WriteRecord n) (Failed e) w h h' (λ name file. h.run.known ≡ true → WritesInPart file h.run h'.run) has tt has.1 written (λ names known may fact. (fact known, ahead, read)) (λ names. writing_fails h h' e (at_any _ w.record_stage has.1 why)) (λ no. writing_wants _ e (at_any _ w.record_stage has.1 why))
 

@@ -1,21 +1,18 @@
 -- What the parts of an installation bring together.
 use Rattle.std.proofs.Common.{◌≡◌, ◌≢◌, ◌≤◌, ◌<◌, ◌^◌, inl, inr, ⊎_elim, ℕ, suc, zero, Bool, false, List, Option, Some, None, ap, sym, subst, ◌∙◌, get_or, true, arith, lit<}
-use Rattle.std.proofs.lemmas.Fmt.{decimal_digit, decimal_is_IsNumeral, first_decimal, IsAscii-decimal}
-use Rattle.std.proofs.lemmas.Str.{IsUtf8-from_ascii}
-use Rattle.std.proofs.lemmas.Str.Parse.{without_leading_plus_none}
-use Rattle.std.specs.Fmt.{decimal}
-use Rattle.std.specs.Str.{IsUtf8}
-use Rattle.std.specs.Str.Parse.{IsNumeral, digits_value, without_leading_plus}
 use Rattle.minisign.specs.Acceptance.{Verifier}
 use Rattle.minisign.specs.Calls.{TextsVouchWith}
 use Rattle.minisign.specs.Reading.{IsAhead}
-use Rattle.minisign_install.specs.Comments.{IsNumberText, Says}
+use Rattle.minisign_install.specs.Comments.{Says}
 use Rattle.minisign_install.specs.Folders.{Clears, HasStepped, IsFound, LeavesRecord, Moment, Finds, Run, RunStep}
 use Rattle.minisign_install.specs.Installing.{InstallsLocked, IsBrought, IsInstalled, IsKeptNumber, IsPlaced, IsRecordBrought, IsUpdate, NeverFalls, PlacesBehind, PlacesOnly, Terms}
+use Rattle.minisign_install.specs.RecordTexts.{IsNumberFor, record_of}
 use Rattle.minisign_install.specs.Runs.{BringsNothing, BringsOnly, Goes, GoesBeside, HasRecorded, IsKept, IsNumberFrom, IsOnly, IsPublished, Keeps, rights_of}
+use Rattle.minisign_install.specs.declared.comments.Numbering.{Numbering}
 use Rattle.minisign_install.specs.declared.folders.Name.{Name}
 use Rattle.minisign_install.specs.declared.folders.Name.TheVariants.{Place, Record}
 use Rattle.minisign_install.proofs.Moments.{lasting_keeps}
+use Rattle.minisign_install.proofs.RecordTexts.{record_reads, same_number}
 use Rattle.minisign_install.proofs.Works.{brings_nothing, brings_trans, brings_weaken}
 
 no_record : Record ≡ Place → ⊥
@@ -24,32 +21,17 @@ no_record e = cc
 none_found : (f : ℕ) → None ≡ Some f → ⊥
 none_found f e = cc
 
-no_plus : (n : ℕ) → n < 2 ^ 64 → get_or (decimal n) 0 0 ≢ 43
-no_plus zero bound e = omega (arith, e, ap (λ l. get_or l 0 0) (decimal_digit 0 (lit< tt)))
-no_plus (suc n) bound e = omega (arith, e, first_decimal (suc n) (omega arith) bound)
-
--- what is written of a number reads as it
-decimal_number : (n : ℕ) → n < 2 ^ 64 → IsNumberText (decimal n) n
-decimal_number n bound =
-    let (numeral, value) = decimal_is_IsNumeral n bound in
-    let plain : without_leading_plus (decimal n) ≡ decimal n = without_leading_plus_none (decimal n) (no_plus n bound) in
-    record { numeral = subst (IsNumeral 10) (sym plain) numeral; is = ap (digits_value 10) plain ∙ value; bound = bound }
-
--- and is at least any number that is not above it
-number_from : (k n : ℕ) → n < 2 ^ 64 → k ≤ n → IsNumberFrom k (decimal n)
-number_from k n bound least = (n, IsUtf8-from_ascii (decimal n) (IsAscii-decimal n bound), decimal_number n bound, least)
-
-pub same_number : (bytes : List ℕ) (n m : ℕ) → IsNumberText bytes n → IsNumberText bytes m → n ≡ m
-same_number bytes n m a b = sym a.is ∙ b.is
+-- what is written of a number is at least any number that is not above it
+number_from : (numbering : Numbering) (k n : ℕ) → n < 2 ^ 64 → k ≤ n → IsNumberFrom numbering k (record_of numbering n)
+number_from numbering k n bound least = (n, record_reads numbering n bound, least)
 
 pub some_list : (xs ys : List ℕ) → Some xs ≡ Some ys → xs ≡ ys
 some_list xs ys e = cc
 
-number_least : (first : Bool) (bytes : List ℕ) (kept k n : ℕ) → IsUtf8 bytes → IsNumberText bytes n → k ≤ n → IsKeptNumber first (Some bytes) kept → k ≤ kept
-number_least first bytes kept k n utf8 is least (inl (text, same, is_text, number)) =
-    omega (arith, least, same_number bytes n kept is (subst (λ b. IsNumberText b kept) (some_list text bytes (sym same)) number))
-number_least first bytes kept k n utf8 is least (inr (is_first, none, (inl not_text))) = absurd (not_text utf8)
-number_least first bytes kept k n utf8 is least (inr (is_first, none, (inr not_number))) = absurd (not_number n is)
+number_least : (numbering : Numbering) (first : Bool) (bytes : List ℕ) (kept k n : ℕ) → IsNumberFor numbering bytes n → k ≤ n → IsKeptNumber numbering first (Some bytes) kept → k ≤ kept
+number_least numbering first bytes kept k n is least (inl (text, same, number)) =
+    omega (arith, least, same_number numbering bytes n kept is (subst (λ b. IsNumberFor numbering b kept) (some_list text bytes (sym same)) number))
+number_least numbering first bytes kept k n is least (inr (is_first, is_zero, none)) = absurd (none n is)
 
 module _ (accepts : Verifier) (terms : Terms) (kept : ℕ) where
   abbrev P : Name → List ℕ → Type 0
@@ -70,7 +52,7 @@ module _ (accepts : Verifier) (terms : Terms) (kept : ℕ) where
       (update_brought (mid.now.holds file) n mid new (subst (λ u. IsUpdate accepts terms kept u n) (sym same.holds) is) goes.brings)
 
   pub installed : (name : List ℕ) (file : ℕ) (n : ℕ) (ahead : Option (List ℕ)) (staged mid : Run) (steps : List RunStep) → IsAhead ahead (staged.now.holds file) → IsUpdate accepts terms kept (staged.now.holds file) n
-      → staged.now.rights file ≡ true → IsKept staged mid name file → HasRecorded (decimal n) mid
+      → staged.now.rights file ≡ true → IsKept staged mid name file → HasRecorded (record_of terms.numbering n) mid
       → (p : IsPublished Place (mid.now.holds file) mid.steps steps) × (rights_of p ≡ mid.now.rights file) → IsInstalled accepts terms kept ahead steps
   installed name file n ahead staged mid steps given is rights same recorded (published, has) = record {
     bytes = mid.now.holds file;
@@ -85,10 +67,10 @@ module _ (accepts : Verifier) (terms : Terms) (kept : ℕ) where
   }
 
   -- the number of an update comes to the record alone
-  pub record_brought : (update : List ℕ) (n : ℕ) (old new : Run) → IsUpdate accepts terms kept update n → BringsOnly (IsOnly Record (decimal n)) old new
+  pub record_brought : (update : List ℕ) (n : ℕ) (old new : Run) → IsUpdate accepts terms kept update n → BringsOnly (IsOnly Record (record_of terms.numbering n)) old new
       → BringsOnly (IsRecordBrought accepts terms kept) old new
   record_brought update n old new is brings =
-      brings_weaken (IsOnly Record (decimal n)) (IsRecordBrought accepts terms kept) old new (λ name b only. (only.0, (n, update, is, only.1))) brings
+      brings_weaken (IsOnly Record (record_of terms.numbering n)) (IsRecordBrought accepts terms kept) old new (λ name b only. (only.0, (n, update, is, only.1))) brings
 
   -- nothing but the record was brought so far
   pub places_record : (old new : Run) → BringsOnly (IsRecordBrought accepts terms kept) old new → PlacesOnly accepts terms kept old new
@@ -100,15 +82,15 @@ module _ (accepts : Verifier) (terms : Terms) (kept : ℕ) where
   pub places_nothing : (old new : Run) → BringsNothing old new → PlacesOnly accepts terms kept old new
   places_nothing old new none = places_record old new (brings_nothing (IsRecordBrought accepts terms kept) old new none)
 
-  places_behind : (n : ℕ) (old point new : Run) → BringsOnly (IsRecordBrought accepts terms kept) old point → point.locked ≡ true → Keeps n point.now → BringsOnly (IsPlaced accepts terms kept n) point new
+  places_behind : (n : ℕ) (old point new : Run) → BringsOnly (IsRecordBrought accepts terms kept) old point → point.locked ≡ true → Keeps terms.numbering n point.now → BringsOnly (IsPlaced accepts terms kept n) point new
       → PlacesBehind accepts terms kept old new
   places_behind n old point new recorded locked there placed =
-      let (number, lasts) = placed.numbers locked n (λ bytes no. absurd (no_record no.0)) there in
+      let (number, lasts) = placed.numbers locked terms.numbering n (λ bytes no. absurd (no_record no.0)) there in
       record { n = n; point = point; recorded = recorded; locked = locked; there = there; placed = placed; number = number; lasts = lasts }
 
   -- staged, the number kept, and then published
   pub places_update : (name : List ℕ) (file : ℕ) (n : ℕ) (old staged mid new : Run) → old.locked ≡ true → BringsNothing old staged → IsUpdate accepts terms kept (staged.now.holds file) n
-      → GoesBeside (IsOnly Record (decimal n)) staged mid → HasRecorded (decimal n) mid → IsKept staged mid name file → Goes (IsOnly Place (mid.now.holds file)) name file mid new
+      → GoesBeside (IsOnly Record (record_of terms.numbering n)) staged mid → HasRecorded (record_of terms.numbering n) mid → IsKept staged mid name file → Goes (IsOnly Place (mid.now.holds file)) name file mid new
       → PlacesOnly accepts terms kept old new
   places_update name file n old staged mid new locked before is recording recorded same goes =
       let Q = IsRecordBrought accepts terms kept in
@@ -116,7 +98,7 @@ module _ (accepts : Verifier) (terms : Terms) (kept : ℕ) where
       let there : IsUpdate accepts terms kept (mid.now.holds file) n = subst (λ u. IsUpdate accepts terms kept u n) (sym same.holds) is in
       let placed = brings_weaken (IsOnly Place (mid.now.holds file)) (IsPlaced accepts terms kept n) mid new
       (λ name b only. (only.0, subst (λ u. IsUpdate accepts terms kept u n) (sym only.1) there)) goes.brings in
-      let keeps : Keeps n mid.now = lasting_keeps n mid.now (decimal n) recorded.lasts (number_from n n is.says.number.bound (omega arith)) in
+      let keeps : Keeps terms.numbering n mid.now = lasting_keeps terms.numbering n mid.now (record_of terms.numbering n) recorded.lasts (number_from terms.numbering n n is.says.number.bound (omega arith)) in
       record {
         brings = brings_trans P old mid new (brings_weaken Q P old mid (λ name b q. subst (λ x. IsBrought accepts terms kept x b) (sym q.0) q.1) to_record)
             (brings_weaken (IsPlaced accepts terms kept n) P mid new (λ name b q. subst (λ x. IsBrought accepts terms kept x b) (sym q.0) (n, q.1)) placed);
@@ -165,32 +147,32 @@ found_first found old cleared read locked clear s =
     found_before old.now clear.before found (clear.others.record_left locked) (found_cleared clear.before cleared.now found clear.this then)
 
 -- a number that was in the record is not above the one that was found there
-kept_least : (first : Bool) (found : Option (List ℕ)) (kept k : ℕ) (m : Moment) → IsFound m Record found → IsKeptNumber first found kept → Keeps k m → k ≤ kept
-kept_least first None kept k m there number keeps = absurd (none_found keeps.file (sym there ∙ keeps.leads))
-kept_least first (Some bytes) kept k m (f, leads, holds) number keeps =
-    let (n, utf8, is, least) = keeps.numbers bytes (record { file = f; lead = inl leads; holds = λ kept. sym holds }) in
-    number_least first bytes kept k n utf8 is least number
+kept_least : (numbering : Numbering) (first : Bool) (found : Option (List ℕ)) (kept k : ℕ) (m : Moment) → IsFound m Record found → IsKeptNumber numbering first found kept → Keeps numbering k m → k ≤ kept
+kept_least numbering first None kept k m there number keeps = absurd (none_found keeps.file (sym there ∙ keeps.leads))
+kept_least numbering first (Some bytes) kept k m (f, leads, holds) number keeps =
+    let (n, is, least) = keeps.numbers bytes (record { file = f; lead = inl leads; holds = λ kept. sym holds }) in
+    number_least numbering first bytes kept k n is least number
 
 -- nothing was brought, or what is not older
-never_falls_nothing : (old new : Run) → old.locked ≡ true → BringsNothing old new → NeverFalls old new
-never_falls_nothing old new locked none k keeps =
-    let (each, last) = none.numbers locked k (λ bytes no. absurd no) keeps in
+never_falls_nothing : (numbering : Numbering) (old new : Run) → old.locked ≡ true → BringsNothing old new → NeverFalls numbering old new
+never_falls_nothing numbering old new locked none k keeps =
+    let (each, last) = none.numbers locked numbering k (λ bytes no. absurd no) keeps in
     (none.since, none.noted, each, last)
 
-never_falls_newer : (accepts : Verifier) (terms : Terms) (first : Bool) (found : Option (List ℕ)) (kept : ℕ) (old new : Run) → old.locked ≡ true → IsFound old.now Record found → IsKeptNumber first found kept
-    → BringsOnly (IsBrought accepts terms kept) old new → NeverFalls old new
+never_falls_newer : (accepts : Verifier) (terms : Terms) (first : Bool) (found : Option (List ℕ)) (kept : ℕ) (old new : Run) → old.locked ≡ true → IsFound old.now Record found → IsKeptNumber terms.numbering first found kept
+    → BringsOnly (IsBrought accepts terms kept) old new → NeverFalls terms.numbering old new
 never_falls_newer accepts terms first found kept old new locked there number brings k keeps =
-    let least : k ≤ kept = kept_least first found kept k old.now there number keeps in
-    let (each, last) = brings.numbers locked k
-    (λ bytes (n, update, is, same). subst (IsNumberFrom k) (sym same) (number_from k n is.says.number.bound (omega (arith, least, is.newer)))) keeps in
+    let least : k ≤ kept = kept_least terms.numbering first found kept k old.now there number keeps in
+    let (each, last) = brings.numbers locked terms.numbering k
+    (λ bytes (n, update, is, same). subst (IsNumberFrom terms.numbering k) (sym same) (number_from terms.numbering k n is.says.number.bound (omega (arith, least, is.newer)))) keeps in
     (brings.since, brings.noted, each, last)
 
 pub nothing_locked : (accepts : Verifier) (terms : Terms) (first : Bool) (old new : Run) → old.locked ≡ true → BringsNothing old new → InstallsLocked accepts terms first old new
-nothing_locked accepts terms first old new locked none = record { only = inl none; never_falls = never_falls_nothing old new locked none }
+nothing_locked accepts terms first old new locked none = record { only = inl none; never_falls = never_falls_nothing terms.numbering old new locked none }
 
 -- the record was read, and what is not older than its number was brought
 pub installs : (accepts : Verifier) (terms : Terms) (first : Bool) (found : Option (List ℕ)) (kept : ℕ) (old read new : Run) → old.locked ≡ true → BringsNothing old read → IsFound old.now Record found
-    → IsKeptNumber first found kept → PlacesOnly accepts terms kept read new → InstallsLocked accepts terms first old new
+    → IsKeptNumber terms.numbering first found kept → PlacesOnly accepts terms kept read new → InstallsLocked accepts terms first old new
 installs accepts terms first found kept old read new locked before there number places =
     let all = places_after accepts terms kept old read new before places in
     record {

@@ -3,6 +3,7 @@ mod Counts
 mod Driven
 mod Driving
 mod Fields
+mod Hosting
 mod InMemory
 mod Installs
 mod Judgements
@@ -11,6 +12,7 @@ mod Orders
 mod Pasts
 mod Pieces
 mod Reasons
+mod RecordTexts
 mod Refused
 mod Verdicts
 mod Works

@@ -1,6 +1,7 @@
 -- What one call brings to the lasting names.
 use Rattle.std.proofs.Common.{◌≡◌, ◌≢◌, ◌⊎◌, inl, inr, ⊎_elim, ℕ, List, Option, Some, true, ap, sym, subst, ◌∙◌, refl}
 use Rattle.minisign_install.specs.Folders.{IsApart, KeepsNames, LeavesRecord, MayFind, MayLead, Moment, Renames, RunStep, TouchesOnly}
+use Rattle.minisign_install.specs.declared.comments.Numbering.{Numbering}
 use Rattle.minisign_install.specs.Runs.{Brings, IsNumberFrom, Keeps, Lasts}
 use Rattle.minisign_install.specs.declared.folders.Name.{Name}
 use Rattle.minisign_install.specs.declared.folders.Name.TheVariants.{Place, Record}
@@ -91,8 +92,8 @@ module _ (P : Name → List ℕ → Type 0) where
 -- == The number in the record ==
 
 -- others leave the record alone
-pub others_keep : (k : ℕ) (m m' : Moment) → LeavesRecord m m' → Keeps k m → Keeps k m'
-others_keep k m m' leaves keeps = record {
+pub others_keep : (numbering : Numbering) (k : ℕ) (m m' : Moment) → LeavesRecord m m' → Keeps numbering k m → Keeps numbering k m'
+others_keep numbering k m m' leaves keeps = record {
   file = keeps.file;
   leads = leaves.leads ∙ keeps.leads;
   numbers = λ bytes found.
@@ -105,8 +106,8 @@ others_keep k m m' leaves keeps = record {
 }
 
 -- a call brings only such numbers to it
-pub call_keeps : (P : Name → List ℕ → Type 0) (k : ℕ) (m m' : Moment) → Brings P (step m m') → ((bytes : List ℕ) → P Record bytes → IsNumberFrom k bytes) → Keeps k m → Keeps k m'
-call_keeps P k m m' brings floor keeps =
+pub call_keeps : (P : Name → List ℕ → Type 0) (numbering : Numbering) (k : ℕ) (m m' : Moment) → Brings P (step m m') → ((bytes : List ℕ) → P Record bytes → IsNumberFrom numbering k bytes) → Keeps numbering k m → Keeps numbering k m'
+call_keeps P numbering k m m' brings floor keeps =
     let (g, leads) = brings.stays Record keeps.file keeps.leads in
     record {
       file = g;
@@ -115,13 +116,13 @@ call_keeps P k m m' brings floor keeps =
     }
 
 -- it is there for good
-pub lasting_keeps : (k : ℕ) (m : Moment) (bytes : List ℕ) → Lasts m Record bytes → IsNumberFrom k bytes → Keeps k m
-lasting_keeps k m bytes lasts number = record {
+pub lasting_keeps : (numbering : Numbering) (k : ℕ) (m : Moment) (bytes : List ℕ) → Lasts m Record bytes → IsNumberFrom numbering k bytes → Keeps numbering k m
+lasting_keeps numbering k m bytes lasts number = record {
   file = lasts.stands.file;
   leads = lasts.stands.leads;
   numbers = λ xs found.
       let leads : m.leads Record ≡ Some found.file = ⊎_elim (λ e. e) (lasts.settled found.file) found.lead in
       let same : found.file ≡ lasts.stands.file = some_inj found.file lasts.stands.file (m.leads Record) leads lasts.stands.leads in
       let is : xs ≡ bytes = found.holds (ap (λ f. m.on_disk f) same ∙ lasts.stands.on_disk) ∙ ap (λ f. m.holds f) same ∙ lasts.stands.holds in
-      subst (IsNumberFrom k) (sym is) number;
+      subst (IsNumberFrom numbering k) (sym is) number;
 }

@@ -2,7 +2,6 @@
 -- that is due, and that each outcome leads from there to what stands fast at the next one.
 use Rattle.std.proofs.Common.{◌≡◌, ◌≢◌, ◌⊎◌, inl, inr, ⊎_elim, ℕ, List, [], ◌∷◌, ◌++◌, true, Option, ap, sym, subst, ◌∙◌, refl, append_assoc, append-nil, Ok, Err}
 use Rattle.std.proofs.KnownBytes.{Consumes-nil, Consumes-trans, Consumes-whole}
-use Rattle.std.specs.Fmt.{decimal}
 use Rattle.std.specs.Io.KnownBytes.{Consumes}
 use Rattle.std.specs.List.{concat}
 use Rattle.minisign.specs.Reading.{IsAhead}
@@ -10,6 +9,7 @@ use Rattle.minisign_install.specs.Folders.{ClearsAll, HasCreated, HasLocked, Has
 use Rattle.minisign_install.specs.Hosts.{Calls, CallsNothing, Event, HasRun, Host, Makes, RunHasInstalled, RunsSafely, Setting, Writes, WritesInPart}
 use Rattle.minisign_install.specs.Installing.{HasInstalled, InstallsLocked, IsBrought, IsKeptNumber, IsRecordBrought, IsUpdate, PlacesOnly}
 use Rattle.minisign_install.specs.Order.{next}
+use Rattle.minisign_install.specs.RecordTexts.{record_of}
 use Rattle.minisign_install.specs.Runs.{BringsNothing, BringsOnly, Goes, GoesBeside, HasCleared, HasRecorded, HasStage, IsKept, IsOnly, OwnsNoMore, WorksOn}
 use Rattle.minisign_install.specs.declared.folders.Name.{Name}
 use Rattle.minisign_install.specs.declared.folders.Name.TheVariants.{Place, Record}
@@ -29,7 +29,7 @@ pub record Front (s : Setting) (a : Host) (now : Run) (kept : ℕ) : Type 0 wher
   pub mine : KeepsOwn a.run locked
   pub found : Option (List ℕ)
   pub there : IsFound locked.now Record found
-  pub number : IsKeptNumber s.first found kept
+  pub number : IsKeptNumber s.terms.numbering s.first found kept
   pub cleared : HasCleared locked now
   pub nothing : BringsNothing locked now
   pub own : OwnsNoMore locked now
@@ -65,8 +65,8 @@ pub record Recording (s : Setting) (a : Host) (now : Run) (n : ℕ) : Type 0 whe
 pub record Recorded (s : Setting) (a : Host) (now : Run) (n : ℕ) : Type 0 where
   pub staged_run : Run
   pub staged : Staged s a staged_run n
-  pub beside : GoesBeside (IsOnly Record (decimal n)) staged_run now
-  pub recorded : HasRecorded (decimal n) now
+  pub beside : GoesBeside (IsOnly Record (record_of s.terms.numbering n)) staged_run now
+  pub recorded : HasRecorded (record_of s.terms.numbering n) now
   pub own : OwnsNoMore staged_run now
 
 -- only what is to be installed was brought, and no more stages are the run's own but those that are still to be removed
@@ -98,10 +98,10 @@ Holds s a (Settle n) h =
     (kept : ℕ) × Staging s a h.run kept × IsAhead a.ahead (h.run.now.holds s.file) × IsUpdate s.accepts s.terms kept (h.run.now.holds s.file) n × (h.run.now.rights s.file ≡ true)
 Holds s a (CreateRecord n) h = Staged s a h.run n
 Holds s a (WriteRecord n) h = (t : Run) × Staged s a t n × HasCreated s.record_name s.record_file t h.run
-Holds s a (SettleRecord n) h = Recording s a h.run n × (h.run.now.holds s.record_file ≡ decimal n)
-Holds s a (RenameRecord n) h = Recording s a h.run n × (h.run.now.holds s.record_file ≡ decimal n) × (h.run.now.on_disk s.record_file ≡ true)
+Holds s a (SettleRecord n) h = Recording s a h.run n × (h.run.now.holds s.record_file ≡ record_of s.terms.numbering n)
+Holds s a (RenameRecord n) h = Recording s a h.run n × (h.run.now.holds s.record_file ≡ record_of s.terms.numbering n) × (h.run.now.on_disk s.record_file ≡ true)
 Holds s a (SettleRecordName n) h =
-    (v : Run) × Recording s a v n × (v.now.holds s.record_file ≡ decimal n) × (v.now.on_disk s.record_file ≡ true) × HasRenamed s.record_name Record v h.run
+    (v : Run) × Recording s a v n × (v.now.holds s.record_file ≡ record_of s.terms.numbering n) × (v.now.on_disk s.record_file ≡ true) × HasRenamed s.record_name Record v h.run
 Holds s a (Rename n) h = Recorded s a h.run n
 Holds s a (SettleName n) h = (w : Run) × Recorded s a w n × HasRenamed s.name Place w h.run
 Holds s a (RemoveRecord e) h = Failing s a h.run (λ q. (q ≢ s.name) × (q ≢ s.record_name))
@@ -200,10 +200,10 @@ module _ (s : Setting) (a : Host) where
       }
 
   -- the record's stage was named, or perhaps
-  pub record_brings : (v now : Run) (n : ℕ) → (x : Recording s a v n) → v.now.holds s.record_file ≡ decimal n → Goes (IsOnly Record (v.now.holds s.record_file)) s.record_name s.record_file v now
+  pub record_brings : (v now : Run) (n : ℕ) → (x : Recording s a v n) → v.now.holds s.record_file ≡ record_of s.terms.numbering n → Goes (IsOnly Record (v.now.holds s.record_file)) s.record_name s.record_file v now
       → BringsOnly (IsRecordBrought s.accepts s.terms x.staged.kept) x.staged.staging.ready now
   record_brings v now n x holds goes =
-      let P = IsOnly Record (decimal n) in
+      let P = IsOnly Record (record_of s.terms.numbering n) in
       let Q = IsRecordBrought s.accepts s.terms x.staged.kept in
       let y = x.staged.staging in
       let brought : BringsOnly P x.staged_run now =
@@ -213,7 +213,7 @@ module _ (s : Setting) (a : Host) where
       brings_trans Q y.ready x.staged_run now (brings_nothing Q y.ready x.staged_run (staging_nothing x.staged_run x.staged.kept y))
       (record_brought s.accepts s.terms x.staged.kept (x.staged_run.now.holds s.file) n x.staged_run now x.staged.update brought)
 
-  fail_record : (v now : Run) (n : ℕ) → (x : Recording s a v n) → v.now.holds s.record_file ≡ decimal n → Goes (IsOnly Record (v.now.holds s.record_file)) s.record_name s.record_file v now
+  fail_record : (v now : Run) (n : ℕ) → (x : Recording s a v n) → v.now.holds s.record_file ≡ record_of s.terms.numbering n → Goes (IsOnly Record (v.now.holds s.record_file)) s.record_name s.record_file v now
       → ((q : List ℕ) → now.owns q ≡ true → q ≢ s.record_name → v.owns q ≡ true) → Failing s a now (λ q. (q ≢ s.name) × (q ≢ s.record_name))
   unfolding fail_staging fail_recording
   fail_record v now n x holds goes own =
@@ -492,7 +492,7 @@ module _ (s : Setting) (a : Host) where
 
     from_settle_record_name : (n : ℕ) (o : Outcome E) (h h' : Host) → Holds {E = E} s a (SettleRecordName n) h → Makes s (SettleRecordName n) o h h' → Holds s a (next (SettleRecordName n) o) h'
     from_settle_record_name n Done h h' (v, x, holds, on_disk, renamed) ((step, own), ahead', read') =
-        let P = IsOnly Record (decimal n) in
+        let P = IsOnly Record (record_of s.terms.numbering n) in
         let goes = subst (λ b. Goes (IsOnly Record b) s.record_name s.record_file v h'.run) holds (record_goes n v h.run h'.run x on_disk renamed (names_settled h.run h'.run step, own)) in
         let rename : v.known ≡ true → v.locked ≡ true → HasStepped v h.run _ = λ _ _. renamed.stepped in
         record {

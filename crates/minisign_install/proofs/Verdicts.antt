@@ -1,8 +1,7 @@
 -- An update is installed exactly where it can be.
 use Rattle.std.proofs.Common.{◌≡◌, ◌≢◌, inl, inr, ◌++◌, ℕ, Bool, true, false, List, [], Option, Some, None, ap, sym, subst, ◌∙◌, refl, length, drop, arith, IfErr, OnOk}
 use Rattle.std.proofs.lemmas.Bool.{true≢false}
-use Rattle.std.proofs.Math.Seq.{drop-append_seam}
-use Rattle.std.specs.Str.{IsUtf8, trim}
+use Rattle.std.specs.Str.{trim}
 use Rattle.std.specs.declared.result.Result.{Result}
 use Rattle.std.specs.declared.result.Result.TheVariants.{Ok, Err}
 use Rattle.minisign_base.specs.Fault.{Named}
@@ -16,21 +15,20 @@ use Rattle.minisign_install.specs.Comments.{IsNumberText, Says}
 use Rattle.minisign_install.specs.Folders.{HasLocked, IsFound, Run}
 use Rattle.minisign_install.specs.Installing.{HasInstalled, IsKeptNumber, Terms}
 use Rattle.minisign_install.specs.Refusals.{CanBeInstalled, CannotBeInstalled, Counts, HasFailed, InstallsExactly, IsCallFault, IsDataRefused, IsLibraryFault, IsLockedRefusal, IsRecordRefused, IsRefusal, IsRunFault}
+use Rattle.minisign_install.specs.RecordTexts.{IsNumberFor}
 use Rattle.minisign_install.specs.declared.comments.Numbering.{Numbering}
 use Rattle.minisign_install.specs.declared.faults.InstallFault.{InstallFault}
 use Rattle.minisign_install.specs.declared.faults.InstallFault.TheVariants.{Library}
 use Rattle.minisign_install.specs.declared.folders.Name.TheVariants.{Record}
 use Rattle.minisign_install.proofs.Counts.{not_failed, run_fault}
-use Rattle.minisign_install.proofs.Installs.{same_number, some_list}
+use Rattle.minisign_install.proofs.Installs.{some_list}
+use Rattle.minisign_install.proofs.RecordTexts.{same_behind, same_number}
 
 no_text : (text : List ℕ) → None ≡ Some text → ⊥
 no_text text e = cc
 
 some_comments : (a b : CommentsRecord) → Some a ≡ Some b → a ≡ b
 some_comments a b e = cc
-
-same_behind : (label a b : List ℕ) → label ++ a ≡ label ++ b → a ≡ b
-same_behind label a b e = sym (drop-append_seam label a) ∙ ap (λ l. drop (length label) l) e ∙ drop-append_seam label b
 
 -- the comment that was signed stands in the text, whatever it was signed with
 same_comment : (accepts : Verifier) (pk sig m m' : List ℕ) (a b : List ℕ) → TextsVouchWith accepts pk sig m false a → TextsVouchWith accepts pk sig m' false b → a ≡ b
@@ -44,30 +42,26 @@ same_comment accepts pk sig m m' a b u v =
     let second : v.comments ≡ y.comments = some_comments v.comments y.comments (sym v.both ∙ y.box) in
     sym u.trusted ∙ ap (λ k. k.trusted) first ∙ sym trimmed ∙ ap (λ k. trim k) one ∙ cut ∙ sym (ap (λ k. k.trusted) second) ∙ v.trusted
 
-same_kept : (first : Bool) (found : Option (List ℕ)) (k l : ℕ) → IsKeptNumber first found k → IsKeptNumber first found l → k ≡ l
-same_kept first found k l (inl (text, there, is_text, number)) (inl (other, same, is_other, is)) =
-    same_number text k l number (subst (λ t. IsNumberText t l) (some_list other text (sym same ∙ there)) is)
-same_kept first None k l (inl (text, there, is_text, number)) (inr more) = absurd (no_text text there)
-same_kept first (Some bytes) k l (inl (text, there, is_text, number)) (inr (is, zero, (inl not_text))) = absurd (not_text (subst IsUtf8 (some_list text bytes (sym there)) is_text))
-same_kept first (Some bytes) k l (inl (text, there, is_text, number)) (inr (is, zero, (inr none))) = absurd (none k (subst (λ t. IsNumberText t k) (some_list text bytes (sym there)) number))
-same_kept first None k l (inr more) (inl (text, there, is_text, number)) = absurd (no_text text there)
-same_kept first (Some bytes) k l (inr (is, zero, (inl not_text))) (inl (text, there, is_text, number)) = absurd (not_text (subst IsUtf8 (some_list text bytes (sym there)) is_text))
-same_kept first (Some bytes) k l (inr (is, zero, (inr none))) (inl (text, there, is_text, number)) = absurd (none l (subst (λ t. IsNumberText t l) (some_list text bytes (sym there)) number))
-same_kept first found k l (inr (is, zero, why)) (inr (is', zero', why')) = zero ∙ sym zero'
+same_kept : (numbering : Numbering) (first : Bool) (found : Option (List ℕ)) (k l : ℕ) → IsKeptNumber numbering first found k → IsKeptNumber numbering first found l → k ≡ l
+same_kept numbering first found k l (inl (bytes, there, number)) (inl (other, same, is)) =
+    same_number numbering bytes k l number (subst (λ t. IsNumberFor numbering t l) (some_list other bytes (sym same ∙ there)) is)
+same_kept numbering first None k l (inl (bytes, there, number)) (inr more) = absurd (no_text bytes there)
+same_kept numbering first (Some bytes) k l (inl (other, there, number)) (inr (is, zero, none)) = absurd (none k (subst (λ t. IsNumberFor numbering t k) (some_list other bytes (sym there)) number))
+same_kept numbering first None k l (inr more) (inl (bytes, there, number)) = absurd (no_text bytes there)
+same_kept numbering first (Some bytes) k l (inr (is, zero, none)) (inl (other, there, number)) = absurd (none l (subst (λ t. IsNumberFor numbering t l) (some_list other bytes (sym there)) number))
+same_kept numbering first found k l (inr (is, zero, why)) (inr (is', zero', why')) = zero ∙ sym zero'
 
-record_unfit : (first : Bool) (found : Option (List ℕ)) (kept : ℕ) (e : InstallFault) → IsRecordRefused first found e → IsKeptNumber first found kept → ⊥
-record_unfit first found kept e (inl (is, later, none)) (inl (text, there, is_text, number)) = no_text text (sym none ∙ there)
-record_unfit first found kept e (inl (is, later, none)) (inr (first_one, zero, number)) = true≢false (sym first_one ∙ later)
-record_unfit first found kept e (inr (is, later, why)) (inr (first_one, zero, number)) = true≢false (sym first_one ∙ later)
-record_unfit first found kept e (inr (is, later, (text, there, (inl not_text)))) (inl (other, same, is_other, number)) = not_text (subst IsUtf8 (some_list other text (sym same ∙ there)) is_other)
-record_unfit first found kept e (inr (is, later, (text, there, (inr none)))) (inl (other, same, is_other, number)) = none kept (subst (λ t. IsNumberText t kept) (some_list other text (sym same ∙ there)) number)
+record_unfit : (numbering : Numbering) (first : Bool) (found : Option (List ℕ)) (kept : ℕ) (e : InstallFault) → IsRecordRefused numbering first found e → IsKeptNumber numbering first found kept → ⊥
+record_unfit numbering first found kept e (later, why) (inr (first_one, zero, number)) = true≢false (sym first_one ∙ later)
+record_unfit numbering first found kept e (later, (inl (is, none))) (inl (bytes, there, number)) = no_text bytes (sym none ∙ there)
+record_unfit numbering first found kept e (later, (inr (bytes, there, none, unfit))) (inl (other, same, number)) = none kept (subst (λ t. IsNumberFor numbering t kept) (some_list other bytes (sym same ∙ there)) number)
 
 said_once : (comment file : List ℕ) (numbering : Numbering) (n k : ℕ) → Says comment file numbering n → Says comment file numbering k → n ≡ k
 said_once comment file numbering n k a b =
-    same_number a.value n k a.number (subst (λ t. IsNumberText t k) (some_list b.value a.value (sym b.numbered ∙ a.numbered)) b.number)
+    sym a.number.is ∙ (subst (λ t. IsNumberText t k) (some_list b.value a.value (sym b.numbered ∙ a.numbered)) b.number).is
 
 module _ (accepts : Verifier) (terms : Terms) (first : Bool) where
-  data_unfit : (found : Option (List ℕ)) (kept : ℕ) (message : List ℕ) (e : InstallFault) → IsKeptNumber first found kept → IsDataRefused accepts terms kept message e
+  data_unfit : (found : Option (List ℕ)) (kept : ℕ) (message : List ℕ) (e : InstallFault) → IsKeptNumber terms.numbering first found kept → IsDataRefused accepts terms kept message e
       → ¬ (CanBeInstalled accepts terms first found message)
   data_unfit found kept message e number (inl (fault, is, refused)) (least, n, held, update) = refused.unvouched update.vouched.vouched
   data_unfit found kept message e number (inr (comment, vouched, why)) (least, n, held, update) =
@@ -77,7 +71,7 @@ module _ (accepts : Verifier) (terms : Terms) (first : Bool) where
         | inl (is, other) ↦ other says.named
         | inr (inl (is, named, none)) ↦ none n says
         | inr (inr (is, (k, older, less))) ↦
-            omega (arith, less, update.newer, said_once comment terms.file terms.numbering n k says older, same_kept first found kept least number held)
+            omega (arith, less, update.newer, said_once comment terms.file terms.numbering n k says older, same_kept terms.numbering first found kept least number held)
       ]
 
   some_ahead : (ahead : Option (List ℕ)) → (message : List ℕ) × IsAhead ahead message
@@ -98,7 +92,7 @@ module _ (accepts : Verifier) (terms : Terms) (first : Bool) where
   locked_verdict ahead before after locked new e memory no_new_fault (inl (none, device)) = call_memory before after e (Verdict ahead locked e) memory no_new_fault device
   locked_verdict ahead before after locked new e memory no_new_fault (inr (inl (cleared, none, (found, there, why)))) =
       let (message, given) = some_ahead ahead in
-      (found, there, (message, given, record { reason = inl why; not_so = λ (kept, n, number, update). record_unfit first found kept e why number }))
+      (found, there, (message, given, record { reason = inl why; not_so = λ (kept, n, number, update). record_unfit terms.numbering first found kept e why number }))
   locked_verdict ahead before after locked new e memory no_new_fault (inr (inr (cleared, (found, kept, there, number, (inl (none, device)))))) = memory_only before after e (Verdict ahead locked e) memory no_new_fault device
   locked_verdict ahead before after locked new e memory no_new_fault (inr (inr (cleared, (found, kept, there, number, (inr (inl (none, (message, given, why)))))))) =
       (found, there, (message, given, record { reason = inr (kept, number, why); not_so = data_unfit found kept message e number why }))

@@ -18,7 +18,7 @@ module _ (P : Name → List ℕ → Type 0) where
     each = All-nil (Brings P);
     known = refl;
     locked = λ l. l;
-    numbers = λ l k floor keeps. (All-nil (KeepsAt k), keeps);
+    numbers = λ l numbering k floor keeps. (All-nil (KeepsAt numbering k), keeps);
   }
 
   pub brings_more : (old mid new : Run) (call : Moment → Moment → Type 0) → BringsOnly P old mid → (s : HasStepped mid new call) → Brings P (step s.before new.now) → BringsOnly P old new
@@ -28,11 +28,11 @@ module _ (P : Name → List ℕ → Type 0) where
     each = All-cons (Brings P) (step s.before new.now) so_far.since this so_far.each;
     known = s.known ∙ so_far.known;
     locked = λ l. s.locked (so_far.locked l);
-    numbers = λ l k floor keeps.
-        let (each, last) = so_far.numbers l k floor keeps in
-        let before = others_keep k mid.now s.before (s.others.record_left (so_far.locked l)) last in
-        let after = call_keeps P k s.before new.now this floor before in
-        (All-cons (KeepsAt k) (step s.before new.now) so_far.since (before, after) each, after);
+    numbers = λ l numbering k floor keeps.
+        let (each, last) = so_far.numbers l numbering k floor keeps in
+        let before = others_keep numbering k mid.now s.before (s.others.record_left (so_far.locked l)) last in
+        let after = call_keeps P numbering k s.before new.now this floor before in
+        (All-cons (KeepsAt numbering k) (step s.before new.now) so_far.since (before, after) each, after);
   }
 
   pub brings_trans : (old mid new : Run) → BringsOnly P old mid → BringsOnly P mid new → BringsOnly P old new
@@ -42,10 +42,10 @@ module _ (P : Name → List ℕ → Type 0) where
     each = All-append (Brings P) b.since a.since b.each a.each;
     known = b.known ∙ a.known;
     locked = λ l. b.locked (a.locked l);
-    numbers = λ l k floor keeps.
-        let (first, then) = a.numbers l k floor keeps in
-        let (more, last) = b.numbers (a.locked l) k floor then in
-        (All-append (KeepsAt k) b.since a.since more first, last);
+    numbers = λ l numbering k floor keeps.
+        let (first, then) = a.numbers l numbering k floor keeps in
+        let (more, last) = b.numbers (a.locked l) numbering k floor then in
+        (All-append (KeepsAt numbering k) b.since a.since more first, last);
   }
 
   pub brings_nothing : (old new : Run) → BringsNothing old new → BringsOnly P old new
@@ -58,7 +58,7 @@ module _ (P : Name → List ℕ → Type 0) where
     };
     known = none.known;
     locked = none.locked;
-    numbers = λ l k floor keeps. none.numbers l k (λ bytes no. absurd no) keeps;
+    numbers = λ l numbering k floor keeps. none.numbers l numbering k (λ bytes no. absurd no) keeps;
   }
 
 -- what a stage is at the moment just before a call
@@ -330,7 +330,7 @@ brings_weaken P Q old new more b = record {
   };
   known = b.known;
   locked = b.locked;
-  numbers = λ l k floor keeps. b.numbers l k (λ bytes p. floor bytes (more Record bytes p)) keeps;
+  numbers = λ l numbering k floor keeps. b.numbers l numbering k (λ bytes p. floor bytes (more Record bytes p)) keeps;
 }
 
 -- leftovers were removed, all or some

@@ -1,7 +1,7 @@
 -- What a signed comment says of an update.
 use Rattle.std.specs.Prelude.{◌≡◌, ℕ, ◌^◌, ◌<◌, List, [], ◌∷◌, ◌==◌, length, take, drop, Option, Some, None, if◌then◌else◌, bytes_eq, codes}
 use Rattle.std.specs.List.{slice_split}
-use Rattle.std.specs.Str.Parse.{IsNumeral, digits_value, without_leading_plus}
+use Rattle.std.specs.Str.Parse.{IsNumeral, digits_value}
 use Rattle.minisign_install.specs.declared.comments.Numbering.{Numbering}
 use Rattle.minisign_install.specs.declared.comments.Numbering.TheVariants.{Timestamp, Version}
 
@@ -17,10 +17,10 @@ value_in label (field ∷ more) = if bytes_eq (take (length label) field) label 
 abbrev pub value_of : List ℕ → List ℕ → Option (List ℕ)
 value_of label comment = value_in label (fields comment)
 
--- the text writes this number below 2^64 in decimal digits; a plus may stand before them
+-- the text writes this number below 2^64 in decimal digits, and has nothing else: no sign stands before them
 pub record IsNumberText (text : List ℕ) (n : ℕ) : Type 0 where
-  pub numeral : IsNumeral 10 (without_leading_plus text)
-  pub is : digits_value 10 (without_leading_plus text) ≡ n
+  pub numeral : IsNumeral 10 text
+  pub is : digits_value 10 text ≡ n
   pub bound : n < 2 ^ 64
 
 -- the label of the field that has the name of the file

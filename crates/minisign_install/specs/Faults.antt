@@ -4,7 +4,7 @@ use Rattle.minisign_base.specs.Fault.{kind_of, text_of}
 use Rattle.minisign_base.specs.declared.errors.ErrorKind.{ErrorKind}
 use Rattle.minisign_base.specs.declared.errors.ErrorKind.TheVariants.{Io, Verify}
 use Rattle.minisign_install.specs.declared.faults.InstallFault.{InstallFault}
-use Rattle.minisign_install.specs.declared.faults.InstallFault.TheVariants.{Library, PlaceInUse, NoRecord, DamagedRecord, OtherFile, NoNumber, OlderUpdate, FolderNotOnDisk}
+use Rattle.minisign_install.specs.declared.faults.InstallFault.TheVariants.{Library, PlaceInUse, NoRecord, DamagedRecord, KeptByTimestamp, KeptByVersion, OtherFile, NoNumber, OlderUpdate, FolderNotOnDisk}
 
 pub record InstallRow : Type 0 where
   pub kind : ErrorKind
@@ -15,6 +15,8 @@ install_row (Library fault) = record { kind = kind_of fault; text = text_of faul
 install_row PlaceInUse = record { kind = Io; text = codes "another installation is at work at this place" }
 install_row NoRecord = record { kind = Io; text = codes "no number is kept beside the place" }
 install_row DamagedRecord = record { kind = Io; text = codes "what is kept beside the place is no number" }
+install_row KeptByTimestamp = record { kind = Io; text = codes "the number that is kept beside the place is a timestamp, and no version" }
+install_row KeptByVersion = record { kind = Io; text = codes "the number that is kept beside the place is a version, and no timestamp" }
 install_row OtherFile = record { kind = Verify; text = codes "the signed comment does not name this file" }
 install_row NoNumber = record { kind = Verify; text = codes "the signed comment has no such number" }
 install_row OlderUpdate = record { kind = Verify; text = codes "the update is older than what was installed" }

@@ -5,7 +5,7 @@ use Rattle.minisign_install.specs.Faults.{install_row}
 use Rattle.minisign_install.specs.declared.comments.Numbering.{Numbering}
 use Rattle.minisign_install.specs.declared.comments.Numbering.TheVariants.{Timestamp, Version}
 use Rattle.minisign_install.specs.declared.faults.InstallFault.{InstallFault}
-use Rattle.minisign_install.specs.declared.faults.InstallFault.TheVariants.{Library, PlaceInUse, NoRecord, DamagedRecord, OtherFile, NoNumber, OlderUpdate, FolderNotOnDisk}
+use Rattle.minisign_install.specs.declared.faults.InstallFault.TheVariants.{Library, PlaceInUse, NoRecord, DamagedRecord, OtherFile, NoNumber, OlderUpdate, FolderNotOnDisk, KeptByTimestamp, KeptByVersion}
 
 -- the number of a fault: of one of the library its own
 abbrev pub install_number : InstallFault → ℕ
@@ -17,6 +17,8 @@ install_number OtherFile = 49
 install_number NoNumber = 50
 install_number OlderUpdate = 51
 install_number FolderNotOnDisk = 52
+install_number KeptByTimestamp = 53
+install_number KeptByVersion = 54
 
 -- the text is what the number means: that of the fault of installing that has it; a fault of the library is reported
 -- without its identifiers
@@ -29,6 +31,8 @@ pub record IsHostMeaning (n : ℕ) (text : List ℕ) : Type 0 where
   pub no_number : n ≡ install_number NoNumber → text ≡ (install_row NoNumber).text
   pub older_update : n ≡ install_number OlderUpdate → text ≡ (install_row OlderUpdate).text
   pub folder_not_on_disk : n ≡ install_number FolderNotOnDisk → text ≡ (install_row FolderNotOnDisk).text
+  pub kept_by_timestamp : n ≡ install_number KeptByTimestamp → text ≡ (install_row KeptByTimestamp).text
+  pub kept_by_version : n ≡ install_number KeptByVersion → text ≡ (install_row KeptByVersion).text
 
 -- the numbers of the two places where a comment may have its number
 abbrev pub numbering_number : Numbering → ℕ

@@ -1,8 +1,7 @@
 -- What an installation that a host in another language holds stands for, and what its calls do.
-use Rattle.std.specs.Prelude.{◌≡◌, ◌⊎◌, ◌==◌, ◌||◌, ◌<◌, ◌≤◌, ℕ, Bool, true, false, if◌then◌else◌, List, [], length, nat_le, Option, Some, None, MatchResult}
+use Rattle.std.specs.Prelude.{◌≡◌, ◌⊎◌, ◌==◌, ◌||◌, ◌<◌, ◌≤◌, ℕ, Bool, true, false, if◌then◌else◌, List, [], length, Option, Some, None, MatchResult}
 use Rattle.std.specs.declared.result.Result.{Result}
 use Rattle.std.specs.Str.{IsUtf8}
-use Rattle.std.specs.Io.BufRead.{strip_last}
 use Rattle.minisign_base.specs.Fault.{Fault, Named}
 use Rattle.minisign_base.specs.Faults.{fault_row}
 use Rattle.minisign_base.specs.declared.faults.NamedFault.TheVariants.{NotUtf8, OutOfMemory, RandomSourceFailed, ReadingFailed, WritingFailed}
@@ -20,6 +19,7 @@ use Rattle.minisign_install.specs.Installing.{IsKeptNumber, IsUpdate, Terms}
 use Rattle.minisign_install.specs.Order.{fits, next}
 use Rattle.minisign_install.specs.Refusals.{IsCommentRefused, IsDataRefused, IsRecordRefused}
 use Rattle.minisign_install.specs.declared.comments.Numbering.{Numbering}
+use Rattle.minisign_install.specs.declared.comments.Numbering.TheVariants.{Timestamp, Version}
 use Rattle.minisign_install.specs.declared.faults.InstallFault.{InstallFault}
 use Rattle.minisign_install.specs.declared.faults.InstallFault.TheVariants.{FolderNotOnDisk, Library, PlaceInUse}
 use Rattle.minisign_install.specs.declared.hosted.Installation.{Installation}
@@ -117,11 +117,12 @@ due_of i = if i.mark == begun_mark then due_from i.due i.number i.fault else Non
 abbrev pub IsDue : Installation → Due ℕ → Type 0
 IsDue i due = due_of i ≡ Some due
 
--- all but what is due stays: what was fed and asked, whether this is the first installation, and what came of the
--- signed comment
+-- all but what is due stays: what was fed and asked, whether this is the first installation, the field that the number
+-- stands in, and what came of the signed comment
 pub record KeepsRest (old new : Installation) : Type 0 where
   pub state : new.state ≡ old.state
   pub is_first : new.is_first ≡ old.is_first
+  pub numbering : new.numbering ≡ old.numbering
   pub comment : new.comment ≡ old.comment
   pub update : new.update ≡ old.update
 
@@ -185,17 +186,16 @@ CannotFail e i = (due : Due ℕ) → IsDue i due → (fits due (Failed (failure 
 
 -- == The record ==
 
--- what a record of these bytes is taken to say: the bytes without a line feed at their end, and nothing where there are
--- more than 64 of them
-abbrev pub record_text : List ℕ → List ℕ
-record_text bytes = if nat_le (length bytes) 64 then strip_last 10 bytes else []
+-- the field that an installation takes numbers from
+abbrev pub numbering_of : Installation → Numbering
+numbering_of i = if i.numbering == numbering_number Version then Version else Timestamp
 
 -- by what the record was found to hold, its number is kept, or the run is refused
 abbrev pub HasReadRecord : Option (List ℕ) → Installation → Installation → Type 0
 HasReadRecord found old new =
     IsDue old ReadRecord × KeepsRest old new
-    × (((kept : ℕ) × IsDue new (Create kept) × IsKeptNumber (old.is_first == 1) found kept)
-    ⊎ ((e : InstallFault) × IsDue new (ended.Refused (install_number e)) × IsRecordRefused (old.is_first == 1) found e))
+    × (((kept : ℕ) × IsDue new (Create kept) × IsKeptNumber (numbering_of old) (old.is_first == 1) found kept)
+    ⊎ ((e : InstallFault) × IsDue new (ended.Refused (install_number e)) × IsRecordRefused (numbering_of old) (old.is_first == 1) found e))
 
 -- == Judging ==
 
@@ -207,11 +207,12 @@ wanted_by pk_text sig_text file numbering = record { pk_text = pk_text; sig_text
 abbrev pub read_outcome : List ℕ → Outcome ℕ
 read_outcome piece = if length piece == 0 then Done else More
 
--- the stage is read back, and this piece was, or its end
+-- the stage is read back, and this piece was, or its end; the field that the number stands in stays
 pub record HasReadBack (piece : List ℕ) (old new : Installation) : Type 0 where
   pub kept : ℕ
   pub due : IsDue old (ReadBack kept)
   pub next_due : IsDue new (next (ReadBack kept) (read_outcome piece))
+  pub numbering : new.numbering ≡ old.numbering
 
 -- no stage is read back, or the state was never begun
 abbrev pub CannotBeFed : Installation → Misuse → Type 0
@@ -278,11 +279,9 @@ IsCommentFault comment terms kept e =
 
 -- == The same by numbers ==
 
--- asking was refused, by number: a numbering that is none; or else as above
-abbrev pub IsAskNumber : Installation → Installation → List ℕ → List ℕ → List ℕ → ℕ → List ℕ → ℕ → Type 0
-IsAskNumber old new pk_text sig_text file numbering bytes n =
-    ((n ≡ misuse_number BadNumbering) × (1 < numbering) × (new ≡ old))
-    ⊎ ((numbering < 2) × (r : HostRefusal) × (n ≡ host_number r) × IsAskRefusal old new pk_text sig_text file bytes r)
+-- asking was refused, by number
+abbrev pub IsAskNumber : Installation → Installation → List ℕ → List ℕ → List ℕ → List ℕ → ℕ → Type 0
+IsAskNumber old new pk_text sig_text file bytes n = (r : HostRefusal) × (n ≡ host_number r) × IsAskRefusal old new pk_text sig_text file bytes r
 
 -- what is read back is an update, and its rights are due; or it is none, and the stage is to be removed for the first
 -- reason, whose number this is

@@ -1,7 +1,6 @@
 -- A host that installs an update by making each call as it is due, and saying how it went: what one such call does to
 -- the folder, and what all of them do, one after another.
 use Rattle.std.specs.Prelude.{◌≡◌, ◌⊎◌, ℕ, List, [], ◌∷◌, ◌++◌, Bool, Option, ⊤}
-use Rattle.std.specs.Fmt.{decimal}
 use Rattle.std.specs.Io.KnownBytes.{Consumes, IsAtEnd}
 use Rattle.std.specs.List.{concat}
 use Rattle.minisign_base.specs.Devices.{Rose}
@@ -12,6 +11,7 @@ use Rattle.minisign_install.specs.Folders.{Appends, Clears, ClearsAll, GivesRigh
 use Rattle.minisign_install.specs.Installing.{HasInstalled, InstallsOnlyUpdates, IsKeptNumber, IsUpdate, Terms}
 use Rattle.minisign_install.specs.Order.{next}
 use Rattle.minisign_install.specs.Refusals.{Counts, IsDataRefused, IsCallFault, IsLibraryFault, IsRecordFault, IsRecordRefused, IsRefusal}
+use Rattle.minisign_install.specs.RecordTexts.{record_of}
 use Rattle.minisign_install.specs.declared.faults.InstallFault.{InstallFault}
 use Rattle.minisign_install.specs.declared.faults.InstallFault.TheVariants.{FolderNotOnDisk, Library, PlaceInUse}
 use Rattle.minisign_install.specs.declared.folders.Name.TheVariants.{Place, Record}
@@ -70,7 +70,7 @@ Makes s Lock Done h h' = OnFolder (λ old new. HasLocked old new × KeepsOwn old
 Makes s Lock (Failed e) h h' = OnFolder (Calls IsStill) h h'
 Makes s Clear Done h h' = OnFolder (Calls ClearsAll) h h'
 Makes s Clear (Failed e) h h' = OnFolder (Calls Clears) h h'
-Makes s ReadRecord (Number kept) h h' = OnFolder (λ old new. (found : Option (List ℕ)) × Calls (Finds Record found) old new × IsKeptNumber s.first found kept) h h'
+Makes s ReadRecord (Number kept) h h' = OnFolder (λ old new. (found : Option (List ℕ)) × Calls (Finds Record found) old new × IsKeptNumber s.terms.numbering s.first found kept) h h'
 Makes s ReadRecord (Failed e) h h' = OnFolder (Calls IsStill) h h'
 Makes s (Create kept) Done h h' = OnFolder (HasCreated s.name s.file) h h'
 Makes s (Create kept) (Failed e) h h' = OnFolder CallsNothing h h'
@@ -89,7 +89,7 @@ Makes s (Settle n) Done h h' = OnFolder (Calls (Settles s.file)) h h'
 Makes s (Settle n) (Failed e) h h' = OnFolder (Calls (Spoils s.file)) h h'
 Makes s (CreateRecord n) Done h h' = OnFolder (HasCreated s.record_name s.record_file) h h'
 Makes s (CreateRecord n) (Failed e) h h' = OnFolder CallsNothing h h'
-Makes s (WriteRecord n) Done h h' = OnFolder (λ old new. (pieces : List (List ℕ)) × Writes s.record_file pieces old new × (concat pieces ≡ decimal n)) h h'
+Makes s (WriteRecord n) Done h h' = OnFolder (λ old new. (pieces : List (List ℕ)) × Writes s.record_file pieces old new × (concat pieces ≡ record_of s.terms.numbering n)) h h'
 Makes s (WriteRecord n) (Failed e) h h' = OnFolder (WritesInPart s.record_file) h h'
 Makes s (SettleRecord n) Done h h' = OnFolder (Calls (Settles s.record_file)) h h'
 Makes s (SettleRecord n) (Failed e) h h' = OnFolder (Calls (Spoils s.record_file)) h h'
@@ -131,7 +131,7 @@ FolderFails h h' = (h'.faults.random ≡ h.faults.random) × (h'.faults.update �
 abbrev pub Blames : Setting → Due InstallFault → InstallFault → Host → Host → Type 0
 Blames s Lock e h h' = ((e ≡ PlaceInUse) × Known h.run (HasStepped h.run h'.run IsBusy)) ⊎ DeviceFails e h h'
 Blames s ReadRecord e h h' =
-    (IsRecordFault s.first e × Known h.run ((found : Option (List ℕ)) × HasStepped h.run h'.run (Finds Record found) × IsRecordRefused s.first found e))
+    (IsRecordFault s.first e × Known h.run ((found : Option (List ℕ)) × HasStepped h.run h'.run (Finds Record found) × IsRecordRefused s.terms.numbering s.first found e))
     ⊎ DeviceFails e h h'
 Blames s (Answer kept) e h h' = IsDataRefused s.accepts s.terms kept h.read e ⊎ DeviceFails e h h'
 Blames s (Rename n) e h h' = (e ≡ Library (Named WritingFailed)) × Rose h.faults.folder h'.faults.folder

@@ -1,12 +1,11 @@
 -- What installing an update may bring to the place and to the record beside it.
 use Rattle.std.specs.Prelude.{◌≡◌, ◌⊎◌, ℕ, ◌≤◌, Bool, true, false, List, ◌++◌, All, Option, Some, IfSome}
-use Rattle.std.specs.Fmt.{decimal}
-use Rattle.std.specs.Str.{IsUtf8}
 use Rattle.minisign.specs.Acceptance.{Verifier}
 use Rattle.minisign.specs.Calls.{TextsVouchWith}
-use Rattle.minisign_install.specs.Comments.{IsNumberText, Says}
+use Rattle.minisign_install.specs.Comments.{Says}
 use Rattle.minisign.specs.Reading.{IsAhead}
 use Rattle.minisign_install.specs.Folders.{HasLocked, HasStepped, IsFound, IsStill, Run, RunStep}
+use Rattle.minisign_install.specs.RecordTexts.{HasNoNumber, IsNumberFor, record_of}
 use Rattle.minisign_install.specs.Runs.{BringsNothing, BringsOnly, HasCleared, IsPublished, Keeps, KeepsAt, rights_of}
 use Rattle.minisign_install.specs.declared.comments.Numbering.{Numbering}
 use Rattle.minisign_install.specs.declared.folders.Name.{Name}
@@ -31,10 +30,10 @@ pub record IsUpdate (accepts : Verifier) (terms : Terms) (kept : ℕ) (bytes : L
   pub says : Says comment terms.file terms.numbering n
   pub newer : kept ≤ n
 
--- To the place an update is brought, and to the record the number of one.
+-- To the place an update is brought, and to the record the number of one, behind the label of its field.
 abbrev pub IsBrought : Verifier → Terms → ℕ → Name → List ℕ → Type 0
 IsBrought accepts terms kept Place bytes = (n : ℕ) × IsUpdate accepts terms kept bytes n
-IsBrought accepts terms kept Record bytes = (n : ℕ) × (update : List ℕ) × IsUpdate accepts terms kept update n × (bytes ≡ decimal n)
+IsBrought accepts terms kept Record bytes = (n : ℕ) × (update : List ℕ) × IsUpdate accepts terms kept update n × (bytes ≡ record_of terms.numbering n)
 
 -- to the record the number of an update, and nothing to the place
 abbrev pub IsRecordBrought : Verifier → Terms → ℕ → Name → List ℕ → Type 0
@@ -44,11 +43,11 @@ IsRecordBrought accepts terms kept name bytes = (name ≡ Record) × IsBrought a
 abbrev pub IsPlaced : Verifier → Terms → ℕ → ℕ → Name → List ℕ → Type 0
 IsPlaced accepts terms kept n name bytes = (name ≡ Place) × IsUpdate accepts terms kept bytes n
 
--- the number that the record holds; where it holds none, that is 0 if this is the first installation
-abbrev pub IsKeptNumber : Bool → Option (List ℕ) → ℕ → Type 0
-IsKeptNumber first found kept =
-    ((text : List ℕ) × (found ≡ Some text) × IsUtf8 text × IsNumberText text kept)
-    ⊎ ((first ≡ true) × (kept ≡ 0) × IfSome found (λ text. ¬ (IsUtf8 text) ⊎ ((n : ℕ) → ¬ (IsNumberText text n))))
+-- the number that the record holds for the field; where it holds none, that is 0 if this is the first installation
+abbrev pub IsKeptNumber : Numbering → Bool → Option (List ℕ) → ℕ → Type 0
+IsKeptNumber numbering first found kept =
+    ((bytes : List ℕ) × (found ≡ Some bytes) × IsNumberFor numbering bytes kept)
+    ⊎ ((first ≡ true) × (kept ≡ 0) × IfSome found (HasNoNumber numbering))
 
 -- The number goes first. Up to some point of the run nothing was brought to the place. From there on only updates of
 -- one number are, while the record has that number or a greater one, at each moment and after a crash at any.
@@ -57,15 +56,16 @@ pub record PlacesBehind (accepts : Verifier) (terms : Terms) (kept : ℕ) (old n
   pub point : Run
   pub recorded : BringsOnly (IsRecordBrought accepts terms kept) old point
   pub locked : point.locked ≡ true
-  pub there : Keeps n point.now
+  pub there : Keeps terms.numbering n point.now
   pub placed : BringsOnly (IsPlaced accepts terms kept n) point new
-  pub number : All (KeepsAt n) placed.since
-  pub lasts : Keeps n new.now
+  pub number : All (KeepsAt terms.numbering n) placed.since
+  pub lasts : Keeps terms.numbering n new.now
 
--- A number that the record has stays there until a greater one or the same takes its place, at each moment since and
--- after a crash at any.
-abbrev pub NeverFalls : Run → Run → Type 0
-NeverFalls old new = (k : ℕ) → Keeps k old.now → (since : List RunStep) × (new.steps ≡ since ++ old.steps) × All (KeepsAt k) since × Keeps k new.now
+-- A number that the record has for the field stays there until a greater one or the same takes its place, at each moment
+-- since and after a crash at any.
+abbrev pub NeverFalls : Numbering → Run → Run → Type 0
+NeverFalls numbering old new =
+    (k : ℕ) → Keeps numbering k old.now → (since : List RunStep) × (new.steps ≡ since ++ old.steps) × All (KeepsAt numbering k) since × Keeps numbering k new.now
 
 -- Only what is to be installed was brought, and the number went first.
 pub record PlacesOnly (accepts : Verifier) (terms : Terms) (kept : ℕ) (old new : Run) : Type 0 where
@@ -74,20 +74,20 @@ pub record PlacesOnly (accepts : Verifier) (terms : Terms) (kept : ℕ) (old new
 
 -- Whatever who opens the place or the record finds there after any call of this run, at once or after a crash, could
 -- be found there just before that call, or is an update, or the number of one, that is not older than the number that
--- the record held when this run got the lock. The number of an update is in the record before the update is at the
+-- the record held for its field when this run got the lock. The number of an update is in the record before the update is at the
 -- place.
 pub record InstallsOnly (accepts : Verifier) (terms : Terms) (first : Bool) (old new : Run) : Type 0 where
   pub found : Option (List ℕ)
   pub kept : ℕ
   pub there : IsFound old.now Record found
-  pub number : IsKeptNumber first found kept
+  pub number : IsKeptNumber terms.numbering first found kept
   pub places : PlacesOnly accepts terms kept old new
 
 -- From when the lock was got: nothing was brought to the place or to the record, or only what is to be installed. And
--- the number in the record never falls.
+-- the number that the record has for the field never falls.
 pub record InstallsLocked (accepts : Verifier) (terms : Terms) (first : Bool) (old new : Run) : Type 0 where
   pub only : BringsNothing old new ⊎ InstallsOnly accepts terms first old new
-  pub never_falls : NeverFalls old new
+  pub never_falls : NeverFalls terms.numbering old new
 
 -- The lock was asked for and not got, and that was all. Or it was got, and from then on only what is to be installed
 -- was brought.
@@ -104,7 +104,7 @@ pub record IsInstalled (accepts : Verifier) (terms : Terms) (kept : ℕ) (ahead 
   pub update : IsUpdate accepts terms kept bytes n
   pub earlier : List RunStep
   pub recorded : List RunStep
-  pub number_first : IsPublished Record (decimal n) earlier recorded
+  pub number_first : IsPublished Record (record_of terms.numbering n) earlier recorded
   pub published : IsPublished Place bytes recorded steps
   pub rights : rights_of published ≡ true
 
@@ -114,7 +114,7 @@ pub record HasInstalled (accepts : Verifier) (terms : Terms) (first : Bool) (ahe
   pub found : Option (List ℕ)
   pub kept : ℕ
   pub there : IsFound old.now Record found
-  pub number : IsKeptNumber first found kept
+  pub number : IsKeptNumber terms.numbering first found kept
   pub cleared : HasCleared old new
   pub installed : IsInstalled accepts terms kept ahead new.steps
 

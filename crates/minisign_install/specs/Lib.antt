@@ -4,11 +4,13 @@ pub mod Faults
 pub mod Folders
 pub mod HostNumbers
 pub mod Hosted
+pub mod Hosting
 pub mod Hosts
 pub mod InMemory
 pub mod Installing
 pub mod Memory
 pub mod Names
 pub mod Order
+pub mod RecordTexts
 pub mod Refusals
 pub mod Runs

@@ -3,19 +3,20 @@
 use Rattle.std.specs.Prelude.{◌≡◌, ◌≢◌, ◌⊎◌, ℕ, ◌<◌, Bool, false, List, ◌∷◌, ◌++◌, Option, Some, None, IfErr, IsErrAnd, MatchResult}
 use Rattle.std.specs.declared.result.Result.{Result}
 use Rattle.minisign_base.specs.Devices.{Rose}
-use Rattle.std.specs.Str.{IsUtf8}
 use Rattle.minisign_base.specs.Fault.{Fault, Named}
 use Rattle.minisign_base.specs.declared.faults.NamedFault.TheVariants.{OutOfMemory, RandomSourceFailed, ReadingFailed, WritingFailed}
 use Rattle.minisign.specs.Acceptance.{Verifier}
 use Rattle.minisign.specs.Calls.{TextsVouchWith}
 use Rattle.minisign.specs.Headline.{TextsRefuse}
 use Rattle.minisign.specs.Reading.{IsAhead}
-use Rattle.minisign_install.specs.Comments.{IsNumberText, Says, file_label, value_of}
+use Rattle.minisign_install.specs.Comments.{Says, file_label, value_of}
 use Rattle.minisign_install.specs.Folders.{HasLocked, HasStepped, IsBusy, IsFound, IsStill, Run, Stands, RunStep}
 use Rattle.minisign_install.specs.Installing.{IsBrought, IsKeptNumber, IsRecordBrought, IsUpdate, Terms}
+use Rattle.minisign_install.specs.RecordTexts.{HasNoNumber, IsUnfit}
 use Rattle.minisign_install.specs.Runs.{BringsNothing, BringsOnly, HasCleared}
+use Rattle.minisign_install.specs.declared.comments.Numbering.{Numbering}
 use Rattle.minisign_install.specs.declared.faults.InstallFault.{InstallFault}
-use Rattle.minisign_install.specs.declared.faults.InstallFault.TheVariants.{Library, PlaceInUse, NoRecord, DamagedRecord, OtherFile, NoNumber, OlderUpdate, FolderNotOnDisk}
+use Rattle.minisign_install.specs.declared.faults.InstallFault.TheVariants.{Library, PlaceInUse, NoRecord, DamagedRecord, KeptByTimestamp, KeptByVersion, OtherFile, NoNumber, OlderUpdate, FolderNotOnDisk}
 use Rattle.minisign_install.specs.declared.folders.Name.{Name}
 use Rattle.minisign_install.specs.declared.folders.Name.TheVariants.{Place, Record}
 
@@ -57,12 +58,13 @@ IsReadingFault before after e = ((e ≡ Named OutOfMemory) × (after ≡ before)
 abbrev pub IsLibraryFault : (Fault → Type 0) → InstallFault → Type 0
 IsLibraryFault P e = (fault : Fault) × (e ≡ Library fault) × P fault
 
--- the record was found and is no number, or none was found, and this is not the first installation
-abbrev pub IsRecordRefused : Bool → Option (List ℕ) → InstallFault → Type 0
-IsRecordRefused first found e =
-    ((e ≡ NoRecord) × (first ≡ false) × (found ≡ None))
-    ⊎ ((e ≡ DamagedRecord) × (first ≡ false)
-    × ((text : List ℕ) × (found ≡ Some text) × (¬ (IsUtf8 text) ⊎ ((n : ℕ) → ¬ (IsNumberText text n)))))
+-- This is not the first installation, and no record was found; or one that holds no number for the field, which is refused
+-- for what it holds.
+abbrev pub IsRecordRefused : Numbering → Bool → Option (List ℕ) → InstallFault → Type 0
+IsRecordRefused numbering first found e =
+    (first ≡ false)
+    × (((e ≡ NoRecord) × (found ≡ None))
+    ⊎ ((bytes : List ℕ) × (found ≡ Some bytes) × HasNoNumber numbering bytes × IsUnfit numbering bytes e))
 
 -- The signed comment does not name the file. It names it, and has no number; or has one, which is below the kept one.
 abbrev pub IsCommentRefused : Terms → ℕ → List ℕ → InstallFault → Type 0
@@ -107,8 +109,8 @@ IsDataRefusal accepts terms kept ahead before after old new e =
 abbrev pub IsLockedRefusal : Verifier → Terms → Bool → Option (List ℕ) → Counts → Counts → Run → Run → InstallFault → Type 0
 IsLockedRefusal accepts terms first ahead before after old new e =
     (BringsNothing old new × IsLibraryFault (IsCallFault before after) e)
-    ⊎ (HasCleared old new × BringsNothing old new × ((found : Option (List ℕ)) × IsFound old.now Record found × IsRecordRefused first found e))
-    ⊎ (HasCleared old new × ((found : Option (List ℕ)) × (kept : ℕ) × IsFound old.now Record found × IsKeptNumber first found kept
+    ⊎ (HasCleared old new × BringsNothing old new × ((found : Option (List ℕ)) × IsFound old.now Record found × IsRecordRefused terms.numbering first found e))
+    ⊎ (HasCleared old new × ((found : Option (List ℕ)) × (kept : ℕ) × IsFound old.now Record found × IsKeptNumber terms.numbering first found kept
     × IsDataRefusal accepts terms kept ahead before after old new e))
 
 -- Why an installation is refused, and what it brings then. Another run holds the lock, or it could not be asked for:
@@ -125,14 +127,14 @@ LocksAlone old new = (locked : Run) × HasLocked old locked × BringsNothing loc
 
 -- == When an update is installed ==
 
--- the record has a number, or this is the first installation, and the data is an update that is not older
+-- the record has a number for the field, or this is the first installation, and the data is an update that is not older
 abbrev pub CanBeInstalled : Verifier → Terms → Bool → Option (List ℕ) → List ℕ → Type 0
-CanBeInstalled accepts terms first found message = (kept : ℕ) × (n : ℕ) × IsKeptNumber first found kept × IsUpdate accepts terms kept message n
+CanBeInstalled accepts terms first found message = (kept : ℕ) × (n : ℕ) × IsKeptNumber terms.numbering first found kept × IsUpdate accepts terms kept message n
 
 -- it cannot be installed, and this is the first reason: the record is refused; otherwise the texts do not vouch for
 -- the data; otherwise the signed comment is refused
 pub record CannotBeInstalled (accepts : Verifier) (terms : Terms) (first : Bool) (found : Option (List ℕ)) (message : List ℕ) (e : InstallFault) : Type 0 where
-  pub reason : IsRecordRefused first found e ⊎ ((kept : ℕ) × IsKeptNumber first found kept × IsDataRefused accepts terms kept message e)
+  pub reason : IsRecordRefused terms.numbering first found e ⊎ ((kept : ℕ) × IsKeptNumber terms.numbering first found kept × IsDataRefused accepts terms kept message e)
   pub not_so : ¬ (CanBeInstalled accepts terms first found message)
 
 -- where memory is found and no device fails: if another run holds the lock, that is said; otherwise, by what the record
@@ -156,7 +158,7 @@ IsDataCause accepts terms before after e =
 
 -- the record is refused, which it never is at the first installation
 abbrev pub IsRecordFault : Bool → InstallFault → Type 0
-IsRecordFault first e = (first ≡ false) × ((e ≡ NoRecord) ⊎ (e ≡ DamagedRecord))
+IsRecordFault first e = (first ≡ false) × ((e ≡ NoRecord) ⊎ (e ≡ DamagedRecord) ⊎ (e ≡ KeptByTimestamp) ⊎ (e ≡ KeptByVersion))
 
 -- why an installation is refused: the lock is held by another, or the record is refused, or some data is not installed
 abbrev pub IsCause : Verifier → Terms → Bool → Counts → Counts → InstallFault → Type 0

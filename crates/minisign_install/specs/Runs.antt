@@ -1,8 +1,8 @@
 -- What several calls of a run do together.
 use Rattle.std.specs.Prelude.{◌≡◌, ◌≢◌, ◌⊎◌, ℕ, ◌≤◌, Bool, true, List, ◌∷◌, ◌++◌, All, Some}
-use Rattle.std.specs.Str.{IsUtf8}
-use Rattle.minisign_install.specs.Comments.{IsNumberText}
 use Rattle.minisign_install.specs.Folders.{IsApart, IsLeftClear, KeepsOwn, MayFind, Moment, Run, SettlesNames, Stands, RunStep}
+use Rattle.minisign_install.specs.RecordTexts.{IsNumberFor}
+use Rattle.minisign_install.specs.declared.comments.Numbering.{Numbering}
 use Rattle.minisign_install.specs.declared.folders.Name.{Name}
 use Rattle.minisign_install.specs.declared.folders.Name.TheVariants.{Record}
 
@@ -21,19 +21,20 @@ pub record Brings (P : Name → List ℕ → Type 0) (s : RunStep) : Type 0 wher
   pub finds : (n : Name) (bytes : List ℕ) → MayFind s.after n bytes → MayFind s.before n bytes ⊎ P n bytes
   pub stays : (n : Name) (f : ℕ) → s.before.leads n ≡ Some f → (g : ℕ) × (s.after.leads n ≡ Some g)
 
--- the bytes write a number that is k or greater
-abbrev pub IsNumberFrom : ℕ → List ℕ → Type 0
-IsNumberFrom k bytes = (n : ℕ) × IsUtf8 bytes × IsNumberText bytes n × (k ≤ n)
+-- a record of these bytes holds a number for the field that is k or greater
+abbrev pub IsNumberFrom : Numbering → ℕ → List ℕ → Type 0
+IsNumberFrom numbering k bytes = (n : ℕ) × IsNumberFor numbering bytes n × (k ≤ n)
 
--- the record leads to a file, and who opens it now, or after a crash now, finds a number that is k or greater
-pub record Keeps (k : ℕ) (m : Moment) : Type 0 where
+-- the record leads to a file, and who opens it now, or after a crash now, finds a number for the field that is k or
+-- greater
+pub record Keeps (numbering : Numbering) (k : ℕ) (m : Moment) : Type 0 where
   pub file : ℕ
   pub leads : m.leads Record ≡ Some file
-  pub numbers : (bytes : List ℕ) → MayFind m Record bytes → IsNumberFrom k bytes
+  pub numbers : (bytes : List ℕ) → MayFind m Record bytes → IsNumberFrom numbering k bytes
 
 -- it does so just before the call and just after it
-abbrev pub KeepsAt : ℕ → RunStep → Type 0
-KeepsAt k s = Keeps k s.before × Keeps k s.after
+abbrev pub KeepsAt : Numbering → ℕ → RunStep → Type 0
+KeepsAt numbering k s = Keeps numbering k s.before × Keeps numbering k s.after
 
 -- Every call since then brings to the lasting names only what is as P says. With the lock held, a number in the
 -- record that no record falls below that P allows stays there at each moment, whatever others do between the calls.
@@ -43,8 +44,8 @@ pub record BringsOnly (P : Name → List ℕ → Type 0) (old new : Run) : Type 
   pub each : All (Brings P) since
   pub known : new.known ≡ old.known
   pub locked : old.locked ≡ true → new.locked ≡ true
-  pub numbers : old.locked ≡ true → (k : ℕ) → ((bytes : List ℕ) → P Record bytes → IsNumberFrom k bytes) → Keeps k old.now
-      → All (KeepsAt k) since × Keeps k new.now
+  pub numbers : old.locked ≡ true → (numbering : Numbering) (k : ℕ) → ((bytes : List ℕ) → P Record bytes → IsNumberFrom numbering k bytes) → Keeps numbering k old.now
+      → All (KeepsAt numbering k) since × Keeps numbering k new.now
 
 -- nothing is brought
 abbrev pub BringsNothing : Run → Run → Type 0

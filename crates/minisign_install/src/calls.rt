@@ -1,7 +1,6 @@
 //! The calls of an installation over a folder: each is made as it is due, and says how it went.
 
 ghost use Rattle.std.specs.Prelude.{◌≡◌, ◌⊎◌, ◌<◌, ℕ, List, false, IfErr, IfSome, IsSomeAnd, OnOk, OnErr, MatchResult};
-ghost use Rattle.std.specs.Fmt.{decimal};
 ghost use Rattle.std.specs.Io.KnownBytes.{Consumes, IsAtEnd};
 ghost use Rattle.std.specs.List.{concat};
 ghost use Rattle.minisign_base.specs.Devices.{Rose};
@@ -14,14 +13,16 @@ ghost use Rattle.minisign_install.specs.Hosts.{Calls, CallsNothing, Lets, Writes
 ghost use Rattle.minisign_install.specs.Installing.{terms_of};
 ghost use Rattle.minisign_install.specs.Names.{drawn_bytes};
 ghost use Rattle.minisign_install.specs.Order.{has_ended, next};
+ghost use Rattle.minisign_install.specs.RecordTexts.{record_of};
 ghost use Rattle.minisign_install.specs.Refusals.{IsLibraryFault, IsReadingFault, counts};
 ghost use Rattle.minisign_install.specs.declared.faults.InstallFault.TheVariants.{FolderNotOnDisk, Library, PlaceInUse};
 
+use crate::comments::Numbering;
 use crate::faults::InstallFault;
 use crate::folders::{Folder, Handle, Name};
 use crate::judging::{judge, read_back};
 use crate::order::{Due, Outcome};
-use crate::recording::read_number;
+use crate::recording::{MOST_WRITTEN, read_number, write_record};
 use crate::stage_names::StageName;
 use crate::staging::{fill, write_all};
 use crate::wanted::Wanted;
@@ -91,7 +92,7 @@ pub(crate) fn make<S: Scheme, Z: RandomSource, R: Source, F: Folder>(
     match due {
         Due::Lock => done_or(lock(folder)),
         Due::Clear => done_or(clear(folder)),
-        Due::ReadRecord => number_or(read_number(alloc, folder, is_first)),
+        Due::ReadRecord => number_or(read_number(alloc, folder, wanted.numbering, is_first)),
         Due::Create(_) => done_or(create(random, folder, &mut work.stage)),
         Due::Copy(_) => done_or(copy(alloc, folder, &work.stage, update)),
         Due::ReadBack(_) => done_or(read_stage(alloc, folder, &work.stage, &mut work.state)),
@@ -99,7 +100,12 @@ pub(crate) fn make<S: Scheme, Z: RandomSource, R: Source, F: Folder>(
         Due::TakeRights(_) => done_or(take_rights(folder, &work.stage)),
         Due::Settle(_) => done_or(settle(folder, &work.stage)),
         Due::CreateRecord(_) => done_or(create(random, folder, &mut work.record_stage)),
-        Due::WriteRecord(number) => done_or(write_number(folder, &work.record_stage, *number)),
+        Due::WriteRecord(number) => done_or(write_number(
+            folder,
+            &work.record_stage,
+            wanted.numbering,
+            *number,
+        )),
         Due::SettleRecord(_) => done_or(settle(folder, &work.record_stage)),
         Due::RenameRecord(_) => done_or(rename(folder, &work.record_stage, Name::Record)),
         Due::SettleRecordName(_) => done_or(settle_names(folder, NamedFault::WritingFailed.into())),
@@ -264,22 +270,24 @@ fn settle<F: Folder>(folder: &mut F, stage: &Option<Stage<F::Handle>>) -> Result
     }
 }
 
-// Writes the number into the stage of the record, which is empty.
+// Writes the number, behind the label of its field, into the stage of the record, which is empty.
 fn write_number<F: Folder>(
     folder: &mut F,
     stage: &Option<Stage<F::Handle>>,
+    numbering: Numbering,
     number: u64,
 ) -> Result<(), InstallFault>
     ensures written { IfSome stage.now (λ made. Known (F.run folder.old) (MatchResult result
-        (λ _. (pieces : List (List ℕ)) × Writes (F.Handle.file made.handle) pieces (F.run folder.old) (F.run folder.new) × (concat pieces ≡ decimal number))
+        (λ _. (pieces : List (List ℕ)) × Writes (F.Handle.file made.handle) pieces (F.run folder.old) (F.run folder.new) × (concat pieces ≡ record_of numbering number))
         (λ _. WritesInPart (F.Handle.file made.handle) (F.run folder.old) (F.run folder.new)))) }
     ensures refused { IfSome stage.now (λ _. IfErr result (λ e. (e ≡ Library (Named WritingFailed)) × Rose (F.folder_faults folder.old) (F.folder_faults folder.new))) }
     ensures no_new_fault { OnOk result (F.folder_faults folder.new ≡ F.folder_faults folder.old) }
 {
-    let mut buffer = itoa::Buffer::new();
-    let digits = buffer.format(number).as_bytes();
+    let mut buffer = [0u8; MOST_WRITTEN];
+    let written = write_record(numbering, number, &mut buffer);
+    let (text, _) = buffer.split_at(written);
     match stage {
-        Some(made) => match write_all(folder, &made.handle, digits) {
+        Some(made) => match write_all(folder, &made.handle, text) {
             Ok(()) => Ok(()),
             Err(_) => Err(NamedFault::WritingFailed.into()),
         },

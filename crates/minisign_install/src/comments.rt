@@ -2,6 +2,7 @@
 
 ghost use Rattle.std.specs.Prelude.{◌≡◌, ◌≢◌, ◌⊎◌, ◌≤◌, ◌<◌, ℕ, List, Some, None, option_map, IfOk, IfErr, MatchOption, bytes_eq, take, drop, length, true, false};
 ghost use Rattle.minisign_install.specs.Comments.{IsNumberText, Says, file_label, number_label, value_of};
+ghost use Rattle.minisign_install.specs.RecordTexts.{other_field};
 ghost use Rattle.minisign_install.specs.declared.faults.InstallFault.TheVariants.{NoNumber, OlderUpdate, OtherFile};
 
 use crate::faults::InstallFault;
@@ -18,12 +19,22 @@ pub enum Numbering {
 
 impl Numbering {
     // The label of the field.
-    fn label(self) -> &'static str
+    pub(crate) fn label(self) -> &'static str
         ensures { result.now ≡ number_label self }
     {
         match self {
             Numbering::Timestamp => "timestamp:",
             Numbering::Version => "version:",
+        }
+    }
+
+    // The other field.
+    pub(crate) fn other(self) -> Numbering
+        ensures { result ≡ other_field self }
+    {
+        match self {
+            Numbering::Timestamp => Numbering::Version,
+            Numbering::Version => Numbering::Timestamp,
         }
     }
 }
@@ -75,7 +86,7 @@ fn value<'a>(comment: &'a str, label: &str) -> Option<&'a str>
 }
 
 // What stands behind the label in a field that begins with it.
-fn strip<'a>(field: &'a str, label: &str) -> Option<&'a str>
+pub(crate) fn strip<'a>(field: &'a str, label: &str) -> Option<&'a str>
     ensures { MatchOption result (bytes_eq (take (length label.now) field.now) label.now ≡ false)
         (λ v. (bytes_eq (take (length label.now) field.now) label.now ≡ true) × (v.now ≡ drop (length label.now) field.now)) }
 {
@@ -85,12 +96,16 @@ fn strip<'a>(field: &'a str, label: &str) -> Option<&'a str>
     }
 }
 
-// The number that a text writes.
+// The number that a text writes in decimal digits, and nothing else: `parse` takes a plus before them
+// too.
 pub(crate) fn number_of(text: &str) -> Option<u64>
     ensures { MatchOption result ((n : ℕ) → ¬ (IsNumberText text.now n)) (IsNumberText text.now) }
 {
-    match text.parse::<u64>() {
-        Ok(number) => Some(number),
-        Err(_) => None,
+    match text.as_bytes().first() {
+        Some(b'+') => None,
+        _ => match text.parse::<u64>() {
+            Ok(number) => Some(number),
+            Err(_) => None,
+        },
     }
 }

@@ -23,12 +23,19 @@ pub enum InstallFault {
     DamagedRecord,
     /// The trusted comment does not name the file that the caller expects.
     OtherFile,
-    /// The trusted comment has no number under the label that the caller chose, or none below 2^64.
+    /// The trusted comment has no number in decimal digits alone under the label that the caller
+    /// chose, or none below 2^64.
     NoNumber,
     /// The number of the trusted comment is below the one that is kept.
     OlderUpdate,
     /// The update stands at the place, but a crash may still bring back what stood there before.
     FolderNotOnDisk,
+    /// The number that is kept is a timestamp and not a version, and this was not said to be the first
+    /// installation.
+    KeptByTimestamp,
+    /// The number that is kept is a version and not a timestamp, and this was not said to be the first
+    /// installation.
+    KeptByVersion,
 }
 
 impl InstallFault {
@@ -40,7 +47,8 @@ impl InstallFault {
         use InstallFault::*;
         match self {
             Library(fault) => fault.kind(),
-            PlaceInUse | NoRecord | DamagedRecord | FolderNotOnDisk => &ErrorKind::Io,
+            PlaceInUse | NoRecord | DamagedRecord | FolderNotOnDisk | KeptByTimestamp
+            | KeptByVersion => &ErrorKind::Io,
             OtherFile | NoNumber | OlderUpdate => &ErrorKind::Verify,
         }
     }
@@ -63,6 +71,12 @@ impl fmt::Display for InstallFault {
             FolderNotOnDisk => {
                 f.write_str("installed, but the folder could not be brought to the disk")
             }
+            KeptByTimestamp => f.write_str(
+                "the number that is kept beside the place is a timestamp, and no version",
+            ),
+            KeptByVersion => f.write_str(
+                "the number that is kept beside the place is a version, and no timestamp",
+            ),
         }
     }
 }

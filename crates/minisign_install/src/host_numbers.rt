@@ -25,6 +25,8 @@ impl InstallFault {
             NoNumber => 50,
             OlderUpdate => 51,
             FolderNotOnDisk => 52,
+            KeptByTimestamp => 53,
+            KeptByVersion => 54,
         }
     }
 }
@@ -44,6 +46,8 @@ pub fn error_text(number: u32) -> &'static str
         50 => "the signed comment has no such number",
         51 => "the update is older than what was installed",
         52 => "installed, but the folder could not be brought to the disk",
+        53 => "the number that is kept beside the place is a timestamp, and no version",
+        54 => "the number that is kept beside the place is a version, and no timestamp",
         _ => numbers::error_text(number),
     }
 }
@@ -60,6 +64,17 @@ pub fn write_error_text(number: u32, to: &mut [u8]) -> usize
 }
 
 impl Numbering {
+    /// The number of the numbering: 0 for the timestamp, 1 for the version.
+    pub fn number(self) -> u32
+        // The timestamp has the number 0, and the version 1.
+        ensures { result ≡ numbering_number self }
+    {
+        match self {
+            Numbering::Timestamp => 0,
+            Numbering::Version => 1,
+        }
+    }
+
     /// The numbering of this number: 0 for the timestamp, 1 for the version.
     pub fn of_number(number: u32) -> Option<Numbering>
         // 0 is the timestamp and 1 the version, and no other number is one.

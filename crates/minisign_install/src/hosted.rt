@@ -2,28 +2,26 @@
 //! went, and hands over what it reads back. None of it takes memory.
 
 ghost use Rattle.std.specs.Prelude.{◌≡◌, ◌==◌, ◌⊎◌, ◌<◌, ◌≤◌, ◌++◌, ℕ, Bool, List, [], true, false, Some, None, option_map, OnOk, OnErr, IfErr, IfSome, MatchOption, MatchResult, length, take};
-ghost use Rattle.std.specs.Fmt.{decimal};
 ghost use Rattle.minisign_external.specs.Numbers.{misuse_number};
 ghost use Rattle.minisign_external.specs.States.{IsFedState};
 ghost use Rattle.minisign_external.specs.declared.state.Misuse.TheVariants.{NotDue};
 ghost use Rattle.minisign_install.specs.HostNumbers.{install_number};
-ghost use Rattle.minisign_install.specs.Hosted.{CannotBeFed, CannotFail, CannotGo, CallHasFailed, HasGone, HasReadRecord, HasReadBack, IsNotDue, IsUnused, KeepsRest, IsDue, begun_mark, due_fault, due_from, due_number, due_of, due_update, failure, host_number, is_device_fault, is_failure, is_read_back, record_text};
+ghost use Rattle.minisign_install.specs.Hosted.{CannotBeFed, CannotFail, CannotGo, CallHasFailed, HasGone, HasReadRecord, HasReadBack, IsNotDue, IsUnused, KeepsRest, IsDue, begun_mark, due_fault, due_from, due_number, due_of, due_update, failure, host_number, is_device_fault, is_failure, is_read_back, record_text, numbering_of};
 ghost use Rattle.minisign_install.specs.Order.{fits};
+ghost use Rattle.minisign_install.specs.RecordTexts.{record_of};
 ghost use Rattle.minisign_install.specs.declared.order.Due.TheVariants.{Answer, Lock, ReadBack, ReadRecord, SettleName, WriteRecord};
 ghost use Rattle.minisign_install.specs.declared.order.Due.TheVariants as ended;
 ghost use Rattle.minisign_install.specs.declared.order.Outcome.TheVariants.{Done, More};
 ghost use Rattle.minisign_install.specs.declared.hosted.HostRefusal.TheVariants.{Refused, WrongUse};
 
+use crate::comments::Numbering;
 use crate::faults::InstallFault;
 use crate::order::{Due, Outcome};
-use crate::recording::{number_in, number_without_record};
+use crate::recording::{number_in, number_without_record, write_record};
 use minisign_external::state::{Misuse, State};
 
 // An installation that was begun begins with the letters `minstall`.
 const BEGUN: u64 = 7812726606361684333;
-
-// A record of more bytes is damaged.
-const MOST_OF_RECORD: usize = 64;
 
 /// An installation, 640 bytes with the layout of C.
 #[repr(C)]
@@ -42,7 +40,10 @@ pub struct Installation {
     pub(crate) update: u64,
     // What was read back, and asked of it.
     pub(crate) state: State,
-    reserved: [u64; 11],
+    // The number of the field that has the number of an update.
+    numbering: u32,
+    unused: u32,
+    reserved: [u64; 10],
 }
 
 /// Why a call of an installation that a host holds did not go.
@@ -78,12 +79,14 @@ impl HostRefusal {
 
 impl Installation {
     /// Begins: the lock is due, and nothing was read back. With `is_first` an update is taken also
-    /// where no number is kept.
-    pub fn new(is_first: bool) -> Installation
-        // The lock is due, the state was fed nothing, and whether this is the first installation is kept.
+    /// where no number of the field is kept.
+    pub fn new(is_first: bool, numbering: Numbering) -> Installation
+        // The lock is due, the state was fed nothing, and whether this is the first installation and which field has the
+        // number are kept.
         ensures due { IsDue result Lock }
         ensures fed { IsFedState result.state [] }
         ensures first { (result.is_first == 1) ≡ is_first }
+        ensures numbering { numbering_of result ≡ numbering }
         // No number, no fault and no signed comment is kept yet.
         ensures unused { IsUnused result }
     {
@@ -96,7 +99,9 @@ impl Installation {
             comment: 0,
             update: 0,
             state: State::new(),
-            reserved: [0; 11],
+            numbering: numbering.number(),
+            unused: 0,
+            reserved: [0; 10],
         }
     }
 
@@ -175,18 +180,19 @@ impl Installation {
         }
     }
 
-    /// The record holds these bytes: a line feed at their end is left out, and more than 64 bytes
-    /// are no number.
+    /// The record holds these bytes: the number behind the label of its field, as `timestamp:5`, or
+    /// alone, which counts for either field. A line feed at their end is left out, and more than 64
+    /// bytes are no number.
     pub fn record(&mut self, bytes: &[u8]) -> Result<(), Misuse>
-        // The number that the record holds is kept, or the run is refused where it holds none and this is not the first
-        // installation. Otherwise nothing changes, and the record was not to be read.
-        ensures read { OnOk result (HasReadRecord (Some (record_text bytes.now)) self.old self.new) }
+        // The number that the record holds for the field is kept, or the run is refused where it holds none and this is not
+        // the first installation. Otherwise nothing changes, and the record was not to be read.
+        ensures read { OnOk result (HasReadRecord (Some bytes.now) self.old self.new) }
         ensures refused { IfErr result (IsNotDue (¬ (IsDue self.old ReadRecord)) self.old self.new) }
     {
         if !self.is_record_due() {
             return Err(Misuse::NotDue);
         }
-        match number_in(record_text(bytes), self.is_first == 1) {
+        match number_in(bytes, self.numbering(), self.is_first == 1) {
             Ok(number) => {
                 self.set(Due::Create(number));
                 Ok(())
@@ -207,7 +213,7 @@ impl Installation {
         if !self.is_record_due() {
             return Err(Misuse::NotDue);
         }
-        match number_without_record(self.is_first == 1) {
+        match number_without_record(self.numbering(), self.is_first == 1) {
             Ok(number) => {
                 self.set(Due::Create(number));
                 Ok(())
@@ -239,18 +245,29 @@ impl Installation {
         }
     }
 
-    /// Writes the number as it is to be written into the record to the front of `to`: decimal
-    /// digits, at most 20, with no 0 behind them. Returns how many, and 0 where no number is to be
-    /// written or there is no room.
+    /// Writes the number as it is to be written into the record to the front of `to`: the label of its
+    /// field and decimal digits, at most 30 bytes, with no 0 behind them. Returns how many, and 0 where
+    /// no number is to be written or there is no room.
     pub fn write_number(&self, to: &mut [u8]) -> usize
-        // The digits of the number of the update stand at the front of the buffer where they are to be written and have
-        // room, and otherwise nothing is written.
-        ensures written { 0 < result → (n : ℕ) × IsDue self.now (WriteRecord n) × (result ≤ length to.new) × (take result to.new ≡ decimal n) }
-        ensures unwritten { result ≡ 0 → (to.new ≡ to.old) × ((n : ℕ) → IsDue self.now (WriteRecord n) → length to.old < length (decimal n)) }
+        // The label of the field and the digits of the number of the update stand at the front of the buffer where they
+        // are to be written and have room, and otherwise nothing is written.
+        ensures written { 0 < result → (n : ℕ) × IsDue self.now (WriteRecord n) × (result ≤ length to.new) × (take result to.new ≡ record_of (numbering_of self.now) n) }
+        ensures unwritten { result ≡ 0 → (to.new ≡ to.old) × ((n : ℕ) → IsDue self.now (WriteRecord n) → length to.old < length (record_of (numbering_of self.now) n)) }
     {
         match self.due() {
-            Some(Due::WriteRecord(number)) => write_digits(number, to),
+            Some(Due::WriteRecord(number)) => write_record(self.numbering(), number, to),
             _ => 0,
+        }
+    }
+
+    // The field that has the number of an update.
+    pub(crate) fn numbering(&self) -> Numbering
+        ensures { result ≡ numbering_of self.now }
+    {
+        if self.numbering == 1 {
+            Numbering::Version
+        } else {
+            Numbering::Timestamp
         }
     }
 
@@ -430,34 +447,4 @@ fn failure(due: &Due<u32>, fault: u32) -> u32
         Due::SettleName(_) => FOLDER_NOT_ON_DISK,
         _ => fault,
     }
-}
-
-// What a record of these bytes is taken to say.
-fn record_text(bytes: &[u8]) -> &[u8]
-    ensures { result.now ≡ record_text bytes.now }
-{
-    if bytes.len() > MOST_OF_RECORD {
-        return &[];
-    }
-    match bytes.split_last() {
-        Some((last, line)) if *last == b'\n' => line,
-        _ => bytes,
-    }
-}
-
-// Writes the digits of a number to the front of `to`, and returns how many; where they have no
-// room, nothing.
-#[tactic(auto, using(std::proofs::lemmas::Fmt::decimal_nonempty))]
-fn write_digits(number: u64, to: &mut [u8]) -> usize
-    ensures written { 0 < result → (result ≤ length to.new) × (take result to.new ≡ decimal number) }
-    ensures unwritten { result ≡ 0 → (to.new ≡ to.old) × (length to.old < length (decimal number)) }
-{
-    let mut buffer = itoa::Buffer::new();
-    let digits = buffer.format(number).as_bytes();
-    if to.len() < digits.len() {
-        return 0;
-    }
-    let (front, _) = to.split_at_mut(digits.len());
-    front.copy_from_slice(digits);
-    digits.len()
 }

@@ -10,7 +10,7 @@ ghost use Rattle.minisign_external.specs.Questions.{AnswersTexts, AreOpen};
 ghost use Rattle.minisign_external.specs.States.{AreQuestions, HasEnded, IsFedState, TellsIdentifiers};
 ghost use Rattle.minisign_install.specs.Comments.{Says};
 ghost use Rattle.minisign_install.specs.HostNumbers.{install_number};
-ghost use Rattle.minisign_install.specs.Hosted.{GivesUpdate, IsAnswerRefusal, IsAskRefusal, IsAsking, IsCommentFault, IsJudged, IsTextJudged, KeepsRest, IsDue, wanted_by};
+ghost use Rattle.minisign_install.specs.Hosted.{GivesUpdate, IsAnswerRefusal, IsAskRefusal, IsAsking, IsCommentFault, IsJudged, IsTextJudged, KeepsRest, IsDue, numbering_of, wanted_by};
 ghost use Rattle.minisign_install.specs.Installing.{Terms};
 ghost use Rattle.minisign_install.specs.Refusals.{IsCommentRefused};
 ghost use Rattle.minisign_install.specs.declared.faults.InstallFault.TheVariants.{Library, OtherFile};
@@ -37,7 +37,6 @@ impl Installation {
         pk_text: &[u8],
         sig_text: &[u8],
         file: &[u8],
-        numbering: Numbering,
         questions: &mut Questions,
         message: &mut [u8],
     ) -> Result<(), HostRefusal>
@@ -50,7 +49,10 @@ impl Installation {
         // They are then asked, and the comment of the second text is judged, against the number that was kept; the
         // answers are due before and behind.
         ensures asking { OnOk result ((kept : ℕ) × IsDue self.old (Answer kept)
-            × IsAsking self.new (wanted_by pk_text.now sig_text.now file.now numbering) kept) }
+            × IsAsking self.new (wanted_by pk_text.now sig_text.now file.now (numbering_of self.old)) kept) }
+
+        // The field that the number stands in stays.
+        ensures field { numbering_of self.new ≡ numbering_of self.old }
 
         // Where the answers are due, and texts and name are UTF-8, both identifiers are told where both texts read.
         ensures identifiers { (kept : ℕ) → IsDue self.old (Answer kept) → (m : List ℕ) → IsFedState self.old.state m
@@ -73,7 +75,7 @@ impl Installation {
         };
         match self.state.ask(pk_text, sig_text, false, questions, message) {
             Ok(()) => {
-                self.keep_judgement(sig_text, file, numbering);
+                self.keep_judgement(sig_text, file);
                 Ok(())
             }
             Err(Refusal::WrongUse(misuse)) => Err(HostRefusal::WrongUse(misuse)),
@@ -101,6 +103,9 @@ impl Installation {
         ensures due { OnOk result (((kept : ℕ) × IsDue self.old (Answer kept)) × ((n : ℕ) × IsDue self.new (TakeRights n))
             × HasEnded self.old.state self.new.state) }
         ensures refused { IfErr result (IsAnswerRefusal self.old self.new) }
+
+        // The field that the number stands in stays.
+        ensures field { numbering_of self.new ≡ numbering_of self.old }
     {
         if !self.is_answer_due() {
             return Err(HostRefusal::WrongUse(Misuse::NotDue));
@@ -143,14 +148,15 @@ impl Installation {
     }
 
     // Keeps what comes of the comment that the text of the signature has.
-    fn keep_judgement(&mut self, sig_text: &[u8], file: &str, numbering: Numbering)
+    fn keep_judgement(&mut self, sig_text: &[u8], file: &str)
         ensures judged { (pk_text : List ℕ) (kept : ℕ) → IsDue self.old (Answer kept) → IsUtf8 sig_text.now
-            → IsTextJudged self.new.comment self.new.update (wanted_by pk_text sig_text.now file.now numbering) kept }
+            → IsTextJudged self.new.comment self.new.update (wanted_by pk_text sig_text.now file.now (numbering_of self.old)) kept }
         ensures due { (kept : ℕ) → IsDue self.old (Answer kept) → IsDue self.new (Answer kept) }
         ensures state { self.new.state ≡ self.old.state }
+        ensures numbering { self.new.numbering ≡ self.old.numbering }
     {
         let kept = self.kept();
-        match judge_text(sig_text, file, numbering, kept) {
+        match judge_text(sig_text, file, self.numbering(), kept) {
             Ok(number) => {
                 self.comment = IS_UPDATE;
                 self.update = number;
@@ -170,6 +176,7 @@ impl Installation {
         ensures due { OnOk result ((n : ℕ) × IsDue self.new (TakeRights n)) }
         ensures refused { IfErr result (λ r. (e : InstallFault) × (r ≡ Refused e) × IsDue self.new (Remove (install_number e))) }
         ensures state { self.new.state ≡ self.old.state }
+        ensures numbering { self.new.numbering ≡ self.old.numbering }
     {
         if self.comment == IS_UPDATE {
             self.set(Due::TakeRights(self.update));

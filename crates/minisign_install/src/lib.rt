@@ -9,6 +9,7 @@ pub mod folders;
 pub mod host_numbers;
 pub mod hosted;
 pub mod hosted_judging;
+pub mod hosting;
 pub mod installing;
 mod judging;
 pub mod memory;

@@ -1,7 +1,6 @@
-//! The number of the newest update is kept beside the place.
+//! The number of the newest update is kept beside the place, behind the label of its field.
 
-ghost use Rattle.std.specs.Prelude.{◌≡◌, ◌⊎◌, ℕ, List, Option, Some, None, IfOk, IfErr, OnOk, OnErr, MatchOption, MatchResult};
-ghost use Rattle.std.specs.Str.{IsUtf8};
+ghost use Rattle.std.specs.Prelude.{◌≡◌, ◌⊎◌, ◌<◌, ◌≤◌, ℕ, false, List, Option, Some, None, IfOk, IfErr, OnOk, OnErr, MatchOption, MatchResult, length, take};
 ghost use Rattle.minisign_base.specs.Devices.{Rose};
 ghost use Rattle.minisign_base.specs.Fault.{Named};
 ghost use Rattle.minisign_base.specs.declared.faults.NamedFault.TheVariants.{ReadingFailed};
@@ -10,49 +9,66 @@ ghost use Rattle.minisign_install.specs.Comments.{IsNumberText};
 ghost use Rattle.minisign_install.specs.Folders.{HasStepped, IsStill, Finds, Known};
 ghost use Rattle.minisign_install.specs.Hosts.{Calls};
 ghost use Rattle.minisign_install.specs.Installing.{IsKeptNumber};
+ghost use Rattle.minisign_install.specs.RecordTexts.{HasNoNumber, IsFieldText, IsNumberFor, IsUnfit, kept_by, record_of, record_text};
 ghost use Rattle.minisign_install.specs.Refusals.{IsRecordFault, IsRecordRefused};
 
-use crate::comments::number_of;
+use crate::comments::{Numbering, number_of, strip};
 use crate::faults::InstallFault;
 use crate::folders::{Folder, Name};
 use minisign_base::NamedFault;
 use std::alloc::Global;
 
-// The number that the record holds. Where it holds none and this is the first installation, that is
-// 0.
+// A record of more bytes is damaged.
+const MOST_OF_RECORD: usize = 64;
+
+// The longest record that is written: the longer label, and the digits of the greatest number.
+pub(crate) const MOST_WRITTEN: usize = 30;
+
+// The number that the record holds for the field. Where it holds none and this is the first
+// installation, that is 0.
 pub(crate) fn read_number<F: Folder>(
     alloc: Global,
     folder: &mut F,
+    numbering: Numbering,
     is_first: bool,
 ) -> Result<u64, InstallFault>
-    ensures read { IfOk result (λ kept. Known (F.run folder.old) ((found : Option (List ℕ)) × Calls (Finds Name.Record found) (F.run folder.old) (F.run folder.new) × IsKeptNumber is_first found kept)) }
+    ensures read { IfOk result (λ kept. Known (F.run folder.old) ((found : Option (List ℕ)) × Calls (Finds Name.Record found) (F.run folder.old) (F.run folder.new) × IsKeptNumber numbering is_first found kept)) }
     ensures still { OnErr result (Known (F.run folder.old) (Calls IsStill (F.run folder.old) (F.run folder.new))) }
-    ensures refused { IfErr result (λ e. (IsRecordFault is_first e × Known (F.run folder.old) ((found : Option (List ℕ)) × HasStepped (F.run folder.old) (F.run folder.new) (Finds Name.Record found) × IsRecordRefused is_first found e))
+    ensures refused { IfErr result (λ e. (IsRecordFault is_first e × Known (F.run folder.old) ((found : Option (List ℕ)) × HasStepped (F.run folder.old) (F.run folder.new) (Finds Name.Record found) × IsRecordRefused numbering is_first found e))
         ⊎ ((e ≡ Library (Named ReadingFailed)) × Rose (F.folder_faults folder.old) (F.folder_faults folder.new))) }
     ensures no_new_fault { OnOk result (F.folder_faults folder.new ≡ F.folder_faults folder.old) }
 {
     match folder.read_record(alloc) {
-        Ok(Some(bytes)) => number_in(bytes.as_slice(), is_first),
-        Ok(None) => number_without_record(is_first),
+        Ok(Some(bytes)) => number_in(bytes.as_slice(), numbering, is_first),
+        Ok(None) => number_without_record(numbering, is_first),
         Err(_) => Err(NamedFault::ReadingFailed.into()),
     }
 }
 
-// The number that a record of these bytes holds. Where it holds none and this is the first
-// installation, that is 0.
-pub(crate) fn number_in(bytes: &[u8], is_first: bool) -> Result<u64, InstallFault>
-    ensures { MatchResult result (IsKeptNumber is_first (Some bytes.now)) (IsRecordRefused is_first (Some bytes.now)) }
+// The number that a record of these bytes holds for the field. Where it holds none and this is the
+// first installation, that is 0.
+pub(crate) fn number_in(
+    bytes: &[u8],
+    numbering: Numbering,
+    is_first: bool,
+) -> Result<u64, InstallFault>
+    ensures number { MatchResult result (IsKeptNumber numbering is_first (Some bytes.now)) (IsRecordRefused numbering is_first (Some bytes.now)) }
+    ensures fault { IfErr result (IsRecordFault is_first) }
 {
-    match parsed(bytes) {
+    match number_for(bytes, numbering) {
         Some(number) => Ok(number),
         None if is_first => Ok(0),
-        None => Err(InstallFault::DamagedRecord),
+        None => Err(unfit(bytes, numbering)),
     }
 }
 
 // The number where there is no record.
-pub(crate) fn number_without_record(is_first: bool) -> Result<u64, InstallFault>
-    ensures { MatchResult result (IsKeptNumber is_first None) (IsRecordRefused is_first None) }
+pub(crate) fn number_without_record(
+    numbering: Numbering,
+    is_first: bool,
+) -> Result<u64, InstallFault>
+    ensures number { MatchResult result (IsKeptNumber numbering is_first None) (IsRecordRefused numbering is_first None) }
+    ensures fault { IfErr result (IsRecordFault is_first) }
 {
     if is_first {
         Ok(0)
@@ -61,12 +77,80 @@ pub(crate) fn number_without_record(is_first: bool) -> Result<u64, InstallFault>
     }
 }
 
-// The number that these bytes write, where they do.
-fn parsed(bytes: &[u8]) -> Option<u64>
-    ensures { MatchOption result (¬ (IsUtf8 bytes.now) ⊎ ((n : ℕ) → ¬ (IsNumberText bytes.now n))) (λ n. IsUtf8 bytes.now × IsNumberText bytes.now n) }
+// Why a record of these bytes, which holds no number for the field, is refused.
+fn unfit(bytes: &[u8], numbering: Numbering) -> InstallFault
+    ensures why { IsUnfit numbering bytes.now result }
+    ensures fault { IsRecordFault false result }
 {
-    match str::from_utf8(bytes) {
-        Ok(text) => number_of(text),
+    match number_for(bytes, numbering.other()) {
+        Some(_) => numbering.other().kept(),
+        None => InstallFault::DamagedRecord,
+    }
+}
+
+impl Numbering {
+    // The place is kept by this field.
+    fn kept(self) -> InstallFault
+        ensures { result ≡ kept_by self }
+    {
+        match self {
+            Numbering::Timestamp => InstallFault::KeptByTimestamp,
+            Numbering::Version => InstallFault::KeptByVersion,
+        }
+    }
+}
+
+// The number that a record of these bytes holds for the field, where it holds one.
+fn number_for(bytes: &[u8], numbering: Numbering) -> Option<u64>
+    ensures { MatchOption result (HasNoNumber numbering bytes.now) (IsNumberFor numbering bytes.now) }
+{
+    match str::from_utf8(record_text(bytes)) {
+        Ok(text) => number_in_text(text, numbering),
         Err(_) => None,
     }
+}
+
+// The number that a text writes, alone or behind the label of the field, where it does.
+fn number_in_text(text: &str, numbering: Numbering) -> Option<u64>
+    ensures { MatchOption result ((n : ℕ) → ¬ (IsNumberText text.now n ⊎ IsFieldText numbering text.now n)) (λ n. IsNumberText text.now n ⊎ IsFieldText numbering text.now n) }
+{
+    match number_of(text) {
+        Some(number) => Some(number),
+        None => match strip(text, numbering.label()) {
+            Some(value) => number_of(value),
+            None => None,
+        },
+    }
+}
+
+// What is read of a record of these bytes.
+fn record_text(bytes: &[u8]) -> &[u8]
+    ensures { result.now ≡ record_text bytes.now }
+{
+    if bytes.len() > MOST_OF_RECORD {
+        return &[];
+    }
+    match bytes.split_last() {
+        Some((last, line)) if *last == b'\n' => line,
+        _ => bytes,
+    }
+}
+
+// Writes what is to be written into a record to the front of `to`, and returns how long that is; where
+// it has no room, nothing.
+pub(crate) fn write_record(numbering: Numbering, number: u64, to: &mut [u8]) -> usize
+    ensures written { 0 < result → (result ≤ length to.new) × (take result to.new ≡ record_of numbering number) }
+    ensures unwritten { result ≡ 0 → (to.new ≡ to.old) × (length to.old < length (record_of numbering number)) }
+{
+    let mut buffer = itoa::Buffer::new();
+    let digits = buffer.format(number).as_bytes();
+    let label = numbering.label().as_bytes();
+    if to.len() < label.len() + digits.len() {
+        return 0;
+    }
+    let (front, rest) = to.split_at_mut(label.len());
+    front.copy_from_slice(label);
+    let (behind, _) = rest.split_at_mut(digits.len());
+    behind.copy_from_slice(digits);
+    label.len() + digits.len()
 }

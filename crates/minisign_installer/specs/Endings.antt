@@ -14,7 +14,7 @@ use Rattle.minisign_base.specs.Fault.{name_of}
 use Rattle.minisign_base.specs.declared.faults.NamedFault.{NamedFault}
 use Rattle.minisign_base.specs.declared.faults.NamedFault.TheVariants.{OutOfMemory, RandomSourceFailed, ReadingFailed, WritingFailed}
 use Rattle.minisign_install.specs.declared.faults.InstallFault.{InstallFault}
-use Rattle.minisign_install.specs.declared.faults.InstallFault.TheVariants.{DamagedRecord, FolderNotOnDisk, Library, NoNumber, NoRecord, OlderUpdate, OtherFile, PlaceInUse}
+use Rattle.minisign_install.specs.declared.faults.InstallFault.TheVariants.{DamagedRecord, FolderNotOnDisk, KeptByTimestamp, KeptByVersion, Library, NoNumber, NoRecord, OlderUpdate, OtherFile, PlaceInUse}
 use Rattle.minisign_installer.specs.declared.endings.Ending.{Ending}
 use Rattle.minisign_installer.specs.declared.endings.Ending.TheVariants.{Failed, InUse, Installed, Misused, NotOnDisk, Older, Refused, Shown, Unrecorded}
 
@@ -44,6 +44,8 @@ ending_of (Library fault) = library_ending (name_of fault)
 ending_of PlaceInUse = InUse
 ending_of NoRecord = Unrecorded
 ending_of DamagedRecord = Unrecorded
+ending_of KeptByTimestamp = Unrecorded
+ending_of KeptByVersion = Unrecorded
 ending_of OtherFile = Refused
 ending_of NoNumber = Refused
 ending_of OlderUpdate = Older
@@ -80,9 +82,9 @@ HoldsAfter accepts (request.Install asked) = IsAskedUpdate accepts asked
 abbrev pub ShowsRequest : Verifier → List (List ℕ) → Ending → Type 0
 ShowsRequest accepts words ending = status_of ending ≡ 0 → (request : Request) × IsRequest words request × HoldsAfter accepts request
 
--- no number is kept beside the place, or what is kept is none
+-- no number is kept beside the place, or what is kept is none, or one of the other field
 abbrev pub IsUnrecorded : InstallFault → Type 0
-IsUnrecorded fault = (fault ≡ NoRecord) ⊎ (fault ≡ DamagedRecord)
+IsUnrecorded fault = (fault ≡ NoRecord) ⊎ (fault ≡ DamagedRecord) ⊎ (fault ≡ KeptByTimestamp) ⊎ (fault ≡ KeptByVersion)
 
 -- the run does not end for want of a kept number
 abbrev pub IsOtherEnd : Ending → Type 0

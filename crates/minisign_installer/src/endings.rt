@@ -54,13 +54,16 @@ pub fn ending_of(fault: &InstallFault) -> Ending
     ensures ending { result ≡ ending_of fault.now }
     ensures failure { IsNoSuccess result }
 
-    // The status is 7 only of a number that is not kept, or is none.
+    // The status is 7 only of a number that is not kept, is none, or is one of the other field.
     ensures unrecorded { status_of result ≡ 7 → IsUnrecorded fault.now }
 {
     match fault {
         InstallFault::Library(fault) => library_ending(fault),
         InstallFault::PlaceInUse => Ending::InUse,
-        InstallFault::NoRecord | InstallFault::DamagedRecord => Ending::Unrecorded,
+        InstallFault::NoRecord
+        | InstallFault::DamagedRecord
+        | InstallFault::KeptByTimestamp
+        | InstallFault::KeptByVersion => Ending::Unrecorded,
         InstallFault::OtherFile | InstallFault::NoNumber => Ending::Refused,
         InstallFault::OlderUpdate => Ending::Older,
         InstallFault::FolderNotOnDisk => Ending::NotOnDisk,

@@ -22,7 +22,7 @@ use std::{fs, io};
 // Its owner alone may read and write a file that is made.
 const FOR_THE_OWNER: u32 = 0o600;
 
-// How long the record may be: more than the 20 digits of the greatest number.
+// How long the record may be: more than the label of a field and the 20 digits of the greatest number.
 const MOST_OF_RECORD: usize = 64;
 
 // How often a lock file is opened that others remove or make meanwhile.
@@ -431,10 +431,7 @@ impl<'a> FileFolder<'a> {
         let mut buf = [0u8; MOST_OF_RECORD + 1];
         let n = self.known(Part::Record, read_most(&file, &mut buf))?;
         match buf.get(..n) {
-            Some(bytes) if n <= MOST_OF_RECORD => {
-                let line = bytes.strip_suffix(b"\n").unwrap_or(bytes);
-                Ok(Some(self.made(line.to_vec(alloc))?))
-            }
+            Some(bytes) if n <= MOST_OF_RECORD => Ok(Some(self.made(bytes.to_vec(alloc))?)),
             _ => Err(self.remember(Part::Record, Cause::TooLong)),
         }
     }

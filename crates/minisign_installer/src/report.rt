@@ -212,6 +212,8 @@ fn blamed<'a>(fault: &InstallFault, asked: Asked<'a>, pk_text: &str) -> &'a str 
         InstallFault::PlaceInUse
         | InstallFault::NoRecord
         | InstallFault::DamagedRecord
+        | InstallFault::KeptByTimestamp
+        | InstallFault::KeptByVersion
         | InstallFault::FolderNotOnDisk => asked.place,
         _ => asked.sig,
     }

@@ -9,7 +9,7 @@ use Rattle.minisign_install.specs.HostNumbers.{install_number}
 use Rattle.minisign_install.specs.Hosted.{GivesUpdateNumber, IsUpdateRefusal, IsDue, host_number}
 use Rattle.minisign_install.specs.Installing.{Terms}
 use Rattle.minisign_install.specs.declared.faults.InstallFault.{InstallFault}
-use Rattle.minisign_install.specs.declared.faults.InstallFault.TheVariants.{Library, PlaceInUse, NoRecord, DamagedRecord, OtherFile, NoNumber, OlderUpdate, FolderNotOnDisk}
+use Rattle.minisign_install.specs.declared.faults.InstallFault.TheVariants.{Library, PlaceInUse, NoRecord, DamagedRecord, KeptByTimestamp, KeptByVersion, OtherFile, NoNumber, OlderUpdate, FolderNotOnDisk}
 use Rattle.minisign_install.specs.declared.hosted.HostRefusal.{HostRefusal}
 use Rattle.minisign_install.specs.declared.hosted.HostRefusal.TheVariants.{Refused, WrongUse}
 use Rattle.minisign_install.specs.declared.hosted.Installation.{Installation}
@@ -77,6 +77,8 @@ positive (Library e) = library_positive e
 positive PlaceInUse = lit< tt
 positive NoRecord = lit< tt
 positive DamagedRecord = lit< tt
+positive KeptByTimestamp = lit< tt
+positive KeptByVersion = lit< tt
 positive OtherFile = lit< tt
 positive NoNumber = lit< tt
 positive OlderUpdate = lit< tt

@@ -1,7 +1,7 @@
 use Rattle.std.proofs.Common.{◌∙◌, List, ℕ, inr, refl, sym, subst, false}
 use Rattle.minisign_external.specs.States.{HasAsked, IsAskingRefusal}
 use Rattle.minisign_external.specs.declared.state.State.{State}
-use Rattle.minisign_install.specs.Hosted.{IsTextJudged, wanted_by}
+use Rattle.minisign_install.specs.Hosted.{IsTextJudged, numbering_of, wanted_by}
 use Rattle.minisign_install.proofs.hosted.Installation.ask.Goals as goal
 
 pub returns-in-Ok-ask-clause-asking : goal.returns-in-Ok-ask-clause-asking
@@ -14,7 +14,7 @@ returns-in-Ok-ask-clause-asking c =
       record {
         due = c.keep_judgement.ensures.due kept due;
         asked = subst (λ (s : State). HasAsked s a.pk_text.now a.sig_text.now false) (sym c.keep_judgement.ensures.state) c.in-Ok-ask.ensures.asking;
-        judged = subst (λ (f : List ℕ). IsTextJudged new.comment new.update (wanted_by a.pk_text.now a.sig_text.now f a.numbering) kept)
+        judged = subst (λ (f : List ℕ). IsTextJudged new.comment new.update (wanted_by a.pk_text.now a.sig_text.now f (numbering_of a.self.now)) kept)
             c.in-Ok.ensures.cases.0 (c.keep_judgement.ensures.judged a.pk_text.now kept due c.in-Ok-ask.ensures.utf8.1);
       },
     )
@@ -35,6 +35,7 @@ returns-in-Err-Refused-clause-refused c =
       record {
         state = rest.state ∙ c.in-Err-Refused.ensures.kept.0;
         is_first = rest.is_first;
+        numbering = rest.numbering;
         comment = rest.comment;
         update = rest.update;
       },

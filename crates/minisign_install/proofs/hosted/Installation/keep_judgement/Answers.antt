@@ -1,18 +1,27 @@
 use Rattle.std.proofs.Common.{◌≤◌, ℕ, inl, inr, refl, subst}
-use Rattle.minisign_install.specs.Hosted.{wanted_by}
+use Rattle.minisign_install.specs.Comments.{Says}
+use Rattle.minisign_install.specs.Hosted.{numbering_of, wanted_by}
 use Rattle.minisign_install.specs.Refusals.{IsCommentRefused}
+use Rattle.minisign_install.specs.declared.comments.Numbering.{Numbering}
 use Rattle.minisign_install.proofs.hosted.Installation.keep_judgement.Goals as goal
 
 pub returns-in-Ok-clause-judged : goal.returns-in-Ok-clause-judged
 returns-in-Ok-clause-judged c = λ pk_text kept due utf8 x d read both.
     let (says, newer) = c.in-Ok.ensures.judged utf8 x d read both pk_text in
-    inl (refl, says, subst (λ (k : ℕ). k ≤ c.in-Ok.number) (c.kept-kept.ensures kept due) newer)
+    inl (
+      refl,
+      subst (λ (f : Numbering). Says d.trusted c.args.file.now f c.in-Ok.number) c.numbering.ensures says,
+      subst (λ (k : ℕ). k ≤ c.in-Ok.number) (c.kept-kept.ensures kept due) newer,
+    )
 
 pub returns-in-Err-clause-judged : goal.returns-in-Err-clause-judged
 returns-in-Err-clause-judged c = λ pk_text kept due utf8 x d read both.
+    let a = c.args in
     inr (
       _,
       c.number-self.ensures,
-      subst (λ (k : ℕ). IsCommentRefused (wanted_by pk_text c.args.sig_text.now c.args.file.now c.args.numbering) k d.trusted c.in-Err.fault)
-          (c.kept-kept.ensures kept due) (c.in-Err.ensures.judged utf8 x d read both pk_text),
+      subst (λ (k : ℕ). IsCommentRefused (wanted_by pk_text a.sig_text.now a.file.now (numbering_of a.self.now)) k d.trusted c.in-Err.fault)
+          (c.kept-kept.ensures kept due)
+          (subst (λ (f : Numbering). IsCommentRefused (wanted_by pk_text a.sig_text.now a.file.now f) c.kept-kept.result d.trusted c.in-Err.fault) c.numbering.ensures
+          (c.in-Err.ensures.judged utf8 x d read both pk_text)),
     )

@@ -1,10 +1,25 @@
-use Rattle.std.proofs.Common.{◌==◌, inl, Some, List, ℕ, refl, subst}
+use Rattle.std.proofs.Common.{◌==◌, ℕ, inl, inr, Some, refl, subst}
+use Rattle.minisign_install.specs.Hosted.{IsDue}
 use Rattle.minisign_install.specs.Installing.{IsKeptNumber}
+use Rattle.minisign_install.specs.Refusals.{IsRecordRefused}
+use Rattle.minisign_install.specs.declared.comments.Numbering.{Numbering}
+use Rattle.minisign_install.specs.declared.order.Due.TheVariants.{Refused}
 use Rattle.minisign_install.proofs.hosted.Installation.record.Goals as goal
 
 pub returns-in-Ok-clause-read : goal.returns-in-Ok-clause-read
 returns-in-Ok-clause-read c = (
   c.if-not-is_record_due.ensures.yes refl,
   c.set.ensures.rest,
-  inl (_, c.set.ensures.due, subst (λ (t : List ℕ). IsKeptNumber (c.args.self.now.is_first == 1) (Some t) c.in-Ok.number) c.record_text.ensures c.in-Ok.ensures),
+  inl (_, c.set.ensures.due, subst (λ (f : Numbering). IsKeptNumber f (c.args.self.now.is_first == 1) (Some c.args.bytes.now) c.in-Ok.number) c.numbering.ensures c.in-Ok.ensures.number),
+)
+
+pub returns-in-Err-clause-read : goal.returns-in-Err-clause-read
+returns-in-Err-clause-read c = (
+  c.if-not-is_record_due.ensures.yes refl,
+  c.set-in-Err.ensures.rest,
+  inr (
+    c.in-Err.fault,
+    subst (λ (k : ℕ). IsDue c.set-in-Err.new.self (Refused k)) c.number.ensures c.set-in-Err.ensures.due,
+    subst (λ (f : Numbering). IsRecordRefused f (c.args.self.now.is_first == 1) (Some c.args.bytes.now) c.in-Err.fault) c.numbering.ensures c.in-Err.ensures.number,
+  ),
 )

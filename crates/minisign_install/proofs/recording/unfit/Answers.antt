@@ -1,0 +1,7 @@
+use Rattle.std.proofs.Common.{inr, refl, subst}
+use Rattle.minisign_install.specs.RecordTexts.{HasNoNumber}
+use Rattle.minisign_install.specs.declared.comments.Numbering.{Numbering}
+use Rattle.minisign_install.proofs.recording.unfit.Goals as goal
+
+pub returns-in-None-clause-why : goal.returns-in-None-clause-why
+returns-in-None-clause-why c = inr (refl, subst (λ (f : Numbering). HasNoNumber f c.args.bytes.now) c.other.ensures c.in-None.ensures)
