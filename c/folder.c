@@ -350,7 +350,8 @@ static bool put_new_lock(struct folder *folder, const struct stage *fresh, const
 }
 
 /* Where the lock is another's than the keeper's, as after a run by root or where the place was given away, and root runs
- * this, the lock becomes a new file of the keeper's. One that was found is never given away. */
+ * this, the lock becomes a new file of the keeper's. One that was found is never given away, and stays where it holds
+ * anything: such a file is no lock that a run has made. */
 static enum minisign_error renew_lock(struct folder *folder)
 {
     struct stage fresh = folder->number;
@@ -360,7 +361,7 @@ static enum minisign_error renew_lock(struct folder *folder)
     if (!find_keeper(folder, &keeper) || !look_at(folder, &folder->lock, folder->locked, &own)) {
         return MINISIGN_READING_FAILED;
     }
-    if (own.st_uid == keeper.st_uid || geteuid() != 0) {
+    if (own.st_uid == keeper.st_uid || own.st_size > 0 || geteuid() != 0) {
         return MINISIGN_OK;
     }
     error = create_stage(folder, &fresh);

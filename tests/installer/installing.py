@@ -611,7 +611,7 @@ class Installing:
                 if os.stat(os.path.join(folder.path, name)).st_uid != owner:
                     raise Failure(f"{name} is of another owner")
 
-        if calls == "fchown" and owner != NOBODY:
+        if calls == "fchown" and os.geteuid() != 0:
             raise Skip("only root may give files another owner")
         if not self.break_each(judge, prepare, BREAK_CALLS=calls, BREAK_ERRNO=str(errno.EINTR)):
             raise Failure("it made no such call")
