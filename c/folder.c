@@ -257,12 +257,8 @@ static enum found open_lock(struct folder *folder, struct opened *lock)
     if (lock->fd < 0 && errno == (lock->is_made ? EEXIST : ENOENT)) {
         return NOT_THERE;
     }
-    if (lock->fd < 0 && lock->is_made) {
-        fails(folder, &folder->lock, NULL, MINISIGN_OK);
-        return UNUSABLE;
-    }
     if (lock->fd < 0) {
-        fails_to_open(folder, &folder->lock);
+        (void) (lock->is_made ? fails(folder, &folder->lock, NULL, MINISIGN_OK) : fails_to_open(folder, &folder->lock));
         return UNUSABLE;
     }
     return leads_to(folder, &folder->lock, lock->fd);

@@ -3,7 +3,8 @@
  *
  * The machine of minisign.h says which call is due, and judges: the texts, the data as it was staged, and the comment
  * that was signed with it. This program makes the call that is due (folder.h) and tells how it went; libsodium says
- * what Ed25519 accepts. Nothing here decides what comes next, what is refused or what is removed.
+ * what Ed25519 accepts. Nothing here decides what comes next, what is refused or what is removed. Before the first call, which
+ * locks the place, it receives data that may stand still, as that of a pipe.
  */
 #define _POSIX_C_SOURCE 200809L
 

@@ -162,17 +162,16 @@ static uint64_t unit_of(const char *text)
     }
 }
 
-/* How many bytes decimal digits write, behind which the letter of a unit may stand; a plus may stand before them. */
+/* How many bytes decimal digits write, behind which the letter of a unit may stand. */
 static uint64_t bytes_of(const char *text)
 {
-    const char *digits = text[0] == '+' ? text + 1 : text;
-    size_t len = strspn(digits, "0123456789");
-    uint64_t unit = unit_of(digits + len);
+    size_t len = strspn(text, "0123456789");
+    uint64_t unit = unit_of(text + len);
     unsigned long long number;
 
     errno = 0;
-    number = strtoull(digits, NULL, 10);
-    if (len == 0 || strlen(digits) != len + (unit > 1 ? 1 : 0) || errno != 0 || number > UINT64_MAX / unit) {
+    number = strtoull(text, NULL, 10);
+    if (len == 0 || strlen(text) != len + (unit > 1 ? 1 : 0) || errno != 0 || number > UINT64_MAX / unit) {
         refuse_value(text);
     }
     return number * unit;

@@ -333,7 +333,8 @@ class Installing:
             for is_killed in (True, False):
                 process = subprocess.Popen([self.program, *folder.arguments("new")], cwd=path, env={}, stdin=subprocess.DEVNULL,
                                            stdout=subprocess.DEVNULL, stderr=subprocess.PIPE)
-                with open(os.path.join(path, "new"), "wb", buffering=0) as pipe:
+                # (also for reading, so that it is open at once)
+                with open(os.path.join(path, "new"), "r+b", buffering=0) as pipe:
                     pipe.write(NEW[:1000])
                     wait_until_read(pipe)
                     self.check(folder, "later", 0)
@@ -1111,6 +1112,8 @@ def word_cases(it):
         ("a bound that is a unit alone", ["--most", "K", *paths], b"error: K: the option before it has no such value\n"),
         ("a bound too great by its unit", ["--most", "16777216T", *paths], b"error: 16777216T: the option before it has no such value\n"),
         ("a bound below nothing", ["--most", "-1K", *paths], b"error: -1K: the option before it has no such value\n"),
+        ("a bound with a plus", ["--most", "+1000000", *paths], b"error: +1000000: the option before it has no such value\n"),
+        ("a bound with a blank", ["--most", " 1000000", *paths], b"error:  1000000: the option before it has no such value\n"),
         ("a bound too great", ["--most", str(2 ** 64), *paths], b": the option before it has no such value\n"),
         ("help beside other words", ["--help", *paths], b"error: --help: there is no such option\n" + usage),
         ("an option behind the end of options", ["--", "--first", *paths], b"error: place: there are four paths, and this is a fifth\n"),
@@ -1137,7 +1140,6 @@ def word_cases(it):
     orders = [
         ("options behind the paths", [*paths, "--first", "--mode", "0640"], 0o640),
         ("a bound with a unit", ["--most", "1M", *paths], None),
-        ("a bound with a unit behind a plus", ["--most", "+250K", *paths], None),
         ("the greatest bound", ["--most", "16777215T", *paths], None),
         ("options between the paths", [PK, "--mode", "640", "new", "--most", "1000000", "new.sig", "--first", PLACE], 0o640),
         ("options before the paths", ["--most", "1000000", "--numbering", "timestamp", "--name", PLACE, *paths], None),
