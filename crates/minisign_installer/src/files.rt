@@ -274,11 +274,12 @@ impl<'a> FileFolder<'a> {
 
     // Where the lock is another's than the keeper's, as after a run by root or where the place was
     // given away, and this run may give files away, the lock becomes a new file of the keeper's. One
-    // that was found is never given away.
+    // that was found is never given away, and stays where it holds anything: such a file is no lock
+    // that a run has made.
     fn renewed_lock(&self, found: File) -> Result<File, DeviceFault> {
         let keeper = self.keeper()?;
         let own = self.known(Part::Lock, again(|| found.metadata()))?;
-        if own.uid() == keeper.uid() {
+        if own.uid() == keeper.uid() || own.len() > 0 {
             return Ok(found);
         }
         let path = self.beside(NEW_LOCK)?;

@@ -1,8 +1,7 @@
 //! What the words behind the program's name ask for.
 
 ghost use Rattle.std.specs.Prelude.{◌≡◌, ℕ, Some, None, IsTrue, ◌<◌, ◌↔◌, map, option_map, MatchOption, MatchResult, IfSome};
-ghost use Rattle.minisign_install.specs.Comments.{IsNumberText};
-ghost use Rattle.minisign_installer.specs.Requests.{Asks, AsksNothing, CannotAsk, Given, HasMode, HasMost, HasNumbering, IsBad, IsField, IsOctal, IsRequest, WritesBytes, WritesMode, WritesUnits, given, has_value, is_dashed, kind_of, mode_value, next, next_of_word, nothing, reads, with_path, with_value};
+ghost use Rattle.minisign_installer.specs.Requests.{Asks, AsksNothing, CannotAsk, Given, HasMode, HasMost, HasNumbering, IsBad, IsField, IsOctal, IsRequest, WritesBytes, WritesMode, WritesNumber, WritesUnits, given, has_value, is_dashed, kind_of, mode_value, next, next_of_word, nothing, reads, with_path, with_value};
 
 use minisign_install::Numbering;
 
@@ -423,13 +422,17 @@ fn units_of(text: &str, letter: char, unit: u64) -> Option<u64>
     }
 }
 
-// The number that a text writes, below 2^64.
+// The number below 2^64 that a text writes in decimal digits, and nothing else: `parse` takes a plus
+// before them too.
 fn number_of(text: &str) -> Option<u64>
-    ensures { MatchOption result ((n : ℕ) → ¬ (IsNumberText text.now n)) (IsNumberText text.now) }
+    ensures { MatchOption result ((n : ℕ) → ¬ (WritesNumber text.now n)) (WritesNumber text.now) }
 {
-    match text.parse::<u64>() {
-        Ok(number) => Some(number),
-        Err(_) => None,
+    match text.as_bytes().first() {
+        Some(b'+') => None,
+        _ => match text.parse::<u64>() {
+            Ok(number) => Some(number),
+            Err(_) => None,
+        },
     }
 }
 
