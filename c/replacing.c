@@ -10,13 +10,13 @@
 #include <stdlib.h>
 #include <string.h>
 #include <sys/stat.h>
-#include <sys/xattr.h>
 #include <unistd.h>
 
 #include <sodium.h>
 
 #include "ending.h"
 #include "files.h"
+#include "permissions.h"
 
 #define MOST_LINKS 40
 #define MOST_NAMES 100
@@ -25,8 +25,6 @@
 #define STAGE_NAME ".minisign-"
 #define STAGE_DRAWN 8
 #define STAGE_NAME_BYTES (sizeof STAGE_NAME + 2 * STAGE_DRAWN)
-#define ACCESS_LIST "system.posix_acl_access"
-#define ACCESS_LIST_BYTES 65536
 
 struct stage {
     /* The file's name as it was given, for messages, and its place, with all links followed. */
@@ -182,27 +180,12 @@ static int open_beside(struct stage *stage, enum kind kind)
     fail_at(stage->file);
 }
 
-/* Gives a stage the owner, the mode and the access list of the older file. What the system does not let this user
- * give away is left out, and with it the rights that went with it. */
-static void take_over(const struct stage *stage, int fd, const struct stat *older)
+/* Gives a stage the permissions of the older file. */
+static void take_over(const struct stage *stage, int fd)
 {
-    static uint8_t list[ACCESS_LIST_BYTES];
-    mode_t mode = older->st_mode & 0777;
-    struct stat own;
-    ssize_t len;
+    static struct permissions older;
 
-    if (fstat(fd, &own) != 0) {
-        fail_at(stage->file);
-    }
-    if ((own.st_uid != older->st_uid || own.st_gid != older->st_gid) && fchown(fd, older->st_uid, older->st_gid) != 0
-        && fchown(fd, (uid_t) -1, older->st_gid) != 0) {
-        mode &= ~(mode_t) 0070;
-    }
-    if (fchmod(fd, mode) != 0) {
-        fail_at(stage->file);
-    }
-    len = getxattr(stage->place, ACCESS_LIST, list, sizeof list);
-    if (len > 0 && fsetxattr(fd, ACCESS_LIST, list, (size_t) len, 0) != 0 && fchmod(fd, mode & ~(mode_t) 0070) != 0) {
+    if (!read_permissions(&older, AT_FDCWD, stage->place) || !give_permissions(fd, &older)) {
         fail_at(stage->file);
     }
 }
@@ -275,7 +258,7 @@ struct stage *stage_file(const char *file, enum kind kind, const uint8_t *bytes,
         return stage;
     }
     if (is_older) {
-        take_over(stage, fd, &older);
+        take_over(stage, fd);
         stage->device = older.st_dev;
         stage->inode = older.st_ino;
     }

@@ -443,6 +443,7 @@ def cases(surviving):
     rows = [
         ("its own", NOBODY, NOBODY, 0o664, (NOBODY, NOBODY, 0o644)),
         ("of another group", NOBODY, 54321, 0o664, (NOBODY, NOBODY, 0o604)),
+        ("of another group that may not do what all others may", NOBODY, 54321, 0o606, (NOBODY, NOBODY, 0o600)),
         ("of another owner", 12345, NOBODY, 0o664, (NOBODY, NOBODY, 0o644)),
         ("of another owner and group", 12345, 54321, 0o666, (NOBODY, NOBODY, 0o606)),
     ]

@@ -1,8 +1,8 @@
 -- What the words behind the program's name ask for. They are read from the first to the last. An option, and its value
 -- where it has one, may stand before, behind and between the four paths, once; behind `--` there are paths alone.
-use Rattle.std.specs.Prelude.{◌≡◌, ◌≢◌, ◌==◌, ◌+◌, ◌*◌, ◌-◌, ◌≤◌, ◌⊎◌, ℕ, Bool, true, false, List, [], ◌∷◌, length, ⊤, Option, Some, None, IfSome, IsSome, if◌then◌else◌, option_map, bytes_eq, codes}
+use Rattle.std.specs.Prelude.{◌≡◌, ◌≢◌, ◌==◌, ◌+◌, ◌*◌, ◌-◌, ◌≤◌, ◌⊎◌, ℕ, Bool, true, false, List, [], ◌∷◌, ◌++◌, ◌<◌, ◌^◌, length, ⊤, Option, Some, None, IfSome, IsSome, if◌then◌else◌, option_map, bytes_eq, codes}
 use Rattle.std.specs.Option.{is_some}
-use Rattle.minisign_install.specs.Comments.{IsNumberText}
+use Rattle.std.specs.Str.Parse.{IsNumeral, digits_value}
 use Rattle.minisign_install.specs.declared.comments.Numbering.{Numbering}
 use Rattle.minisign_install.specs.declared.comments.Numbering.TheVariants.{Timestamp, Version}
 use Rattle.minisign_installer.specs.declared.requests.Asked.{Asked}
@@ -144,6 +144,27 @@ pub record WritesMode (text : List ℕ) (mode : ℕ) : Type 0 where
   pub text_is : (text ≡ user ∷ group ∷ others ∷ []) ⊎ (text ≡ 48 ∷ user ∷ group ∷ others ∷ [])
   pub mode_is : mode ≡ mode_value user group others
 
+-- the text writes this number below 2^64 in decimal digits, and has nothing else
+pub record WritesNumber (text : List ℕ) (n : ℕ) : Type 0 where
+  pub numeral : IsNumeral 10 text
+  pub is : digits_value 10 text ≡ n
+  pub bound : n < 2 ^ 64
+
+-- the text writes this number of bytes below 2^64 in decimal digits, and behind them the letter of a unit of so many bytes
+pub record WritesUnits (letter unit : ℕ) (text : List ℕ) (n : ℕ) : Type 0 where
+  pub digits : List ℕ
+  pub count : ℕ
+  pub text_is : text ≡ digits ++ (letter ∷ [])
+  pub number : WritesNumber digits count
+  pub is : count * unit ≡ n
+  pub bound : n < 2 ^ 64
+
+-- The text writes this number of bytes, in one of these units: bytes, or by the letters K, M, G and T units of 1024 bytes, of
+-- 1024 such units, and so on.
+abbrev pub WritesBytes : List ℕ → ℕ → Type 0
+WritesBytes text n =
+    WritesNumber text n ⊎ WritesUnits 75 (2 ^ 10) text n ⊎ WritesUnits 77 (2 ^ 20) text n ⊎ WritesUnits 71 (2 ^ 30) text n ⊎ WritesUnits 84 (2 ^ 40) text n
+
 -- an option's value that was written, or none, is this value, or none
 abbrev pub Has : {V : Type 0} → (List ℕ → V → Type 0) → Option (List ℕ) → Option V → Type 0
 Has Writes None None = ⊤
@@ -158,7 +179,7 @@ abbrev pub HasMode : Option (List ℕ) → Option ℕ → Type 0
 HasMode = Has WritesMode
 
 abbrev pub HasMost : Option (List ℕ) → Option ℕ → Type 0
-HasMost = Has IsNumberText
+HasMost = Has WritesBytes
 
 -- what was given asks for this installation: no value is awaited, the paths are these four, and so are the options
 pub record Asks (g : Given) (asked : Asked) : Type 0 where
@@ -177,14 +198,14 @@ IsBad {V = V} Writes text = IsSome text × IfSome text (λ t. (v : V) → ¬ (Wr
 -- what was given asks for no installation: a value or a path is missing, or a value is none that its option has
 abbrev pub CannotAsk : Given → Type 0
 CannotAsk g =
-    IsSome g.awaited ⊎ (length g.paths ≢ 4) ⊎ IsBad IsField g.numbering ⊎ IsBad WritesMode g.mode ⊎ IsBad IsNumberText g.most
+    IsSome g.awaited ⊎ (length g.paths ≢ 4) ⊎ IsBad IsField g.numbering ⊎ IsBad WritesMode g.mode ⊎ IsBad WritesBytes g.most
 
 -- the words ask for this
 abbrev pub IsRequest : List (List ℕ) → Request → Type 0
-IsRequest words request.Help = words ≡ codes "--help" ∷ []
+IsRequest words request.Help = (words ≡ codes "--help" ∷ []) ⊎ (words ≡ codes "-h" ∷ [])
 IsRequest words request.Version = words ≡ codes "--version" ∷ []
 IsRequest words (request.Install asked) = (g : Given) × (reads (Some nothing) words ≡ Some g) × Asks g asked
 
 -- the words ask for nothing: neither to show anything nor for an installation
 abbrev pub AsksNothing : List (List ℕ) → Type 0
-AsksNothing words = (words ≢ codes "--help" ∷ []) × (words ≢ codes "--version" ∷ []) × IfSome (reads (Some nothing) words) CannotAsk
+AsksNothing words = (words ≢ codes "--help" ∷ []) × (words ≢ codes "-h" ∷ []) × (words ≢ codes "--version" ∷ []) × IfSome (reads (Some nothing) words) CannotAsk

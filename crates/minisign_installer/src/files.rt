@@ -6,16 +6,17 @@ ghost use Rattle.minisign_base.specs.Devices.{most_faults};
 ghost use Rattle.minisign_install.specs.Folders.{HasCounted, unknown};
 ghost use Rattle.minisign_installer.specs.Files.{IsLastPart, faults_of};
 
+use crate::inputs::Input;
 use crate::interruptions::again;
 use crate::progress::{Progress, Work};
 use crate::troubles::{Cause, Part, Trouble};
 use minisign::DeviceFault;
 use minisign_install::{Folder, Handle, Name, StageName};
-use minisign_programs::rights::{ALL_RIGHTS, RIGHTS_OF_THE_GROUP, rights_after};
+use minisign_programs::rights::{ALL_RIGHTS, rights_after, without_group};
 use std::alloc::Global;
 use std::cell::Cell;
 use std::fs::{File, Metadata, OpenOptions, Permissions, TryLockError};
-use std::io::{ErrorKind, Read, Write};
+use std::io::{ErrorKind, Read, Seek, Write};
 use std::os::unix::fs::{FileExt, MetadataExt, OpenOptionsExt, PermissionsExt, fchown};
 use std::{fs, io};
 
@@ -31,14 +32,29 @@ const MOST_OPENINGS: u32 = 100;
 // How many hexadecimal digits the name of a stage has.
 const DIGITS: usize = 32;
 
-/// An open stage.
+// What stands behind the place's name in that of a lock file before it has the lock's: it is a stage's, and made by who
+// holds the lock alone.
+const NEW_LOCK: &str = "stage-00000000000000000000000000000000";
+
+// How many bytes are received at once.
+const PIECE: usize = 65536;
+
+/// An open stage, and whether it was given the rights of the file at the place.
 #[derive(Drop)]
 pub struct StageFile {
     file: File,
+    has_rights: Cell<bool>,
 }
 
 impl Handle for StageFile {
     ghost file = { λ _. 0 };
+}
+
+// A lock file that was opened, and whether this run has made it.
+#[derive(Drop)]
+struct Opened {
+    file: File,
+    is_made: bool,
 }
 
 /// The folder of a place, by the paths that it needs, and the lock file where it holds the lock. It
@@ -196,23 +212,21 @@ impl<'a> FileFolder<'a> {
     }
 
     // Opens the lock file, or makes it. None where others removed it or made one meanwhile.
-    fn open_lock(&self, path: &str) -> Result<Option<File>, DeviceFault> {
-        let is_there = self.regular(Part::Lock, path)?.is_some();
-        let opened = OpenOptions::new()
-            .read(true)
-            .write(true)
-            .create_new(!is_there)
-            .mode(FOR_THE_OWNER)
-            .open(self.rt, path);
-        match opened {
-            Ok(file) if self.leads_to(Part::Lock, path, &file)? => Ok(Some(file)),
+    fn open_lock(&self, path: &str) -> Result<Option<Opened>, DeviceFault> {
+        let is_made = self.regular(Part::Lock, path)?.is_none();
+        match open_own(self.rt, path, is_made) {
+            Ok(file) if self.leads_to(Part::Lock, path, &file)? => Ok(Some(Opened {
+                file,
+                is_made,
+            })),
             Ok(_) => Ok(None),
-            Err(error) if error.kind() == ErrorKind::NotFound && is_there => Ok(None),
+            Err(error) if error.kind() == ErrorKind::NotFound && !is_made => Ok(None),
             Err(error) if error.kind() == ErrorKind::NotFound => {
                 Err(self.remember(Part::Folder, Cause::NoFolder))
             }
-            Err(error) if error.kind() == ErrorKind::AlreadyExists && !is_there => Ok(None),
-            Err(error) => Err(self.remember(Part::Lock, Cause::System(error))),
+            Err(error) if error.kind() == ErrorKind::AlreadyExists && is_made => Ok(None),
+            Err(error) if is_made => Err(self.remember(Part::Lock, Cause::System(error))),
+            Err(error) => Err(self.remember(Part::Lock, cause_of_closed(error))),
         }
     }
 
@@ -236,18 +250,52 @@ impl<'a> FileFolder<'a> {
         }
     }
 
-    // Gives a file the owner and the group of the file at the place, as far as that is allowed. One
-    // that has a second name is left alone: whoever may write the folder could have given the
-    // lock's name to a file of somebody else.
-    fn give_owner(&self, part: Part, file: &File) -> Result<(), DeviceFault> {
-        let Some(older) = self.older()? else {
-            return Ok(());
-        };
+    // Whose the lock file and the record have to be: the owner and the group of the file at the
+    // place, or where that is root's or there is none, of the folder. So a run by root locks nobody
+    // out who may go on.
+    fn keeper(&self) -> Result<Metadata, DeviceFault> {
+        match self.older()? {
+            Some(older) if older.uid() != 0 => Ok(older),
+            _ => self.known(Part::Folder, again(|| fs::metadata(self.rt, self.folder))),
+        }
+    }
+
+    // Gives a file the owner and the group of the keeper, as far as that is allowed. It has to be one
+    // that this run has made: whoever may write the folder could have given the name of another to a
+    // file of somebody else.
+    fn give_to_keeper(&self, part: Part, file: &File) -> Result<(), DeviceFault> {
+        let keeper = self.keeper()?;
         let made = self.known(part, again(|| file.metadata()))?;
-        if made.nlink() == 1 && (made.uid() != older.uid() || made.gid() != older.gid()) {
-            let _given = again(|| fchown(file, Some(older.uid()), Some(older.gid())));
+        if made.uid() != keeper.uid() || made.gid() != keeper.gid() {
+            let _given = again(|| fchown(file, Some(keeper.uid()), Some(keeper.gid())));
         }
         Ok(())
+    }
+
+    // Where the lock is another's than the keeper's, as after a run by root or where the place was
+    // given away, and this run may give files away, the lock becomes a new file of the keeper's. One
+    // that was found is never given away, and stays where it holds anything: such a file is no lock
+    // that a run has made.
+    fn renewed_lock(&self, found: File) -> Result<File, DeviceFault> {
+        let keeper = self.keeper()?;
+        let own = self.known(Part::Lock, again(|| found.metadata()))?;
+        if own.uid() == keeper.uid() || own.len() > 0 {
+            return Ok(found);
+        }
+        let path = self.beside(NEW_LOCK)?;
+        let path = path.as_str();
+        let _removed = again(|| fs::remove_file(self.rt, path));
+        let fresh = self.known(Part::Stage, open_own(self.rt, path, true))?;
+        if is_given(&fresh, &keeper) && fresh.try_lock().is_ok() {
+            let lock = self.beside("lock")?;
+            self.known(
+                Part::Lock,
+                again(|| fs::rename(self.rt, path, lock.as_str())),
+            )?;
+            return Ok(fresh);
+        }
+        self.known(Part::Stage, again(|| fs::remove_file(self.rt, path)))?;
+        Ok(found)
     }
 
     // Shows how far what was staged was read back; nothing more comes at its end.
@@ -309,7 +357,7 @@ impl<'a> FileFolder<'a> {
         let path = self.beside("lock")?;
         let path = path.as_str();
         for _ in 0..MOST_OPENINGS {
-            let Some(file) = self.open_lock(path)? else {
+            let Some(Opened { file, is_made }) = self.open_lock(path)? else {
                 continue;
             };
             if !self.lock_file(&file)? {
@@ -317,8 +365,10 @@ impl<'a> FileFolder<'a> {
             }
             // Who held the lock before may have removed the file.
             if self.leads_to(Part::Lock, path, &file)? {
-                self.give_owner(Part::Lock, &file)?;
-                return Ok(Some(file));
+                if is_made {
+                    self.give_to_keeper(Part::Lock, &file)?;
+                }
+                return Ok(Some(self.renewed_lock(file)?));
             }
         }
         Err(self.remember(Part::Lock, Cause::Restless))
@@ -351,15 +401,54 @@ impl<'a> FileFolder<'a> {
     // Makes an empty file of a stage's name.
     fn make_stage(&self, name: &StageName) -> Result<StageFile, DeviceFault> {
         self.check_lock()?;
+        self.make_file(name)
+    }
+
+    // The same, whoever holds the lock.
+    fn make_file(&self, name: &StageName) -> Result<StageFile, DeviceFault> {
         let path = self.stage_path(name)?;
-        let opened = OpenOptions::new()
-            .read(true)
-            .write(true)
-            .create_new(true)
-            .mode(FOR_THE_OWNER)
-            .open(self.rt, path.as_str());
-        let file = self.known(Part::Stage, opened)?;
-        Ok(StageFile { file })
+        let file = self.known(Part::Stage, open_own(self.rt, path.as_str(), true))?;
+        Ok(StageFile {
+            file,
+            has_rights: Cell::new(false),
+        })
+    }
+
+    /// Receives data that may stand still, as that of a pipe, into a file of its own, which has no name
+    /// any more; the lock need not be held. All of the file is ahead then.
+    pub fn receive(&self, name: &StageName, data: &mut Input) -> Result<File, DeviceFault> {
+        let held = self.make_file(name)?;
+        self.remove_stage(name)?;
+        let mut buf = [0u8; PIECE];
+        for _ in 0..u64::MAX {
+            match data.read(&mut buf) {
+                Ok(0) => break,
+                Ok(n) => match buf.get(..n) {
+                    Some(bytes) => self.write_whole(&held, bytes)?,
+                    None => return Err(DeviceFault),
+                },
+                Err(_) => return Err(DeviceFault),
+            }
+        }
+        let mut file = held.file;
+        self.known(Part::Stage, again(|| file.rewind()))?;
+        Ok(file)
+    }
+
+    // Writes all of `bytes` behind what a file holds.
+    fn write_whole(&self, handle: &StageFile, bytes: &[u8]) -> Result<(), DeviceFault> {
+        let mut rest = bytes;
+        for _ in 0..bytes.len() {
+            let n = self.write_front(handle, rest)?;
+            let Some(left) = rest.get(n..) else {
+                break;
+            };
+            rest = left;
+            if rest.is_empty() {
+                break;
+            }
+        }
+        Ok(())
     }
 
     // Writes a beginning of `bytes` behind what the stage holds and returns how long it is.
@@ -381,13 +470,16 @@ impl<'a> FileFolder<'a> {
     // Gives the stage the rights of the file at the place.
     fn pass_rights(&self, handle: &StageFile) -> Result<(), DeviceFault> {
         let older = self.older()?;
+        handle.has_rights.set(true);
         self.known(Part::Stage, give_rights(&handle.file, &older, self.mode))
     }
 
-    // Brings to the disk what the stage holds. The record too is for the owner of what stands at
-    // the place, whoever runs this.
+    // Brings to the disk what the stage holds. That of the number, which was given no rights, is the
+    // keeper's, whoever runs this.
     fn settle_stage(&self, handle: &StageFile) -> Result<(), DeviceFault> {
-        self.give_owner(Part::Stage, &handle.file)?;
+        if !handle.has_rights.get() {
+            self.give_to_keeper(Part::Stage, &handle.file)?;
+        }
         self.known(Part::Stage, handle.file.sync_all())
     }
 
@@ -408,13 +500,13 @@ impl<'a> FileFolder<'a> {
         self.known(Part::Folder, folder.sync_all())
     }
 
-    // Removes a stage's name.
+    // Removes a stage's name, if another run has not taken it for a leftover.
     fn remove_stage(&self, name: &StageName) -> Result<(), DeviceFault> {
         let path = self.stage_path(name)?;
-        self.known(
-            Part::Stage,
-            again(|| fs::remove_file(self.rt, path.as_str())),
-        )
+        match again(|| fs::remove_file(self.rt, path.as_str())) {
+            Err(error) if error.kind() == ErrorKind::NotFound => Ok(()),
+            answer => self.known(Part::Stage, answer),
+        }
     }
 
     // What the record holds, where there is one.
@@ -424,7 +516,10 @@ impl<'a> FileFolder<'a> {
         if self.regular(Part::Record, path)?.is_none() {
             return Ok(None);
         }
-        let file = self.known(Part::Record, fs::open(self.rt, path))?;
+        let file = match fs::open(self.rt, path) {
+            Ok(file) => file,
+            Err(error) => return Err(self.remember(Part::Record, cause_of_closed(error))),
+        };
         if !self.leads_to(Part::Record, path, &file)? {
             return Err(self.remember(Part::Record, Cause::Restless));
         }
@@ -468,6 +563,25 @@ fn cause_of(found: &Metadata) -> Cause {
     }
 }
 
+// Why a file could not be opened that is for its owner alone.
+fn cause_of_closed(error: io::Error) -> Cause {
+    if error.kind() == ErrorKind::PermissionDenied {
+        Cause::Closed
+    } else {
+        Cause::System(error)
+    }
+}
+
+// Opens a file that is this user's alone to read and write; one that has to be new is made.
+fn open_own(rt: &HostRuntime, path: &str, is_made: bool) -> io::Result<File> {
+    OpenOptions::new()
+        .read(true)
+        .write(true)
+        .create_new(is_made)
+        .mode(FOR_THE_OWNER)
+        .open(rt, path)
+}
+
 // Whether both are one file.
 fn is_same_file(one: &Metadata, other: &Metadata) -> bool {
     one.dev() == other.dev() && one.ino() == other.ino()
@@ -480,20 +594,22 @@ fn is_drawn(digits: &str) -> bool {
             || (*digit >= b'a' && *digit <= b'f'))
 }
 
+// Gives a file the owner and the group of another one: whether that was allowed.
+fn is_given(file: &File, other: &Metadata) -> bool {
+    again(|| fchown(file, Some(other.uid()), Some(other.gid()))).is_ok()
+}
+
 // Gives a stage the owner and the group of an older file, as far as that is allowed: whether it has
 // the group now.
 fn give_group(file: &File, older: &Metadata) -> io::Result<bool> {
     let made = again(|| file.metadata())?;
     let is_same = made.uid() == older.uid() && made.gid() == older.gid();
-    Ok(
-        is_same
-            || again(|| fchown(file, Some(older.uid()), Some(older.gid()))).is_ok()
-            || again(|| fchown(file, None, Some(older.gid()))).is_ok(),
-    )
+    Ok(is_same || is_given(file, older) || again(|| fchown(file, None, Some(older.gid()))).is_ok())
 }
 
 // Gives a stage its rights: these where they are given, or else those of the older file. Where it
-// could not get the older file's group, its group gets none.
+// could not get the older file's group, its group gets none, and all others no more than that group
+// had.
 fn give_rights(file: &File, older: &Option<Metadata>, mode: Option<u32>) -> io::Result<()> {
     let has_group = match older {
         Some(older) => give_group(file, older)?,
@@ -507,7 +623,7 @@ fn give_rights(file: &File, older: &Option<Metadata>, mode: Option<u32>) -> io::
     let rights = if has_group {
         rights
     } else {
-        rights & !RIGHTS_OF_THE_GROUP
+        without_group(rights)
     };
     file.set_permissions(Permissions::from_mode(rights))
 }

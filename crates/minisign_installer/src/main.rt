@@ -4,7 +4,7 @@
 
 ghost use Rattle.std.specs.Prelude.{◌≡◌, ℕ, false, List, OnOk, IfErr, drop, map, option_map, string_bytes};
 ghost use Rattle.minisign_install.specs.Installing.{IsVouched, terms_of};
-ghost use Rattle.minisign_installer.specs.Endings.{HasCause, IsAskedUpdate, IsWantedName, NeedsRecord, ShowsRequest, status_of, wanted_numbering};
+ghost use Rattle.minisign_installer.specs.Endings.{HasCause, IsAskedUpdate, IsNoSuccess, IsOtherEnd, IsWantedName, NeedsRecord, ShowsRequest, status_of, wanted_numbering};
 ghost use Rattle.minisign_installer.specs.Files.{faults_of};
 
 mod endings;
@@ -26,7 +26,7 @@ use minisign::base::devices::sources::ReaderSource;
 use minisign::base::scheme::Scheme;
 use minisign::base::toy::ToyScheme;
 use minisign::reading::read_text;
-use minisign_install::{InstallFault, Numbering, Wanted, install_update};
+use minisign_install::{InstallFault, Numbering, StageName, Wanted, install_update};
 use minisign_programs::arguments::{behind_program, read_arguments, words_of};
 use progress::{Progress, Work};
 use report::{Report, show_help, show_version};
@@ -123,13 +123,21 @@ fn install_asked<S: Scheme>(
         Ok(text) => text,
         Err(why) => return report.unread(asked.sig, why),
     };
-    let mut data = match open_data(rt, asked) {
-        Ok(data) => data,
+    let Opened { data, is_regular } = match open_data(rt, asked) {
+        Ok(opened) => opened,
         Err(error) => return report.unread(asked.data, Unread::System(error)),
     };
     let mut random = match fs::open(rt, RANDOM_BYTES) {
         Ok(random) => Input::new(random, MOST_OF_TEXT, None),
         Err(error) => return report.unread(RANDOM_BYTES, Unread::System(error)),
+    };
+    let mut data = if is_regular {
+        data
+    } else {
+        match receive(rt, asked, report, &folder, &mut random, data) {
+            Ok(data) => data,
+            Err(ending) => return ending,
+        }
     };
     let wanted = Wanted {
         pk_text: pk_text.as_str(),
@@ -202,17 +210,57 @@ fn install_files<S: Scheme>(
     )
 }
 
-// Opens the data, and shows how far it was copied.
-fn open_data(rt: &HostRuntime, asked: Asked<'_>) -> io::Result<Input> {
+// The data that was opened, and whether it is a regular file: anything else, as a pipe, may stand
+// still as long as somebody wishes.
+#[derive(Drop)]
+struct Opened {
+    data: Input,
+    is_regular: bool,
+}
+
+// Opens the data.
+fn open_data(rt: &HostRuntime, asked: Asked<'_>) -> io::Result<Opened> {
     let file = fs::open(rt, asked.data)?;
     let found = again(|| file.metadata())?;
-    let all = if found.is_file() {
-        Some(found.len())
+    let is_regular = found.is_file();
+    let progress = if is_regular {
+        Progress::new(rt, Work::Copying, Some(found.len()))
     } else {
-        None
+        Progress::new(rt, Work::Receiving, None)
     };
-    let copied = Progress::new(rt, Work::Copying, all);
-    Ok(Input::new(file, asked.most.unwrap_or(MOST_OF_DATA), Some(copied)))
+    let data = Input::new(file, most_of(asked), Some(progress));
+    Ok(Opened { data, is_regular })
+}
+
+// How many bytes the data may have.
+fn most_of(asked: Asked<'_>) -> u64 {
+    asked.most.unwrap_or(MOST_OF_DATA)
+}
+
+// Receives data that may stand still into a file beside the place, before that is locked: so the lock
+// is held for no longer than the work takes.
+fn receive(
+    rt: &HostRuntime,
+    asked: Asked<'_>,
+    report: &Report,
+    folder: &FileFolder<'_>,
+    random: &mut Input,
+    mut data: Input,
+) -> Result<Input, Ending>
+    ensures failure { IfErr result IsNoSuccess }
+    ensures other { IfErr result IsOtherEnd }
+{
+    let drawn = StageName::draw(&mut SourceRandom::new(ReaderSource::new(&mut *random)));
+    let Ok(name) = drawn else {
+        return Err(report.unread(RANDOM_BYTES, random.unread().unwrap_or(Unread::OutOfMemory)));
+    };
+    match folder.receive(&name, &mut data) {
+        Ok(file) => {
+            let copied = Progress::new(rt, Work::Copying, None);
+            Ok(Input::new(file, most_of(asked), Some(copied)))
+        }
+        Err(_) => Err(report.unreceived(asked, data.unread(), folder)),
+    }
 }
 
 // The text that a file holds.

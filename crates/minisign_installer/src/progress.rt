@@ -10,6 +10,8 @@ const STEP: u64 = 1 << 20;
 /// What is done with bytes.
 #[derive(Clone, Copy)]
 pub enum Work {
+    /// Data that may stand still is received.
+    Receiving,
     /// The data is copied beside the place.
     Copying,
     /// What was copied is read back and verified.
@@ -57,6 +59,7 @@ impl Progress {
     // Writes how far it is over what stands in the line.
     fn show(&self, end: &str) {
         let work = match self.work {
+            Work::Receiving => "received",
             Work::Copying => "copied",
             Work::Verifying => "verified",
         };

@@ -11,12 +11,15 @@ use crate::troubles::Trouble;
 use minisign::base::devices::sinks::{WriterSink, put_all};
 use minisign::in_place::read_public_key;
 use minisign::{NamedFault, PError};
-use minisign_install::InstallFault;
+use minisign_install::{InstallFault, Numbering};
 use std::fmt;
 
 const WARNING: &str = "warning: insecure toy scheme, for tests only\n";
 
 const USAGE: &str = "usage: minisign_installer [OPTION ..] PK DATA SIG PLACE\n";
+
+const USAGE_WITH_HELP: &str =
+    "usage: minisign_installer [OPTION ..] PK DATA SIG PLACE (--help shows the options)\n";
 
 const VERSION: &str = "minisign_installer 0.1.0\n";
 
@@ -33,9 +36,10 @@ SIG vouch for it as the update that is wanted. The toy scheme protects nothing.
                      keeps the rights of the file at PLACE, but its group gets
                      none that not all others have, and a new file is for its
                      owner alone
-  --most BYTES       refuse data that is longer
+  --most BYTES       refuse data that is longer; behind the number K, M, G or T
+                     may stand, for units of 1024 bytes, 1024 of these, ..
   --                 what follows are paths
-  --help             show this
+  -h, --help         show this
   --version          show the version of the program
 
 Each option comes at most once, anywhere before `--`. It ends with
@@ -106,7 +110,7 @@ impl Report {
             Misuse::TooMany(word) => self.line(word, "there are four paths, and this is a fifth"),
             Misuse::TooFew => self.say("error: there are fewer than four paths\n"),
         }
-        self.say(USAGE);
+        self.say(USAGE_WITH_HELP);
         Ending::Misused
     }
 
@@ -116,7 +120,7 @@ impl Report {
         ensures other { IsOtherEnd result }
     {
         self.say("error: an argument is not UTF-8\n");
-        self.say(USAGE);
+        self.say(USAGE_WITH_HELP);
         Ending::Misused
     }
 
@@ -152,6 +156,25 @@ impl Report {
         }
     }
 
+    /// Data that may stand still could not be received: it could not be read, or else a file of the
+    /// folder could not be used.
+    pub fn unreceived(
+        &self,
+        asked: Asked<'_>,
+        unread: Option<Unread>,
+        folder: &FileFolder<'_>,
+    ) -> Ending
+        ensures failure { IsNoSuccess result }
+        ensures other { IsOtherEnd result }
+    {
+        match (unread, folder.trouble()) {
+            (Some(why), _) => return self.unread(asked.data, why),
+            (None, Some(trouble)) => self.trouble(folder, trouble),
+            (None, None) => self.line(asked.place, "writing failed"),
+        }
+        Ending::Failed
+    }
+
     /// The installation was refused, or failed.
     pub fn refused(
         &self,
@@ -177,9 +200,38 @@ impl Report {
                     self.trouble(folder, trouble);
                 }
             }
-            _ => self.line(blamed(fault, asked, pk_text), fault),
+            _ => self.refusal(blamed(fault, asked, pk_text), fault, asked, folder),
         }
         ending
+    }
+
+    // Says of a file why the update is refused, and what may be done about it or what was wanted.
+    fn refusal(&self, path: &str, fault: &InstallFault, asked: Asked<'_>, folder: &FileFolder<'_>) {
+        match fault {
+            InstallFault::NoRecord | InstallFault::DamagedRecord => {
+                self.hint(path, fault, "`--first` installs all the same", "");
+            }
+            InstallFault::NoNumber => {
+                let wanted = match asked.numbering {
+                    Some(Numbering::Version) => "version; `--numbering timestamp` takes the other",
+                    _ => "timestamp; `--numbering version` takes the other",
+                };
+                self.hint(path, fault, "wanted is the field ", wanted);
+            }
+            InstallFault::OtherFile => {
+                let name = asked.name.unwrap_or(folder.name());
+                self.hint(path, fault, "wanted by the place or `--name` is ", name);
+            }
+            _ => self.line(path, fault),
+        }
+    }
+
+    // Says of a file what is wrong with it, and in brackets more, in two parts.
+    fn hint(&self, path: &str, fault: &InstallFault, more: &str, rest: &str) {
+        match format!(in self.rt.alloc(); "{fault} ({more}{rest})") {
+            Ok(what) => self.line(path, what.as_str()),
+            Err(_) => self.line(path, fault),
+        }
     }
 
     fn trouble(&self, folder: &FileFolder<'_>, trouble: Trouble) {

@@ -1,8 +1,7 @@
 //! What the words behind the program's name ask for.
 
-ghost use Rattle.std.specs.Prelude.{◌≡◌, ℕ, Some, None, IsTrue, ◌↔◌, map, option_map, MatchOption, MatchResult, IfSome};
-ghost use Rattle.minisign_install.specs.Comments.{IsNumberText};
-ghost use Rattle.minisign_installer.specs.Requests.{Asks, AsksNothing, CannotAsk, Given, HasMode, HasMost, HasNumbering, IsBad, IsField, IsOctal, IsRequest, WritesMode, given, has_value, is_dashed, kind_of, mode_value, next, next_of_word, nothing, reads, with_path, with_value};
+ghost use Rattle.std.specs.Prelude.{◌≡◌, ℕ, Some, None, IsTrue, ◌<◌, ◌↔◌, map, option_map, MatchOption, MatchResult, IfSome};
+ghost use Rattle.minisign_installer.specs.Requests.{Asks, AsksNothing, CannotAsk, Given, HasMode, HasMost, HasNumbering, IsBad, IsField, IsOctal, IsRequest, WritesBytes, WritesMode, WritesNumber, WritesUnits, given, has_value, is_dashed, kind_of, mode_value, next, next_of_word, nothing, reads, with_path, with_value};
 
 use minisign_install::Numbering;
 
@@ -104,14 +103,14 @@ struct Line<'a> {
     paths: Paths<'a>,
 }
 
-/// What the words behind the program's name ask for. `--help` and `--version` stand alone. Else
+/// What the words behind the program's name ask for. `--help` or `-h` and `--version` stand alone. Else
 /// there are four paths, and options in any order, each once, before, behind and between them; what
 /// stands behind `--` is a path. Takes no memory.
 pub fn request_of<'a>(words: &[&'a str]) -> Result<Request<'a>, Misuse<'a>>
     ensures { MatchResult result (IsRequest (map (λ w. w.now) words.now)) (λ _. AsksNothing (map (λ w. w.now) words.now)) }
 {
     match *words {
-        ["--help"] => Ok(Request::Help),
+        ["--help"] | ["-h"] => Ok(Request::Help),
         ["--version"] => Ok(Request::Version),
         _ => match installation_of(words) {
             Ok(asked) => Ok(Request::Install(asked)),
@@ -379,24 +378,61 @@ fn mode_by(text: Option<&str>) -> Result<Option<u32>, Misuse<'_>>
 // The bound that is asked for.
 fn most_by(text: Option<&str>) -> Result<Option<u64>, Misuse<'_>>
     ensures { MatchResult result (HasMost (option_map (λ t. t.now) text.entry))
-        (λ _. IsBad IsNumberText (option_map (λ t. t.now) text.entry)) }
+        (λ _. IsBad WritesBytes (option_map (λ t. t.now) text.entry)) }
 {
     match text {
         None => Ok(None),
-        Some(text) => match number_of(text) {
+        Some(text) => match bytes_of(text) {
             Some(most) => Ok(Some(most)),
             None => Err(Misuse::BadValue(text)),
         },
     }
 }
 
-// The number that a text writes, below 2^64.
-fn number_of(text: &str) -> Option<u64>
-    ensures { MatchOption result ((n : ℕ) → ¬ (IsNumberText text.now n)) (IsNumberText text.now) }
+// How many bytes a text writes, in one of the units that there are.
+fn bytes_of(text: &str) -> Option<u64>
+    ensures { MatchOption result ((n : ℕ) → ¬ (WritesBytes text.now n)) (WritesBytes text.now) }
 {
-    match text.parse::<u64>() {
-        Ok(number) => Some(number),
-        Err(_) => None,
+    if let Some(bytes) = number_of(text) {
+        return Some(bytes);
+    }
+    if let Some(bytes) = units_of(text, 'K', 1 << 10) {
+        return Some(bytes);
+    }
+    if let Some(bytes) = units_of(text, 'M', 1 << 20) {
+        return Some(bytes);
+    }
+    if let Some(bytes) = units_of(text, 'G', 1 << 30) {
+        return Some(bytes);
+    }
+    units_of(text, 'T', 1 << 40)
+}
+
+// How many bytes a text writes in units of so many bytes, whose letter stands at its end.
+fn units_of(text: &str, letter: char, unit: u64) -> Option<u64>
+    requires ascii { letter < 128 }
+    ensures { MatchOption result ((n : ℕ) → ¬ (WritesUnits letter unit text.now n)) (WritesUnits letter unit text.now) }
+{
+    match text.strip_suffix(letter) {
+        None => None,
+        Some(digits) => match number_of(digits) {
+            None => None,
+            Some(count) => count.checked_mul(unit),
+        },
+    }
+}
+
+// The number below 2^64 that a text writes in decimal digits, and nothing else: `parse` takes a plus
+// before them too.
+fn number_of(text: &str) -> Option<u64>
+    ensures { MatchOption result ((n : ℕ) → ¬ (WritesNumber text.now n)) (WritesNumber text.now) }
+{
+    match text.as_bytes().first() {
+        Some(b'+') => None,
+        _ => match text.parse::<u64>() {
+            Ok(number) => Some(number),
+            Err(_) => None,
+        },
     }
 }
 

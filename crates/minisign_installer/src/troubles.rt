@@ -30,6 +30,8 @@ pub enum Cause {
     Folder,
     /// Neither a regular file, a link nor a folder.
     Special,
+    /// It is its owner's alone, and another user runs this.
+    Closed,
     /// It holds more than a number.
     TooLong,
     /// Others made and removed it again and again.
@@ -57,6 +59,9 @@ impl fmt::Display for Cause {
             Cause::Link => f.write_str("a link stands there, which is not followed"),
             Cause::Folder => f.write_str("a folder stands there"),
             Cause::Special => f.write_str("what stands there is no regular file"),
+            Cause::Closed => f.write_str(
+                "it is for its owner alone: give it the owner of the place",
+            ),
             Cause::TooLong => f.write_str("it is too long for a number"),
             Cause::Restless => f.write_str("others remove it again and again"),
             Cause::Removed => f.write_str("it was removed or replaced while it was locked"),

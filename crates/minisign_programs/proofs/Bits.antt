@@ -30,3 +30,15 @@ sum_of_rights older =
       ap (λ n. bit_or n low) upper ∙ ap (bit_or ((older / 64 % 8 * 8 + shared) * 8)) others ∙ or_shifted (older / 64 % 8 * 8 + shared) 3 (older % 8) (omega arith),
       omega (arith, few),
     )
+
+-- the bits of the owner, and those of all others that the group has too, are a sum, and the latter are three
+pub sum_without_group : (rights : ℕ) → (bit_or (bit_and rights 448) (bit_and (bit_and (rights / 8) rights) 7) ≡ rights / 64 % 8 * 64 + bit_and (rights / 8 % 8) (rights % 8)) × (bit_and (rights / 8 % 8) (rights % 8) < 8)
+sum_without_group rights =
+    let shared = bit_and (rights / 8 % 8) (rights % 8) in
+    let few : shared ≤ rights % 8 = and_le_r (rights / 8 % 8) (rights % 8) in
+    let owner : bit_and rights 448 ≡ rights / 64 % 8 * 64 = and_high rights 3 6 in
+    let low : bit_and (bit_and (rights / 8) rights) 7 ≡ bit_and (rights / 8) rights % 8 = and_mask (bit_and (rights / 8) rights) 3 in
+    let three : bit_and (rights / 8) rights % 8 ≡ shared = and_mod (rights / 8) rights 3 in (
+      ap (λ n. bit_or n (bit_and (bit_and (rights / 8) rights) 7)) owner ∙ ap (bit_or (rights / 64 % 8 * 64)) (low ∙ three) ∙ or_shifted (rights / 64 % 8) 6 shared (omega (arith, few)),
+      omega (arith, few),
+    )

@@ -18,3 +18,11 @@ pub record KeepsRights (older rights : ℕ) : Type 0 where
   pub group : group_bits rights ≡ bit_and (group_bits older) (other_bits older)
   pub others : other_bits rights ≡ other_bits older
   pub nothing_else : rights < 2 ^ 9
+
+-- Of a file whose group could not be given: the owner has the bits that the rights give it, the group has none, and all others
+-- have just those of their bits that the group had too. No bit beside these nine is there.
+pub record LosesGroup (rights left : ℕ) : Type 0 where
+  pub owner : owner_bits left ≡ owner_bits rights
+  pub group : group_bits left ≡ 0
+  pub others : other_bits left ≡ bit_and (group_bits rights) (other_bits rights)
+  pub nothing_else : left < 2 ^ 9

@@ -1,6 +1,6 @@
 //! The rights of a new file that takes the place of an older one.
 
-ghost use Rattle.minisign_programs.specs.Rights.{KeepsRights};
+ghost use Rattle.minisign_programs.specs.Rights.{KeepsRights, LosesGroup};
 
 /// The nine bits of the rights in a file's mode.
 pub const ALL_RIGHTS: u32 = 0o777;
@@ -24,4 +24,17 @@ pub fn rights_after(older: u32) -> u32
 {
     let others = older & RIGHTS_OF_OTHERS;
     (older & RIGHTS_OF_THE_OWNER) | (older & (others << 3)) | others
+}
+
+/// What is left of these rights, which are of a file of one group, for a file of another one.
+///
+/// The other group gets none. Who was in the first one is now among all others: these have just what
+/// that group had too. Of the special bits none is kept.
+#[tactic(auto, using(crate::proofs::Bits::sum_without_group))]
+pub fn without_group(rights: u32) -> u32
+    // The rights that are told where the group could not be given are the bits of the owner, and for
+    // all others just those that the group had too; the group has none, and no other bit is there.
+    ensures lost { LosesGroup rights result }
+{
+    (rights & RIGHTS_OF_THE_OWNER) | ((rights >> 3) & rights & RIGHTS_OF_OTHERS)
 }

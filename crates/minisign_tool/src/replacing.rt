@@ -6,7 +6,7 @@ ghost use Rattle.minisign_tool.specs.Replacing.{IsWriteFault};
 
 use minisign::base::devices::sinks::{WriterSink, put_and_flush};
 use minisign::base::{NamedFault, PError, Result};
-use minisign_programs::rights::{ALL_RIGHTS, RIGHTS_OF_THE_GROUP, rights_after};
+use minisign_programs::rights::{ALL_RIGHTS, rights_after, without_group};
 use std::fs::{File, Metadata, OpenOptions, Permissions};
 use std::os::unix::fs::{MetadataExt, OpenOptionsExt, PermissionsExt, fchown};
 use std::random::RandomSource;
@@ -335,7 +335,7 @@ fn create_beside(rt: &HostRuntime, path: &str, mode: u32) -> Result<(File, Strin
 }
 
 // Gives a new file the owner, the group and the rights of an older one. Where another group may not
-// be given, no group gets rights.
+// be given, no group gets rights, and all others get no more than that group had.
 fn take_rights(file: &File, older: &Metadata) -> io::Result<()> {
     let mut rights = rights_after(older.mode());
     let made = file.metadata()?;
@@ -344,7 +344,7 @@ fn take_rights(file: &File, older: &Metadata) -> io::Result<()> {
         && fchown(file, Some(older.uid()), Some(older.gid())).is_err()
         && fchown(file, None, Some(older.gid())).is_err()
     {
-        rights &= !RIGHTS_OF_THE_GROUP;
+        rights = without_group(rights);
     }
     if made.mode() & ALL_RIGHTS == rights {
         return Ok(());
