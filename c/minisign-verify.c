@@ -231,9 +231,11 @@ static struct options read_options(int argc, char *argv[])
 
 int main(int argc, char *argv[])
 {
-    struct options options = read_options(argc, argv);
+    struct options options;
     struct data data = { 0 };
 
+    hold_streams();
+    options = read_options(argc, argv);
     if (sodium_init() < 0) {
         fail("libsodium could not be started");
     }
