@@ -16,6 +16,8 @@
 
 #include <sodium.h>
 
+#include "again.h"
+#include "permissions.h"
 #include "report.h"
 
 /* Its owner alone may read and write a file that is made. */
@@ -33,12 +35,6 @@
 
 /* Neither a link nor a pipe at the end of a name is followed or waited for. */
 #define SAFELY (O_NOFOLLOW | O_NONBLOCK | O_CLOEXEC)
-
-/* Makes a call of the system, and again while a signal interrupts it. */
-#define AGAIN(answer, call)  \
-    do {                     \
-        (answer) = (call);   \
-    } while ((answer) < 0 && errno == EINTR)
 
 /* ---- Names ---- */
 
@@ -203,30 +199,51 @@ static enum found leads_to(struct folder *folder, const struct part *part, int f
     return found;
 }
 
-/* Gives a file the owner and the group of the file at the place, as far as that is allowed. One that has a second name is
- * left alone: whoever may write the folder could have given the lock's name to a file of somebody else. */
-static bool give_owner(struct folder *folder, const struct part *part, int fd)
+/* Whose the lock file and the record have to be: the owner and the group of the file at the place, or where that is root's
+ * or there is none, of the folder. So a run by root locks nobody out who may go on. */
+static bool find_keeper(struct folder *folder, struct stat *keeper)
 {
-    struct stat older, own;
-    enum found found = find(folder, &folder->place, &older);
-    int answer;
+    enum found found = find(folder, &folder->place, keeper);
 
-    if (found == NOT_THERE) {
+    if (found == THERE && keeper->st_uid != 0) {
         return true;
     }
-    if (found == UNUSABLE || !look_at(folder, part, fd, &own)) {
+    return found != UNUSABLE && look_at(folder, &folder->itself, folder->fd, keeper);
+}
+
+/* Gives a file the owner and the group of the keeper, as far as that is allowed. It has to be one that this run has made:
+ * whoever may write the folder could have given the name of another to a file of somebody else. */
+static bool give_to_keeper(struct folder *folder, const struct part *part, int fd)
+{
+    struct stat keeper, own;
+    int answer;
+
+    if (!find_keeper(folder, &keeper) || !look_at(folder, part, fd, &own)) {
         return false;
     }
-    if (own.st_nlink == 1 && (own.st_uid != older.st_uid || own.st_gid != older.st_gid)) {
-        AGAIN(answer, fchown(fd, older.st_uid, older.st_gid));
+    if (own.st_uid != keeper.st_uid || own.st_gid != keeper.st_gid) {
+        AGAIN(answer, fchown(fd, keeper.st_uid, keeper.st_gid));
     }
     return true;
 }
 
 /* ---- The lock ---- */
 
+/* A lock file that was opened, and whether this run has made it. */
+struct opened {
+    int fd;
+    bool is_made;
+};
+
+/* Remembers why a file could not be opened that is for its owner alone. */
+static enum minisign_error fails_to_open(struct folder *folder, const struct part *part)
+{
+    return fails(folder, part, errno == EACCES ? "it is for its owner alone: give it the owner of the place" : NULL,
+                 MINISIGN_READING_FAILED);
+}
+
 /* Opens the lock file, or makes it. NOT_THERE where others removed it or made one meanwhile. */
-static enum found open_lock(struct folder *folder, int *fd)
+static enum found open_lock(struct folder *folder, struct opened *lock)
 {
     struct stat found;
     enum found is_there = find(folder, &folder->lock, &found);
@@ -234,57 +251,70 @@ static enum found open_lock(struct folder *folder, int *fd)
     if (is_there == UNUSABLE) {
         return UNUSABLE;
     }
-    AGAIN(*fd, openat(folder->fd, folder->lock.name, O_RDWR | SAFELY | (is_there == THERE ? 0 : O_CREAT | O_EXCL),
-                      FOR_THE_OWNER));
-    if (*fd < 0 && errno == (is_there == THERE ? ENOENT : EEXIST)) {
+    lock->is_made = is_there == NOT_THERE;
+    AGAIN(lock->fd, openat(folder->fd, folder->lock.name, O_RDWR | SAFELY | (lock->is_made ? O_CREAT | O_EXCL : 0),
+                           FOR_THE_OWNER));
+    if (lock->fd < 0 && errno == (lock->is_made ? EEXIST : ENOENT)) {
         return NOT_THERE;
     }
-    if (*fd < 0) {
+    if (lock->fd < 0 && lock->is_made) {
         fails(folder, &folder->lock, NULL, MINISIGN_OK);
         return UNUSABLE;
     }
-    return leads_to(folder, &folder->lock, *fd);
+    if (lock->fd < 0) {
+        fails_to_open(folder, &folder->lock);
+        return UNUSABLE;
+    }
+    return leads_to(folder, &folder->lock, lock->fd);
 }
 
 /* Locks the file that was opened, which has to be there still: who held the lock before may have removed it. */
-static enum minisign_error lock_file(struct folder *folder, int fd, enum found *found)
+static enum minisign_error lock_file(struct folder *folder, const struct opened *lock, enum found *found)
 {
     int answer;
 
-    AGAIN(answer, flock(fd, LOCK_EX | LOCK_NB));
+    AGAIN(answer, flock(lock->fd, LOCK_EX | LOCK_NB));
     if (answer != 0 && errno == EWOULDBLOCK) {
         return MINISIGN_PLACE_IN_USE;
     }
     if (answer != 0) {
         return fails(folder, &folder->lock, NULL, MINISIGN_READING_FAILED);
     }
-    *found = leads_to(folder, &folder->lock, fd);
-    if (*found == UNUSABLE || (*found == THERE && !give_owner(folder, &folder->lock, fd))) {
+    *found = leads_to(folder, &folder->lock, lock->fd);
+    if (*found == UNUSABLE
+        || (*found == THERE && lock->is_made && !give_to_keeper(folder, &folder->lock, lock->fd))) {
         return MINISIGN_READING_FAILED;
     }
     return MINISIGN_OK;
 }
 
-enum minisign_error lock_place(struct folder *folder)
+/* Opens the folder, where that was not done before. */
+static enum minisign_error open_folder(struct folder *folder)
 {
-    AGAIN(folder->fd, open(folder->itself.shown, O_RDONLY | O_DIRECTORY | O_CLOEXEC));
     if (folder->fd < 0) {
-        return fails(folder, &folder->itself, errno == ENOENT ? "there is no such folder" : NULL, MINISIGN_READING_FAILED);
+        AGAIN(folder->fd, open(folder->itself.shown, O_RDONLY | O_DIRECTORY | O_CLOEXEC));
     }
+    return folder->fd >= 0 ? MINISIGN_OK
+                           : fails(folder, &folder->itself, errno == ENOENT ? "there is no such folder" : NULL,
+                                   MINISIGN_READING_FAILED);
+}
+
+static enum minisign_error lock_found(struct folder *folder)
+{
     for (int i = 0; i < MOST_OPENINGS; i++) {
         enum minisign_error error = MINISIGN_OK;
-        int fd = -1;
-        enum found found = open_lock(folder, &fd);
+        struct opened lock = { .fd = -1 };
+        enum found found = open_lock(folder, &lock);
 
         if (found == THERE) {
-            error = lock_file(folder, fd, &found);
+            error = lock_file(folder, &lock, &found);
         }
         if (found == THERE && error == MINISIGN_OK) {
-            folder->locked = fd;
+            folder->locked = lock.fd;
             return MINISIGN_OK;
         }
-        if (fd >= 0) {
-            close(fd);
+        if (lock.fd >= 0) {
+            close(lock.fd);
         }
         if (found == UNUSABLE || error != MINISIGN_OK) {
             return error == MINISIGN_OK ? MINISIGN_READING_FAILED : error;
@@ -304,13 +334,65 @@ static bool is_locked(struct folder *folder)
     return found == THERE;
 }
 
+/* Gives the name of the lock to a new file of the keeper's, which is locked first: whether that was done. */
+static bool put_new_lock(struct folder *folder, const struct stage *fresh, const struct stat *keeper)
+{
+    int answer;
+
+    AGAIN(answer, fchown(fresh->fd, keeper->st_uid, keeper->st_gid));
+    if (answer == 0) {
+        AGAIN(answer, flock(fresh->fd, LOCK_EX | LOCK_NB));
+    }
+    if (answer == 0) {
+        AGAIN(answer, renameat(folder->fd, fresh->name, folder->fd, folder->lock.name));
+    }
+    return answer == 0;
+}
+
+/* Where the lock is another's than the keeper's, as after a run by root or where the place was given away, and root runs
+ * this, the lock becomes a new file of the keeper's. One that was found is never given away. */
+static enum minisign_error renew_lock(struct folder *folder)
+{
+    struct stage fresh = folder->number;
+    struct stat keeper, own;
+    enum minisign_error error;
+
+    if (!find_keeper(folder, &keeper) || !look_at(folder, &folder->lock, folder->locked, &own)) {
+        return MINISIGN_READING_FAILED;
+    }
+    if (own.st_uid == keeper.st_uid || geteuid() != 0) {
+        return MINISIGN_OK;
+    }
+    error = create_stage(folder, &fresh);
+    if (error != MINISIGN_OK) {
+        return error;
+    }
+    if (put_new_lock(folder, &fresh, &keeper)) {
+        close(folder->locked);
+        folder->locked = fresh.fd;
+        return MINISIGN_OK;
+    }
+    close(fresh.fd);
+    return remove_stage(folder, &fresh);
+}
+
+enum minisign_error lock_place(struct folder *folder)
+{
+    enum minisign_error error = open_folder(folder);
+
+    if (error == MINISIGN_OK) {
+        error = lock_found(folder);
+    }
+    return error == MINISIGN_OK ? renew_lock(folder) : error;
+}
+
 /* ---- Leftovers and the record ---- */
 
 enum minisign_error remove_leftovers(struct folder *folder)
 {
     struct dirent *entry;
     DIR *entries;
-    int fd, number;
+    int fd, number, answer;
 
     if (!is_locked(folder)) {
         return MINISIGN_WRITING_FAILED;
@@ -326,7 +408,7 @@ enum minisign_error remove_leftovers(struct folder *folder)
         number = errno;
         if (entry != NULL && is_stage(folder, entry->d_name)) {
             /* What cannot be removed, as a folder of such a name, stays. */
-            unlinkat(folder->fd, entry->d_name, 0);
+            AGAIN(answer, unlinkat(folder->fd, entry->d_name, 0));
         }
     } while (entry != NULL || number == EINTR);
     closedir(entries);
@@ -375,7 +457,7 @@ enum minisign_error read_record(struct folder *folder, uint8_t record[RECORD_BYT
     }
     AGAIN(fd, openat(folder->fd, folder->record.name, O_RDONLY | SAFELY));
     if (fd < 0) {
-        return fails(folder, &folder->record, NULL, MINISIGN_READING_FAILED);
+        return fails_to_open(folder, &folder->record);
     }
     error = read_kept(folder, fd, record, len);
     close(fd);
@@ -385,6 +467,13 @@ enum minisign_error read_record(struct folder *folder, uint8_t record[RECORD_BYT
 
 /* ---- Stages ---- */
 
+/* Makes a file under the name of a stage, which was drawn. */
+static enum minisign_error make_file(struct folder *folder, struct stage *stage)
+{
+    AGAIN(stage->fd, openat(folder->fd, stage->name, O_RDWR | O_CREAT | O_EXCL | SAFELY, FOR_THE_OWNER));
+    return stage->fd >= 0 ? MINISIGN_OK : fails(folder, &folder->stages, NULL, MINISIGN_WRITING_FAILED);
+}
+
 enum minisign_error create_stage(struct folder *folder, struct stage *stage)
 {
     if (!draw_name(folder, stage)) {
@@ -393,8 +482,22 @@ enum minisign_error create_stage(struct folder *folder, struct stage *stage)
     if (!is_locked(folder)) {
         return MINISIGN_WRITING_FAILED;
     }
-    AGAIN(stage->fd, openat(folder->fd, stage->name, O_RDWR | O_CREAT | O_EXCL | SAFELY, FOR_THE_OWNER));
-    return stage->fd >= 0 ? MINISIGN_OK : fails(folder, &folder->stages, NULL, MINISIGN_WRITING_FAILED);
+    return make_file(folder, stage);
+}
+
+enum minisign_error create_nameless(struct folder *folder, struct stage *stage)
+{
+    enum minisign_error error = open_folder(folder);
+
+    if (error != MINISIGN_OK) {
+        return error;
+    }
+    *stage = folder->update;
+    if (!draw_name(folder, stage)) {
+        return MINISIGN_RANDOM_SOURCE_FAILED;
+    }
+    error = make_file(folder, stage);
+    return error == MINISIGN_OK ? remove_stage(folder, stage) : error;
 }
 
 enum minisign_error write_stage(struct folder *folder, const struct stage *stage, const uint8_t *bytes, size_t len)
@@ -430,63 +533,42 @@ enum minisign_error read_stage(struct folder *folder, struct stage *stage, uint8
     return MINISIGN_OK;
 }
 
-/* What a new file may have of the rights of an older one. The bits of the group are kept only as far as all others have
- * them too: where the older file has an access control list, they are the list's mask and not the rights of the group. */
-static mode_t rights_after(mode_t older)
+/* Gives the stage the permissions of the file at the place, or those with the mode that is given. */
+static enum minisign_error take_older(struct folder *folder)
 {
-    mode_t others = older & S_IRWXO;
-    return (older & S_IRWXU) | (older & (others << 3)) | others;
-}
+    static struct permissions older;
 
-/* Gives a stage the owner and the group of an older file, as far as that is allowed: whether it has the group now. */
-static bool give_group(int fd, const struct stat *own, const struct stat *older)
-{
-    int answer;
-
-    if (own->st_uid == older->st_uid && own->st_gid == older->st_gid) {
-        return true;
+    if (!read_permissions(&older, folder->fd, folder->place.name)) {
+        return fails(folder, &folder->place, NULL, MINISIGN_WRITING_FAILED);
     }
-    AGAIN(answer, fchown(fd, older->st_uid, older->st_gid));
-    if (answer != 0) {
-        AGAIN(answer, fchown(fd, (uid_t) -1, older->st_gid));
+    if (folder->has_mode) {
+        replace_mode(&older, folder->mode);
     }
-    return answer == 0;
+    return give_permissions(folder->update.fd, &older)
+               ? MINISIGN_OK
+               : fails(folder, &folder->stages, NULL, MINISIGN_WRITING_FAILED);
 }
 
 enum minisign_error take_rights(struct folder *folder)
 {
-    int fd = folder->update.fd, answer;
-    struct stat older, own;
-    enum found found = find(folder, &folder->place, &older);
-    mode_t rights = folder->mode;
+    struct stat older;
 
-    if (found == UNUSABLE) {
-        return MINISIGN_WRITING_FAILED;
+    switch (find(folder, &folder->place, &older)) {
+    case UNUSABLE: return MINISIGN_WRITING_FAILED;
+    case THERE: return take_older(folder);
+    case NOT_THERE: break;
     }
-    if (found == NOT_THERE && !folder->has_mode) {
-        return MINISIGN_OK;
-    }
-    if (found == THERE) {
-        if (!look_at(folder, &folder->stages, fd, &own)) {
-            return MINISIGN_WRITING_FAILED;
-        }
-        if (!folder->has_mode) {
-            rights = rights_after(older.st_mode);
-        }
-        if (!give_group(fd, &own, &older)) {
-            rights &= ~(mode_t) S_IRWXG;
-        }
-    }
-    AGAIN(answer, fchmod(fd, rights));
-    return answer == 0 ? MINISIGN_OK : fails(folder, &folder->stages, NULL, MINISIGN_WRITING_FAILED);
+    return give_mode(folder->update.fd, folder->has_mode ? folder->mode : FOR_THE_OWNER)
+               ? MINISIGN_OK
+               : fails(folder, &folder->stages, NULL, MINISIGN_WRITING_FAILED);
 }
 
 enum minisign_error settle_stage(struct folder *folder, struct stage *stage)
 {
     int answer;
 
-    /* The record too is for the owner of what stands at the place, whoever runs this. */
-    if (!give_owner(folder, &folder->stages, stage->fd)) {
+    /* The record is the keeper's, whoever runs this. */
+    if (stage == &folder->number && !give_to_keeper(folder, &folder->stages, stage->fd)) {
         return MINISIGN_WRITING_FAILED;
     }
     AGAIN(answer, fsync(stage->fd));
@@ -519,5 +601,6 @@ enum minisign_error remove_stage(struct folder *folder, const struct stage *stag
     int answer;
 
     AGAIN(answer, unlinkat(folder->fd, stage->name, 0));
-    return answer == 0 ? MINISIGN_OK : fails(folder, &folder->stages, NULL, MINISIGN_WRITING_FAILED);
+    /* (a run that has the lock removes what seems to be left behind) */
+    return answer == 0 || errno == ENOENT ? MINISIGN_OK : fails(folder, &folder->stages, NULL, MINISIGN_WRITING_FAILED);
 }

@@ -68,7 +68,8 @@ bool say_trouble(const struct folder *folder);
  * Each answers MINISIGN_OK where it was done, and else why it failed.
  */
 
-/* Locks the place by the lock file: MINISIGN_PLACE_IN_USE where another run holds the lock. */
+/* Locks the place by the lock file: MINISIGN_PLACE_IN_USE where another run holds the lock. The lock file becomes that of
+ * whoever may go on after this run, as far as that is allowed, but none that was found is given away. */
 enum minisign_error lock_place(struct folder *folder);
 
 /* Removes the stages that killed runs have left, as far as they can be removed. */
@@ -80,6 +81,9 @@ enum minisign_error read_record(struct folder *folder, uint8_t record[RECORD_BYT
 /* Draws a name, and makes the stage under it, for its owner alone. */
 enum minisign_error create_stage(struct folder *folder, struct stage *stage);
 
+/* Makes a file that has no name, for its owner alone. The lock need not be held. */
+enum minisign_error create_nameless(struct folder *folder, struct stage *stage);
+
 /* Writes all of these bytes behind what the stage holds. */
 enum minisign_error write_stage(struct folder *folder, const struct stage *stage, const uint8_t *bytes, size_t len);
 
@@ -89,7 +93,7 @@ enum minisign_error read_stage(struct folder *folder, struct stage *stage, uint8
 /* Gives the stage of the update the rights of the file at the place, or those that are given. */
 enum minisign_error take_rights(struct folder *folder);
 
-/* Brings to the disk what the stage holds. */
+/* Brings to the disk what the stage holds. That of the number becomes whoever's the lock is. */
 enum minisign_error settle_stage(struct folder *folder, struct stage *stage);
 
 /* Gives the stage the name of the record or of the place. */

@@ -19,6 +19,7 @@
 
 #include <sodium.h>
 
+#include "again.h"
 #include "folder.h"
 #include "minisign.h"
 #include "progress.h"
@@ -39,10 +40,13 @@ struct text {
 /* The data that is copied, and why it could not be read to its end: the number of errno, or that it is too long. */
 struct data {
     int fd;
+    /* Whether it is a regular file. Anything else, as a pipe, may stand still as long as somebody wishes. */
+    bool is_regular;
     /* How many bytes may come. */
     uint64_t most;
     int number;
     bool is_too_long;
+    struct steps received;
     struct steps copied;
     struct steps verified;
 };
@@ -56,9 +60,7 @@ static int open_file(const char *file)
 {
     int fd;
 
-    do {
-        fd = open(file, O_RDONLY | O_CLOEXEC);
-    } while (fd < 0 && errno == EINTR);
+    AGAIN(fd, open(file, O_RDONLY | O_CLOEXEC));
     if (fd < 0) {
         say_answer(file, errno);
         exit(FAILED);
@@ -70,9 +72,7 @@ static ssize_t read_again(int fd, uint8_t *bytes, size_t room)
 {
     ssize_t n;
 
-    do {
-        n = read(fd, bytes, room);
-    } while (n < 0 && errno == EINTR);
+    AGAIN(n, read(fd, bytes, room));
     return n;
 }
 
@@ -108,9 +108,16 @@ static struct data open_data(const struct request *request)
 {
     struct data data = { .fd = open_file(request->data), .most = request->most };
     struct stat found;
-    bool is_sized = fstat(data.fd, &found) == 0 && S_ISREG(found.st_mode);
+    int answer;
 
-    data.copied = begin_steps("copied", is_sized ? (uint64_t) found.st_size : 0);
+    AGAIN(answer, fstat(data.fd, &found));
+    if (answer != 0) {
+        say_answer(request->data, errno);
+        exit(FAILED);
+    }
+    data.is_regular = S_ISREG(found.st_mode);
+    data.received = begin_steps("received", 0);
+    data.copied = begin_steps("copied", data.is_regular ? (uint64_t) found.st_size : 0);
     data.verified = begin_steps("verified", 0);
     return data;
 }
@@ -164,6 +171,32 @@ static ssize_t read_data(struct data *data)
     return n;
 }
 
+/* Receives data that may stand still into a file of its own, from which it is copied then: so the lock is held for no longer
+ * than the work takes, whoever feeds a pipe. */
+static enum minisign_error receive_data(struct data *data, const struct request *request, struct folder *folder)
+{
+    struct stage held;
+    enum minisign_error error = create_nameless(folder, &held);
+    ssize_t n = 1;
+
+    while (error == MINISIGN_OK && n > 0) {
+        n = read_data(data);
+        error = n < 0 ? MINISIGN_READING_FAILED : write_stage(folder, &held, piece, (size_t) n);
+        show_steps(&data->received, n < 0 ? 0 : (uint64_t) n);
+    }
+    end_steps(&data->received);
+    if (error == MINISIGN_OK && lseek(held.fd, 0, SEEK_SET) != 0) {
+        data->number = errno;
+        error = MINISIGN_READING_FAILED;
+    }
+    if (error == MINISIGN_OK) {
+        close(data->fd);
+        data->fd = held.fd;
+        data->most = request->most;
+    }
+    return error;
+}
+
 static void copy_piece(minisign_installation *machine, struct data *data, struct folder *folder)
 {
     ssize_t n = read_data(data);
@@ -197,11 +230,17 @@ static enum minisign_answer answer_of(const uint8_t signed_by[64], const uint8_t
     return crypto_sign_verify_detached(signed_by, bytes, len, by) == 0 ? MINISIGN_ANSWER_YES : MINISIGN_ANSWER_NO;
 }
 
+/* The name that the signed comment has to have. */
+static const char *wanted_name(const struct request *request, const struct folder *folder)
+{
+    return request->name == NULL ? folder->place.name : request->name;
+}
+
 /* Has Ed25519 answer the questions, where the texts do not refuse already. The message has room enough. */
 static void answer(minisign_installation *machine, const struct request *request, const struct folder *folder)
 {
     static uint8_t message[TEXT_BYTES];
-    const char *name = request->name == NULL ? folder->place.name : request->name;
+    const char *name = wanted_name(request, folder);
     minisign_external q;
 
     if (minisign_install_ask(machine, key.bytes, key.len, signature.bytes, signature.len, (const uint8_t *) name,
@@ -294,14 +333,32 @@ static const char *blamed(const struct request *request, enum minisign_error err
     }
 }
 
+/* Says of a file why the update is refused, and what may be done about it. */
+static void say_refused(const struct request *request, const struct folder *folder, enum minisign_error error)
+{
+    char text[MINISIGN_ERROR_TEXT_BYTES];
+    const char *file = blamed(request, error);
+
+    minisign_error_text(error, text, sizeof text);
+    switch (error) {
+    case MINISIGN_NO_RECORD:
+    case MINISIGN_DAMAGED_RECORD: say_more(file, text, "`--first` installs all the same", ""); break;
+    case MINISIGN_NO_NUMBER:
+        say_more(file, text, "wanted is the field ",
+                 request->numbering == MINISIGN_NUMBERING_VERSION ? "version; `--numbering timestamp` takes the other"
+                                                                  : "timestamp; `--numbering version` takes the other");
+        break;
+    case MINISIGN_OTHER_FILE: say_more(file, text, "wanted by the place or `--name` is ", wanted_name(request, folder)); break;
+    default: say(file, text);
+    }
+}
+
 /* Says why the update is not installed, or not for good: the exit status. */
 static enum status report(const struct request *request, const struct data *data, const struct folder *folder,
                           enum minisign_error error)
 {
-    char text[MINISIGN_ERROR_TEXT_BYTES];
     enum status status = status_of(error);
 
-    minisign_error_text(error, text, sizeof text);
     if (status == FAILED && data->is_too_long) {
         say(request->data, TOO_LONG);
         return REFUSED;
@@ -309,7 +366,7 @@ static enum status report(const struct request *request, const struct data *data
     if (status == FAILED && data->number != 0) {
         say_answer(request->data, data->number);
     } else if (status != FAILED || !say_trouble(folder)) {
-        say(blamed(request, error), text);
+        say_refused(request, folder, error);
     }
     if (status == NOT_ON_DISK) {
         say_trouble(folder);
@@ -355,8 +412,11 @@ int main(int argc, char *argv[])
     read_text(&key, request.key);
     read_text(&signature, request.signature);
     data = open_data(&request);
-    must(minisign_install_init(&machine, request.is_first ? 1 : 0));
-    install(&machine, &request, &data, &folder);
-    error = minisign_install_error(&machine);
+    error = data.is_regular ? MINISIGN_OK : receive_data(&data, &request, &folder);
+    if (error == MINISIGN_OK) {
+        must(minisign_install_init(&machine, request.is_first ? 1 : 0));
+        install(&machine, &request, &data, &folder);
+        error = minisign_install_error(&machine);
+    }
     return error == MINISIGN_OK ? INSTALLED : report(&request, &data, &folder, error);
 }

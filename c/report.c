@@ -13,6 +13,11 @@ void say(const char *file, const char *what)
     fprintf(stderr, "error: %s: %s\n", file, what);
 }
 
+void say_more(const char *file, const char *what, const char *more, const char *rest)
+{
+    fprintf(stderr, "error: %s: %s (%s%s)\n", file, what, more, rest);
+}
+
 void say_answer(const char *file, int number)
 {
     fprintf(stderr, "error: %s: %s (os error %d)\n", file, strerror(number), number);

@@ -27,6 +27,9 @@ enum status {
 /* Says of a file what is wrong with it. */
 void say(const char *file, const char *what);
 
+/* The same, and in brackets what is to be done about it, or what was wanted, in two parts. */
+void say_more(const char *file, const char *what, const char *more, const char *rest);
+
 /* Says of a file what the system answered, by the number of errno. */
 void say_answer(const char *file, int number);
 

@@ -10,7 +10,7 @@
 
 #include "report.h"
 
-#define USAGE "usage: minisign-install [OPTION ..] PK DATA SIG PLACE\n"
+#define USAGE "usage: minisign-install [OPTION ..] PK DATA SIG PLACE"
 
 #define HELP \
     "Installs DATA at PLACE if the texts of the public key PK and of the signature\n" \
@@ -21,13 +21,13 @@
     "                     comment, as without this option, or `version`\n" \
     "  --name NAME        the name that the signed comment has to have for the file;\n" \
     "                     without this option it is the last part of PLACE\n" \
-    "  --mode MODE        the rights of the file, as 755; without this option it\n" \
-    "                     keeps the rights of the file at PLACE, but its group gets\n" \
-    "                     none that not all others have, and a new file is for its\n" \
-    "                     owner alone\n" \
-    "  --most BYTES       refuse data that is longer\n" \
+    "  --mode MODE        the permissions of the file, as 755; without this option it\n" \
+    "                     gets those of the file at PLACE, with its access control\n" \
+    "                     list, and a new file is for its owner alone\n" \
+    "  --most BYTES       refuse data that is longer; behind the number K, M, G or T\n" \
+    "                     may stand, for units of 1024 bytes, 1024 of these, ..\n" \
     "  --                 what follows are paths\n" \
-    "  --help             show this\n" \
+    "  -h, --help         show this\n" \
     "  --version          show the version of the program\n" \
     "\n" \
     "Each option comes at most once, anywhere before `--`. It ends with\n" \
@@ -67,7 +67,7 @@ static _Noreturn void misuse(const char *word, const char *what)
     } else {
         fprintf(stderr, "error: %s\n", what);
     }
-    fputs(USAGE, stderr);
+    fputs(USAGE " (--help shows the options)\n", stderr);
     exit(MISUSED);
 }
 
@@ -150,18 +150,32 @@ static mode_t mode_of(const char *text)
     return (mode_t) strtoul(text, NULL, 8);
 }
 
-/* The number that decimal digits write; a plus may stand before them. */
-static uint64_t number_of(const char *text)
+/* How many bytes the letter of a unit stands for, or 1 where there is none. */
+static uint64_t unit_of(const char *text)
+{
+    switch (text[0]) {
+    case 'K': return UINT64_C(1) << 10;
+    case 'M': return UINT64_C(1) << 20;
+    case 'G': return UINT64_C(1) << 30;
+    case 'T': return UINT64_C(1) << 40;
+    default: return 1;
+    }
+}
+
+/* How many bytes decimal digits write, behind which the letter of a unit may stand; a plus may stand before them. */
+static uint64_t bytes_of(const char *text)
 {
     const char *digits = text[0] == '+' ? text + 1 : text;
+    size_t len = strspn(digits, "0123456789");
+    uint64_t unit = unit_of(digits + len);
     unsigned long long number;
 
     errno = 0;
     number = strtoull(digits, NULL, 10);
-    if (digits[0] == 0 || strspn(digits, "0123456789") != strlen(digits) || errno != 0) {
+    if (len == 0 || strlen(digits) != len + (unit > 1 ? 1 : 0) || errno != 0 || number > UINT64_MAX / unit) {
         refuse_value(text);
     }
-    return number;
+    return number * unit;
 }
 
 struct request read_request(int argc, char *argv[])
@@ -174,8 +188,8 @@ struct request read_request(int argc, char *argv[])
             misuse(NULL, "an argument is not UTF-8");
         }
     }
-    if (argc == 2 && strcmp(argv[1], "--help") == 0) {
-        show(USAGE, HELP);
+    if (argc == 2 && (strcmp(argv[1], "--help") == 0 || strcmp(argv[1], "-h") == 0)) {
+        show(USAGE "\n", HELP);
     }
     if (argc == 2 && strcmp(argv[1], "--version") == 0) {
         show("minisign-install " MINISIGN_VERSION_TEXT "\n", "");
@@ -189,7 +203,7 @@ struct request read_request(int argc, char *argv[])
         request.mode = mode_of(line.values[MODE]);
     }
     if (line.values[MOST] != NULL) {
-        request.most = number_of(line.values[MOST]);
+        request.most = bytes_of(line.values[MOST]);
     }
     request.key = line.paths[0];
     request.data = line.paths[1];

@@ -9,6 +9,7 @@ import subprocess
 
 import needs
 import toy
+from permissions import ASKED, ASKED_WITH_LISTS, COMMON, WITH_LISTS
 
 SECONDS = 30
 PLACE, RECORD, LOCK = "place", ".place.number", ".place.lock"
@@ -26,8 +27,13 @@ class ToyInstaller:
                    "fchown", "statx")
     # What the C library calls its calls that `trace_calls.c` tells.
     called = {"write": "write", "read-back": "pread", "rights": "fchmod", "sync": "fsync", "rename": "rename"}
-    # Whether it is the one in C: that looks up all names in the folder that it has opened.
+    # What it says of a signed comment that was changed.
+    changed_comment = b"error: bad.sig: Comment signature verification failed\n"
+    # Whether it is the one in C: that looks up all names in the folder that it has opened, and reads access control lists.
     is_in_c = False
+    permissions = (COMMON, ASKED)
+    # What it leaves of the mode 751.
+    kept_mode = 0o711
     # The calls of an installation by root over a file of another owner, in the order of docs/INSTALLING.md, as
     # `trace_calls.c` tells them; repeated ones stand once. S is the stage of the update, N that of its number.
     calls = f"""make {LOCK} new 600
@@ -66,12 +72,15 @@ class RealInstaller:
 
     name = "minisign-install"
     warning = b""
+    changed_comment = ToyInstaller.changed_comment
     failing = ("open", "openat", "write", "fsync", "renameat", "read", "pread", "flock", "readdir", "fchmod", "fstat", "fstatat",
-               "getrandom", "close")
+               "getrandom", "close", "fgetxattr", "fremovexattr")
     interrupted = ("open", "openat", "read", "write", "fsync", "pread", "flock", "fchmod", "renameat", "readdir", "fstat", "fstatat",
-                   "getrandom")
+                   "getrandom", "unlinkat", "fgetxattr", "fremovexattr", "fchown")
     called = {**ToyInstaller.called, "rename": "renameat"}
     is_in_c = True
+    permissions = (COMMON, WITH_LISTS, ASKED, ASKED_WITH_LISTS)
+    kept_mode = 0o751
     # The calls that are due, in the order of the machine: it is told of each.
     calls = f"""open .
 make {LOCK} new 600
@@ -82,8 +91,9 @@ open {RECORD}
 make S new 600
 write S
 read-back S
+open {PLACE}
 owner S
-rights S 711
+rights S 751
 sync S
 make N new 600
 write N

@@ -14,7 +14,9 @@ Needs Python 3.9 or later, a C compiler and setfacl, which it installs where it 
 in a file, which root mounts: where that is not allowed, those cases are skipped.
 """
 
+import array
 import errno
+import fcntl
 import os
 import pty
 import shutil
@@ -23,6 +25,7 @@ import stat
 import subprocess
 import sys
 import tempfile
+import termios
 import threading
 import time
 
@@ -32,6 +35,8 @@ sys.path += [os.path.join(HERE, "..", it) for it in ("shared", "tool")]
 from real_runs import count_over
 from crashing import Disk, check_image, crash, make_image
 from installers import LOCK, PLACE, RECORD, ToyInstaller
+from owners import owner_cases
+from permissions import permission_cases
 from running import NOBODY, SECONDS, Failure, Skip, build_preload, set_list
 from surviving import MEMORY, MOST_CALLS, SmallDisk, content
 
@@ -43,6 +48,15 @@ LATER = b"later" * 40000
 
 # The exit statuses.
 FAILED, MISUSED, REFUSED, OLDER, IN_USE, NOT_ON_DISK, UNRECORDED = range(1, 8)
+
+
+def wait_until_read(pipe):
+    """Waits until all was taken that was written into a pipe."""
+    for _ in range(1000):
+        if array.array("i", fcntl.ioctl(pipe, termios.FIONREAD, bytes(4)))[0] == 0:
+            return
+        time.sleep(0.01)
+    raise Failure("what came through the pipe was not read")
 
 
 def comment_of(number, names=PLACE, label="timestamp"):
@@ -121,11 +135,19 @@ class Installing:
         os.chmod(room, 0o711)
         self.room = room
         self.place = MEMORY if os.access(MEMORY, os.W_OK) else room
+        # The number of the call that is broken.
+        self.broken_at = 0
         self.preload = build_preload(room, "break_calls")
         self.trace = build_preload(room, "trace_calls")
 
     def folder(self):
         return tempfile.TemporaryDirectory(dir=self.place)
+
+    def installed(self, path, number=6, **how):
+        """A folder there that has an older update, and is offered one of this number."""
+        folder = Folder(path, self.kind, **how)
+        folder.offer("new", NEW, number)
+        return folder
 
     def run(self, folder, arguments, environment=None, passed=(), **how):
         ran = subprocess.run([self.program, *arguments], cwd=folder.path, env=environment or {}, stdin=subprocess.DEVNULL,
@@ -146,7 +168,7 @@ class Installing:
             folder.offer("new", NEW, 6)
             self.check(folder, "new", 0)
             folder.expect(NEW, b"6")
-            if folder.mode() != 0o711:
+            if folder.mode() != self.kind.kept_mode:
                 raise Failure(f"the place has the mode {folder.mode():o}")
             folder.offer("later", LATER, 6)
             self.check(folder, "later", 0)
@@ -159,14 +181,14 @@ class Installing:
         with self.folder() as path:
             folder = Folder(path, self.kind, is_installed=False)
             folder.offer("new", NEW, 6)
-            self.check(folder, "new", UNRECORDED, said=b"error: place: no number is kept beside the place\n")
+            self.check(folder, "new", UNRECORDED, said=b"error: place: no number is kept beside the place (`--first` installs all the same)\n")
             folder.expect(None, None)
             self.check(folder, "new", 0, "--first")
             folder.expect(NEW, b"6")
             if folder.mode() != 0o600:
                 raise Failure(f"the place has the mode {folder.mode():o}")
             folder.put(RECORD, b"six")
-            self.check(folder, "new", UNRECORDED, said=b"error: place: what is kept beside the place is no number\n")
+            self.check(folder, "new", UNRECORDED, said=b"error: place: what is kept beside the place is no number (`--first` installs all the same)\n")
             folder.expect(NEW, b"six")
             self.check(folder, "new", 0, "--first")
             folder.offer("old", OLD, 4)
@@ -179,6 +201,35 @@ class Installing:
             folder.offer("bad", data, number, **how)
             self.check(folder, "bad", status, said=said)
             folder.expect(OLD, b"5")
+
+    def refuses_changed_comment(self):
+        """An older update is offered with a greater number in its comment, and one for another file with this name."""
+        with self.folder() as path:
+            folder = Folder(path, self.kind)
+            for number, names, old, new in ((4, PLACE, b"timestamp:4", b"timestamp:9"), (6, "other", b"file:other", b"file:place")):
+                folder.offer("bad", NEW, number, names=names)
+                text = folder.holds("bad.sig")
+                if text.count(old) != 1:
+                    raise Failure(f"the signature is {text}")
+                folder.put("bad.sig", text.replace(old, new))
+                self.check(folder, "bad", REFUSED, said=self.kind.changed_comment)
+                folder.expect(OLD, b"5")
+
+    def draws_names(self):
+        """The stages of two runs over the same files have four names."""
+        names = set()
+        for _ in range(2):
+            with self.folder() as path:
+                folder = self.installed(path)
+                told, says = os.pipe()
+                try:
+                    self.run(folder, folder.arguments("new"), {"LD_PRELOAD": self.trace, "TRACE_TO": str(says)}, [says])
+                finally:
+                    os.close(says)
+                with os.fdopen(told) as pipe:
+                    names.update(line.split(" ")[1] for line in pipe if line.startswith(f"make {STAGE}"))
+        if len(names) != 4:
+            raise Failure(f"the names are {sorted(names)}")
 
     def refuses_legacy(self):
         with self.folder() as path:
@@ -251,74 +302,72 @@ class Installing:
             if folder.holds() != OLD or not set(os.listdir(path)) <= names:
                 raise Failure("the update was installed, or something was left")
 
-    def belongs_to_owner(self):
-        """After a run by root the owner of the place may go on."""
-        if os.geteuid() != 0:
-            raise Skip("only root may become nobody")
-        with self.folder() as path:
-            folder = Folder(path, self.kind)
-            os.chown(path, NOBODY, NOBODY)
-            os.chown(os.path.join(path, PLACE), NOBODY, NOBODY)
-            folder.offer("new", NEW, 6)
-            self.check(folder, "new", 0)
-            for name in (PLACE, RECORD, LOCK):
-                found = os.stat(os.path.join(path, name))
-                if (found.st_uid, found.st_gid) != (NOBODY, NOBODY):
-                    raise Failure(f"{name} is of {found.st_uid}:{found.st_gid}")
-            if stat.S_IMODE(os.stat(os.path.join(path, RECORD)).st_mode) != 0o600:
-                raise Failure("others may read the record")
-            folder.offer("later", LATER, 7)
-            status, said = self.run(folder, folder.arguments("later"), user=NOBODY, group=NOBODY, extra_groups=[])
-            if status != 0:
-                raise Failure(f"its owner's run ended with status {status}, and said {said}")
-            folder.expect(LATER, b"7")
-
-    def leaves_linked(self):
-        """A run by root gives no file away that has the lock's name beside another."""
-        if os.geteuid() != 0:
-            raise Skip("only root may become nobody")
-        with self.folder() as path:
-            folder = Folder(path, self.kind)
-            os.chown(path, NOBODY, NOBODY)
-            os.chown(os.path.join(path, PLACE), NOBODY, NOBODY)
-            folder.put("secret", b"secret")
-            os.link(os.path.join(path, "secret"), os.path.join(path, LOCK))
-            folder.offer("new", NEW, 6)
-            self.check(folder, "new", 0)
-            if os.stat(os.path.join(path, "secret")).st_uid != 0 or folder.holds("secret") != b"secret":
-                raise Failure("the file has another owner now")
-
     # == Meanwhile ==
 
-    def while_staged(self, folder, meanwhile, where="."):
-        """A run over the place in a folder of that folder, whose data comes through a pipe: once it has staged some of it
-        something is done, and then the rest comes. Its status, and what it said."""
-        folder.offer("slow", NEW, 6)
-        os.remove(os.path.join(folder.path, "slow"))
-        os.mkfifo(os.path.join(folder.path, "slow"))
-        process = subprocess.Popen([self.program, PK, "slow", "slow.sig", os.path.join(where, PLACE)], cwd=folder.path, env={},
-                                   stdin=subprocess.DEVNULL, stderr=subprocess.PIPE)
-        with open(os.path.join(folder.path, "slow"), "wb", buffering=0) as pipe:
-            pipe.write(NEW[:1000])
-            at = Folder.there(os.path.join(folder.path, where), self.kind)
-            for _ in range(1000):
-                if any(at.holds(name) for name in at.stages()):
-                    break
-                time.sleep(0.01)
-            else:
-                raise Failure("it staged nothing")
-            meanwhile(at)
-            try:
-                pipe.write(NEW[1000:])
-            except BrokenPipeError:
-                pass
-        said = process.communicate(timeout=SECONDS)[1]
+    def while_staged(self, folder, meanwhile, where=".", name="new"):
+        """A run over the place in a folder of that folder: once it has staged all of its data it stops, something is done, and
+        then it goes on. Its status, and what it said."""
+        environment = {"LD_PRELOAD": self.preload, "BREAK_CALLS": self.kind.called["read-back"], "BREAK_AT": "1",
+                       "BREAK_SIGNAL": str(int(signal.SIGSTOP)), "BREAK_GOES_ON": "1"}
+        process = subprocess.Popen([self.program, PK, name, name + ".sig", os.path.join(where, PLACE)], cwd=folder.path,
+                                   env=environment, stdin=subprocess.DEVNULL, stdout=subprocess.DEVNULL, stderr=subprocess.PIPE)
+        try:
+            _, how = os.waitpid(process.pid, os.WUNTRACED)
+            if not os.WIFSTOPPED(how):
+                process.returncode = os.waitstatus_to_exitcode(how)
+                raise Failure(f"it staged nothing, and said {process.stderr.read()}")
+            meanwhile(Folder.there(os.path.join(folder.path, where), self.kind))
+        finally:
+            if process.returncode is None:
+                process.send_signal(signal.SIGCONT)
+            said = process.communicate(timeout=SECONDS)[1]
         return process.returncode, said
+
+    def stalled_pipe(self):
+        """A run whose data comes through a pipe that stands still holds up no other run, and leaves nothing where it is killed."""
+        with self.folder() as path:
+            folder = self.installed(path)
+            folder.offer("later", LATER, 7)
+            os.remove(os.path.join(path, "new"))
+            os.mkfifo(os.path.join(path, "new"))
+            for is_killed in (True, False):
+                process = subprocess.Popen([self.program, *folder.arguments("new")], cwd=path, env={}, stdin=subprocess.DEVNULL,
+                                           stdout=subprocess.DEVNULL, stderr=subprocess.PIPE)
+                with open(os.path.join(path, "new"), "wb", buffering=0) as pipe:
+                    pipe.write(NEW[:1000])
+                    wait_until_read(pipe)
+                    self.check(folder, "later", 0)
+                    folder.expect(LATER, b"7")
+                    if is_killed:
+                        process.kill()
+                    else:
+                        pipe.write(NEW[1000:])
+                said = process.communicate(timeout=SECONDS)[1]
+                if process.returncode != (-signal.SIGKILL if is_killed else OLDER):
+                    raise Failure(f"it ended with status {process.returncode}, and said {said}")
+                folder.expect(LATER, b"7")
+
+    def through_pipe(self):
+        """Data through a pipe is installed, and refused where it is longer than it may be or is not what was signed."""
+        with self.folder() as path:
+            folder = self.installed(path)
+            folder.offer("bad", NEW, 6, signed=LATER)
+            for name, bound, status in (("new", len(NEW) - 1, REFUSED), ("bad", len(NEW), REFUSED), ("new", len(NEW), 0)):
+                with open(os.path.join(path, "new"), "rb") as data:
+                    feeding = subprocess.Popen(["cat"], stdin=data, stdout=subprocess.PIPE, stderr=subprocess.DEVNULL)
+                    words = ["--most", str(bound), PK, "/dev/stdin", name + ".sig", PLACE]
+                    ran = subprocess.run([self.program, *words], cwd=path, env={}, stdin=feeding.stdout,
+                                         stdout=subprocess.DEVNULL, stderr=subprocess.PIPE, timeout=SECONDS)
+                    feeding.stdout.close()
+                    feeding.wait(timeout=SECONDS)
+                if ran.returncode != status:
+                    raise Failure(f"it ended with status {ran.returncode} in place of {status}, and said {ran.stderr}")
+                folder.expect(*((OLD, b"5") if status else (NEW, b"6")))
 
     def loses_lock(self):
         """A run whose lock file is removed changes nothing once another one went past it."""
         with self.folder() as path:
-            folder = Folder(path, self.kind)
+            folder = self.installed(path)
             folder.offer("later", LATER, 7)
 
             def overtake(at):
@@ -330,16 +379,16 @@ class Installing:
                 raise Failure(f"the slow run ended with status {status}, said {said}, and the record holds {folder.holds(RECORD)}")
 
     def changed_stage(self):
-        """What is judged is what the stage holds, whatever came through the pipe."""
+        """What is judged is what the stage holds, whatever was copied."""
         with self.folder() as path:
-            folder = Folder(path, self.kind)
+            folder = self.installed(path)
 
             def change(at):
                 with open(os.path.join(path, at.stages()[0]), "r+b") as stage:
                     stage.write(b"x")
 
             status, said = self.while_staged(folder, change)
-            if status != REFUSED or not said.endswith(b"error: slow: Signature verification failed\n"):
+            if status != REFUSED or not said.endswith(b"error: new: Signature verification failed\n"):
                 raise Failure(f"it ended with status {status}, and said {said}")
             folder.expect(OLD, b"5")
 
@@ -347,7 +396,7 @@ class Installing:
         """A folder that is moved meanwhile gets the update, and not the one that then stands under its path."""
         with self.folder() as path:
             sub, moved = os.path.join(path, "sub"), os.path.join(path, "moved")
-            folder = Folder(path, self.kind)
+            folder = self.installed(path)
             os.mkdir(sub)
             Folder(sub, self.kind)
 
@@ -431,9 +480,12 @@ class Installing:
                 if os.path.isdir(at) and not os.path.islink(at):
                     os.rmdir(at)
                 makes[number % 4]()
-                if number % 4 == 3 and os.path.lexists(at):
-                    os.remove(at)
-                os.rename(os.path.join(path, "made"), at)
+                while True:
+                    try:
+                        return os.rename(os.path.join(path, "made"), at)
+                    except NotADirectoryError:
+                        # (a folder replaces no file, and a run may put one there at any time)
+                        os.remove(at)
 
             def judge(status, said):
                 if status not in (0, FAILED):
@@ -447,6 +499,7 @@ class Installing:
 
     def break_each(self, judge, prepare=None, **how):
         for number in range(1, MOST_CALLS):
+            self.broken_at = number
             with self.folder() as path:
                 folder = Folder(path, self.kind)
                 folder.offer("new", NEW, 6)
@@ -488,6 +541,11 @@ class Installing:
         if len(seen) != 3:
             raise Failure(f"the kills left {len(seen)} states alone")
 
+    def is_spared(self, calls):
+        """Whether the call that failed is none that a run needs: a file that is closed is done with, and libsodium, which is the
+        first to draw something, has other sources."""
+        return calls == "close" or calls == "getrandom" and self.broken_at == 1
+
     def failing(self, calls, number=errno.EIO):
         """Each of these calls fails in turn."""
 
@@ -499,6 +557,8 @@ class Installing:
             if calls == "getrandom" and status == -signal.SIGABRT and state == (OLD, b"5") and folder.holds(LOCK) is None:
                 # (libsodium ends a program that it can draw nothing for, before anything was touched)
                 return
+            if came and status == 0 and not self.is_spared(calls):
+                raise Failure("it ended with status 0 although a call failed")
             wanted = [(NEW, b"6")] if status == 0 else [(OLD, b"5"), (OLD, b"6")]
             if status == NOT_ON_DISK and b"error: place: installed, but" in said:
                 wanted = [(NEW, b"6")]
@@ -509,6 +569,30 @@ class Installing:
 
         if not self.break_each(judge, BREAK_CALLS=calls, BREAK_ERRNO=str(number)):
             raise Failure("it made no such call")
+
+    def without_lock(self):
+        """Where the system has no lock to give, the place is not locked, and nobody else has it."""
+        with self.folder() as path:
+            folder = self.installed(path)
+            status, said = self.run(folder, folder.arguments("new"), {"LD_PRELOAD": self.preload, "BREAK_CALLS": "flock", "BREAK_AT": "1",
+                                                                      "BREAK_ERRNO": str(errno.ENOLCK)})
+            if status != FAILED or not said.endswith(b"error: ./.place.lock: No locks available (os error 37)\n"):
+                raise Failure(f"it ended with status {status}, and said {said}")
+            folder.expect(OLD, b"5")
+
+    def short_writes(self):
+        """Each write takes half of its bytes at first: the rest follows, also of the number."""
+
+        def judge(folder, status, said, came):
+            if status != 0:
+                raise Failure(f"it ended with status {status}, and said {said}")
+            folder.expect(NEW, b"1234")
+
+        def prepare(folder):
+            folder.offer("new", NEW, 1234)
+
+        if self.break_each(judge, prepare, BREAK_CALLS="write", BREAK_SHORT="1", BREAK_GOES_ON="1") < 2:
+            raise Failure("it made fewer than two such calls")
 
     def interrupted(self, calls):
         """Each of these calls is interrupted in turn, and made again, where a killed run left a stage, and the place is, if
@@ -610,7 +694,7 @@ class Installing:
             if set(os.listdir(path)) - {LOCK} != set(before) or folder.holds() != OLD:
                 raise Failure(f"the folder has {os.listdir(path)}")
 
-    def takes(self, words, name=PLACE, mode=0o711, number=b"6", **how):
+    def takes(self, words, name=PLACE, mode=None, number=b"6", **how):
         """An installation with these words."""
         with self.folder() as path:
             folder = Folder(path, self.kind)
@@ -621,7 +705,7 @@ class Installing:
             status, said = self.run(folder, words)
             if status or said != self.kind.warning:
                 raise Failure(f"it ended with status {status}, and said {said}")
-            if folder.holds(name) != NEW or folder.holds(f".{name}.number") != number or folder.mode(name) != mode:
+            if folder.holds(name) != NEW or folder.holds(f".{name}.number") != number or folder.mode(name) != (mode or self.kind.kept_mode):
                 raise Failure(f"the place holds {str(folder.holds(name))[:40]}, with the mode {folder.mode(name):o}")
 
     def first_mode(self):
@@ -641,6 +725,8 @@ class Installing:
             folder.offer("new", NEW, 6)
             self.check(folder, "new", REFUSED, "--most", str(len(NEW) - 1), said=b"error: new: it is longer than it may be\n")
             folder.expect(OLD, b"5")
+            self.check(folder, "new", REFUSED, "--most", f"{len(NEW) // 1024}K", said=b"error: new: it is longer than it may be\n")
+            self.check(folder, "new", 0, "--most", f"{len(NEW) // 1024 + 1}K")
             self.check(folder, "new", 0, "--most", str(len(NEW)))
             folder.expect(NEW, b"6")
             os.remove(os.path.join(path, "new"))
@@ -891,7 +977,6 @@ class Installing:
                 raise Failure(f"a reader found {str(found)[:40]}, and then {kept} in the record, behind {before}")
 
     def while_locked(self):
-        import fcntl
         with self.folder() as path:
             folder = Folder(path, self.kind)
             folder.offer("new", NEW, 6)
@@ -902,24 +987,44 @@ class Installing:
             self.check(folder, "new", 0)
 
 
+class ReplacingByUpdates:
+    """The runs of `permissions.py`: an update replaces the place."""
+
+    def __init__(self, it):
+        self.it = it
+        self.place = it.place
+
+    def prepare(self, path):
+        Folder(path, self.it.kind).offer("new", NEW, 6)
+        return os.path.join(path, PLACE)
+
+    def run(self, path, asked, breaking, user):
+        folder = Folder.there(path, self.it.kind)
+        options = ["--mode", asked] if asked else []
+        environment = {"LD_PRELOAD": self.it.preload, **breaking} if breaking else {}
+        return self.it.run(folder, folder.arguments("new", *options), environment, **user)
+
+
 def cases(it):
     yield "newer updates", it.installs
     yield "the first update", it.installs_first
     yield "other data", lambda: it.refuses(b"error: bad: Signature verification failed\n", signed=LATER)
     yield "no data", lambda: it.refuses(b"error: bad: Signature verification failed\n", data=b"", signed=LATER)
     yield "an older update", lambda: it.refuses(b"error: bad: the update is older than what was installed\n", number=4, status=OLDER)
-    yield "another file", lambda: it.refuses(b"error: bad.sig: the signed comment does not name this file\n", names="other")
-    no_number = b"error: bad.sig: the signed comment has no such number\n"
+    yield "another file", lambda: it.refuses(b"error: bad.sig: the signed comment does not name this file (wanted by the place or `--name` is place)\n", names="other")
+    no_number = b"error: bad.sig: the signed comment has no such number (wanted is the field timestamp; `--numbering version` takes the other)\n"
     yield "no number", lambda: it.refuses(no_number, label="version")
     yield "a number too great", lambda: it.refuses(no_number, number=2 ** 64)
     yield "a word for a number", lambda: it.refuses(no_number, number="six")
     yield "a legacy signature", it.refuses_legacy
+    yield "a signed comment that was changed", it.refuses_changed_comment
+    yield "names that are drawn", it.draws_names
     yield "leftovers", it.removes_leftovers
     yield "a folder with a name that is not UTF-8", lambda: it.passes_over(os.mkdir, b"caf\xe9")
     yield "a file with a name that is not UTF-8", lambda: it.passes_over(lambda at: open(at, "wb").close(), b".place.stage-\xe9")
     yield "a folder with a stage's name", lambda: it.passes_over(os.mkdir, os.fsencode(STAGE + "0" * 32))
     too_long = b"error: ./.place.number: it is too long for a number\n"
-    no_text = b"error: place: what is kept beside the place is no number\n"
+    no_text = b"error: place: what is kept beside the place is no number (`--first` installs all the same)\n"
     yield "a record that is too long", lambda: it.refuses_record(b"0" * 64 + b"99", FAILED, too_long)
     yield "a record of two lines", lambda: it.refuses_record(b"5\n5\n", UNRECORDED, no_text)
     yield "a record with a line feed", lambda: it.takes_record(b"5\n")
@@ -937,14 +1042,14 @@ def cases(it):
     yield "a bound on the data", it.bounded
     yield "progress at a terminal", it.at_terminal
     yield "a closed error stream", it.without_errors
-    yield "rights that a group and not all others have", lambda: it.keeps_rights(0o755, 0o755)
-    yield "rights of a group alone", lambda: it.keeps_rights(0o770, 0o700)
-    yield "a list with a user who may write", lambda: it.keeps_rights(0o600, 0o600, "g::---,u:65534:rw")
-    yield "a list in a file that all may read", lambda: it.keeps_rights(0o644, 0o644, "g::---,u:65534:rw")
-    yield "a list with a group that may write", lambda: it.keeps_rights(0o600, 0o600, "g:65534:rwx")
-    yield "a list that keeps a group from what all others may", lambda: it.keeps_rights(0o604, 0o644, "g::---,g:65534:rwx")
-    yield "the owner after root", it.belongs_to_owner
-    yield "a lock file with a second name", it.leaves_linked
+    yield from permission_cases(ReplacingByUpdates(it), it.kind.permissions)
+    if not it.kind.is_in_c:
+        yield "rights of a group alone", lambda: it.keeps_rights(0o770, 0o700)
+        yield "a list with a user who may write", lambda: it.keeps_rights(0o600, 0o600, "g::---,u:65534:rw")
+        yield "a list in a file that all may read", lambda: it.keeps_rights(0o644, 0o644, "g::---,u:65534:rw")
+        yield "a list with a group that may write", lambda: it.keeps_rights(0o600, 0o600, "g:65534:rwx")
+        yield "a list that keeps a group from what all others may", lambda: it.keeps_rights(0o604, 0o644, "g::---,g:65534:rwx")
+    yield from owner_cases(it)
     if it.kind.is_in_c:
         yield "memory that is refused", it.refused_memory
     yield "a lock file that is removed", it.loses_lock
@@ -958,6 +1063,10 @@ def cases(it):
         yield f"{call} fails", lambda call=call: it.failing(call)
     for call in it.kind.interrupted:
         yield f"{call} is interrupted", lambda call=call: it.interrupted(call)
+    yield "writes that take half", it.short_writes
+    yield "a lock that the system cannot give", it.without_lock
+    yield "a pipe that stands still", it.stalled_pipe
+    yield "data through a pipe", it.through_pipe
     yield "write fails for want of room", lambda: it.failing("write", errno.ENOSPC)
     yield "a full disk", it.on_full_disk
     yield "a folder that may not be written", it.in_locked_folder
@@ -978,13 +1087,14 @@ def word_cases(it):
     """Words that ask for nothing, and words that ask for an installation in another way."""
     paths = [PK, "new", "new.sig", PLACE]
     name = it.kind.name.encode()
-    usage = b"usage: " + name + b" [OPTION ..] PK DATA SIG PLACE\n"
+    usage = b"usage: " + name + b" [OPTION ..] PK DATA SIG PLACE (--help shows the options)\n"
     misuses = [
         ("no words", [], b"error: there are fewer than four paths\n" + usage),
         ("three paths", paths[:3], b"error: there are fewer than four paths\n" + usage),
         ("five paths", [*paths, "more"], b"error: more: there are four paths, and this is a fifth\n" + usage),
         ("an option that is misspelt", ["--frist", *paths], b"error: --frist: there is no such option\n" + usage),
         ("an option that is cut short", ["--num", "version", *paths], b"error: --num: there is no such option\n" + usage),
+        ("help of one letter beside other words", ["-h", *paths], b"error: -h: there is no such option\n" + usage),
         ("an option of one letter", ["-f", *paths], b"error: -f: there is no such option\n" + usage),
         ("an option with its value in one word", ["--name=app", *paths], b"error: --name=app: there is no such option\n" + usage),
         ("an option in another case", ["--First", *paths], b"error: --First: there is no such option\n" + usage),
@@ -996,7 +1106,11 @@ def word_cases(it):
         ("a mode of five digits", ["--mode", "00755", *paths], b"error: 00755: the option before it has no such value\n"),
         ("a mode beyond rights", ["--mode", "4755", *paths], b"error: 4755: the option before it has no such value\n"),
         ("a mode that is not octal", ["--mode", "758", *paths], b"error: 758: the option before it has no such value\n"),
-        ("a bound with a unit", ["--most", "5M", *paths], b"error: 5M: the option before it has no such value\n"),
+        ("a bound with another unit", ["--most", "5m", *paths], b"error: 5m: the option before it has no such value\n"),
+        ("a bound with a longer unit", ["--most", "5MB", *paths], b"error: 5MB: the option before it has no such value\n"),
+        ("a bound that is a unit alone", ["--most", "K", *paths], b"error: K: the option before it has no such value\n"),
+        ("a bound too great by its unit", ["--most", "16777216T", *paths], b"error: 16777216T: the option before it has no such value\n"),
+        ("a bound below nothing", ["--most", "-1K", *paths], b"error: -1K: the option before it has no such value\n"),
         ("a bound too great", ["--most", str(2 ** 64), *paths], b": the option before it has no such value\n"),
         ("help beside other words", ["--help", *paths], b"error: --help: there is no such option\n" + usage),
         ("an option behind the end of options", ["--", "--first", *paths], b"error: place: there are four paths, and this is a fifth\n"),
@@ -1017,14 +1131,18 @@ def word_cases(it):
     ]
     for what, words, status, said in failures:
         yield what, lambda words=words, status=status, said=said: it.says(words, status, said)
-    yield "help", lambda: it.says(["--help"], 0, b"", shown=usage)
+    for word in ("--help", "-h"):
+        yield f"help by {word}", lambda word=word: it.says([word], 0, b"", shown=usage.replace(b" (--help shows the options)", b""))
     yield "the version", lambda: it.says(["--version"], 0, b"", shown=name + b" 0.1.0\n")
     orders = [
         ("options behind the paths", [*paths, "--first", "--mode", "0640"], 0o640),
+        ("a bound with a unit", ["--most", "1M", *paths], None),
+        ("a bound with a unit behind a plus", ["--most", "+250K", *paths], None),
+        ("the greatest bound", ["--most", "16777215T", *paths], None),
         ("options between the paths", [PK, "--mode", "640", "new", "--most", "1000000", "new.sig", "--first", PLACE], 0o640),
-        ("options before the paths", ["--most", "1000000", "--numbering", "timestamp", "--name", PLACE, *paths], 0o711),
-        ("the end of options first", ["--", *paths], 0o711),
-        ("the end of options between", [PK, "--first", "new", "--", "new.sig", PLACE], 0o711),
+        ("options before the paths", ["--most", "1000000", "--numbering", "timestamp", "--name", PLACE, *paths], None),
+        ("the end of options first", ["--", *paths], None),
+        ("the end of options between", [PK, "--first", "new", "--", "new.sig", PLACE], None),
     ]
     for what, words, mode in orders:
         yield what, lambda words=words, mode=mode: it.takes(words, mode=mode)

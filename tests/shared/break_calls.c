@@ -1,6 +1,7 @@
 /* Preloaded into a program, breaks its call of the system number BREAK_AT among those that are named in BREAK_CALLS
    (all below, where nothing is named): it is killed before the call, or gets the signal BREAK_SIGNAL, or, where
-   BREAK_ERRNO is set, the call fails so. With BREAK_SHORT a write takes half of its bytes first. Calls of `write` count
+   BREAK_ERRNO is set, the call fails so. With BREAK_SHORT a write takes half of its bytes first, and the next one fails.
+   With BREAK_GOES_ON a call is made after the signal, as one that stops the program, and the next write too. Calls of `write` count
    where they go to a regular file that the program has opened itself; those that only look, and getrandom, where they
    are named. Says so by one byte on the descriptor BREAK_SAYS. With BREAK_UNNAMED no file without a name can be made, as on
    file systems that have none. */
@@ -16,6 +17,7 @@
 #include <sys/file.h>
 #include <sys/random.h>
 #include <sys/stat.h>
+#include <sys/xattr.h>
 #include <unistd.h>
 
 static long calls;
@@ -49,11 +51,13 @@ static int is_broken(const char *name)
         return 0;
     if (says && put(atoi(says), "x", 1) != 1)
         return 0;
-    if (!number) {
+    if (!number && !getenv("BREAK_SHORT")) {
         kill(getpid(), getenv("BREAK_SIGNAL") ? atoi(getenv("BREAK_SIGNAL")) : SIGKILL);
+        if (getenv("BREAK_GOES_ON"))
+            return 0;
         pause();
     }
-    errno = atoi(number);
+    errno = number ? atoi(number) : EIO;
     return 1;
 }
 
@@ -113,7 +117,7 @@ ssize_t write(int fd, const void *bytes, size_t length)
     if (is_opened_file(fd)) {
         if (breaks_next || is_broken("write")) {
             if (getenv("BREAK_SHORT") && !breaks_next && length > 1) {
-                breaks_next = 1;
+                breaks_next = !getenv("BREAK_GOES_ON");
                 return real(fd, bytes, length / 2);
             }
             errno = getenv("BREAK_ERRNO") ? atoi(getenv("BREAK_ERRNO")) : EIO;
@@ -182,3 +186,6 @@ BREAKS(int, statx, (int fd, const char *path, int flags, unsigned mask, struct s
 BREAKS_IF_NAMED(int, fstat, (int fd, struct stat *found), (fd, found))
 BREAKS_IF_NAMED(int, fstatat, (int folder, const char *path, struct stat *found, int flags), (folder, path, found, flags))
 BREAKS_IF_NAMED(ssize_t, getrandom, (void *bytes, size_t length, unsigned flags), (bytes, length, flags))
+BREAKS_IF_NAMED(ssize_t, fgetxattr, (int fd, const char *name, void *bytes, size_t length), (fd, name, bytes, length))
+BREAKS_IF_NAMED(int, fsetxattr, (int fd, const char *name, const void *bytes, size_t length, int flags), (fd, name, bytes, length, flags))
+BREAKS_IF_NAMED(int, fremovexattr, (int fd, const char *name), (fd, name))

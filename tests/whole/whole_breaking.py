@@ -5,11 +5,13 @@ run every file is the older one or a new one, whole, and a secret key is its own
 import errno
 import os
 import resource
+import shutil
 import signal
 import stat
 import subprocess
 import tempfile
 
+from permissions import COMMON, WITH_LISTS, permission_cases
 from running import Failure, Skip, build_preload
 from surviving import SmallDisk
 from whole_running import SECONDS, files_in, put_files, record_of
@@ -287,6 +289,27 @@ class Breaking:
                 raise Failure(f"they ended with {statuses}")
 
 
+class ReplacingBySigning:
+    """The runs of `permissions.py`: a signature over an older one."""
+
+    def __init__(self, breaking, task):
+        self.breaking, self.task, self.place = breaking, task, breaking.place
+
+    def prepare(self, folder):
+        put_files(folder, self.task.files)
+        return os.path.join(folder, next(iter(self.task.judges)))
+
+    def run(self, folder, asked, breaking, user):
+        """The program and what is preloaded stand where nobody reaches them."""
+        with tempfile.TemporaryDirectory() as reached:
+            os.chmod(reached, 0o711)
+            program, preload = (shutil.copy(path, reached) for path in (self.breaking.program, self.breaking.preload))
+            ran = subprocess.run([program, *self.task.arguments], cwd=folder, env={"LD_PRELOAD": preload, **breaking} if breaking else {},
+                                 stdin=subprocess.DEVNULL, stdout=subprocess.DEVNULL, stderr=subprocess.PIPE, umask=0o022,
+                                 timeout=SECONDS, **user)
+            return ran.returncode, ran.stderr
+
+
 def cases(breaking, keys):
     """The names of all cases, and what runs each."""
     found = tasks(keys)
@@ -308,6 +331,7 @@ def cases(breaking, keys):
     yield "a signature over an older one keeps its rights", lambda: breaking.keeps_rights(found[5], 0o640)
     yield "a key that is changed keeps its rights", lambda: breaking.keeps_rights(found[2], 0o400 if os.geteuid() == 0 else 0o600)
     yield "a signature into a pipe", lambda: breaking.into_pipe(found[4])
+    yield from permission_cases(ReplacingBySigning(breaking, found[5]), (COMMON, WITH_LISTS))
 
 
 def run_breaking(program, room, keys):
