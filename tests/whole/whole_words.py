@@ -2,7 +2,6 @@
 control characters made visible, and in the background, without a terminal and with -q and -Q it leaves terminals and timers alone."""
 
 import base64
-import hashlib
 import os
 import signal
 import subprocess
@@ -11,7 +10,7 @@ import time
 
 from running import Failure
 from whole_cases import CLOSED, OPEN, OTHER, PASSWORD, PUBLIC
-from whole_running import HOME, SECONDS, AtTerminal, record_of, text_of, with_checksum
+from whole_running import FEW_ROWS, HOME, SECONDS, AtTerminal, record_of, sealed_for, text_of
 from whole_safety import QUESTION, Safety, wait_until
 
 # The first line and the rest of texts of others: as their programs write them.
@@ -33,8 +32,7 @@ START = b'Untrusted signature comment should start with "untrusted comment: "'
 ROWS_OF_FIRST_LINES = {b"Signature too long": (b"Trusted comment not present",), b"Untrusted signature comment too long": (START, NOT_UTF8),
                        START: (b"Error while reading the signature file", NOT_UTF8)}
 
-# A key of scrypt's N 2^10 takes so little work that its p may be large.
-ROWS = 1024
+# A key of more than so much work, N times p of scrypt, is refused.
 MOST_WORK = 16 << 20
 
 # What a shell does with a program in the background of its terminal: looks whether it is stopped and whether the terminal shows what is
@@ -70,14 +68,6 @@ import os, signal, sys
 signal.setitimer(signal.ITIMER_REAL, 0.4)
 os.execv(sys.argv[1], ["minisign", *sys.argv[2:]])
 """
-
-
-def sealed_for(text, password, times, rows=ROWS):
-    """The key of an open text, sealed with limits that lead to this N and this p."""
-    record, salt = with_checksum(record_of(text)), bytes(range(32))
-    stream = hashlib.scrypt(password, salt=salt, n=rows, r=8, p=times, maxmem=(1 << 31) - 1, dklen=104) if times * rows < 1 << 22 else bytes(104)
-    limits = (times * 8 * 4 * rows).to_bytes(8, "little") + (rows * 1024).to_bytes(8, "little")
-    return text_of(b"EdScB2" + salt + limits + bytes(a ^ b for a, b in zip(record[54:158], stream)))
 
 
 class Words(Safety):
@@ -150,7 +140,7 @@ class Words(Safety):
 
     def dear_key_is_refused(self):
         """A key of more than 16 times the work of a usual one is refused at once, whatever its p, and the words say what allows it."""
-        for rows, times in ((ROWS, MOST_WORK // ROWS + 1), (1 << 20, 17), (1 << 15, 513)):
+        for rows, times in ((FEW_ROWS, MOST_WORK // FEW_ROWS + 1), (1 << 20, 17), (1 << 15, 513)):
             folder = self.folder(**{"dear.key": sealed_for(self.keys[OPEN], PASSWORD, times, rows)})
             start = time.monotonic()
             ran = self.ours(folder, "-Sm", "data", "-s", "dear.key", typed=PASSWORD + b"\n")
