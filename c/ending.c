@@ -1,9 +1,10 @@
 /* What is to be done however the program ends, also where a signal ends it. */
-#define _POSIX_C_SOURCE 200809L
+#define _GNU_SOURCE
 
 #include "ending.h"
 
 #include <signal.h>
+#include <stddef.h>
 #include <stdlib.h>
 
 #include "files.h"
@@ -30,17 +31,41 @@ static void clean_and_end(int number)
     raise(number);
 }
 
-/* The signals that end a program; those that it was started to ignore stay ignored. */
+static bool is_among(int number, const int *numbers, size_t count)
+{
+    for (size_t i = 0; i < count; i++) {
+        if (numbers[i] == number) {
+            return true;
+        }
+    }
+    return false;
+}
+
+bool ends_program(int number)
+{
+    /* Those that stop a program or let it go on, those that nobody minds, and those that cannot be handled. */
+    static const int others[] = { SIGKILL, SIGSTOP, SIGTSTP, SIGTTIN, SIGTTOU, SIGCONT, SIGCHLD, SIGURG, SIGWINCH };
+
+    return !is_among(number, others, sizeof others / sizeof others[0]);
+}
+
+bool is_crash(int number)
+{
+    static const int crashes[] = { SIGILL, SIGTRAP, SIGABRT, SIGBUS, SIGFPE, SIGSEGV, SIGSYS };
+
+    return is_among(number, crashes, sizeof crashes / sizeof crashes[0]);
+}
+
+/* The signals that end a program; those that it was started to ignore stay ignored. The C library keeps two for itself. */
 static void watch_signals(void)
 {
-    static const int ending[] = { SIGHUP, SIGINT, SIGQUIT, SIGPIPE, SIGALRM, SIGTERM, SIGXCPU };
     struct sigaction action = { 0 }, before;
 
     action.sa_handler = clean_and_end;
     sigfillset(&action.sa_mask);
-    for (size_t i = 0; i < sizeof ending / sizeof ending[0]; i++) {
-        if (sigaction(ending[i], NULL, &before) == 0 && before.sa_handler == SIG_DFL) {
-            sigaction(ending[i], &action, NULL);
+    for (int number = 1; number <= SIGRTMAX; number++) {
+        if (ends_program(number) && sigaction(number, NULL, &before) == 0 && before.sa_handler == SIG_DFL) {
+            sigaction(number, &action, NULL);
         }
     }
 }

@@ -1,5 +1,5 @@
 /* Reading and writing files. */
-#define _POSIX_C_SOURCE 200809L
+#define _GNU_SOURCE
 
 #include "files.h"
 
@@ -9,7 +9,18 @@
 #include <string.h>
 #include <unistd.h>
 
+#include "words.h"
+
 #define PIECE_BYTES 65536
+
+void hold_streams(void)
+{
+    for (int fd = STDIN_FILENO; fd <= STDERR_FILENO; fd++) {
+        if (fcntl(fd, F_GETFD) < 0 && open("/", O_PATH) != fd) {
+            exit(TROUBLE);
+        }
+    }
+}
 
 void fail(const char *line)
 {
@@ -17,9 +28,16 @@ void fail(const char *line)
     exit(TROUBLE);
 }
 
+void say_at(const char *file)
+{
+    const char *why = strerror(errno);
+
+    fprintf(stderr, "%s%s%s\n", visible(file), *file == 0 ? "" : ": ", why);
+}
+
 void fail_at(const char *file)
 {
-    perror(file);
+    say_at(file);
     exit(TROUBLE);
 }
 

@@ -28,9 +28,14 @@ struct held {
     size_t len;
 };
 
+/* Has to be called before anything is opened: no file may get the number of a standard stream that is closed, into which what
+ * is said would go. Such a stream can be neither read nor written still. */
+void hold_streams(void);
+
 _Noreturn void fail(const char *line);
 
-/* With the reason that errno names. */
+/* Says of a file why it could not be used, as errno names it; the second one then ends the program. */
+void say_at(const char *file);
 _Noreturn void fail_at(const char *file);
 
 int open_file(const char *file);

@@ -20,6 +20,7 @@
 
 #include "ending.h"
 #include "files.h"
+#include "kinds.h"
 #include "progress.h"
 #include "replacing.h"
 #include "words.h"
@@ -28,8 +29,11 @@
 #define PUBLIC_COMMENT_BYTES 64
 #define PUBLIC_TEXT_BYTES 256
 
-/* The greatest work of a key that is opened: so many times that of a key of Minisign's own limits. */
-#define MOST_WORK 16
+/* scrypt's N of a key of Minisign's own limits, which makes so many rows once, as a power of two. */
+#define USUAL_LOG2 20
+
+/* Where the limits of a key stand in its record, and how many bytes that has. */
+enum { OPERATIONS_AT = 38, MEMORY_AT = 46, RECORD_BYTES = 158 };
 
 /* Where memory is short, at least one of so many rows of a key derivation is kept. */
 #define MOST_ROWS_APART 256
@@ -55,8 +59,6 @@ void begin_secrets(void)
     clean_at_end(clear_secrets);
 }
 
-/* ---- Opening ---- */
-
 static void read_secret_text(const char *file)
 {
     int fd = open_file(file);
@@ -79,10 +81,83 @@ static bool keep_fewer(enum minisign_error error, uint32_t *rows)
     return true;
 }
 
+/* ---- The work of opening ---- */
+
+static uint64_t number_at(const uint8_t *bytes)
+{
+    uint64_t number = 0;
+
+    for (int i = 7; i >= 0; i--) {
+        number = number << 8 | bytes[i];
+    }
+    return number;
+}
+
+/* Scrypt's N, as a power of two, and its p: as libsodium takes them from the limits of a key. */
+struct work {
+    int log2;
+    uint64_t times;
+};
+
+/* The work that the key of the text asks for: none where it is no text of a key, of which the library says the same. */
+static struct work work_of_text(void)
+{
+    uint8_t *record = secrets->record;
+    uint64_t operations, memory, greatest;
+    struct work work = { 1, 1 };
+    uint8_t *line = memchr(secrets->text, '\n', secrets->text_len), *end;
+    size_t len;
+
+    if (line == NULL) {
+        return work;
+    }
+    len = secrets->text_len - (size_t) (++line - secrets->text);
+    end = memchr(line, '\n', len);
+    len = end == NULL ? len : (size_t) (end - line);
+    len -= len > 0 && line[len - 1] == '\r';
+    if (sodium_base642bin(record, sizeof secrets->record, (const char *) line, len, NULL, &len, NULL, sodium_base64_VARIANT_ORIGINAL)
+            != 0
+        || len < RECORD_BYTES) {
+        return work;
+    }
+    operations = number_at(record + OPERATIONS_AT);
+    memory = number_at(record + MEMORY_AT);
+    operations = operations < 32768 ? 32768 : operations;
+    greatest = operations < memory / 32 ? operations / 32 : memory / 1024;
+    while (work.log2 < 63 && UINT64_C(1) << work.log2 <= greatest / 2) {
+        work.log2++;
+    }
+    if (operations >= memory / 32) {
+        work.times = ((operations / 4) >> work.log2) / 8;
+    }
+    return work;
+}
+
+/* The greatest p that may be, so that N times p stays within what is allowed. */
+static uint32_t greatest_times(const struct options *options)
+{
+    struct work work = work_of_text();
+    uint64_t most = ((uint64_t) options->work << USUAL_LOG2) >> work.log2;
+
+    return most < 1 ? 1 : most > UINT32_MAX ? UINT32_MAX : (uint32_t) most;
+}
+
+/* Says what would allow a key that asks for more work. */
+static void say_work(const struct options *options)
+{
+    struct work work = work_of_text();
+    uint64_t times = ((work.times << work.log2) + (UINT64_C(1) << USUAL_LOG2) - 1) >> USUAL_LOG2;
+
+    fprintf(stderr, "%s: opening this key takes %" PRIu64 " times the work of a usual one: -K %" PRIu64 " allows that\n",
+            visible(options->secret_file), times, times);
+}
+
+/* ---- Opening ---- */
+
 /* Asks the library for the key of the text: without its password, or with it. */
 static enum minisign_error ask(const struct options *options, uint32_t with_password)
 {
-    uint32_t rows = options->rows;
+    uint32_t rows = options->rows, times = greatest_times(options);
     enum minisign_error error;
 
     do {
@@ -90,7 +165,7 @@ static enum minisign_error ask(const struct options *options, uint32_t with_pass
 
         minisign_init(&state);
         error = minisign_ask_signing(&state, secrets->text, secrets->text_len, with_password, secrets->password.bytes,
-                                     secrets->password.len, rows, MOST_WORK, &secrets->open);
+                                     secrets->password.len, rows, times, &secrets->open);
     } while (keep_fewer(error, &rows));
     return error;
 }
@@ -134,12 +209,24 @@ void open_key(const struct options *options)
     if (error == MINISIGN_KEY_SEALED) {
         error = open_sealed(options);
     }
-    if (error == MINISIGN_RECORD_TOO_SHORT) {
-        error = MINISIGN_SECRET_KEY_NOT_BASE64;
+    if (error == MINISIGN_OK) {
+        return;
     }
-    if (error != MINISIGN_OK) {
-        fail(words_of(error));
+    fprintf(stderr, "%s\n", words_of(error == MINISIGN_RECORD_TOO_SHORT ? MINISIGN_SECRET_KEY_NOT_BASE64 : error));
+    if (error == MINISIGN_WORK_TOO_HIGH) {
+        say_work(options);
+    } else if (error != MINISIGN_WRONG_PASSWORD && error != MINISIGN_OUT_OF_MEMORY) {
+        say_kind(options->secret_file, secrets->text, secrets->text_len, SECRET_KEY_TEXT, error);
     }
+    exit(TROUBLE);
+}
+
+bool has_own_halves(void)
+{
+    uint8_t *again = secrets->record, public_key[crypto_sign_PUBLICKEYBYTES];
+
+    crypto_sign_seed_keypair(public_key, again, secrets->open.secret_key);
+    return sodium_memcmp(again, secrets->open.secret_key, sizeof secrets->open.secret_key) == 0;
 }
 
 /* ---- Texts of keys ---- */
@@ -212,7 +299,7 @@ static void refuse_existing(const char *file)
     fprintf(stderr,
             "Key generation aborted:\n%s already exists.\n\n"
             "If you really want to overwrite the existing key pair, add the -f switch to \nforce this operation.\n",
-            file);
+            visible(file));
     exit(BAD);
 }
 
@@ -222,6 +309,23 @@ static void look_for_existing(const struct options *options, const char *file)
 
     if (!options->force && stat(file, &found) == 0) {
         refuse_existing(file);
+    }
+}
+
+static _Noreturn void refuse_one_file(const char *file, const char *other)
+{
+    fprintf(stderr, "%s and %s are one file\n", visible(file), visible(other));
+    exit(TROUBLE);
+}
+
+void refuse_over_key(const struct options *options, const char *file)
+{
+    struct stat key, found;
+
+    if (stat(options->secret_file, &key) == 0 && stat(file, &found) == 0 && S_ISREG(key.st_mode) && key.st_dev == found.st_dev
+        && key.st_ino == found.st_ino) {
+        fprintf(stderr, "%s: this is the secret key itself, which would be lost\n", visible(file));
+        exit(TROUBLE);
     }
 }
 
@@ -240,10 +344,20 @@ static void make_folder(const char *file)
     free(folder);
 }
 
-static void put_key(const struct options *options, struct stage *stage, const char *file)
+/* Puts the pair in its places, of which one would take the other's away where they are the same. */
+static void put_pair(const struct options *options, const struct public_text *public)
 {
-    if (!put_in_place(stage, options->force)) {
-        refuse_existing(file);
+    struct stage *secret_stage, *public_stage;
+    const char *taken;
+
+    secret_stage = stage_file(options->secret_file, NEW_SECRET_KEY, secrets->text, secrets->text_len);
+    public_stage = stage_file(options->public_file, PUBLIC_KEY, public->bytes, public->len);
+    if (is_one_place(secret_stage, public_stage)) {
+        refuse_one_file(options->secret_file, options->public_file);
+    }
+    taken = put_both_in_place(public_stage, secret_stage, options->force);
+    if (taken != NULL) {
+        refuse_existing(taken);
     }
 }
 
@@ -253,9 +367,11 @@ int generate_keys(const struct options *options)
 {
     const char *comment = options->comment != NULL ? options->comment : MINISIGN_SECRET_KEY_COMMENT;
     struct public_text public;
-    struct stage *secret_stage, *public_stage;
     uint8_t public_key[crypto_sign_PUBLICKEYBYTES];
 
+    if (strcmp(options->secret_file, options->public_file) == 0) {
+        refuse_one_file(options->secret_file, options->public_file);
+    }
     look_for_existing(options, options->public_file);
     look_for_existing(options, options->secret_file);
     if (strpbrk(comment, "\r\n") != NULL) {
@@ -269,15 +385,12 @@ int generate_keys(const struct options *options)
     make_text(options, (const uint8_t *) comment, strlen(comment));
     make_public_text(&public);
     make_folder(options->secret_file);
-    secret_stage = stage_file(options->secret_file, SECRET_KEY, secrets->text, secrets->text_len);
-    public_stage = stage_file(options->public_file, PUBLIC_KEY, public.bytes, public.len);
-    put_key(options, public_stage, options->public_file);
-    put_key(options, secret_stage, options->secret_file);
+    put_pair(options, &public);
     printf("The secret key was saved as %s - Keep it secret!\n"
            "The public key was saved as %s - That one can be public.\n\n"
            "Files signed using this key pair can be verified with the following command:\n\n"
            "minisign -Vm <file> -P %.56s\n\n",
-           options->secret_file, options->public_file, strchr((const char *) public.bytes, '\n') + 1);
+           visible(options->secret_file), visible(options->public_file), strchr((const char *) public.bytes, '\n') + 1);
     flush_file(stdout);
     return GOOD;
 }
@@ -287,9 +400,12 @@ int recreate_public_key(const struct options *options)
     struct public_text public;
 
     look_for_existing(options, options->public_file);
+    refuse_over_key(options, options->public_file);
     open_key(options);
     make_public_text(&public);
-    put_key(options, stage_file(options->public_file, PUBLIC_KEY, public.bytes, public.len), options->public_file);
+    if (!put_in_place(stage_file(options->public_file, PUBLIC_KEY, public.bytes, public.len), options->force)) {
+        refuse_existing(options->public_file);
+    }
     return GOOD;
 }
 
@@ -311,7 +427,7 @@ int change_password(const struct options *options)
     size_t comment_len;
 
     if (options->unsealed) {
-        printf("Key encryption for [%s] is going to be removed.\n", options->secret_file);
+        printf("Key encryption for [%s] is going to be removed.\n", visible(options->secret_file));
     }
     open_key(options);
     comment_len = copy_comment(comment);
@@ -319,7 +435,7 @@ int change_password(const struct options *options)
         ask_new_password();
     }
     make_text(options, comment, comment_len);
-    replace_file(options->secret_file, SECRET_KEY, secrets->text, secrets->text_len);
+    replace_file(options->secret_file, CHANGED_SECRET_KEY, secrets->text, secrets->text_len);
     puts(options->unsealed ? "Password removed." : "Password updated.");
     flush_file(stdout);
     return GOOD;

@@ -4,6 +4,7 @@
 #ifndef KEYS_H
 #define KEYS_H
 
+#include <stdbool.h>
 #include <stddef.h>
 #include <stdint.h>
 
@@ -13,6 +14,8 @@
 
 /* A text of a secret key has to be shorter. */
 #define SECRET_TEXT_BYTES 8192
+/* Room for what the second line of one holds. */
+#define SECRET_RECORD_BYTES 192
 
 /*
  * All that is secret, in pages of their own that the system is asked to keep in memory and out of core files, and
@@ -25,6 +28,8 @@ struct secrets {
     /* The secret key and its identifier, once it is open. */
     minisign_signing open;
     struct password password, again;
+    /* What is decoded or made of it for a moment. */
+    uint8_t record[SECRET_RECORD_BYTES];
 };
 
 extern struct secrets *secrets;
@@ -36,8 +41,14 @@ void begin_secrets(void);
  * does not open. */
 void open_key(const struct options *options);
 
+/* Whether the two halves of the open key belong together: else each signature gives the secret one away. */
+bool has_own_halves(void);
+
 /* Makes the text in `secrets` that of the open key, so that one derivation is enough for many files. */
 void keep_open_text(void);
+
+/* Ends the program where this file, which is to be written, is that of the secret key: it would be lost. */
+void refuse_over_key(const struct options *options, const char *file);
 
 /* The commands: each answers the exit status. */
 int generate_keys(const struct options *options);

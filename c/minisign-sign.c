@@ -231,10 +231,12 @@ static struct options read_options(int argc, char *argv[])
 int main(int argc, char *argv[])
 {
     static uint8_t made[MINISIGN_TEXT_BYTES(COMMENT_BYTES, COMMENT_BYTES)];
-    struct options options = read_options(argc, argv);
+    struct options options;
     minisign_state state;
     size_t len;
 
+    hold_streams();
+    options = read_options(argc, argv);
     if (sodium_init() < 0 || atexit(clear_secrets) != 0) {
         fail("libsodium could not be started");
     }

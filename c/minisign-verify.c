@@ -55,7 +55,7 @@ static _Noreturn void refuse(const struct options *options, enum minisign_error 
     case MINISIGN_DIFFERENT_KEY_IDS:
         fprintf(stderr,
                 "Signature key id in %s is %" PRIX64 "\nbut the key id in the public key is %" PRIX64 "\n",
-                options->signature_file, number_of_id(questions.signature_key_id), number_of_id(questions.public_key_id));
+                visible(options->signature_file), number_of_id(questions.signature_key_id), number_of_id(questions.public_key_id));
         exit(BAD);
     case MINISIGN_LEGACY_NOT_ACCEPTED:
     case MINISIGN_SIGNATURE_REFUSED:
@@ -231,9 +231,11 @@ static struct options read_options(int argc, char *argv[])
 
 int main(int argc, char *argv[])
 {
-    struct options options = read_options(argc, argv);
+    struct options options;
     struct data data = { 0 };
 
+    hold_streams();
+    options = read_options(argc, argv);
     if (sodium_init() < 0) {
         fail("libsodium could not be started");
     }

@@ -4,13 +4,15 @@
  * The library behind minisign.h reads and writes the texts of keys and signatures, hashes the data, derives keys from
  * passwords and gives the verdict. libsodium has Ed25519, random bytes and memory for secrets. The files beside this one
  * read the command line (options), ask for passwords (terminal), open, make and change keys (keys), sign (signing),
- * verify (verifying), read data (reading) and replace files in one step (replacing).
+ * verify (verifying), read data (reading), say what a text is where it is a wrong one (kinds), find the places of
+ * files (places) and replace files in one step (replacing).
  */
 #include <sodium.h>
 
 #include "files.h"
 #include "keys.h"
 #include "options.h"
+#include "progress.h"
 #include "signing.h"
 #include "verifying.h"
 
@@ -31,8 +33,13 @@ static int run(const struct options *options)
 
 int main(int argc, char *argv[])
 {
-    struct options options = read_options(argc, argv);
+    struct options options;
 
+    hold_streams();
+    options = read_options(argc, argv);
+    if (options.quiet != SAY_ALL) {
+        be_quiet();
+    }
     if (sodium_init() < 0) {
         fail("libsodium could not be started");
     }

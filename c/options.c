@@ -15,6 +15,10 @@
 
 #define MOST_ROWS 1048576
 
+/* More than any key can ask for. */
+#define MOST_WORK 1073741824
+#define USUAL_WORK 16
+
 static _Noreturn void usage(void)
 {
     puts("Usage:\n"
@@ -40,6 +44,7 @@ static _Noreturn void usage(void)
          "-W                do not encrypt/decrypt the secret key with a password\n"
          "-k <rows>         keep one of so many rows of the key derivation: 16 takes 66 MiB\n"
          "                  in place of 1 GiB, and more time\n"
+         "-K <work>         open keys of up to so many times the work of a usual one (default: 16)\n"
          "-x <sigfile>      signature file (default: <file>.minisig)\n"
          "-c <comment>      add a one-line untrusted comment\n"
          "-t <comment>      add a one-line trusted comment\n"
@@ -70,17 +75,18 @@ static const char *default_secret_file(void)
     return home == NULL ? "minisign.key" : name_beside(home, "/.minisign/minisign.key");
 }
 
-static uint32_t read_rows(const char *text)
+/* Reads a number from 1 up to this one. */
+static uint32_t read_number(const char *text, uint32_t most)
 {
     char *end;
-    unsigned long rows;
+    unsigned long number;
 
     errno = 0;
-    rows = strtoul(text, &end, 10);
-    if (errno != 0 || *text < '0' || *text > '9' || *end != 0 || rows < 1 || rows > MOST_ROWS) {
+    number = strtoul(text, &end, 10);
+    if (errno != 0 || *text < '0' || *text > '9' || *end != 0 || number < 1 || number > most) {
         usage();
     }
-    return (uint32_t) rows;
+    return (uint32_t) number;
 }
 
 static void choose(struct options *options, enum command command)
@@ -93,10 +99,10 @@ static void choose(struct options *options, enum command command)
 
 static struct options read_flags(int argc, char *argv[])
 {
-    struct options options = { .rows = 1 };
+    struct options options = { .rows = 1, .work = USUAL_WORK };
     int flag;
 
-    while ((flag = getopt(argc, argv, "GSVRCHhc:fk:lm:oP:p:qQs:t:vWx:")) != -1) {
+    while ((flag = getopt(argc, argv, "GSVRCHhc:fk:K:lm:oP:p:qQs:t:vWx:")) != -1) {
         switch (flag) {
         case 'G': choose(&options, GENERATE); break;
         case 'R': choose(&options, RECREATE); break;
@@ -106,7 +112,8 @@ static struct options read_flags(int argc, char *argv[])
         case 'H': options.prehashed_only = true; break;
         case 'c': options.comment = optarg; break;
         case 'f': options.force = true; break;
-        case 'k': options.rows = read_rows(optarg); break;
+        case 'k': options.rows = read_number(optarg, MOST_ROWS); break;
+        case 'K': options.work = read_number(optarg, MOST_WORK); break;
         case 'l': options.legacy = true; break;
         case 'm': options.data_file = optarg; break;
         case 'o': options.output = true; break;

@@ -29,6 +29,8 @@ struct options {
     const char *trusted_comment;
     /* Of how many rows of a key derivation one is kept, from 1 on. */
     uint32_t rows;
+    /* The most work that opening a key may be, in times that of one of Minisign's own, from 1 on. */
+    uint32_t work;
     enum quiet quiet;
     bool force;
     bool unsealed;

@@ -48,7 +48,7 @@ static bool read_list(struct permissions *older, int fd)
     return n >= 0 || is_none(errno) || !older->is_list_known;
 }
 
-static bool read_opened(struct permissions *older, int fd)
+bool read_permissions_of(struct permissions *older, int fd)
 {
     struct stat found;
     int answer;
@@ -80,7 +80,7 @@ bool read_permissions(struct permissions *older, int folder, const char *name)
     if (fd < 0) {
         return false;
     }
-    is_read = read_opened(older, fd);
+    is_read = read_permissions_of(older, fd);
     number = errno;
     close(fd);
     errno = number;

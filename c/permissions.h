@@ -29,6 +29,9 @@ struct permissions {
 /* Reads those of the regular file of this name in a folder. No link at the end of the name is followed. */
 bool read_permissions(struct permissions *older, int folder, const char *name);
 
+/* The same of a file that is open. */
+bool read_permissions_of(struct permissions *older, int fd);
+
 /* The same for just this mode in place of the older one and its list. */
 void replace_mode(struct permissions *older, mode_t mode);
 

@@ -1,6 +1,5 @@
 /* Signs of life on the error stream, where it is a terminal. */
-#define _POSIX_C_SOURCE 200809L
-#define _XOPEN_SOURCE 700
+#define _GNU_SOURCE
 
 #include "progress.h"
 
@@ -9,12 +8,27 @@
 #include <stdio.h>
 #include <string.h>
 #include <sys/stat.h>
-#include <sys/time.h>
 #include <time.h>
 #include <unistd.h>
 
+static bool is_quiet;
+
+void be_quiet(void)
+{
+    is_quiet = true;
+}
+
+/* Whether somebody looks on. */
+static bool is_shown(void)
+{
+    return !is_quiet && isatty(STDERR_FILENO);
+}
+
 /* ---- Dots ---- */
 
+/* The timer has a signal of its own, as that of alarm may be somebody else's. */
+static timer_t timer;
+static bool has_timer;
 static struct sigaction before;
 
 static void show_dot(int number)
@@ -24,29 +38,39 @@ static void show_dot(int number)
     (void) number;
 }
 
-static void tick_each(int seconds)
-{
-    struct itimerval often = { { seconds, 0 }, { seconds, 0 } };
-    setitimer(ITIMER_REAL, &often, NULL);
-}
-
 void begin_dots(void)
 {
+    static const struct itimerspec often = { { 1, 0 }, { 1, 0 } };
+    struct sigevent event = { .sigev_notify = SIGEV_SIGNAL, .sigev_signo = SIGRTMIN };
     struct sigaction action = { 0 };
 
+    if (!is_shown()) {
+        return;
+    }
     action.sa_handler = show_dot;
     action.sa_flags = SA_RESTART;
     sigemptyset(&action.sa_mask);
-    sigaction(SIGALRM, &action, &before);
-    if (isatty(STDERR_FILENO)) {
-        tick_each(1);
+    sigaction(SIGRTMIN, &action, &before);
+    has_timer = timer_create(CLOCK_MONOTONIC, &event, &timer) == 0;
+    if (has_timer) {
+        timer_settime(timer, 0, &often, NULL);
+    } else {
+        sigaction(SIGRTMIN, &before, NULL);
     }
 }
 
 void end_dots(void)
 {
-    tick_each(0);
-    sigaction(SIGALRM, &before, NULL);
+    struct sigaction ignored = { 0 };
+
+    if (has_timer) {
+        has_timer = false;
+        timer_delete(timer);
+        /* What was sent and has not come yet is dropped so. */
+        ignored.sa_handler = SIG_IGN;
+        sigaction(SIGRTMIN, &ignored, NULL);
+        sigaction(SIGRTMIN, &before, NULL);
+    }
 }
 
 /* ---- Files ---- */
@@ -60,16 +84,15 @@ static int64_t now(void)
 
 struct progress begin_progress(int fd, const char *name)
 {
-    struct progress progress = { name, 0, 0, 0 };
+    struct progress progress = { NULL, 0, 0, 0 };
     struct stat found;
 
-    if (isatty(STDERR_FILENO)) {
+    if (is_shown()) {
+        progress.name = name;
         progress.shown_at = now();
         if (fstat(fd, &found) == 0 && S_ISREG(found.st_mode)) {
             progress.size = (uint64_t) found.st_size;
         }
-    } else {
-        progress.name = NULL;
     }
     return progress;
 }
@@ -106,7 +129,7 @@ void end_progress(const struct progress *progress)
 
 struct steps begin_steps(const char *work, uint64_t size)
 {
-    return (struct steps) { work, size, 0, 0, isatty(STDERR_FILENO) };
+    return (struct steps) { work, size, 0, 0, is_shown() };
 }
 
 /* Writes how far it is over what stands in the line. */

@@ -7,6 +7,9 @@
 #include <stdbool.h>
 #include <stdint.h>
 
+/* From here on nothing is shown. */
+void be_quiet(void);
+
 /* Between the two a dot is shown each second. */
 void begin_dots(void);
 void end_dots(void);

@@ -8,6 +8,7 @@
 #include <unistd.h>
 
 #include "progress.h"
+#include "words.h"
 
 /* So many bytes are read at a time; more of data that is read twice, as something is remembered of each piece. */
 #define PIECE_BYTES 32768
@@ -43,7 +44,7 @@ static bool can_be_read_again(const struct data *data)
 
 void read_data(struct data *data, enum wanted wanted)
 {
-    struct progress progress = begin_progress(data->fd, data->file);
+    struct progress progress = begin_progress(data->fd, visible(data->file));
     size_t room = wanted == A_COPY_LATER ? TAGGED_BYTES : PIECE_BYTES, len;
 
     if (wanted == ALL_BYTES || (wanted == A_COPY_LATER && !can_be_read_again(data))) {

@@ -5,41 +5,46 @@
 
 #include <errno.h>
 #include <fcntl.h>
+#include <poll.h>
 #include <signal.h>
 #include <stdio.h>
 #include <stdlib.h>
 #include <string.h>
+#include <sys/resource.h>
 #include <sys/stat.h>
 #include <unistd.h>
 
-#include <sodium.h>
-
 #include "ending.h"
 #include "files.h"
+#include "leftovers.h"
 #include "permissions.h"
+#include "places.h"
 
-#define MOST_LINKS 40
 #define MOST_NAMES 100
 /* So many bytes are read at once, as far as a person can tell. */
 #define QUICK_BYTES (1 << 20)
-#define STAGE_NAME ".minisign-"
-#define STAGE_DRAWN 8
-#define STAGE_NAME_BYTES (sizeof STAGE_NAME + 2 * STAGE_DRAWN)
+/* A file that waits has two descriptors open; so many are left for all else. */
+#define WAITING_DESCRIPTORS 2
+#define SPARE_DESCRIPTORS 10
+#define COUNTED_DESCRIPTORS 256
 
 struct stage {
-    /* The file's name as it was given, for messages, and its place, with all links followed. */
-    const char *file;
-    char *place;
-    /* The name beside it, or NULL where the place itself was written. */
-    char *name;
-    /* Whether its name has to be on the disk, too, once it is in place. */
-    bool is_key;
-    /* Open as long as it has to be brought to the disk, and else -1. */
+    /* Where it goes; no file's where the stage is free. */
+    struct place place;
+    /* Open and locked until it is in its place; -1 where that itself was written. */
     int fd;
-    /* Whether it is whole and waits for others, and the file that it will replace. */
+    /* Its name beside its place, and whether it has one or is about to get it. */
+    char name[STAGE_NAME_BYTES];
+    volatile sig_atomic_t is_named;
+    bool is_key;
+    bool has_older;
+    /* Whether it is on the disk, or need not be. */
+    bool is_settled;
+    /* Whether it is whole and waits for others. */
     bool waits;
-    dev_t device;
-    ino_t inode;
+    /* The one that has to get its place as well, or else this one loses its own; and how it loses that. */
+    struct stage *volatile partner;
+    volatile sig_atomic_t is_exchanged;
 };
 
 /* So many files wait for each other, as all are brought to the disk in little more time than one. One is staged beside
@@ -48,31 +53,84 @@ enum { MOST_WAITING = 32, MOST_STAGES = MOST_WAITING + 1 };
 static struct stage stages[MOST_STAGES];
 static int waiting;
 
+/* ---- Names ---- */
+
+/* The path of an open file in /proc, by which one without a name gets one. */
+struct own_path {
+    char bytes[32];
+};
+
+static struct own_path own_path_of(int fd)
+{
+    struct own_path path;
+
+    snprintf(path.bytes, sizeof path.bytes, "/proc/self/fd/%d", fd);
+    return path;
+}
+
+/* Gives a stage without a name this one, which nothing may have. */
+static bool link_stage(const struct stage *stage, const char *name)
+{
+    return linkat(AT_FDCWD, own_path_of(stage->fd).bytes, stage->place.folder, name, AT_SYMLINK_FOLLOW) == 0;
+}
+
+/* Gives it a name beside its place. */
+static bool name_stage(struct stage *stage)
+{
+    for (int i = 0; i < MOST_NAMES; i++) {
+        draw_stage_name(stage->name);
+        stage->is_named = 1;
+        if (link_stage(stage, stage->name)) {
+            return true;
+        }
+        stage->is_named = 0;
+        if (errno != EEXIST) {
+            break;
+        }
+    }
+    return false;
+}
+
+/* Whether what stands in its place is this stage, or it was written there. May be called while a signal is handled. */
+static bool is_placed(const struct stage *stage)
+{
+    struct stat own, named;
+
+    return stage->fd < 0
+           || (fstat(stage->fd, &own) == 0
+               && fstatat(stage->place.folder, stage->place.name, &named, AT_SYMLINK_NOFOLLOW) == 0
+               && own.st_dev == named.st_dev && own.st_ino == named.st_ino);
+}
+
 /* ---- Stages go with the program ---- */
+
+/* Takes a stage out of its place where its partner has not got its own. May be called while a signal is handled. */
+static void undo_stage(struct stage *stage)
+{
+    if (stage->partner == NULL || stage->fd < 0 || is_placed(stage->partner) || !is_placed(stage)) {
+        return;
+    }
+    if (stage->is_exchanged) {
+        /* Where that fails, the older file keeps the stage's name. */
+        stage->is_named =
+            renameat2(stage->place.folder, stage->name, stage->place.folder, stage->place.name, RENAME_EXCHANGE) == 0;
+    } else {
+        unlinkat(stage->place.folder, stage->place.name, 0);
+    }
+}
 
 /* May be called while a signal is handled. */
 static void drop_stages(void)
 {
-    for (int i = 0; i < MOST_STAGES; i++) {
-        if (stages[i].name != NULL) {
-            unlink(stages[i].name);
+    for (struct stage *stage = stages; stage < stages + MOST_STAGES; stage++) {
+        undo_stage(stage);
+        if (stage->is_named) {
+            unlinkat(stage->place.folder, stage->name, 0);
         }
     }
 }
 
-/* Where the program ends early, what was whole before still gets its place. */
-static void finish_stages(void)
-{
-    for (struct stage *stage = stages; stage < stages + MOST_STAGES; stage++) {
-        if (stage->waits) {
-            if ((stage->fd < 0 || fsync(stage->fd) == 0) && rename(stage->name, stage->place) == 0) {
-                stage->name = NULL;
-            } else {
-                perror(stage->file);
-            }
-        }
-    }
-}
+static void finish_stages(void);
 
 /* From the first stage on. A file that grows beyond the system's bound is a failed write, and no signal. */
 static void watch_stages(void)
@@ -89,104 +147,88 @@ static void watch_stages(void)
     }
 }
 
-/* ---- Places ---- */
-
-/* The folder of a file, ended by a slash, or nothing. */
-static size_t folder_length(const char *file)
+static struct stage *free_stage(void)
 {
-    const char *slash = strrchr(file, '/');
-    return slash == NULL ? 0 : (size_t) (slash - file) + 1;
-}
-
-/* Joins the first bytes of one text and all of another, in memory of malloc. */
-static char *joined(const char *front, size_t len, const char *behind)
-{
-    size_t room = len + strlen(behind) + 1;
-    char *made = malloc(room);
-
-    if (made == NULL) {
-        fail_at(front);
-    }
-    memcpy(made, front, len);
-    memcpy(made + len, behind, room - len);
-    return made;
-}
-
-/* What a link says, in memory of malloc, or NULL where the name is that of no link. */
-static char *link_target(const char *name)
-{
-    static char target[4096];
-    ssize_t len = readlink(name, target, sizeof target - 1);
-
-    if (len < 0 || (size_t) len == sizeof target - 1) {
-        return NULL;
-    }
-    target[len] = 0;
-    return joined(target, 0, target);
-}
-
-/* The place of a file once all links are followed, also one that leads to nothing yet. */
-static char *place_of(const char *file)
-{
-    char *place = joined(file, strlen(file), "");
-
-    for (int links = 0; links <= MOST_LINKS; links++) {
-        char *target = link_target(place), *next;
-
-        if (target == NULL) {
-            return place;
+    for (struct stage *stage = stages; stage < stages + MOST_STAGES; stage++) {
+        if (stage->place.file == NULL) {
+            stage->fd = -1;
+            return stage;
         }
-        next = *target == '/' ? joined("", 0, target) : joined(place, folder_length(place), target);
-        free(target);
-        free(place);
-        place = next;
     }
-    errno = ELOOP;
-    fail_at(file);
+    fail("too many files at once");
 }
 
-/* ---- Stages ---- */
-
-/* Draws the name of a stage: STAGE_NAME, and behind it random bytes as hexadecimal digits. */
-static void draw_name(char name[STAGE_NAME_BYTES])
+/* Closes what a stage has open; where it has a name beside its place still, it loses that, or else when the program ends. */
+static void forget(struct stage *stage)
 {
-    size_t front = sizeof STAGE_NAME - 1;
-    uint8_t drawn[STAGE_DRAWN];
-
-    memcpy(name, STAGE_NAME, front);
-    randombytes_buf(drawn, sizeof drawn);
-    sodium_bin2hex(name + front, STAGE_NAME_BYTES - front, drawn, sizeof drawn);
+    stage->partner = NULL;
+    if (stage->is_named && unlinkat(stage->place.folder, stage->name, 0) != 0) {
+        return;
+    }
+    if (stage->fd >= 0) {
+        close(stage->fd);
+    }
+    leave_place(&stage->place);
+    *stage = (struct stage) { .fd = -1 };
 }
 
-/* Opens a new file beside the place, of a name that nothing has. */
-static int open_beside(struct stage *stage, enum kind kind)
-{
-    char name[STAGE_NAME_BYTES];
-    int fd;
+/* ---- Writing ---- */
 
+/* Whether files without a name can get one here. */
+static bool can_link(int fd)
+{
+    struct stat own, named;
+
+    return fstat(fd, &own) == 0 && stat(own_path_of(fd).bytes, &named) == 0 && own.st_dev == named.st_dev
+           && own.st_ino == named.st_ino;
+}
+
+/* Opens and locks a new file without a name: false where the file system has none. */
+static bool open_unnamed(struct stage *stage, mode_t mode)
+{
+    int fd = openat(stage->place.folder, ".", O_TMPFILE | O_WRONLY | O_CLOEXEC, mode);
+
+    if (fd >= 0 && !(can_link(fd) && lock_stage(fd))) {
+        close(fd);
+        fd = -1;
+    }
+    stage->fd = fd;
+    return fd >= 0;
+}
+
+/* Opens and locks a new file beside the place, of a name that nothing has. Another run may remove it before it is locked. */
+static bool open_named(struct stage *stage, mode_t mode)
+{
     for (int i = 0; i < MOST_NAMES; i++) {
-        draw_name(name);
-        stage->name = joined(stage->place, folder_length(stage->place), name);
-        fd = open(stage->name, O_WRONLY | O_CREAT | O_EXCL | O_CLOEXEC, kind == SECRET_KEY ? 0600 : 0666);
-        if (fd >= 0) {
-            return fd;
+        struct stat made;
+
+        draw_stage_name(stage->name);
+        stage->is_named = 1;
+        stage->fd = openat(stage->place.folder, stage->name, O_WRONLY | O_CREAT | O_EXCL | O_CLOEXEC, mode);
+        if (stage->fd >= 0 && lock_stage(stage->fd) && fstat(stage->fd, &made) == 0 && made.st_nlink > 0) {
+            return true;
         }
-        free(stage->name);
-        stage->name = NULL;
-        if (errno != EEXIST) {
-            break;
+        stage->is_named = 0;
+        if (stage->fd < 0 && errno != EEXIST) {
+            return false;
+        }
+        if (stage->fd >= 0) {
+            unlinkat(stage->place.folder, stage->name, 0);
+            close(stage->fd);
+            stage->fd = -1;
         }
     }
-    fail_at(stage->file);
+    errno = EBUSY;
+    return false;
 }
 
-/* Gives a stage the permissions of the older file. */
-static void take_over(const struct stage *stage, int fd)
+/* Gives a stage the owner, the mode and the access list of the older file. */
+static void take_over(const struct stage *stage)
 {
     static struct permissions older;
 
-    if (!read_permissions(&older, AT_FDCWD, stage->place) || !give_permissions(fd, &older)) {
-        fail_at(stage->file);
+    if (!read_permissions_of(&older, stage->place.older) || !give_permissions(stage->fd, &older)) {
+        fail_at(stage->place.file);
     }
 }
 
@@ -205,84 +247,82 @@ static void write_whole(int fd, const char *file, const uint8_t *bytes, size_t l
     }
 }
 
-static void write_and_close(int fd, const char *file, const uint8_t *bytes, size_t len)
+/* Writes what is no regular file, or has no name: such a file is emptied first. */
+static void write_in_place(struct place *place, const uint8_t *bytes, size_t len)
 {
-    write_whole(fd, file, bytes, len);
+    int fd = place->older;
+
+    if (S_ISREG(place->found.st_mode) && ftruncate(fd, 0) != 0) {
+        fail_at(place->file);
+    }
+    write_whole(fd, place->file, bytes, len);
+    place->older = -1;
     if (close(fd) != 0) {
-        fail_at(file);
+        fail_at(place->file);
     }
 }
 
-static struct stage *free_stage(void)
+/* Has the system say whether what was written can be kept, as it does where a file is closed. */
+static void flush_stage(const struct stage *stage)
 {
-    for (int i = 0; i < MOST_STAGES; i++) {
-        if (stages[i].file == NULL) {
-            return &stages[i];
-        }
-    }
-    fail("too many files at once");
-}
+    int fd = dup(stage->fd);
 
-/* Whether a file has to be written where it is: one that is no regular file, or a stream of the program by name. */
-static bool is_written_at_once(const char *file, const struct stat *found)
-{
-    return !S_ISREG(found->st_mode) || strncmp(file, "/dev/", 5) == 0 || strncmp(file, "/proc/", 6) == 0;
+    if (fd >= 0 && close(fd) != 0) {
+        fail_at(stage->place.file);
+    }
 }
 
 struct stage *stage_file(const char *file, enum kind kind, const uint8_t *bytes, size_t len)
 {
     struct stage *stage = free_stage();
-    struct stat older;
-    bool is_older = stat(file, &older) == 0;
-    int fd;
+    bool is_secret = kind == NEW_SECRET_KEY || kind == CHANGED_SECRET_KEY;
+    mode_t mode;
 
     watch_stages();
-    stage->file = file;
-    stage->fd = -1;
-    if (is_older && is_written_at_once(file, &older)) {
-        fd = open(file, O_WRONLY | O_TRUNC | O_CLOEXEC);
-        if (fd < 0) {
-            fail_at(file);
-        }
-        write_and_close(fd, file, bytes, len);
+    stage->place = find_place(file);
+    if (is_written_in_place(&stage->place)) {
+        write_in_place(&stage->place, bytes, len);
         return stage;
     }
-    if (is_older && access(file, W_OK) != 0) {
+    stage->is_key = kind != SIGNATURE;
+    stage->has_older = stage->place.older >= 0;
+    stage->is_settled = !stage->is_key && !stage->has_older;
+    mode = is_secret || stage->has_older ? 0600 : 0666;
+    remove_leftovers(stage->place.folder);
+    if (!open_unnamed(stage, mode) && !open_named(stage, mode)) {
         fail_at(file);
     }
-    stage->place = place_of(file);
-    stage->is_key = kind != SIGNATURE;
-    fd = open_beside(stage, kind);
-    if (!is_older && kind == SIGNATURE) {
-        write_and_close(fd, file, bytes, len);
-        return stage;
+    if (stage->has_older && kind != NEW_SECRET_KEY) {
+        take_over(stage);
     }
-    if (is_older) {
-        take_over(stage, fd);
-        stage->device = older.st_dev;
-        stage->inode = older.st_ino;
+    write_whole(stage->fd, file, bytes, len);
+    if (stage->is_settled) {
+        flush_stage(stage);
+    } else {
+        /* The disk begins, so that less is left to wait for. */
+        sync_file_range(stage->fd, 0, 0, SYNC_FILE_RANGE_WRITE);
     }
-    write_whole(fd, file, bytes, len);
-    /* The disk begins, so that less is left to wait for. */
-    sync_file_range(fd, 0, 0, SYNC_FILE_RANGE_WRITE);
-    stage->fd = fd;
     return stage;
+}
+
+bool is_one_place(const struct stage *one, const struct stage *other)
+{
+    return is_same_place(&one->place, &other->place);
 }
 
 /* Waits until all stages are on the disk that have to be there. */
 static void settle_stages(void)
 {
     for (struct stage *stage = stages; stage < stages + MOST_STAGES; stage++) {
-        if (stage->file != NULL && stage->fd >= 0) {
-            int fd = stage->fd;
+        if (stage->place.file != NULL && stage->fd >= 0 && !stage->is_settled) {
             bool waits = stage->waits;
 
             /* One that does not come to the disk is not put in its place when the program ends. */
-            stage->fd = -1;
             stage->waits = false;
-            if (fsync(fd) != 0 || close(fd) != 0) {
-                fail_at(stage->file);
+            if (fsync(stage->fd) != 0) {
+                fail_at(stage->place.file);
             }
+            stage->is_settled = true;
             stage->waits = waits;
         }
     }
@@ -290,76 +330,96 @@ static void settle_stages(void)
 
 /* ---- Putting in place ---- */
 
-/* Renames a stage; over no older file where that is wished: false where there is one. */
-static bool rename_stage(const struct stage *stage, bool over_older)
+/* A stage was put in its place, or an older file is there that is to stay, or it cannot be put there: errno says why. */
+enum put { PUT, TAKEN, NOT_PUT };
+
+/* Renames a stage that has a name. */
+static enum put rename_stage(struct stage *stage, bool over_older)
 {
+    const struct place *place = &stage->place;
     struct stat older;
 
     if (!over_older) {
-        if (renameat2(AT_FDCWD, stage->name, AT_FDCWD, stage->place, RENAME_NOREPLACE) == 0) {
-            return true;
+        if (renameat2(place->folder, stage->name, place->folder, place->name, RENAME_NOREPLACE) == 0) {
+            stage->is_named = 0;
+            return PUT;
         }
-        if (errno == EEXIST || ((errno == EINVAL || errno == ENOSYS) && lstat(stage->place, &older) == 0)) {
-            return false;
+        if (errno == EEXIST
+            || ((errno == EINVAL || errno == ENOSYS) && fstatat(place->folder, place->name, &older, AT_SYMLINK_NOFOLLOW) == 0)) {
+            return TAKEN;
         }
         if (errno != EINVAL && errno != ENOSYS) {
-            fail_at(stage->file);
+            return NOT_PUT;
         }
     }
-    if (rename(stage->name, stage->place) != 0) {
-        fail_at(stage->file);
+    if (renameat(place->folder, stage->name, place->folder, place->name) != 0) {
+        return NOT_PUT;
     }
-    return true;
+    stage->is_named = 0;
+    return PUT;
+}
+
+static enum put put_stage(struct stage *stage, bool over_older)
+{
+    if (stage->fd < 0) {
+        return PUT;
+    }
+    if (stage->has_older && !over_older) {
+        return TAKEN;
+    }
+    if (!stage->is_named) {
+        if (!stage->has_older) {
+            if (link_stage(stage, stage->place.name)) {
+                return PUT;
+            }
+            if (errno != EEXIST || !over_older) {
+                return errno == EEXIST ? TAKEN : NOT_PUT;
+            }
+        }
+        if (!name_stage(stage)) {
+            return NOT_PUT;
+        }
+    }
+    return rename_stage(stage, over_older);
 }
 
 /* Brings the new name of a file to the disk, where the system can do that for a folder. */
 static void keep_name(const struct stage *stage)
 {
-    size_t len = folder_length(stage->place);
-    char *folder = len == 0 ? joined(".", 1, "") : joined(stage->place, len, "");
-    int fd = open(folder, O_RDONLY | O_DIRECTORY | O_CLOEXEC);
+    int fd;
 
-    free(folder);
+    if (stage->fd < 0) {
+        return;
+    }
+    /* A file that was brought there without a name has one now. */
+    if (fsync(stage->fd) != 0) {
+        fail_at(stage->place.file);
+    }
+    fd = openat(stage->place.folder, ".", O_RDONLY | O_DIRECTORY | O_CLOEXEC);
     if (fd >= 0) {
         if (fsync(fd) != 0 && errno != EINVAL) {
-            fail_at(stage->file);
+            fail_at(stage->place.file);
         }
         close(fd);
     }
 }
 
-static void forget(struct stage *stage)
-{
-    char *name = stage->name, *place = stage->place;
-
-    *stage = (struct stage) { 0 };
-    free(name);
-    free(place);
-}
-
 bool put_in_place(struct stage *stage, bool over_older)
 {
-    bool is_put = true;
+    enum put put;
 
-    if (stage->fd >= 0) {
+    if (stage->fd >= 0 && !stage->is_settled) {
         settle_stages();
     }
-    if (stage->name != NULL) {
-        is_put = rename_stage(stage, over_older);
-        if (is_put) {
-            char *name = stage->name;
-
-            stage->name = NULL;
-            free(name);
-            if (stage->is_key) {
-                keep_name(stage);
-            }
-        } else {
-            unlink(stage->name);
-        }
+    put = put_stage(stage, over_older);
+    if (put == NOT_PUT) {
+        fail_at(stage->place.file);
+    }
+    if (put == PUT && stage->is_key) {
+        keep_name(stage);
     }
     forget(stage);
-    return is_put;
+    return put == PUT;
 }
 
 void replace_file(const char *file, enum kind kind, const uint8_t *bytes, size_t len)
@@ -367,19 +427,124 @@ void replace_file(const char *file, enum kind kind, const uint8_t *bytes, size_t
     put_in_place(stage_file(file, kind, bytes, len), true);
 }
 
+/* ---- Two that belong together ---- */
+
+/* Puts a stage in the place of an older file, which gets the stage's name until its partner is in its own place. It is locked
+ * as stages are. False where the file system does not exchange names. */
+static bool exchange_stage(struct stage *stage)
+{
+    if (!stage->is_named && !name_stage(stage)) {
+        return false;
+    }
+    lock_stage(stage->place.older);
+    stage->is_exchanged = 1;
+    if (renameat2(stage->place.folder, stage->name, stage->place.folder, stage->place.name, RENAME_EXCHANGE) == 0) {
+        return true;
+    }
+    stage->is_exchanged = 0;
+    return false;
+}
+
+/* Puts a stage in its place in such a way that it loses that again where the program ends before its partner has its own. */
+static enum put put_with_partner(struct stage *stage, struct stage *partner, bool over_older)
+{
+    if (stage->fd < 0) {
+        return PUT;
+    }
+    stage->partner = partner;
+    if (stage->has_older && over_older) {
+        if (exchange_stage(stage)) {
+            return PUT;
+        }
+        stage->partner = NULL;
+    }
+    return put_stage(stage, over_older);
+}
+
+const char *put_both_in_place(struct stage *first, struct stage *last, bool over_older)
+{
+    const char *taken = NULL;
+    enum put put;
+
+    settle_stages();
+    put = put_with_partner(first, last, over_older);
+    if (put == NOT_PUT) {
+        fail_at(first->place.file);
+    }
+    if (put == TAKEN) {
+        taken = first->place.file;
+    } else {
+        keep_name(first);
+        put = put_stage(last, over_older);
+        if (put == NOT_PUT) {
+            fail_at(last->place.file);
+        }
+        if (put == TAKEN) {
+            taken = last->place.file;
+            undo_stage(first);
+        } else {
+            first->partner = NULL;
+            keep_name(last);
+        }
+    }
+    forget(first);
+    forget(last);
+    return taken;
+}
+
 /* ---- Many files ---- */
+
+/* Where the program ends early, what was whole before still gets its place. */
+static void finish_stages(void)
+{
+    for (struct stage *stage = stages; stage < stages + MOST_STAGES; stage++) {
+        if (stage->waits && ((!stage->is_settled && fsync(stage->fd) != 0) || put_stage(stage, true) != PUT)) {
+            say_at(stage->place.file);
+        }
+    }
+}
+
+/* How many files may wait, so that descriptors are left for all else: counted once. */
+static int most_waiting(void)
+{
+    static int most;
+    struct pollfd looked[COUNTED_DESCRIPTORS];
+    struct rlimit limit;
+    nfds_t counted;
+    int free_ones = 0;
+
+    if (most > 0) {
+        return most;
+    }
+    if (getrlimit(RLIMIT_NOFILE, &limit) != 0 || limit.rlim_cur > COUNTED_DESCRIPTORS) {
+        limit.rlim_cur = COUNTED_DESCRIPTORS;
+    }
+    counted = (nfds_t) limit.rlim_cur;
+    for (nfds_t i = 0; i < counted; i++) {
+        looked[i] = (struct pollfd) { .fd = (int) i };
+    }
+    if (poll(looked, counted, 0) >= 0) {
+        for (nfds_t i = 0; i < counted; i++) {
+            free_ones += (looked[i].revents & POLLNVAL) != 0;
+        }
+    }
+    most = (free_ones - SPARE_DESCRIPTORS) / WAITING_DESCRIPTORS;
+    most = most < 1 ? 1 : most > MOST_WAITING ? MOST_WAITING : most;
+    return most;
+}
 
 void replace_soon(const char *file, enum kind kind, const uint8_t *bytes, size_t len)
 {
     struct stage *stage = stage_file(file, kind, bytes, len);
 
-    if (stage->fd < 0) {
+    if (stage->fd < 0 || stage->is_settled) {
         put_in_place(stage, true);
         return;
     }
+    close_older(&stage->place);
     stage->waits = true;
     waiting++;
-    if (waiting == MOST_WAITING) {
+    if (waiting >= most_waiting()) {
         replace_waiting();
     }
 }
@@ -406,7 +571,7 @@ void replace_before_reading(const char *file)
     }
     is_quick = stat(file, &found) == 0 && S_ISREG(found.st_mode) && found.st_size < QUICK_BYTES;
     for (struct stage *stage = stages; stage < stages + MOST_STAGES && is_quick; stage++) {
-        is_quick = !stage->waits || stage->inode != found.st_ino || stage->device != found.st_dev;
+        is_quick = !stage->waits || stage->place.found.st_ino != found.st_ino || stage->place.found.st_dev != found.st_dev;
     }
     if (!is_quick) {
         replace_waiting();

@@ -8,27 +8,41 @@
 #include <stddef.h>
 #include <stdint.h>
 
-/* What a file is. A new secret key is for its owner alone; what takes the place of an older file gets its mode, owner and
- * access list. Keys, and what replaces an older file, are brought to the disk before they are put in their place, so that
- * a loss of power leaves the older file or the new one, whole. The new name of a key is brought there too, so that the key
- * is not lost once the program has ended well. A new signature is not brought there, as it can be made again. */
-enum kind { SECRET_KEY, PUBLIC_KEY, SIGNATURE };
+/* What a file is. A new secret key is its user's alone, with the mode 0600, whatever stood in its place; all else that takes
+ * the place of an older file gets its mode, owner and access list. Keys, and what replaces an older file, are brought to the
+ * disk before they are put in their place, so that a loss of power leaves the older file or the new one, whole. The new name
+ * of a key is brought there too, so that the key is not lost once the program has ended well. A new signature is not brought
+ * there, as it can be made again. */
+enum kind { NEW_SECRET_KEY, CHANGED_SECRET_KEY, PUBLIC_KEY, SIGNATURE };
 
-/* A file that is written beside its place. */
+/* A file that is written and has no place yet. */
 struct stage;
 
 /*
- * Writes a file beside the place that is named, whole. A link is followed; what is no regular file,
- * such as a pipe or a device, is its own stage and is written at once. Ends the program where that is not possible,
- * and then nothing is left of it.
+ * Writes a file, whole, which has no name until it is put in its place, or one beside that where the file system cannot do
+ * without or an older file is there: STAGE_NAME and 16 hexadecimal digits. It is locked (flock) as long as it is used. What
+ * killed runs have left in the folder, which nobody holds, is removed first.
+ *
+ * Links are followed as places.h says; what is no regular file, such as a pipe or a device, is its own stage and is written
+ * at once. Ends the program where that is not possible, and then nothing is left of it.
  */
 struct stage *stage_file(const char *file, enum kind kind, const uint8_t *bytes, size_t len);
+
+/* Whether both would be put in one place. */
+bool is_one_place(const struct stage *one, const struct stage *other);
 
 /* Puts a staged file in its place. Where older ones are to stay and there is one now, it answers false and nothing
  * is left of the stage. */
 bool put_in_place(struct stage *stage, bool over_older);
 
-/* The two in one. */
+/*
+ * Puts two files in their places that belong together: both, or, where that fails or a signal ends the program, neither.
+ * A kill or a loss of power in between leaves the first one alone in its place. Answers the name of the file that stays where
+ * older ones are to stay and there is one now, and else NULL.
+ */
+const char *put_both_in_place(struct stage *first, struct stage *last, bool over_older);
+
+/* Writes a file and puts it in its place, also over an older one. */
 void replace_file(const char *file, enum kind kind, const uint8_t *bytes, size_t len);
 
 /*

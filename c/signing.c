@@ -42,6 +42,27 @@ static const char *default_comment(const char *data_file, bool legacy)
     return comment;
 }
 
+/* Ends the program where the last part of the file's name cannot stand in the trusted comment by default: it is no comment that
+ * the user has given. */
+static void expect_comment(const char *data_file, bool legacy)
+{
+    const char *slash = strrchr(data_file, '/'), *name = slash == NULL ? data_file : slash + 1, *why = NULL;
+    const uint8_t *text = (const uint8_t *) name;
+    size_t len = strlen(name);
+
+    if (!is_utf8(text, len)) {
+        why = "is not UTF-8";
+    } else if (strpbrk(name, "\r\n") != NULL) {
+        why = "has a line end in it";
+    } else if (legacy && ends_with_space(text, len)) {
+        why = "ends with white space";
+    }
+    if (why != NULL) {
+        fprintf(stderr, "%s: a name that %s cannot stand in the trusted comment: choose one by -t\n", visible(data_file), why);
+        exit(TROUBLE);
+    }
+}
+
 static struct comments comments_of(const struct options *options, const char *data_file)
 {
     const char *untrusted = options->comment != NULL ? options->comment : DEFAULT_COMMENT;
@@ -99,17 +120,24 @@ static void make_signature(struct text *made, struct data *data, const struct op
     }
 }
 
-/* Ends the program where the text does not vouch for the data under the public key. */
-static void verify_signature(const minisign_state *fed, const struct text *made, const struct data *data,
-                             const struct text *public)
+/* Ends the program where the text does not vouch for the data under the public key, and says which key is to blame. */
+static void verify_signature(const struct options *options, const minisign_state *fed, const struct text *made,
+                             const struct data *data, const struct text *public)
 {
     static const struct options any = { 0 };
     minisign_state state = *fed;
     enum minisign_error error = judge(&state, public, made, &any, &data->held);
 
-    if (error != MINISIGN_OK) {
-        fail("Verification would fail with the given public key");
+    if (error == MINISIGN_OK) {
+        return;
     }
+    fputs("Verification would fail with the given public key\n", stderr);
+    if (!has_own_halves()) {
+        fprintf(stderr, "%s: this secret key is damaged: its two halves do not belong together\n", visible(options->secret_file));
+    } else if (name_of_public_key(options) != NULL) {
+        fprintf(stderr, "%s: this is not the public key of %s\n", visible(name_of_public_key(options)), visible(options->secret_file));
+    }
+    exit(TROUBLE);
 }
 
 /* Signs a file, and verifies the signature with a public key where there is one. */
@@ -121,13 +149,17 @@ static void sign_file(const struct options *options, const char *data_file, cons
     struct data data;
     minisign_state fed;
 
+    refuse_over_key(options, signature_file);
     replace_before_reading(data_file);
     data = open_data(data_file);
+    if (options->trusted_comment == NULL) {
+        expect_comment(data_file, options->legacy);
+    }
     read_data(&data, options->legacy ? ALL_BYTES : DIGEST_ALONE);
     fed = data.state;
     make_signature(&made, &data, options, &comments);
     if (public != NULL) {
-        verify_signature(&fed, &made, &data, public);
+        verify_signature(options, &fed, &made, &data, public);
     }
     replace_soon(signature_file, SIGNATURE, made.bytes, made.len);
     close_data(&data);
@@ -144,7 +176,9 @@ static void load_public(struct text *public, const struct options *options)
         load_public_key(public, options);
         error = minisign_read_public_key(public->bytes, public->len, key, key_id);
         if (error != MINISIGN_OK) {
-            fail(words_of(error));
+            fprintf(stderr, "%s\n", words_of(error));
+            say_which(options, public, NULL, NULL, error);
+            exit(TROUBLE);
         }
     } else {
         stop_at(minisign_make_public_key(secrets->open.key_id, secrets->open.secret_key, NULL, 0, public->bytes,

@@ -1,5 +1,5 @@
 /* Talking to a person: passwords that are typed, and comments that are shown. */
-#define _POSIX_C_SOURCE 200809L
+#define _GNU_SOURCE
 
 #include "terminal.h"
 
@@ -11,21 +11,18 @@
 #include <termios.h>
 #include <unistd.h>
 
+#include "ending.h"
 #include "files.h"
+#include "words.h"
 
 /* ---- Passwords ---- */
-
-/* The signals that end or stop a program at which somebody types. */
-static const int signals[] = { SIGHUP, SIGINT, SIGQUIT, SIGPIPE, SIGALRM, SIGTERM, SIGTSTP, SIGTTIN, SIGTTOU };
-
-enum { SIGNALS = sizeof signals / sizeof signals[0] };
 
 /* The signal that came while a password was typed, or 0. */
 static volatile sig_atomic_t came;
 
-/* What was before a question: how signals were treated, and how the terminal was. */
+/* What was before a question: how signals were treated, by their numbers, and how the terminal was. */
 struct before {
-    struct sigaction actions[SIGNALS];
+    struct sigaction actions[NSIG];
     sigset_t mask;
     struct termios modes;
     bool is_terminal;
@@ -36,8 +33,26 @@ static void note(int number)
     came = number;
 }
 
-/* From here on signals come only while a byte is waited for, and nothing that is typed is shown. */
-static void hide_typed(struct before *before)
+static bool is_stop(int number)
+{
+    return number == SIGTSTP || number == SIGTTIN || number == SIGTTOU;
+}
+
+/* Whether a signal ends or stops a program at which somebody types. */
+static bool is_awaited(int number)
+{
+    return is_stop(number) || (ends_program(number) && !is_crash(number));
+}
+
+/* In the background the system stops the program here (SIGTTOU), until it is in the foreground: the terminal is another's
+ * until then, and so are its modes. */
+static void wait_for_foreground(void)
+{
+    tcflush(STDIN_FILENO, TCIFLUSH);
+}
+
+/* From here on this signal comes only while a byte is waited for. */
+static void hold_signal(struct before *before, int number)
 {
     struct sigaction action = { 0 };
     sigset_t held;
@@ -45,14 +60,21 @@ static void hide_typed(struct before *before)
     action.sa_handler = note;
     sigemptyset(&action.sa_mask);
     sigemptyset(&held);
-    for (int i = 0; i < SIGNALS; i++) {
-        sigaddset(&held, signals[i]);
+    sigaddset(&held, number);
+    sigprocmask(SIG_BLOCK, &held, NULL);
+    if (sigaction(number, NULL, &before->actions[number]) == 0 && before->actions[number].sa_handler != SIG_IGN) {
+        sigaction(number, &action, NULL);
     }
-    sigprocmask(SIG_BLOCK, &held, &before->mask);
-    for (int i = 0; i < SIGNALS; i++) {
-        sigaction(signals[i], NULL, &before->actions[i]);
-        if (before->actions[i].sa_handler != SIG_IGN) {
-            sigaction(signals[i], &action, NULL);
+}
+
+/* From here on signals come only while a byte is waited for, and nothing that is typed is shown. */
+static void hide_typed(struct before *before)
+{
+    wait_for_foreground();
+    sigprocmask(SIG_BLOCK, NULL, &before->mask);
+    for (int number = 1; number < NSIG; number++) {
+        if (is_awaited(number) && number != SIGTTOU) {
+            hold_signal(before, number);
         }
     }
     before->is_terminal = tcgetattr(STDIN_FILENO, &before->modes) == 0;
@@ -62,6 +84,8 @@ static void hide_typed(struct before *before)
         modes.c_lflag &= ~(tcflag_t) ECHO;
         tcsetattr(STDIN_FILENO, TCSAFLUSH, &modes);
     }
+    /* Until here it has stopped a program that was moved to the background meanwhile. */
+    hold_signal(before, SIGTTOU);
 }
 
 static void show_typed(const struct before *before)
@@ -69,8 +93,10 @@ static void show_typed(const struct before *before)
     if (before->is_terminal) {
         tcsetattr(STDIN_FILENO, TCSAFLUSH, &before->modes);
     }
-    for (int i = 0; i < SIGNALS; i++) {
-        sigaction(signals[i], &before->actions[i], NULL);
+    for (int number = 1; number < NSIG; number++) {
+        if (is_awaited(number)) {
+            sigaction(number, &before->actions[number], NULL);
+        }
     }
     sigprocmask(SIG_SETMASK, &before->mask, NULL);
 }
@@ -120,11 +146,6 @@ static enum line read_line(const struct before *before, struct password *passwor
     return !any ? NONE : fits ? WHOLE : TOO_LONG;
 }
 
-static bool is_stop(int number)
-{
-    return number == SIGTSTP || number == SIGTTIN || number == SIGTTOU;
-}
-
 void ask_password(struct password *password, const char *question)
 {
     struct before before;
@@ -153,46 +174,15 @@ void ask_password(struct password *password, const char *question)
 
 /* ---- Comments ---- */
 
-/* The character at the front of a text of UTF-8, and how many bytes it has. */
-static uint32_t character_at(const uint8_t *text, size_t len, size_t *bytes)
-{
-    uint32_t character = text[0];
-
-    *bytes = text[0] < 0x80 ? 1 : text[0] < 0xe0 ? 2 : text[0] < 0xf0 ? 3 : 4;
-    if (*bytes > len) {
-        *bytes = 1;
-        return character;
-    }
-    if (*bytes > 1) {
-        character &= 0xffu >> (*bytes + 1);
-    }
-    for (size_t i = 1; i < *bytes; i++) {
-        character = character << 6 | (text[i] & 0x3f);
-    }
-    return character;
-}
-
-/* Whether a terminal might do something else with a character than show it. */
-static bool is_control(uint32_t character)
-{
-    return (character < 0x20 && character != '\t') || (character >= 0x7f && character < 0xa0) || character == 0x61c
-           || character == 0x200e || character == 0x200f || (character >= 0x2028 && character <= 0x202e)
-           || (character >= 0x2066 && character <= 0x2069) || character == 0xfeff;
-}
-
 void show_text(FILE *to, const uint8_t *text, size_t len)
 {
+    char shown[SHOWN_BYTES];
+
     if (!isatty(fileno(to))) {
         fwrite(text, 1, len, to);
         return;
     }
     for (size_t at = 0, bytes; at < len; at += bytes) {
-        uint32_t character = character_at(text + at, len - at, &bytes);
-
-        if (is_control(character)) {
-            fprintf(to, "\\u{%x}", (unsigned) character);
-        } else {
-            fwrite(text + at, 1, bytes, to);
-        }
+        fwrite(shown, 1, show_character(shown, text + at, len - at, &bytes), to);
     }
 }

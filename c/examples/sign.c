@@ -1,5 +1,5 @@
 // sign SECRET_KEY DATA SIGNATURE COMMENT [PASSWORD_FILE]: signs the data with a key that `minisign -G` made, with -W where there is
-// no file of its password, and writes the text of the signature.
+// no file of its password, and writes the text of the signature once it was verified.
 #include <stdio.h>
 #include <string.h>
 
@@ -12,6 +12,7 @@ enum { TEXT_BYTES = 65536 };
 static const char UNTRUSTED[] = "signature from the example of minisign.h";
 
 static uint8_t key[TEXT_BYTES], password[TEXT_BYTES], message[TEXT_BYTES], text[TEXT_BYTES];
+static uint8_t public_key[MINISIGN_PUBLIC_KEY_BYTES(0)];
 static minisign_signing s;
 
 static int fails(const char *what)
@@ -70,13 +71,38 @@ static int write_text(const char *name, size_t len)
     return file != NULL && fclose(file) == 0 && good;
 }
 
+// What Ed25519 answers: libsodium's 0 is a yes.
+static enum minisign_answer answer(const uint8_t *signed_by, const uint8_t *bytes, size_t len, const uint8_t *under)
+{
+    return crypto_sign_verify_detached(signed_by, bytes, len, under) == 0 ? MINISIGN_ANSWER_YES : MINISIGN_ANSWER_NO;
+}
+
+// Verifies the text as others will, under the public half of the key. Where the halves do not belong together, as in a damaged
+// key, no signature verifies, and one that others get to see gives the secret half away.
+static enum minisign_error verify(minisign_state *fed, size_t text_len)
+{
+    minisign_external q;
+    size_t public_len;
+    enum minisign_error error =
+        minisign_make_public_key(s.key_id, s.secret_key, NULL, 0, public_key, sizeof public_key, &public_len);
+
+    if (error == MINISIGN_OK) {
+        error = minisign_ask(fed, public_key, public_len, text, text_len, 0, &q, message, sizeof message);
+    }
+    if (error == MINISIGN_OK) {
+        error = minisign_verdict(fed, answer(q.signature, q.digest, sizeof q.digest, q.public_key),
+                                 answer(q.comment_signature, message, q.message_len, q.public_key));
+    }
+    return error;
+}
+
 // Signs: all that is secret stands in static variables, which main clears.
 static int sign(char **argv, const char *password_file)
 {
     const uint8_t *trusted = (const uint8_t *) argv[4], *untrusted = (const uint8_t *) UNTRUSTED;
     size_t trusted_len = strlen(argv[4]), key_len = read_text(argv[1], key), password_len = 0, text_len;
     uint8_t first[64], second[64];
-    minisign_state state;
+    minisign_state state, fed;
     enum minisign_error error;
 
     if (password_file != NULL) {
@@ -94,6 +120,7 @@ static int sign(char **argv, const char *password_file)
     if (!feed(&state, argv[2])) {
         return fails("the data cannot be read");
     }
+    fed = state;
     error = minisign_ask_signing(&state, key, key_len, password_file != NULL, password, password_len,
                                  MINISIGN_KEEP_EVERY_ROW, MINISIGN_USUAL_WORK, &s);
     if (error != MINISIGN_OK) {
@@ -112,6 +139,9 @@ static int sign(char **argv, const char *password_file)
     // Only a state that has told a key makes a text, and under the identifier of that key.
     error = minisign_signed_text(&state, first, second, trusted, trusted_len, untrusted, strlen(UNTRUSTED), text,
                                  sizeof text, &text_len);
+    if (error == MINISIGN_OK) {
+        error = verify(&fed, text_len);
+    }
     if (error != MINISIGN_OK) {
         return refuses(error);
     }

@@ -13,6 +13,7 @@ minisign, and installs what is not there where it may. The library is built, and
 (`static_library.py`).
 """
 
+import base64
 import os
 import re
 import shlex
@@ -46,6 +47,9 @@ SEALED = ("untrusted comment: minisign encrypted secret key\n"
           "RWRTY0IyQuX046PjIcXDk/r4CSffEseU3JAL7PlB8O5JOO7pY2sAAAACAAAAAAAAAEAAAAAAytQo"
           "ugYoRybCRRAxLJa3E89PRFna1w3AliB7UuBmE8V3W7jVZ9SzrxGhcq3qwAvJfFXFH2KZgQM5n6I5"
           "9WgTVn+cBdAVDfAnDcoms9nFfblMjk9dV4D6llvod023qwmFQVYufitrKbc=\n")
+
+# Where the two halves of a secret key stand in its record.
+SEED_AT, PUBLIC_HALF_AT = 62, 94
 
 COMMENT = "version 2 \u00e9"
 
@@ -151,6 +155,12 @@ def changed(text, at):
     return text[:at] + bytes([text[at] ^ 1]) + text[at + 1:]
 
 
+def with_half_changed(text, at):
+    """The text of a key that is not sealed with a byte of its record changed, whose checksum Minisign leaves at zeros."""
+    first, second = text.split(b"\n")[:2]
+    return first + b"\n" + base64.b64encode(changed(base64.b64decode(second), at)) + b"\n"
+
+
 def write(room, name, data):
     path = os.path.join(room, name)
     with open(path, "wb") as file:
@@ -213,6 +223,7 @@ def run_signer(checks, program, room, minisign):
     data, sealed = os.path.join(room, "data"), write(room, "sealed.key", SEALED.encode())
     good, wrong, endless = (write(room, name, text) for name, text in (("pw", b"pw\n"), ("wrong", b"pv\n"), ("endless", b"pw")))
     key, nothing = os.path.join(room, "key.key"), os.path.join(room, "nothing")
+    halves = [write(room, f"half{at}.key", with_half_changed(read(key), at)) for at in (SEED_AT, PUBLIC_HALF_AT, PUBLIC_HALF_AT + 31)]
     # The key, the data, the comment and the password, and what is said where no text is made.
     cases = [
         ("a key that was never sealed", (key, data, COMMENT), None),
@@ -227,6 +238,7 @@ def run_signer(checks, program, room, minisign):
         ("a carriage return", (key, data, "a\rb"), "a comment is too long for minisign, or has a zero byte or a carriage return"),
         ("too long a comment", (key, data, "a" * 8174), "a comment is too long for minisign, or has a zero byte or a carriage return"),
         ("the longest comment", (key, data, "a" * 8173), None),
+        *((f"a key of which a half was changed, {number}", (half, data, COMMENT), "Signature verification failed") for number, half in enumerate(halves)),
         ("no data", (key, nothing, COMMENT), "the data cannot be read"),
         ("no key", (nothing, data, COMMENT), "the key cannot be read"),
     ]

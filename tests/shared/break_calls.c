@@ -3,7 +3,8 @@
    BREAK_ERRNO is set, the call fails so. With BREAK_SHORT a write takes half of its bytes first, and the next one fails.
    With BREAK_GOES_ON a call is made after the signal, as one that stops the program, and the next write too. Calls of `write` count
    where they go to a regular file that the program has opened itself; those that only look, and getrandom, where they
-   are named. Says so by one byte on the descriptor BREAK_SAYS. */
+   are named. Says so by one byte on the descriptor BREAK_SAYS. With BREAK_UNNAMED no file without a name can be made, as on
+   file systems that have none. */
 #define _GNU_SOURCE
 #include <dirent.h>
 #include <dlfcn.h>
@@ -101,6 +102,10 @@ int openat(int folder, const char *path, int flags, ...)
     va_start(more, flags);
     mode = mode_of(flags, more);
     va_end(more);
+    if ((flags & O_TMPFILE) == O_TMPFILE && getenv("BREAK_UNNAMED")) {
+        errno = EOPNOTSUPP;
+        return -1;
+    }
     return is_broken("openat") ? -1 : real(folder, path, flags, mode);
 }
 
@@ -165,6 +170,7 @@ struct dirent *readdir(DIR *entries)
 
 BREAKS(int, rename, (const char *from, const char *to), (from, to))
 BREAKS(int, renameat2, (int from_folder, const char *from, int to_folder, const char *to, unsigned flags), (from_folder, from, to_folder, to, flags))
+BREAKS(int, linkat, (int from_folder, const char *from, int to_folder, const char *to, int flags), (from_folder, from, to_folder, to, flags))
 BREAKS(int, renameat, (int from_folder, const char *from, int to_folder, const char *to), (from_folder, from, to_folder, to))
 BREAKS(int, unlink, (const char *path), (path))
 BREAKS(int, unlinkat, (int folder, const char *path, int flags), (folder, path, flags))

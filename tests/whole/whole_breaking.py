@@ -27,6 +27,7 @@ class Task:
 
     def __init__(self, name, arguments, files, judges, before_failing=0):
         self.name, self.arguments, self.files, self.judges, self.before_failing = name, arguments, files, judges, before_failing
+        self.belong_together = len(judges) == 2
 
     def check(self, folder, killed=False):
         """How many files are new."""
@@ -151,7 +152,7 @@ class Breaking:
 
         def judge(came, status, said, folder):
             new = task.check(folder)
-            if status == 0 and new != count or status != 0 and (status != 2 or not said):
+            if status == 0 and new != count or status != 0 and (status != 2 or not said) or task.belong_together and new not in (0, count):
                 raise Failure(f"it ended with {status} and {new} new files, and said {said}")
             if not came and status != 0:
                 raise Failure(f"it ended with {status}, and said {said}")
@@ -219,7 +220,7 @@ class Breaking:
         """A run gets a signal when it brings its file to the disk or puts it in its place: nothing is left beside it."""
         with tempfile.TemporaryDirectory(dir=self.place) as folder:
             put_files(folder, task.files)
-            status, said = self.run(folder, task, {"LD_PRELOAD": self.preload, "BREAK_AT": "1", "BREAK_CALLS": "fsync rename renameat2",
+            status, said = self.run(folder, task, {"LD_PRELOAD": self.preload, "BREAK_AT": "1", "BREAK_CALLS": "fsync linkat rename renameat renameat2",
                                                    "BREAK_SIGNAL": str(int(number))})
             if status != -number or task.check(folder) != 0:
                 raise Failure(f"it ended with {status}, and said {said}")

@@ -2,10 +2,11 @@
 terminal. Both have to write and leave the same; where they differ by intent, the case names the row of
 docs/DIFFERENCES.md that says so, and how both end."""
 
+import os
 from dataclasses import dataclass, field
 from typing import Callable, Optional
 
-from whole_running import Step, checksum_of, record_of, run_steps, sealed, text_of, with_checksum
+from whole_running import Step, checksum_of, names_text, record_of, run_steps, sealed, text_of, with_checksum
 
 # The keys that both make of the fixed random bytes, once Minisign has made them.
 OPEN = "first.key"
@@ -113,6 +114,16 @@ def says(words):
     return lambda theirs, ours: "" if (ours.ran[-1].said or ours.ran[-1].output).strip().endswith(words) else f"ours: {ours.ran[-1]}"
 
 
+def names(words):
+    """Ours says what Minisign says, and behind that these words, which name the text."""
+
+    def judge(theirs, ours):
+        (one,), (other,) = theirs.ran, ours.ran
+        return "" if names_text(one.said, other.said) and other.said.endswith(words + b"\n") else f"Minisign {one}, ours {other}"
+
+    return judge
+
+
 def usage(theirs, ours):
     shown = ours.ran[-1].output.startswith(b"Usage:\nminisign -G ")
     return "" if shown and theirs.ran[-1].output.startswith(b"Usage:\n") else f"ours: {ours.ran[-1]}"
@@ -127,9 +138,9 @@ def usages():
         yield Case(f"usage of {' '.join(arguments)}", (Step(arguments),), row="`-k ROWS`", theirs=(2,), ours=(2,), judge=usage)
     for arguments in (("-v",), ("-G", "-v"), ("-v", "-Z")):
         yield Case(f"version of {' '.join(arguments)}", (Step(arguments),))
-    for arguments in (("-k", "0"), ("-k", "x"), ("-k", "-1"), ("-k", "9999999999"), ("-k", "")):
-        yield Case(f"no rows: {arguments[1]!r}", (Step(("-S", "-m", "data", *arguments)),), row="`-k ROWS`", theirs=(2,),
-                   ours=(2,), judge=usage)
+    for flag, row in (("-k", "`-k ROWS`"), ("-K", "`-K WORK`")):
+        for number in ("0", "x", "-1", "9999999999", "+1", ""):
+            yield Case(f"{flag} {number!r}", (Step(("-S", "-m", "data", flag, number)),), row=row, theirs=(2,), ours=(2,), judge=usage)
 
 
 def generating(keys):
@@ -153,6 +164,12 @@ def generating(keys):
     yield unsealed("over older ones", *pair, "-f", files={"a.pub": b"older", "a.key": b"older"})
     yield unsealed("in a folder that is made", "-p", "new/a.pub", "-s", "new/a.key")
     yield unsealed("named by its path", "-p", "./a.pub", "-s", "./a.key")
+    for public, secret in (("a.key", "a.key"), ("./a.key", "a.key")):
+        yield Case(f"the keys {public} and {secret}", (Step(("-GW", "-p", public, "-s", secret)),), row="equal names", theirs=(0,), ours=(2,),
+                   judge=nothing_left("a.key"))
+    long = b"x" * 1023 + b"\n"
+    yield Case("a key pair with the longest password", (Step(("-G", *pair, "-k", "16"), long * 2),), row="a password of 1,023 bytes over a pipe",
+               theirs=(2,), ours=(0,))
     for there in ("a.pub", "a.key"):
         yield Case(f"{there} is there", (Step(("-GW", *pair)),), {there: b"older"})
     yield Case("both are there", (Step(("-G", *pair), b"p\np\n"),), {"a.pub": b"older", "a.key": b"older"})
@@ -195,6 +212,8 @@ def recreating(keys):
         ("with an empty name", keys, ("-p", "", "-s", OPEN), b""),
     ):
         yield Case(f"a public key recreated {what}", (Step(("-R", *arguments), typed),), files)
+    yield Case("a public key recreated over its secret key", (Step(("-Rf", "-p", OPEN, "-s", OPEN)),), keys, row="equal names", theirs=(0,), ours=(2,),
+               judge=kept(OPEN, keys[OPEN]))
     yield Case("a public key recreated at a terminal", (Step(("-R", *pair, CLOSED), PASSWORD + b"\n", at_terminal=True),), keys)
     yield Case("a public key recreated with further names", (Step(("-R", *pair, OPEN, "more")),), keys,
                row="further names with `-G`, `-R` and `-C`", theirs=(0,), ours=(2,), judge=nothing_left("a.pub"))
@@ -240,15 +259,21 @@ def signing(keys):
         ("of files, legacy", (*key, "more", "-l")), ("of files into one", (*key, "-x", "sig", "more")),
         ("of files, and the flags behind", ("-m", "data", "more", "-s", OPEN)), ("of a path", ("-s", OPEN, "-m", "./data")),
         ("with a public key", (*key, "-p", PUBLIC)), ("with a public key as text", (*key, "-P", keys[PUBLIC].split()[-1])),
-        ("with no public key", (*key, "-p", "none.pub")), ("with a spoiled public key", (*key, "-P", "x")),
-        ("with data as a public key", (*key, "-p", "data")), ("with a secret key as a public key", (*key, "-p", OPEN)),
-        ("with two public keys", (*key, "-P", "x", "-p", PUBLIC)), ("with no data", ("-s", OPEN, "-m", "none")),
+        ("with no public key", (*key, "-p", "none.pub")), ("with two public keys", (*key, "-P", "x", "-p", PUBLIC)), ("with no data", ("-s", OPEN, "-m", "none")),
         ("of files, one of which is not there", (*key, "none", "more")), ("with no key", ("-s", "none.key", "-m", "data")),
         ("with a key of no name", ("-s", "", "-m", "data")), ("of data of no name", ("-s", OPEN, "-m", "")),
         ("of a folder", ("-s", OPEN, "-m", "home")), ("into no folder", (*key, "-x", "none/sig")),
         ("with flags of other commands", (*key, "-f", "-q", "-Q", "-o")), ("by default of all", ("-m", "data")),
     ):
         yield Case(f"signed {what}", (Step(("-S", *arguments)),), files)
+    for what, arguments, words in (("a spoiled public key", ("-P", "x"), b"-P: this has 1 letters, and a public key has 56"),
+                                   ("data as a public key", ("-p", "data"), b"data: this is no public key: it has 1 of 2 lines"),
+                                   ("a secret key as a public key", ("-p", OPEN), b"first.key: this is a secret key, not a public key")):
+        yield Case(f"signed with {what}", (Step(("-S", *key, *arguments)),), files, row="texts of a wrong kind", theirs=(2,), ours=(2,), judge=names(words))
+    yield Case("signed over the secret key", (Step(("-S", *key, "-x", OPEN)),), files, row="equal names", theirs=(0,), ours=(2,), judge=kept(OPEN, keys[OPEN]))
+    for name, flags in ((b"caf\xe9", ()), (b"end ", ("-l",))):
+        yield Case(f"signed of {name!r}", (Step(("-S", *flags, "-s", OPEN, "-m", name)),), {OPEN: keys[OPEN], os.fsdecode(name): b"data"},
+                   row="a name in Latin-1, and with `-l` one that ends in a blank", theirs=(0,), ours=(2,))
     older = {f"{name}.minisig": b"older" for name in DATA}
     for what, arguments in (("", ("more", "empty")), (", one of which is not there", ("more", "none", "empty")), (", one of them twice", ("more", "data")),
                             (", and one of the signatures", ("data.minisig", "more")), (", which are many", tuple(DATA) * 30)):
@@ -308,8 +333,16 @@ def verifying(keys, signature, legacy):
                                 ("other data", ("-m", "more", "-x", "data.minisig", "-p", PUBLIC)), ("another key", ("-m", "data", "-p", OTHER)),
                                 ("a legacy signature", ("-m", "data", "-x", "legacy.minisig", "-p", PUBLIC)),
                                 ("no signature", ("-m", "more", "-p", PUBLIC)), ("no data", ("-m", "none", "-x", "data.minisig", "-p", PUBLIC)),
-                                ("no key", ("-m", "data")), ("a signature as a key", ("-m", "data", "-p", "data.minisig"))):
+                                ("no key", ("-m", "data"))):
             yield Case(f"verified {what} {' '.join(flags)}", (Step(("-V", *arguments, *flags)),), files)
+        yield Case(f"verified a signature as a key {' '.join(flags)}", (Step(("-V", "-m", "data", "-p", "data.minisig", *flags)),), files,
+                   row="texts of a wrong kind", theirs=(2,), ours=(2,), judge=names(b"data.minisig: this is a signature, not a public key"))
+    yield Case("verified legacy data of a pipe", (Step(("-Vm", "/dev/stdin", "-x", "legacy.minisig", "-p", PUBLIC), DATA["data"]),), files,
+               row="data of a legacy signature from a pipe", theirs=(2,), ours=(0,))
+    yield Case("verified other legacy data of a pipe", (Step(("-Vm", "/dev/stdin", "-x", "legacy.minisig", "-p", PUBLIC), DATA["more"]),), files,
+               row="data of a legacy signature from a pipe", theirs=(2,), ours=(1,))
+    yield Case("verified with a folder in place of a signature", (Step(("-Vm", "data", "-x", "home", "-p", PUBLIC)),), files,
+               row="a folder in place of a signature", theirs=(2,), ours=(2,), judge=says(b"home: Is a directory"))
     for what, arguments in (("by default", ("-Vm", "data")), ("with a signature file of no name", ("-Vm", "data", "-x", "")),
                             ("with a key file of no name", ("-Vm", "data", "-p", "")), ("with two keys", ("-Vm", "data", "-p", PUBLIC, "-P", inline)),
                             ("of a folder", ("-Vm", "home", "-x", "data.minisig"))):

@@ -10,10 +10,10 @@ import tempfile
 import minisign_differences as differences
 from minisign_cases import Minisign, damaged, fresh_cases, letter_damages, line_damages, lines, random_cases, randomly_changed, record_damages, \
     whole_damages, with_line
-from minisign_running import arguments_of, put_case, run
+from minisign_running import Answer, arguments_of, put_case, run
 from real_minisign import kept_cases, wrong_of
 from whole_cases import CLOSED, OPEN, PASSWORD
-from whole_running import HOME, Step, checksum_of, put_files, run_step, sealed
+from whole_running import HOME, Step, checksum_of, names_text, put_files, run_step, sealed
 
 SIGNATURES = 1500
 KEYS = 900
@@ -42,6 +42,9 @@ def run_signatures(whole, cases):
         for case in cases:
             put_case(folder, case)
             theirs, ours = (run([program, *arguments_of(case)], folder) for program in (whole.theirs, whole.ours))
+            # (that the line behind the first one is right is tested in `whole_words.py`)
+            if theirs.status == ours.status == 2 and names_text(theirs.said, ours.said):
+                ours = Answer(ours.status, ours.output, theirs.said)
             wrong, _ = wrong_of(case, theirs, ours, None)
             if wrong:
                 failures.append(f"{case.name}: {wrong}")

@@ -44,6 +44,12 @@ class Ran:
         return f"status {self.status}, {self.output[-200:]!r}, {self.said[-200:]!r}"
 
 
+def names_text(theirs, ours):
+    """Whether ours says what Minisign says of a text, and behind that one line more, which names the text."""
+    front, _, line = ours.partition(b"\n")
+    return theirs == front + b"\n" and re.fullmatch(rb"[^\n]+: [^\n]+\n", line) is not None
+
+
 @dataclass(frozen=True)
 class Whole:
     """The two programs, and what is preloaded into them."""
@@ -207,3 +213,19 @@ def sealed(text, password, salt=bytes(range(32))):
     limits = (32768).to_bytes(8, "little") + (16777216).to_bytes(8, "little")
     closed = bytes(a ^ b for a, b in zip(record[54:158], stream))
     return text_of(b"EdScB2" + salt + limits + closed)
+
+
+# So few rows take so little work that they may be made often.
+FEW_ROWS = 1024
+# More work than a test does: such a key has zeros in place of its stream, and opens under no password.
+MUCH_WORK = 1 << 22
+
+
+def sealed_for(text, password, times, rows=FEW_ROWS):
+    """The key of an open text, sealed with limits that lead to this N and this p of scrypt."""
+    record, salt = with_checksum(record_of(text)), bytes(range(32))
+    stream = bytes(104)
+    if times * rows < MUCH_WORK:
+        stream = hashlib.scrypt(password, salt=salt, n=rows, r=8, p=times, maxmem=(1 << 31) - 1, dklen=104)
+    limits = (times * 8 * 4 * rows).to_bytes(8, "little") + (rows * 1024).to_bytes(8, "little")
+    return text_of(b"EdScB2" + salt + limits + bytes(a ^ b for a, b in zip(record[54:158], stream)))

@@ -1,0 +1,20 @@
+/*
+ * What a text is that was taken for that of a key or a signature.
+ */
+#ifndef KINDS_H
+#define KINDS_H
+
+#include <stddef.h>
+#include <stdint.h>
+
+#include "minisign.h"
+
+enum text_kind { PUBLIC_KEY_TEXT, SECRET_KEY_TEXT, SIGNATURE_TEXT };
+
+/*
+ * Says on the error stream which text is meant where the library refuses one for this error: a line of the file's name, or of
+ * the flag that gave it, and what the text is, as far as that can be known, or else what the library says of it.
+ */
+void say_kind(const char *name, const uint8_t *text, size_t len, enum text_kind wanted, enum minisign_error error);
+
+#endif

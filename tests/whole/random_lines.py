@@ -1,0 +1,327 @@
+#!/usr/bin/env python3
+"""Tries `c/minisign` on random command lines, built with what finds wrong use of memory and undefined behavior.
+
+    tests/whole/random_lines.py [SEED [NUMBER]]
+
+Each line has a command, most often with what it needs, and flags, names, comments and passwords of a kind that fits or not, in a
+folder of keys, signatures, texts of other kinds, links, folders and devices. It has to end with 0, 1 or 2 and without a word of
+AddressSanitizer or UndefinedBehaviorSanitizer; a file that it does not name stays as it was, no file is left half, no secret key is
+lost or given to others, and nothing is left beside them; what it signs Minisign's own program verifies, and of what it verifies both
+say the same. SEED is drawn where none is given, and printed; with NUMBER that line alone is tried. All 2,000 take a minute on four
+cores; after two minutes it ends with those that it has tried. It prints a line for each failure; the last line is
+`N passed, M failed`.
+
+Needs Python 3.9 or later, make, binutils, a C compiler with sanitizers, libsodium with its header and minisign 0.11, and installs what
+is not there where it may.
+"""
+
+import concurrent.futures
+import os
+import random
+import stat
+import subprocess
+import sys
+import tempfile
+import time
+
+HERE = os.path.dirname(os.path.realpath(__file__))
+sys.path += [os.path.join(HERE, "..", it) for it in ("shared", "minisign", "tool")]
+
+import needs
+import static_library
+from running import Failure, build_preload
+from whole_breaking import STAGE, is_secret
+from whole_cases import CLOSED, OPEN, OTHER, PASSWORD, PUBLIC, keys_of
+from whole_minisign import heed_signals
+from whole_running import Whole, put_files
+
+LINES = 2000
+# After so many seconds no further line is begun; fewer lines than this are too few.
+SECONDS, FEWEST = 110, 400
+SECONDS_OF_LINE = 60
+SANITIZED = "-O1 -g -fno-omit-frame-pointer -fsanitize=address,undefined -fno-sanitize-recover=all"
+# (what was taken is given back by the end of the program)
+ENVIRONMENT = {"HOME": "home", "ASAN_OPTIONS": "detect_leaks=0:exitcode=99", "UBSAN_OPTIONS": "exitcode=99"}
+REPORTS = (b"Sanitizer", b"runtime error")
+
+NAMES = ["data", "more", "empty", "folder", "none", "none/none", "", "link", "dangling", "/dev/null", "x" * 300,
+         "data/x", ".", "..", "./data", "odd\x1b\u202ename", b"caf\xe9", "end ", "text", "page", "archive", "wide"]
+# (what is read from these would never come)
+STREAMS = ["/dev/stdout", "/proc/self/fd/1", "/dev/full", "/dev/stderr"]
+SECRETS = [OPEN, CLOSED, "link.key", "cut.key", "turned.key"]
+PUBLICS = [PUBLIC, OTHER, "cut.pub", "link.pub"]
+SIGNATURES = ["data.minisig", "legacy.minisig", "more.minisig", "cut.minisig"]
+COMMENTS = ["a comment", "", " ", "a\nb", "a\rb", b"\xff", "\u00e9\u20ac", "t" * 1003, "t" * 1004, "t" * 8173, "t" * 8174, "tab\there", "end "]
+TYPED = [PASSWORD + b"\n", b"wrong\n", b"\n", b"", b"\0\n", b"\xff\n", b"x" * 1023 + b"\n", b"x" * 3000 + b"\n", PASSWORD]
+# Lines that seal a key take seconds each: so few of them have both passwords.
+SEALING = 0.002
+
+
+class Folder:
+    """What stands in the folder of a line before it."""
+
+    def __init__(self, whole, room):
+        self.whole = whole
+        keys = keys_of(whole)
+        self.inline = keys[PUBLIC].split()[-1].decode()
+        signed = os.path.join(room, "signed")
+        os.mkdir(signed)
+        put_files(signed, {**keys, "data": b"some data\n", "more": b"more data\n"})
+        for arguments in (("-Sm", "data", "more", "-s", OPEN), ("-Slm", "data", "-s", OPEN, "-x", "legacy.minisig")):
+            subprocess.run([whole.theirs, *arguments], cwd=signed, stdin=subprocess.DEVNULL, stdout=subprocess.DEVNULL, check=True)
+        made = {}
+        for name in SIGNATURES[:3]:
+            with open(os.path.join(signed, name), "rb") as file:
+                made[name] = file.read()
+        turned = bytearray(keys[OPEN])
+        turned[-30] ^= 2
+        self.files = {**keys, **made, "data": b"some data\n", "more": b"more data\n", "empty": b"", "folder/kept": b"kept",
+                      "cut.key": keys[OPEN][:100], "turned.key": bytes(turned), "cut.pub": keys[PUBLIC][:60], "cut.minisig": made["data.minisig"][:150],
+                      "text": b"a text\nof\nfour\nlines\n", "page": b"<!DOCTYPE html>\n<html>\n", "archive": bytes.fromhex("1f8b0800") + bytes(40),
+                      "wide": keys[PUBLIC].decode().encode("utf-16"), "end ": b"end", "odd\x1b\u202ename": b"odd", os.fsdecode(b"caf\xe9"): b"latin",
+                      "home/.minisign/minisign.key": keys[OPEN], "minisign.pub": keys[PUBLIC]}
+        self.secrets = [keys[OPEN], keys[CLOSED]]
+        self.links = {"link": "data", "dangling": "made", "link.key": OPEN, "link.pub": PUBLIC}
+
+    def make(self, folder):
+        put_files(folder, self.files)
+        for name, target in self.links.items():
+            os.symlink(target, os.path.join(folder, name))
+
+
+class Line:
+    """A random command line."""
+
+    def __init__(self, folder, source):
+        self.folder, self.source = folder, source
+        self.command = source.choice("GGRCSSSVVVV")
+        self.arguments, self.outputs = [f"-{self.command}"], set()
+        self.typed = b"".join(source.choice(TYPED) for _ in range(source.randint(0, 3)))
+        getattr(self, f"add_{self.command}")()
+        self.add_flags()
+        if source.random() < 0.03:
+            self.arguments.insert(source.randint(0, len(self.arguments)), source.choice(["-G", "-S", "-V", "-Z", "-v", "-h", "--", "-"]))
+
+    def name_of(self, usual):
+        """Mostly a name of this kind, and else any name."""
+        return self.source.choice(usual if self.source.random() < 0.8 else [*NAMES, *SECRETS, *PUBLICS, *SIGNATURES])
+
+    def add(self, flag, value):
+        self.arguments += [flag, value]
+
+    def add_output(self, flag, value):
+        if self.command in "GS" and self.source.random() < 0.05:
+            value = self.source.choice(STREAMS)
+        self.add(flag, value)
+        self.outputs.add(value)
+
+    def add_sealing(self):
+        """Whether the key gets a password, which takes long."""
+        if self.source.random() < SEALING:
+            self.typed = (PASSWORD + b"\n") * 3
+        elif self.source.random() < 0.9:
+            self.arguments.append("-W")
+        else:
+            # (a key that is open gets a password: the second one of two is another)
+            self.typed = PASSWORD + b"\n" + b"one\ntwo\n"
+
+    def add_G(self):
+        if self.source.random() < 0.9:
+            self.add_output("-p", self.name_of(["a.pub", "none", "new/a.pub", PUBLIC]))
+        if self.source.random() < 0.9:
+            self.add_output("-s", self.name_of(["a.key", "new/a.key", OPEN, CLOSED]))
+        if self.source.random() < 0.5:
+            self.arguments.append("-f")
+        self.outputs |= {"minisign.pub", "home/.minisign/minisign.key"}
+        self.add_sealing()
+
+    def add_R(self):
+        if self.source.random() < 0.9:
+            self.add("-s", self.name_of(SECRETS))
+        if self.source.random() < 0.9:
+            self.add_output("-p", self.name_of(["a.pub", PUBLIC, "new.pub"]))
+        if self.source.random() < 0.5:
+            self.arguments.append("-f")
+        self.outputs.add("minisign.pub")
+
+    def add_C(self):
+        if self.source.random() < 0.9:
+            self.add_output("-s", self.name_of(SECRETS))
+        self.outputs.add("home/.minisign/minisign.key")
+        self.add_sealing()
+
+    def add_S(self):
+        data = self.name_of(["data", "more", "empty"])
+        if self.source.random() < 0.95:
+            self.add("-s", self.name_of(SECRETS))
+        if self.source.random() < 0.95:
+            self.add("-m", data)
+            self.outputs.add(beside(data))
+        if self.source.random() < 0.4:
+            self.add_output("-x", self.name_of(["made.minisig", "data.minisig", "dangling"]))
+        for _ in range(self.source.choice([0, 0, 0, 1, 3, 40])):
+            further = self.name_of(["data", "more", "empty", "text"])
+            self.arguments.append(further)
+            self.outputs.add(beside(further))
+        if self.source.random() < 0.2:
+            self.add("-p", self.name_of(PUBLICS))
+        if self.source.random() < 0.1:
+            self.add("-P", self.source.choice([self.folder.inline, "", "x", "-" * 56, self.folder.inline[:-1]]))
+
+    def add_V(self):
+        if self.source.random() < 0.95:
+            self.add("-m", self.name_of(["data", "more", "empty"]))
+        if self.source.random() < 0.7:
+            self.add("-x", self.name_of(SIGNATURES))
+        if self.source.random() < 0.7:
+            self.add("-p", self.name_of(PUBLICS))
+        elif self.source.random() < 0.5:
+            self.add("-P", self.source.choice([self.folder.inline, "", "x", "-" * 56, self.folder.inline[:-1]]))
+
+    def add_flags(self):
+        source = self.source
+        for flag in "lHoqQ":
+            if source.random() < 0.1:
+                self.arguments.append(f"-{flag}")
+        for flag in "ct":
+            if source.random() < 0.2:
+                self.add(f"-{flag}", source.choice(COMMENTS))
+        for flag in "kK":
+            if source.random() < 0.05:
+                self.add(f"-{flag}", source.choice(["1", "16", "0", "-1", "x", "1048577"]))
+
+    def has_folder(self, folder):
+        """Whether a folder is among its names."""
+        return any(os.path.isdir(os.path.join(os.fsencode(folder), os.fsencode(it))) for it in self.arguments[1:])
+
+    @property
+    def secret(self):
+        """The name of the secret key, where it is named."""
+        return self.arguments[self.arguments.index("-s") + 1] if "-s" in self.arguments else None
+
+    def is_plain(self):
+        """Whether Minisign has the same flags, and takes no name more than ours."""
+        return not any(it in self.arguments for it in ("-k", "-K", "-G", "-S", "-Z", "-v", "-h", "--", "-")) and self.arguments.count("-V") == 1
+
+
+def beside(name):
+    """The signature's name by default."""
+    return name + (b".minisig" if isinstance(name, bytes) else ".minisig")
+
+
+def run(program, folder, line):
+    return subprocess.run([program, *line.arguments], cwd=folder, env=ENVIRONMENT, input=line.typed, stdout=subprocess.PIPE, stderr=subprocess.PIPE,
+                          timeout=SECONDS_OF_LINE, umask=0o022)
+
+
+def check_files(before, folder, line):
+    """What the line may not do to the files."""
+    outputs = {os.path.realpath(os.path.join(folder, os.fsdecode(name))) for name in line.outputs}
+    found = {}
+    for at, _, names in os.walk(folder):
+        for name in names:
+            path = os.path.join(at, name)
+            if name.startswith(STAGE):
+                raise Failure(f"it left {name}")
+            if not os.path.islink(path):
+                with open(path, "rb") as file:
+                    found[os.path.relpath(path, folder)] = file.read()
+    for name, data in before.files.items():
+        path = os.path.join(folder, name)
+        if name not in found:
+            raise Failure(f"{name!r} is gone")
+        if found[name] != data and os.path.realpath(path) not in outputs:
+            raise Failure(f"{name!r} was changed")
+        if data in before.secrets and (name == line.secret and line.command != "G" or line.command == "C"):
+            is_secret(found[name])
+    for name, data in found.items():
+        mode = stat.S_IMODE(os.stat(os.path.join(folder, name)).st_mode)
+        if data.startswith(b"untrusted comment: minisign encrypted secret key") and data != before.files.get(name) and mode != 0o600:
+            raise Failure(f"{name!r} has the mode {mode:o}")
+        if data == b"" and before.files.get(name) != b"":
+            raise Failure(f"{name!r} is empty")
+
+
+def check_signatures(before, folder, line):
+    """What was signed well Minisign verifies."""
+    if "-x" in line.arguments or "-m" not in line.arguments:
+        return
+    data = line.arguments[line.arguments.index("-m") + 1]
+    command = [before.whole.theirs, "-Vm", data, "-P", before.inline]
+    ran = subprocess.run(command, cwd=folder, stdin=subprocess.DEVNULL, stdout=subprocess.DEVNULL, stderr=subprocess.PIPE, timeout=SECONDS_OF_LINE)
+    if ran.returncode != 0:
+        raise Failure(f"Minisign does not verify what was signed: {ran.stderr!r}")
+
+
+def check_line(before, line):
+    """Raises a `Failure` where a line does something that it may not."""
+    with tempfile.TemporaryDirectory(prefix="random-line-") as folder:
+        before.make(folder)
+        ran = run(before.whole.ours, folder, line)
+        if ran.returncode not in (0, 1, 2) or any(word in ran.stderr for word in REPORTS):
+            raise Failure(f"it ended with {ran.returncode}, and said {ran.stderr[-1500:].decode(errors='replace')}")
+        check_files(before, folder, line)
+        if line.command == "S" and ran.returncode == 0 and not any(it in line.arguments for it in ("-v", "-p", "-P")):
+            check_signatures(before, folder, line)
+        if line.command == "V" and line.is_plain():
+            theirs = run(before.whole.theirs, folder, line)
+            # (of a folder as the data and another key each names one: the order of the tests)
+            if theirs.returncode != ran.returncode and (0 in (theirs.returncode, ran.returncode) or not line.has_folder(folder)):
+                raise Failure(f"it ended with {ran.returncode}, {ran.stderr!r}, and Minisign with {theirs.returncode}, {theirs.stderr!r}")
+
+
+def check_lines(before, seed, numbers, end):
+    """Tries lines until this time: the failures, and how many were tried."""
+    failures, count = [], 0
+    for number in numbers:
+        if time.time() > end:
+            break
+        count += 1
+        line = Line(before, random.Random(f"{seed} {number}"))
+        try:
+            check_line(before, line)
+        except (Failure, subprocess.SubprocessError, OSError) as why:
+            failures.append(f"line {number} of seed {seed}: {line.arguments!r}, typed {line.typed[:80]!r}: {why}")
+    return failures, count
+
+
+def build(room):
+    """The program, built so that it finds what is wrong."""
+    made = f"{room}/c/minisign"
+    static_library.run_make(f"OUT={room}/c", f"CC={needs.libsodium()}", f"CFLAGS={SANITIZED}", made)
+    return made
+
+
+def run_all(seed, numbers, room):
+    """Tries the lines, several at a time: the failures, and how many were tried."""
+    before = Folder(Whole(needs.minisign(), build(room), build_preload(room, "fixed_sources")), room)
+    workers = os.cpu_count() or 1
+    end = time.time() + SECONDS
+    with concurrent.futures.ProcessPoolExecutor(workers) as pool:
+        results = list(pool.map(check_lines, [before] * workers, [seed] * workers, [numbers[start::workers] for start in range(workers)], [end] * workers))
+    failures, count = [failure for some, _ in results for failure in some], sum(tried for _, tried in results)
+    if count < min(FEWEST, len(numbers)):
+        failures.append(f"only {count} lines were tried in {SECONDS} seconds")
+    return failures, count
+
+
+def main():
+    heed_signals()
+    seed = int(sys.argv[1]) if len(sys.argv) > 1 else random.SystemRandom().randrange(2**32)
+    numbers = [int(sys.argv[2])] if len(sys.argv) > 2 else list(range(LINES))
+    print(f"seed {seed}", flush=True)
+    with tempfile.TemporaryDirectory(prefix="random-lines-") as room:
+        try:
+            failures, count = run_all(seed, numbers, room)
+        except (needs.Missing, static_library.NotBuilt, RuntimeError) as why:
+            print(f"FAILED: {why}")
+            print("0 passed, 1 failed")
+            return 1
+    for failure in failures:
+        print(f"FAILED: {failure}")
+    print(f"{max(count - len(failures), 0)} passed, {len(failures)} failed")
+    return 1 if failures else 0
+
+
+if __name__ == "__main__":
+    sys.exit(main())
