@@ -1,5 +1,6 @@
 """What the sources of the page have to have in common with those of the library for C, and what the built page may name."""
 
+import hashlib
 import os
 import re
 
@@ -59,5 +60,21 @@ def check_file(checks, path):
     checks.check(not re.search(r"https?:|\ssrc=|@import|url\(|<link (?!rel=\"icon\" href=\"data:,\")|\{\{", text), "the page names something outside of it")
     policy = re.search(r'http-equiv="Content-Security-Policy" content="([^"]*)"', text)[1]
     checks.check(policy.startswith("default-src 'none'; ") and "unsafe-inline" not in policy and "'unsafe-eval'" not in policy
-                 and "connect-src" not in policy, f"the policy is {policy}")
+                 and "connect-src" not in policy and policy.endswith("; trusted-types minisign-thread"), f"the policy is {policy}")
     checks.same(len(re.findall("<script", text)), 1, "the number of scripts")
+
+
+def check_same_bytes(checks, path):
+    """The same module and sources give the same bytes, which name the version, the licence, and the sum that `--sources` stands for."""
+    with open(path, encoding="utf-8", newline="") as file:
+        text = file.read()
+    checks.check(build.page(*build.taken_from(path)) == text, "the page's module and sources give other bytes than the page has")
+    lines = build.source_lines()
+    for line in lines.splitlines():
+        digest, name = line.split("  ")
+        with open(os.path.join(TOP, name), "rb") as file:
+            checks.check(hashlib.sha256(file.read()).hexdigest() == digest, f"--sources has another sum of {name}")
+    for words in (f"Minisign in Rattle {build.version()}, under the MIT License", hashlib.sha256(lines.encode()).hexdigest(), "Permission is hereby granted"):
+        checks.check(words in text, f"the page does not name {words!r}")
+    for name in ("crates/minisign/src/", "crates/minisign_hash/specs/", "crates/minisign_page/src/lib.rt", "page/page.js", "include/minisign.h"):
+        checks.check(name in lines, f"{name} is not among the sources")
