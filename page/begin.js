@@ -1,5 +1,5 @@
-// The begin: what the browser lacks is said; otherwise the library is loaded, and the page takes what it is given. The same script
-// is begun once more in the thread that verifies, which has no document.
+// The begin: what the browser lacks is said; otherwise the library is loaded, and the page takes what it is given. The same
+// script is begun once more in the thread that verifies, which has no document.
 
 // The shortest module with a memory of 32-bit addresses and a function that takes a number of 64 bits.
 const SHORTEST = Uint8Array.of(0, 97, 115, 109, 1, 0, 0, 0, 1, 5, 1, 96, 1, 126, 0, 5, 3, 1, 0, 1);
@@ -12,7 +12,8 @@ function hasWebAssembly() {
 async function lackingParts() {
   const parts = hasWebAssembly() ? [] : ["WebAssembly"];
   if (!await hasEd25519()) {
-    parts.push(isSecureContext ? "Ed25519 in WebCrypto" : "Ed25519 here, since this page was not opened from disk or by https");
+    parts.push(isSecureContext ? "Ed25519 in WebCrypto"
+      : "Ed25519 here, since this page was not opened from disk or by https");
   }
   return parts;
 }
@@ -26,7 +27,8 @@ function refuse(words) {
 async function begin(script) {
   const parts = await lackingParts();
   if (parts.length > 0) {
-    refuse(`This browser lacks ${parts.join(", and ")}, so this page verifies nothing in it. A newer browser may have what is missing.`);
+    refuse(`This browser lacks ${parts.join(", and ")}, so this page verifies nothing in it. ` +
+      "A newer browser may have what is missing.");
     return;
   }
   try {

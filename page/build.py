@@ -67,11 +67,13 @@ def read(name):
 def sources():
     """The paths of all that the page is made from, in their order: page/, and the crates of its library."""
     crates = [*proved.crates()[CRATE].below, CRATE]
-    found = ["LICENSE", "crates.txt", "include/minisign.h", *(f"page/{name}" for name in ("build.py", "page.css", "page.html", *SCRIPTS))]
+    found = ["LICENSE", "crates.txt", "include/minisign.h", "page/build.py", "page/page.css", "page/page.html"]
+    found += [f"page/{name}" for name in SCRIPTS]
     for crate in crates:
         for part in ("src", "specs"):
             for folder, _, names in os.walk(os.path.join(TOP, "crates", crate, part)):
-                found += [os.path.relpath(os.path.join(folder, name), TOP) for name in names if name.endswith((".rt", ".antt"))]
+                named = [name for name in names if name.endswith((".rt", ".antt"))]
+                found += [os.path.relpath(os.path.join(folder, name), TOP) for name in named]
     return sorted(found)
 
 
@@ -96,7 +98,7 @@ def version():
 def proved_module():
     """The module for a memory of 64 bits, proved and built."""
     if shutil.which("rt") is None:
-        raise NotPossible("the page's library is proved and built by the kit of Rattle, whose command `rt` is not on this machine's PATH.")
+        raise NotPossible("the page's library is proved and built by the kit of Rattle, whose command `rt` is not here.")
     print("page: building its module, and proving first what is not proved", flush=True)
     with tempfile.TemporaryDirectory(prefix="minisign-page-") as room:
         archive, linked = f"{room}/lib{CRATE}.a", f"{room}/{CRATE}.wasm"
@@ -112,8 +114,8 @@ def lowered(wasm):
         wide, narrow = f"{room}/wide.wasm", f"{room}/narrow.wasm"
         with open(wide, "wb") as file:
             file.write(wasm)
-        ran = subprocess.run([needs.wasm_opt(), *LOWERING, wide, "-o", narrow], stdin=subprocess.DEVNULL, stdout=subprocess.PIPE,
-                             stderr=subprocess.STDOUT, errors="replace")
+        ran = subprocess.run([needs.wasm_opt(), *LOWERING, wide, "-o", narrow], stdin=subprocess.DEVNULL,
+                             stdout=subprocess.PIPE, stderr=subprocess.STDOUT, errors="replace")
         if ran.returncode != 0:
             raise NotPossible(f"wasm-opt made no module: {ran.stdout[-300:]}")
         with open(narrow, "rb") as file:
@@ -153,8 +155,9 @@ def policy(script, style):
     and nothing from anywhere.
     """
     return "; ".join([
-        "default-src 'none'", f"script-src {digest(script)} 'wasm-unsafe-eval'", "worker-src blob:", f"style-src {digest(style)}",
-        "img-src data:", "base-uri 'none'", "form-action 'none'", "require-trusted-types-for 'script'", "trusted-types minisign-thread",
+        "default-src 'none'", f"script-src {digest(script)} 'wasm-unsafe-eval'", "worker-src blob:",
+        f"style-src {digest(style)}", "img-src data:", "base-uri 'none'", "form-action 'none'",
+        "require-trusted-types-for 'script'", "trusted-types minisign-thread",
     ])
 
 
@@ -165,7 +168,7 @@ def checked_key(letters):
     except (binascii.Error, ValueError):
         record = b""
     if len(letters) != KEY_LETTERS or len(record) != KEY_BYTES or record[:2] != b"Ed":
-        raise NotPossible(f"a public key is one line of {KEY_LETTERS} letters that begins with RW, and {letters!r:.80} is none")
+        raise NotPossible(f"a key is one line of {KEY_LETTERS} letters that begins with RW, and {letters!r:.80} is none")
     return letters
 
 
@@ -178,8 +181,9 @@ def page(module, by, key="", title=TITLE):
     style = read("page.css")
     with open(os.path.join(TOP, "LICENSE"), encoding="utf-8") as file:
         licence = file.read().strip()
-    parts = {"policy": policy(script, style), "style": style, "script": script, "title": html.escape(title), "licence": licence,
-             "version": version(), "sources": hashlib.sha256(source_lines().encode()).hexdigest(), "lowering": html.escape(by)}
+    parts = {"policy": policy(script, style), "style": style, "script": script, "title": html.escape(title),
+             "licence": licence, "version": version(), "sources": hashlib.sha256(source_lines().encode()).hexdigest(),
+             "lowering": html.escape(by)}
     return re.sub(r"\{\{(\w+)\}\}", lambda found: parts[found[1]], read("page.html"))
 
 
@@ -194,11 +198,12 @@ def write(out, text):
 def options(words):
     """What is asked for."""
     parser = argparse.ArgumentParser(prog="page/build.py", description="Writes the page that verifies a download.")
-    parser.add_argument("--key", default="", metavar="LETTERS", help="the public key that the page has built in: its line of 56 letters")
+    parser.add_argument("--key", default="", metavar="LETTERS", help="the key that is built in: its line of 56 letters")
     parser.add_argument("--title", default=TITLE, metavar="TITLE", help="the page's heading")
     parser.add_argument("--from", dest="built", metavar="PAGE", help="a page that was built before, whose module is taken")
     parser.add_argument("--sources", action="store_true", help="print the sums of the sources, and write no page")
-    parser.add_argument("out", nargs="?", default=os.path.join(HERE, "minisign.html"), metavar="OUT", help="the page that is written")
+    parser.add_argument("out", nargs="?", default=os.path.join(HERE, "minisign.html"), metavar="OUT",
+                        help="the page that is written")
     return parser.parse_args(words)
 
 

@@ -1,14 +1,14 @@
-// Where the library verifies: in a thread of its own, to which the page's script is given once more, so that reading a file and
-// hashing it go on side by side and the page answers meanwhile. Where the browser, or whoever serves the page, allows no such
-// thread, it verifies in the page's own.
+// Where the library verifies: in a thread of its own, to which the page's script is given once more, so that reading a file
+// and hashing it go on side by side and the page answers meanwhile. Where the browser, or whoever serves the page, allows no
+// such thread, it verifies in the page's own.
 
 // How long the thread may take to say that it is there, in milliseconds.
 const MOST_MILLISECONDS = 10000;
 
 // ---- In the thread ----
 
-// Gives the memory of bytes back at once, by posting it to where nobody is: it would lie there until the browser collects what
-// is left behind, which takes long enough for hundreds of megabytes.
+// Gives the memory of bytes back at once, by posting it to where nobody is: it would lie there until the browser collects
+// what is left behind, which takes long enough for hundreds of megabytes.
 function giveBack(bytes) {
   const {port1, port2} = new MessageChannel();
   port2.close();
@@ -59,7 +59,14 @@ class FarEngine {
     this.thread = thread;
     this.waiting = [];
     thread.onmessage = ({data}) => this.waiting.shift().resolve(data.result);
-    thread.onerror = thread.onmessageerror = () => this.waiting.splice(0).forEach(it => it.reject(new Error("the thread failed")));
+    thread.onerror = thread.onmessageerror = () => this.fail();
+  }
+
+  // What was asked is not answered.
+  fail() {
+    for (const {reject} of this.waiting.splice(0)) {
+      reject(new Error("the thread failed"));
+    }
   }
 
   // Calls a method of the library. The bytes that are fed go over to the thread, and are here no more.

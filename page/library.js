@@ -1,8 +1,8 @@
 // The proved library, built from the crate minisign_page: its calls, and where in its memory they find what they are passed.
-// They are proved and built for 64-bit WebAssembly; the page carries the module that wasm-opt made of that for a memory of 32
-// bits, whose calls still take each address and length as a number of 64 bits. Both modules can be loaded here. What a caller
-// owes the calls is in include/minisign.h, "What you owe". Each method copies in what it passes and copies out what was
-// written, so nothing but the state lasts from one call to the next.
+// They are proved and built for 64-bit WebAssembly; the page carries the module that wasm-opt made of that for a memory of
+// 32 bits, whose calls still take each address and length as a number of 64 bits. Both modules can be loaded here. What a
+// caller owes the calls is in include/minisign.h, "What you owe". Each method copies in what it passes and copies out what
+// was written, so nothing but the state lasts from one call to the next.
 
 const ANSWER_YES = 0x796573;
 const ANSWER_NO = 0x6e6f;
@@ -71,8 +71,8 @@ class Library {
     return new TextDecoder().decode(this.bytesAt(this.words, length));
   }
 
-  // Reads a public key, of two lines or of its base64 alone: its identifier, and the bytes of both as a record has them; or the
-  // number of why there is none.
+  // Reads a public key, of two lines or of its base64 alone: its identifier, and the bytes of both as a record has them; or
+  // the number of why there is none.
   readKey(text, isBare) {
     const read = isBare ? this.calls.page_read_bare_public_key : this.calls.page_read_public_key;
     const number = read(...this.put(this.keyText, TEXT_BYTES, text), BigInt(this.publicKey), BigInt(this.keyId)) >>> 0;
@@ -121,8 +121,10 @@ class Library {
     };
   }
 
-  // The verdict from two answers, yes or no: 0 exactly where the texts vouch for what was fed, or the number of the first reason why not.
+  // The verdict from two answers, yes or no: 0 exactly where the texts vouch for what was fed, or the number of the first
+  // reason why not.
   verdict(first, second) {
-    return this.calls.page_verdict(BigInt(this.state), first ? ANSWER_YES : ANSWER_NO, second ? ANSWER_YES : ANSWER_NO) >>> 0;
+    const answers = [first, second].map(it => it ? ANSWER_YES : ANSWER_NO);
+    return this.calls.page_verdict(BigInt(this.state), ...answers) >>> 0;
   }
 }

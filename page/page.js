@@ -5,16 +5,19 @@ const SIGNATURE_ENDING = ".minisig";
 const KEY_ENDING = ".pub";
 // The data of a signature of the older kind is held in memory as a whole, up to this many bytes.
 const MOST_LEGACY_BYTES = 64 * 1048576;
-// How many bytes of a file are read at a time: three such pieces are in memory.
+// How many bytes of a file are read at a time: two such pieces are in memory.
 const READ_BYTES = 4 * 1048576;
+// How many milliseconds a progress that is shown stays at least: showing it takes longer than one may think.
+const SHOWN_MILLISECONDS = 100;
 
 const at = id => document.getElementById(id);
 
-// The library in the page's own thread reads keys and has the words of numbers; the engine that has begun is where it verifies.
+// The library in the page's own thread reads keys and has the words of numbers; the engine that has begun is where it
+// verifies.
 let library;
 let engineBegun;
-// The public key: its text of two lines, its identifier, its 56 letters, and its source, which is a kind of SOURCES and the name
-// of a file; or nothing while there is none.
+// The public key: its text of two lines, its identifier, its 56 letters, and its source, which is a kind of SOURCES and the
+// name of a file; or nothing while there is none.
 let key = null;
 // A file, its signature and its row, by the file's name and in the order in which they came.
 const downloads = new Map();
@@ -169,15 +172,17 @@ function nameOfSigned(name) {
   return end > 0 ? name.slice(0, end) : name.replace(/([^])\.[^.]*$/, "$1");
 }
 
-// Takes files that were chosen or dropped together: each is a public key, a signature or data. One file and one signature belong
-// together whatever their names are.
+// Takes files that were chosen or dropped together: each is a public key, a signature or data. One file and one signature
+// belong together whatever their names are.
 async function takeFiles(files, hasFolders = false) {
   emptyLog();
   sayOfFiles(hasFolders ? [HAS_FOLDERS] : []);
   const names = new Set(files.map(file => file.name));
   // A file that was taken for a download before, or comes with its signature, is one whatever is in it.
-  const isDownload = ({name}) => !name.endsWith(SIGNATURE_ENDING) && (names.has(name + SIGNATURE_ENDING) || downloads.has(name));
-  const given = await Promise.all(files.map(async file => ({file, kind: isDownload(file) ? "data" : await kindOfFile(file)})));
+  const isDownload = ({name}) =>
+    !name.endsWith(SIGNATURE_ENDING) && (names.has(name + SIGNATURE_ENDING) || downloads.has(name));
+  const kindOf = async file => isDownload(file) ? "data" : await kindOfFile(file);
+  const given = await Promise.all(files.map(async file => ({file, kind: await kindOf(file)})));
   const of = kind => given.filter(it => it.kind === kind).map(it => it.file);
   const [data, signatures] = [of("data"), of("signature")];
   const isPair = data.length === 1 && signatures.length === 1;
@@ -306,7 +311,8 @@ async function verdictOn(download, run) {
   }
   await engine.call("begin");
   const whole = asked.isLegacy ? await bytesOfFile(data, 0, data.size) : null;
-  const isRead = asked.isLegacy ? whole !== null && await engine.call("feed", whole.slice()) === 0 : await feedFile(engine, download, run);
+  const isRead = asked.isLegacy ? whole !== null && await engine.call("feed", whole.slice()) === 0
+    : await feedFile(engine, download, run);
   if (run.isStopped) {
     return null;
   }
@@ -343,18 +349,22 @@ async function isOfOtherEnds(signatureText, questions) {
   return false;
 }
 
-// Feeds a file, of which three pieces are in memory: one is read, one waits and one is hashed. Answers whether all of it was read.
+// Feeds a file, of which two pieces are in memory: one is read while the other is hashed. Answers whether all of it was
+// read.
 async function feedFile(engine, download, run) {
   const file = download.data;
-  let next = bytesOfFile(file, 0, READ_BYTES), fed = Promise.resolve(0);
+  let next = bytesOfFile(file, 0, READ_BYTES), fed = Promise.resolve(0), shownAt = 0;
   for (let begin = 0; begin < file.size; begin += READ_BYTES) {
     const piece = await next;
     if (await fed !== 0 || run.isStopped || piece === null) {
       return false;
     }
     next = bytesOfFile(file, begin + READ_BYTES, begin + 2 * READ_BYTES);
-    showProgress(download, begin);
     fed = engine.call("feed", piece);
+    if (performance.now() >= shownAt + SHOWN_MILLISECONDS) {
+      showProgress(download, begin);
+      shownAt = performance.now();
+    }
   }
   return await fed === 0;
 }

@@ -17,7 +17,8 @@ function headOf(sign, words, {name}) {
 // How long the file is, and the name of its signature where that is not the file's with its ending.
 function partsLine({name, data, signature}) {
   const size = data ? sizeOf(data.size) : "";
-  const other = signature && signature.name !== name + SIGNATURE_ENDING ? ["with the signature ", nameOf(signature.name)] : [];
+  const isOther = signature && signature.name !== name + SIGNATURE_ENDING;
+  const other = isOther ? ["with the signature ", nameOf(signature.name)] : [];
   return element("p", "aside", size, size && other.length > 0 ? ", " : "", ...other);
 }
 
@@ -75,11 +76,13 @@ function showVerdict(download, {kind, why, number, questions, comment}, source) 
   if (number !== undefined) {
     download.row.dataset.number = number;
   }
-  say(download, `${isGood ? `Verified, signed with the key ${questions.publicKeyId}.` : `NOT verified. ${why}`}${warning ? ` ${warning}` : ""}`);
+  const words = isGood ? `Verified, signed with the key ${questions.publicKeyId}.` : `NOT verified. ${why}`;
+  say(download, warning ? `${words} ${warning}` : words);
 }
 
 function goodLines(download, questions, comment, source) {
-  const signed = element("p", "", `This file is exactly what was signed with the key ${questions.publicKeyId}, `, ...sourceOf(source), ".");
+  const signed = element("p", "", `This file is exactly what was signed with the key ${questions.publicKeyId}, `,
+    ...sourceOf(source), ".");
   if (comment === "") {
     return [signed, element("p", "", "The trusted comment, which was signed with it, is empty.")];
   }
@@ -99,9 +102,15 @@ function goodLines(download, questions, comment, source) {
 }
 
 function badLines(why, number, questions) {
-  const keys = number === 29 ? [element("p", "", `The signature's key is ${questions.signatureKeyId}, and the public key is ${questions.publicKeyId}.`)] : [];
-  const words = number === undefined ? [] : [element("p", "aside", `In the library's words: ${library.errorText(number)}.`)];
-  return [element("p", "why", why), ...keys, ...words];
+  const lines = [element("p", "why", why)];
+  if (number === 29) {
+    const {signatureKeyId, publicKeyId} = questions;
+    lines.push(element("p", "", `The signature's key is ${signatureKeyId}, and the public key is ${publicKeyId}.`));
+  }
+  if (number !== undefined) {
+    lines.push(element("p", "aside", `In the library's words: ${library.errorText(number)}.`));
+  }
+  return lines;
 }
 
 // Has a screen reader say something of a download: the verdict first.

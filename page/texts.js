@@ -1,8 +1,8 @@
 // What a text is: a key, a secret key, a signature, a command line; which key an address has; what a signed comment tells.
 
 const KEY_LETTERS = /^[A-Za-z0-9+/]{56}$/;
-// How the second lines begin: the algorithms of a public key and of the two kinds of signatures, and those of a secret key, with a
-// password and without one.
+// How the second lines begin: the algorithms of a public key and of the two kinds of signatures, and those of a secret key,
+// with a password and without one.
 const KEY_LINE = /^RW[A-Za-z0-9+/]{54}$/;
 const SIGNATURE_LINE = /^R[UW][A-Za-z0-9+/]{97}=$/;
 const SECRET_KEY_LINE = /RW(RTY0Iy|QAAEIy)[A-Za-z0-9+/]{100}/;
@@ -52,8 +52,8 @@ function lettersOf(text, isBare, record) {
   return letters;
 }
 
-// The 56 letters behind # of an address, as they stand or as key=, or nothing where it has no key, or more than one. Other words
-// are never taken.
+// The 56 letters behind # of an address, as they stand or as key=, or nothing where it has no key, or more than one. Other
+// words are never taken.
 function lettersOfAddress(behind) {
   const parts = behind.split("&");
   const named = parts.filter(part => part.startsWith("key=")).map(part => part.slice(4));
@@ -66,7 +66,8 @@ function lettersOfAddress(behind) {
   }
 }
 
-// What Minisign writes into a signed comment where the signer names none: the file's names and the time, as far as they are there.
+// What Minisign writes into a signed comment where the signer names none: the file's names and the time, as far as they are
+// there.
 function toldByComment(comment) {
   const told = {names: [], time: ""};
   for (const part of comment.split("\t")) {
@@ -84,8 +85,8 @@ function isSameName(name, other) {
   return name.normalize() === other.normalize();
 }
 
-// The trusted comments that may have been signed where the text's own, cut of white space, was not: with what stands at its ends
-// in the text, and with some white space that was lost there.
+// The trusted comments that may have been signed where the text's own, cut of white space, was not: with what stands at its
+// ends in the text, and with some white space that was lost there.
 function commentsWithEnds(signatureText, comment) {
   const line = signatureText.split("\n")[2] ?? "";
   const asItStands = line.slice(line.indexOf(":") + 1).replace(/^ /, "");

@@ -1,5 +1,6 @@
 #!/usr/bin/env python3
-"""Has the programs of c/ and examples/rust answer the vectors of Ed25519 that implementations differ in (`tests/shared/edges.py`).
+"""Has the programs of c/ and examples/rust answer the vectors of Ed25519 that implementations differ in
+(`tests/shared/edges.py`).
 
 Each vector becomes a public key, a signature of the older kind and its data. A program that accepts the vector goes on to
 the comment's signature, which no vector has, and refuses that one; one that refuses it says so: the words tell which. The
@@ -7,7 +8,8 @@ Rust example refuses that kind, so its function that asks libsodium is called fo
 signature of small order that would fit every file have to be refused by each. libsodium itself has to answer as the file
 of vectors says. It prints a line for each failure; the last line is `N passed, M failed`.
 
-Needs Python 3.9 or later, make, a C compiler, rustc and libsodium with its header, and installs what is not there where it may.
+Needs Python 3.9 or later, make, a C compiler, rustc and libsodium with its header, and installs what is not there where
+it may.
 """
 
 import ctypes
@@ -61,7 +63,8 @@ def put(room, name, data):
 def sodium_failures(room, compiler):
     """What is wrong with the answers of the libsodium that the programs are built over."""
     source = put(room, "all.c", b"#include <sodium.h>\nint main(void) { return 0; }\n")
-    subprocess.run([compiler, "-shared", "-fPIC", "-o", f"{room}/all.so", source, "-Wl,--no-as-needed", "-lsodium"], check=True)
+    subprocess.run([compiler, "-shared", "-fPIC", "-o", f"{room}/all.so", source, "-Wl,--no-as-needed", "-lsodium"],
+                   check=True)
     sodium, failures = ctypes.CDLL(f"{room}/all.so"), []
     for it in edges.vectors():
         key, signature, message = (bytes.fromhex(it[part]) for part in ("A", "sig", "msg"))
@@ -80,7 +83,8 @@ def program_failures(room, program):
         status, said = run([program, "-V", "-p", paths[0], "-m", paths[1], "-x", paths[2]])
         wanted = ACCEPTED if it["sodium"] else REFUSED
         if status != 1 or said.strip() != wanted:
-            failures.append(f"{os.path.basename(program)}: the vector {it['name']} ends with {status}: {said!r:.200}, and not {wanted!r}")
+            name = os.path.basename(program)
+            failures.append(f"{name}: the vector {it['name']} ends with {status}: {said!r:.200}, and not {wanted!r}")
     return failures
 
 
@@ -91,7 +95,8 @@ def rust_failures(room, library):
     if not own:
         return ["examples/rust: its begin is not where it is looked for"]
     source = put(room, "answers.rs", f"#![allow(dead_code)]\n{text}{RUST_BEGIN}".encode())
-    status, said = run([needs.rust_compiler(), "--edition", "2021", "-o", f"{room}/answers", source, "-C", f"link-arg={library}", "-l", "sodium"])
+    status, said = run([needs.rust_compiler(), "--edition", "2021", "-o", f"{room}/answers", source, "-C",
+                        f"link-arg={library}", "-l", "sodium"])
     if status != 0:
         return [f"examples/rust: its answers were not built: {said[-1000:].decode(errors='replace')}"]
     vectors = edges.vectors()
@@ -100,7 +105,8 @@ def rust_failures(room, library):
     answers = said.decode().split()
     if status != 0 or len(answers) != len(vectors):
         return [f"examples/rust: {len(answers)} answers, and status {status}"]
-    return [f"examples/rust answers {answer} to the vector {it['name']}" for it, answer in zip(vectors, answers) if (answer == "true") != it["sodium"]]
+    return [f"examples/rust answers {answer} to the vector {it['name']}" for it, answer in zip(vectors, answers)
+            if (answer == "true") != it["sodium"]]
 
 
 def every_file_failures(room, commands):
@@ -122,12 +128,14 @@ def run_all(room):
     compiler = needs.libsodium()
     static_library.run_make(f"OUT={room}/c", f"CC={compiler}")
     library = f"{room}/c/libminisign.a"
-    status, said = run([needs.program("make", "make"), "-s", "-C", os.path.join(TOP, "examples", "rust"), f"OUT={room}/rust", f"LIBRARY={library}",
+    status, said = run([needs.program("make", "make"), "-s", "-C", os.path.join(TOP, "examples", "rust"),
+                        f"OUT={room}/rust", f"LIBRARY={library}",
                         f"RUSTC={needs.rust_compiler()}"])
     if status != 0:
         return [f"examples/rust was not built: {said[-1000:].decode(errors='replace')}"], 1
     verifying = ["-V", "-p", "{key}", "-m", "{data}", "-x", "{signature}"]
-    commands = {"c/minisign": [f"{room}/c/minisign", *verifying], "c/minisign-verify": [f"{room}/c/minisign-verify", *verifying],
+    commands = {"c/minisign": [f"{room}/c/minisign", *verifying], "c/minisign-verify": [f"{room}/c/minisign-verify",
+                                                                                        *verifying],
                 "examples/rust": [f"{room}/rust/minisign-verify", "{key}", "{data}", "{signature}"]}
     failures = sodium_failures(room, compiler)
     for name in ("minisign", "minisign-verify"):

@@ -120,16 +120,21 @@ class Browser:
             waiting += below
         return found
 
-    def memory(self):
-        """The resident memory in MiB of the process that shows the page, or of the greatest that may."""
-        sizes = [0]
+    def page_processes(self):
+        """The numbers of the processes that may show the page."""
+        found = []
         for number in self.processes():
-            with contextlib.suppress(OSError):
-                with open(f"/proc/{number}/cmdline", "rb") as file:
-                    is_page = self.SHOWS_PAGE in file.read()
-                if is_page:
-                    with open(f"/proc/{number}/statm", encoding="ascii") as file:
-                        sizes.append(int(file.read().split()[1]) * os.sysconf("SC_PAGE_SIZE") / 1048576)
+            with contextlib.suppress(OSError), open(f"/proc/{number}/cmdline", "rb") as file:
+                if self.SHOWS_PAGE in file.read():
+                    found.append(number)
+        return found
+
+    def memory(self, processes=None):
+        """The resident memory in MiB of the greatest of these processes, or of those that may show the page."""
+        sizes = [0]
+        for number in self.page_processes() if processes is None else processes:
+            with contextlib.suppress(OSError), open(f"/proc/{number}/statm", encoding="ascii") as file:
+                sizes.append(int(file.read().split()[1]) * os.sysconf("SC_PAGE_SIZE") / 1048576)
         return max(sizes)
 
 

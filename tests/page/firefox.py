@@ -1,5 +1,5 @@
-"""Debian's Firefox with the page that verifies a download, without a window. Debian has no driver of it, so it is driven by its
-own protocol, Marionette: lists in JSON, each behind its length and a colon.
+"""Debian's Firefox with the page that verifies a download, without a window. Debian has no driver of it, so it is driven by
+its own protocol, Marionette: lists in JSON, each behind its length and a colon.
 """
 
 import base64
@@ -18,8 +18,9 @@ PREFERENCES = {
     "marionette.port": 0, "browser.shell.checkDefaultBrowser": False, "datareporting.policy.dataSubmissionEnabled": False,
     "toolkit.telemetry.enabled": False, "app.update.enabled": False, "browser.startup.homepage": "about:blank",
     "startup.homepage_welcome_url": "about:blank", "network.captive-portal-service.enabled": False,
-    "network.connectivity-service.enabled": False, "app.normandy.enabled": False, "services.settings.server": "http://127.0.0.1:1/",
-    "extensions.update.enabled": False, "browser.safebrowsing.update.enabled": False, "browser.safebrowsing.malware.enabled": False,
+    "network.connectivity-service.enabled": False, "app.normandy.enabled": False,
+    "services.settings.server": "http://127.0.0.1:1/", "extensions.update.enabled": False,
+    "browser.safebrowsing.update.enabled": False, "browser.safebrowsing.malware.enabled": False,
     "browser.safebrowsing.phishing.enabled": False, "network.proxy.type": 0,
 }
 
@@ -36,9 +37,12 @@ class Firefox(Browser):
         with open(os.path.join(profile, "user.js"), "w", encoding="utf-8") as file:
             for name, value in PREFERENCES.items():
                 file.write(f"user_pref({json.dumps(name)}, {json.dumps(value)});\n")
-        command = [program, "--headless", "--marionette", "--no-remote", "--profile", profile, f"--width={width}", f"--height={height}", "about:blank"]
-        self.process = subprocess.Popen(command, stdin=subprocess.DEVNULL, stdout=subprocess.DEVNULL, stderr=subprocess.DEVNULL,
-                                        start_new_session=True, env=dict(os.environ, HOME=profile, MOZ_HEADLESS_WIDTH=str(width),
+        command = [program, "--headless", "--marionette", "--no-remote", "--profile", profile, f"--width={width}",
+                   f"--height={height}", "about:blank"]
+        self.process = subprocess.Popen(command, stdin=subprocess.DEVNULL, stdout=subprocess.DEVNULL,
+                                        stderr=subprocess.DEVNULL,
+                                        start_new_session=True, env=dict(os.environ, HOME=profile,
+                                                                         MOZ_HEADLESS_WIDTH=str(width),
                                                                          MOZ_HEADLESS_HEIGHT=str(height)))
         try:
             self.begin(os.path.join(profile, "MarionetteActivePort"))
@@ -112,18 +116,20 @@ class Firefox(Browser):
 
     def drop(self, place, *paths):
         """Drops files together on the element of this name: an event with files that another place was given."""
-        self.run("""const input = document.createElement("input"); input.type = "file"; input.multiple = true; input.id = "dropped";
+        self.run("""const input = document.createElement("input");
+          input.type = "file"; input.multiple = true; input.id = "dropped";
           document.body.append(input)""")
         self.send("dropped", "\n".join(map(os.path.realpath, paths)))
         self.run("""const input = document.getElementById("dropped"), data = new DataTransfer();
           for (const file of input.files) data.items.add(file);
           input.remove();
-          document.getElementById(arguments[0]).dispatchEvent(new DragEvent("drop", {dataTransfer: data, bubbles: true, cancelable: true}))""", place)
+          const event = new DragEvent("drop", {dataTransfer: data, bubbles: true, cancelable: true});
+          document.getElementById(arguments[0]).dispatchEvent(event)""", place)
         self.taken()
 
     def press(self, *keys):
         """Presses keys, one after another, wherever the focus is."""
-        steps = [step for key in "".join(keys) for step in ({"type": "keyDown", "value": key}, {"type": "keyUp", "value": key})]
+        steps = [{"type": kind, "value": key} for key in "".join(keys) for kind in ("keyDown", "keyUp")]
         self.order("WebDriver:PerformActions", actions=[{"type": "key", "id": "keyboard", "actions": steps}])
         self.taken()
 

@@ -1,5 +1,5 @@
-"""The module that is proved, for a memory of 64 bits, and the one that wasm-opt made of it, for 32, which the page carries: both
-answer the same on all texts of these tests.
+"""The module that is proved, for a memory of 64 bits, and the one that wasm-opt made of it, for 32, which the page carries:
+both answer the same on all texts of these tests.
 """
 
 import base64
@@ -30,16 +30,22 @@ def check_modules(person, minisign, wide, narrow):
         found = answers_in_browser(browser, module, texts)
         checks.same(len(found), len(in_node), f"{what}: the number of answers")
         for case, (ours, theirs) in enumerate(zip(in_node, found)):
-            checks.check(ours == theirs, f"{what} answers {theirs:.300} about text {case}, and the one for 32 bits in Node {ours:.300}")
+            checks.check(ours == theirs,
+                         f"{what} answers {theirs:.300} about text {case}, and the one for 32 bits in Node {ours:.300}")
     numbers = {it["asked"]["number"] for answer in in_node[1:] for it in json.loads(answer)[2:]}
-    checks.check({0, 8, 20, 21, 22, 23, 24, 25, 26, 27, 28, 29, 30} <= numbers, f"the modules are asked about texts of the numbers {sorted(numbers)}")
+    checks.check({0, 8, 20, 21, 22, 23, 24, 25, 26, 27, 28, 29, 30} <= numbers,
+                 f"the modules are asked about texts of the numbers {sorted(numbers)}")
 
 
 def texts_of(minisign):
-    """The corpus with changes, and each fault of keys and signatures that are made now; with data of more than one block and piece."""
+    """
+    The corpus with changes, and each fault of keys and signatures that are made now; with data of more than one block and
+    piece.
+    """
     kept = cases.kept_cases()
     found = [*kept, *random_cases(kept, TEXTS)]
-    pk, sig, other = minisign.read("first.pub"), minisign.sign("first", b"data", trusted="t"), minisign.sign("second", b"data")
+    pk, sig = minisign.read("first.pub"), minisign.sign("first", b"data", trusted="t")
+    other = minisign.sign("second", b"data")
     triples = [(it.pk, it.sig, it.data) for it in found]
     triples += [(fault.text, sig, b"data") for fault in (*cases.key_faults(pk), *cases.typed_key_faults(pk))]
     triples += [(pk, fault.text, b"data") for fault in cases.signature_faults(sig, other)]
@@ -50,8 +56,10 @@ def texts_of(minisign):
 
 def answers_in_node(person, module, texts):
     """What a module answers in Node."""
-    paths = [os.path.join(build.HERE, "library.js"), person.put("module.wasm", module), person.put("texts.json", json.dumps(texts).encode())]
-    ran = subprocess.run([needs.node(), os.path.join(HERE, "answers.mjs"), *paths], stdin=subprocess.DEVNULL, stdout=subprocess.PIPE,
+    paths = [os.path.join(build.HERE, "library.js"), person.put("module.wasm", module),
+             person.put("texts.json", json.dumps(texts).encode())]
+    ran = subprocess.run([needs.node(), os.path.join(HERE, "answers.mjs"), *paths], stdin=subprocess.DEVNULL,
+                         stdout=subprocess.PIPE,
                          stderr=subprocess.PIPE, errors="replace")
     if ran.returncode != 0:
         raise RuntimeError(f"node: {ran.stderr[-500:]}")

@@ -42,6 +42,7 @@ import traceback
 
 import build
 import static_library
+from acts import check_acts
 from beside_c import Programs, check_texts
 from browser import Chromium
 from firefox import Firefox
@@ -51,9 +52,9 @@ from keys import check_comments, check_keys, check_links, check_own_page
 from long_files import check_big, check_stopping
 from minisign_cases import Minisign
 from modules import check_modules
-from page_sources import check_contracts, check_file, check_numbers, check_same_bytes
+from page_sources import check_building, check_contracts, check_file, check_numbers, check_same_bytes
 from person import Checks, Person
-from surroundings import check_alone, check_lacking, check_use
+from surroundings import check_alone, check_lacking, check_looks, check_use
 from vectors import check_vectors
 from verdicts import check_corpus, check_faults, check_made, check_several
 
@@ -80,7 +81,7 @@ def steps_in(person, minisign, programs, page, wide):
         "corpus": lambda: check_corpus(person), "keys and signatures": lambda: check_made(person, minisign),
         "several files": lambda: check_several(person, minisign), "faults": lambda: check_faults(person, minisign, programs.meaning),
         "vectors": lambda: check_vectors(person), "whose key": lambda: check_keys(person, minisign), "links": lambda: check_links(person, minisign),
-        "comments": lambda: check_comments(person, minisign), "a page of its own": lambda: check_own_page(person, minisign, page),
+        "comments": lambda: check_comments(person, minisign), "random acts": lambda: check_acts(person, minisign), "a page of its own": lambda: check_own_page(person, minisign, page),
         "helping": lambda: check_helps(person, minisign), "not started": lambda: check_not_started(person, page),
         "hostile texts": lambda: check_hostile(person, minisign),
         "changed texts": lambda: check_texts(person, TEXTS_IN_FIREFOX) if not person.browser.is_chromium else check_texts(person),
@@ -88,7 +89,7 @@ def steps_in(person, minisign, programs, page, wide):
     }
     if person.browser.is_chromium:
         steps.update({"modules": lambda: check_modules(person, minisign, wide, narrow), "lacking": lambda: check_lacking(person),
-                      "keyboard": lambda: check_use(person, minisign), "alone": lambda: check_alone(person, minisign, page)})
+                      "looks": lambda: check_looks(person, minisign), "keyboard": lambda: check_use(person, minisign), "alone": lambda: check_alone(person, minisign, page)})
     return steps
 
 
@@ -118,6 +119,7 @@ def run_all(checks, room):
     page, wide = built(room)
     check_file(checks, page)
     check_same_bytes(checks, page)
+    check_building(checks, page, room)
     programs = Programs(room)
     keys = os.path.join(room, "keys")
     os.mkdir(keys)

@@ -91,6 +91,28 @@ def check_lacking(person):
         browser.command("Page.removeScriptToEvaluateOnNewDocument", identifier=number)
 
 
+def check_looks(person, minisign):
+    """Nothing is cut on a narrow screen with letters of twice the size, and all can be read in forced colours too."""
+    browser, checks = person.browser, person.checks
+    own = minisign.read("first.pub")
+    browser.open(person.address)
+    browser.choose_key(person.put(f"{'k' * 60}.pub", own))
+    browser.choose(*person.pair("Update-1.0-" + "long" * 20 + ".tar.gz", b"data", minisign.sign("first", b"data", trusted="timestamp:1\tfile:" + "y" * 80)),
+                   *person.pair("foreign", b"data", minisign.sign("second", b"data")), person.put("alone", b"x"), person.put("other.pub", own))
+    person.settled("looks")
+    checks.same(len(browser.rows()), 3, "looks: the rows")
+    for what, share in (("letters as they are", 100), ("letters of twice the size", 200)):
+        looks.large(browser, share)
+        for place in (looks.wide, looks.narrow):
+            place(browser)
+            checks.check(browser.run(looks.FITS), f"{what}, {place.__name__}: something stands outside of its place")
+            checks.same(browser.run(looks.CUT), [], f"{what}, {place.__name__}: what is cut")
+    looks.wide(browser)
+    looks.large(browser, 100)
+    checks.same(looks.contrasts_wrong(browser), [], "texts that are hard to read")
+    checks.same(looks.forced_contrasts_wrong(browser), [], "what is hard to see in forced colours")
+
+
 def check_use(person, minisign):
     """The page by the keyboard alone, and for a screen reader; and its two sentences of what it does not show."""
     browser, checks = person.browser, person.checks

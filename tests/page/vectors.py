@@ -11,10 +11,12 @@ def check_vectors(person):
     vectors = edges.vectors()
     answers = browser.run_later("""const [vectors, done] = arguments;
       const bytes = digits => digits === "" ? new Uint8Array(0) : bytesOf(digits);
-      Promise.all(vectors.map(it => accepts(bytes(it.A), bytes(it.sig), bytes(it.msg)))).then(done, why => done(String(why)));""", vectors)
+      const answers = vectors.map(it => accepts(bytes(it.A), bytes(it.sig), bytes(it.msg)));
+      Promise.all(answers).then(done, why => done(String(why)));""", vectors)
     checks.same(len(answers), len(vectors), "the number of answers")
     for vector, answer in zip(vectors, answers):
-        checks.check(answer == vector["sodium"], f"the vector {vector['name']}: the page answers {answer}, and libsodium {vector['sodium']}")
+        checks.check(answer == vector["sodium"],
+                     f"the vector {vector['name']}: the page answers {answer}, and libsodium {vector['sodium']}")
     bare = browser.run_later("""const [vectors, done] = arguments;
       const ask = async it => {
         try {
@@ -24,7 +26,8 @@ def check_vectors(person):
       };
       Promise.all(vectors.map(ask)).then(done, why => done(String(why)));""", [it for it in vectors if it["msg"]])
     others = sum(answer != it["sodium"] for answer, it in zip(bare, [it for it in vectors if it["msg"]]))
-    print(f"page: {browser.name} {browser.version()} itself answers {others} of {len(bare)} vectors otherwise than libsodium", flush=True)
+    print(f"page: {browser.name} {browser.version()} itself answers {others} of {len(bare)} vectors otherwise than libsodium",
+          flush=True)
     key, signature = edges.texts_for_every_file()
     for data in (b"", b"data", pattern(3_000_001)):
         row = person.verdict("for every file", person.put("small.pub", key), *person.pair("data", data, signature))

@@ -1,9 +1,9 @@
 """Signatures of Ed25519 that implementations answer differently, and what libsodium answers.
 
-`ed25519_vectors.json` has 293 of them, in the classes of "Taming the many EdDSAs" (Chalkias, Garillot and Nikolaenko, 2020):
-keys and first halves of small and of mixed order, encodings that are not canonical, second halves that are not below the order.
-`A` is the public key, `sig` the signature and `msg` the message, in hexadecimal digits; `sodium` is the answer of libsodium 1.0.18;
-`cofactorless` and `cofactored` say which of the two equations holds.
+`ed25519_vectors.json` has 293 of them, made after the classes of "Taming the many EdDSAs" (Chalkias, Garillot and
+Nikolaenko, 2020): keys and first halves of small and of mixed order, encodings that are not canonical, second halves that
+are not below the order. `A` is the public key, `sig` the signature and `msg` the message, in hexadecimal digits; `sodium`
+is the answer of libsodium 1.0.18; `cofactorless` and `cofactored` say which of the two equations holds.
 """
 
 import base64
@@ -12,7 +12,8 @@ import os
 
 HERE = os.path.dirname(os.path.realpath(__file__))
 KEY_ID = b"\x01\x02\x03\x04\x05\x06\x07\x08"
-# The neutral element, of order 1, as a key and as a first half: with a second half of 0 the equation holds for every message.
+# The neutral element, of order 1, as a key and as a first half: with a second half of 0 the equation holds for every
+# message.
 NEUTRAL = b"\x01" + bytes(31)
 
 
@@ -33,8 +34,8 @@ def texts_for_every_file():
 
 def legacy_texts(vector):
     """
-    A public key and a signature of the older kind, of the vector's message as the data: a host that accepts the vector refuses
-    the comment's signature alone, or nothing.
+    A public key and a signature of the older kind, of the vector's message as the data: a host that accepts the vector
+    refuses the comment's signature alone, or nothing.
     """
     key, signature = bytes.fromhex(vector["A"]), bytes.fromhex(vector["sig"])
     record = lambda rest: base64.b64encode(b"Ed" + KEY_ID + rest)
