@@ -1,8 +1,11 @@
 #!/usr/bin/env python3
-"""Times the page of page/ in Chromium over a file of 1 GB, by the clock, beside `c/minisign-verify` and `minisign -V` of the
-same file and the same signature, in turns. It prints MB/s, the ratio to the last, and the greatest memory of the page's process.
+"""Times the page of page/ in Chromium and in Firefox over a file of 1 GB, by the clock, beside `c/minisign -V` and
+Minisign's own `minisign -V` of the same file and the same signature, in turns of a minute at the most. Of each it prints
+the least time, the least and the median of the ratios to `c/minisign -V` within a turn, the least processor time, of all
+processes and of the busiest thread (which other programs on the machine disturb less), and the greatest memory of a
+process that shows the page, beside that of an empty page.
 
-    bench/page.py
+    bench/page.py [ROUNDS]
 
 Needs what tests/page/page.py needs, the page that page/build.py leaves, and 1 GB of room on the disk.
 """
@@ -21,27 +24,122 @@ PYTHON = needs.python_with_selenium()
 if PYTHON != sys.executable:
     os.execv(PYTHON, [PYTHON, os.path.realpath(__file__)])
 
+import contextlib
+import functools
+import statistics
+import threading
+from dataclasses import dataclass
+
 import static_library
-from browser import Browser
+from browser import Chromium
 from commands import write_input
-from timing import processor_timed, timed
+from firefox import Firefox
+from timing import measured, processor_timed
 
 PAGE = os.path.realpath(os.path.join(HERE, "..", "page", "minisign.html"))
 ROUNDS = 5
+# The verdict, once it is there.
+VERDICT = """const done = arguments[0], timer = setInterval(() => {
+  const verdict = document.querySelector("#verdicts > li")?.dataset.verdict;
+  if (["good", "bad"].includes(verdict)) { clearInterval(timer); done(verdict); }
+}, 10);"""
 
 
-def page_timed(browser, pk, data, sig):
-    """The seconds until the page has its verdict, and the greatest memory meanwhile."""
+@dataclass(frozen=True)
+class Turn:
+    """A run that has ended: its seconds by the clock, of the processor and of the busiest thread, and its memory in MiB."""
+
+    seconds: float
+    processor: float
+    busiest: float
+    memory: float
+
+
+class Watch:
+    """The greatest memory of processes while something is done."""
+
+    def __init__(self, browser):
+        self.browser, self.processes, self.most, self.is_over = browser, browser.page_processes(), 0, threading.Event()
+
+    def __enter__(self):
+        self.thread = threading.Thread(target=self.look)
+        self.thread.start()
+        return self
+
+    def __exit__(self, *_):
+        self.is_over.set()
+        self.thread.join()
+
+    def look(self):
+        while not self.is_over.wait(0.02):
+            self.most = max(self.most, self.browser.memory(self.processes))
+
+
+def processor_times(browser):
+    """The processor time that each thread of the browser has taken, in seconds."""
+    found = {}
+    for process in browser.processes():
+        with contextlib.suppress(OSError):
+            for thread in os.listdir(f"/proc/{process}/task"):
+                with open(f"/proc/{process}/task/{thread}/stat", encoding="ascii", errors="replace") as file:
+                    parts = file.read().rpartition(")")[2].split()
+                found[process, thread] = (int(parts[11]) + int(parts[12])) / os.sysconf("SC_CLK_TCK")
+    return found
+
+
+def command_run(command):
+    """How a command runs, which has one thread."""
+    ended = measured(command)
+    return Turn(ended.seconds, ended.processor_seconds, ended.processor_seconds, ended.memory)
+
+
+def page_run(browser, pk, data, sig):
+    """How the page gets to its verdict."""
     browser.open(f"file://{PAGE}")
     browser.choose_key(pk)
-    begun, memory = time.perf_counter(), 0
-    browser.choose(data, sig)
-    while not (rows := browser.rows()) or rows[0]["verdict"] not in ("good", "bad"):
-        memory = max(memory, browser.memory())
-        time.sleep(0.05)
-    if rows[0]["verdict"] != "good":
-        raise SystemExit(f"the page says {rows[0]['text']!r}")
-    return time.perf_counter() - begun, memory, ""
+    before = processor_times(browser)
+    with Watch(browser) as watch:
+        begun = time.perf_counter()
+        browser.send("files", f"{data}\n{sig}")
+        verdict = browser.run_later(VERDICT)
+        seconds = time.perf_counter() - begun
+    if verdict != "good":
+        raise SystemExit(f"the page says {browser.rows()[0]['text']!r}")
+    took = [seconds - before.get(thread, 0) for thread, seconds in processor_times(browser).items()]
+    return Turn(seconds, sum(took), max(took), watch.most)
+
+
+def empty_memory(browser, folder):
+    """The memory of an empty page."""
+    path = os.path.join(folder, "empty.html")
+    with open(path, "w", encoding="ascii") as file:
+        file.write("<!doctype html>\n")
+    browser.go(f"file://{path}")
+    return browser.memory()
+
+
+def in_turns(runs):
+    """The turns of each run, by its name."""
+    found = {name: [] for name in runs}
+    for _ in range(int(sys.argv[1]) if len(sys.argv) > 1 else ROUNDS):
+        for name, run in runs.items():
+            found[name].append(run())
+    return found
+
+
+def show(found, empty, size):
+    """Prints a line for each program."""
+    beside = [turn.seconds for turn in found["c/minisign -V"]]
+    for name, turns in found.items():
+        ratios = [turn.seconds / other for turn, other in zip(turns, beside)]
+        least = min(turn.seconds for turn in turns)
+        more = f", of which an empty page has {empty[name]:.1f}" if name in empty else ""
+        processor, busiest = min(turn.processor for turn in turns), min(turn.busiest for turn in turns)
+        memory = max(turn.memory for turn in turns)
+        print(f"{name:22} {least:6.2f} s  {size / 1e6 / least:5.0f} MB/s  "
+              f"{min(ratios):5.2f} to {statistics.median(ratios):.2f} times c/minisign -V")
+        print(f"{'':22} {processor:6.2f} s of the processor, {busiest:.2f} s of them in one thread, {memory:.1f} MiB{more}")
+    print(f"load {os.getloadavg()[0]:.1f}, {os.cpu_count()} processors")
 
 
 def main():
@@ -54,21 +152,17 @@ def main():
         processor_timed([minisign, "-S", "-s", sk, "-m", data, "-x", sig])
         static_library.run_make(f"OUT={folder}/c", f"CC={needs.libsodium()}")
         arguments = ["-V", "-q", "-p", pk, "-x", sig, "-m", data]
-        browser = Browser(*needs.chromium(), folder)
-        runs = {"the page": lambda: page_timed(browser, pk, data, sig),
-                "c/minisign-verify": lambda: timed([f"{folder}/c/minisign-verify", *arguments]),
-                "minisign -V": lambda: timed([minisign, *arguments])}
-        best = dict.fromkeys(runs, (float("inf"), 0.0))
+        browsers = [Chromium(*needs.chromium(), folder), Firefox(needs.firefox(), folder)]
         try:
-            for _ in range(ROUNDS):
-                for name, run in runs.items():
-                    seconds, memory, _ = run()
-                    best[name] = (min(best[name][0], seconds), max(best[name][1], memory))
+            empty = {f"the page in {browser.name}": empty_memory(browser, folder) for browser in browsers}
+            runs = {"c/minisign -V": lambda: command_run([f"{folder}/c/minisign", *arguments]),
+                    "minisign -V": lambda: command_run([minisign, *arguments])}
+            for browser in browsers:
+                runs[f"the page in {browser.name}"] = functools.partial(page_run, browser, pk, data, sig)
+            show(in_turns(runs), empty, os.path.getsize(data))
         finally:
-            browser.quit()
-        size = os.path.getsize(data)
-        for name, (seconds, memory) in best.items():
-            print(f"{name:20} {seconds:6.2f} s  {size / 1e6 / seconds:6.0f} MB/s  {seconds / best['minisign -V'][0]:5.2f} times the last  {memory:6.1f} MiB")
+            for browser in browsers:
+                browser.quit()
 
 
 if __name__ == "__main__":

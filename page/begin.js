@@ -1,53 +1,70 @@
-// The begin: what the browser lacks is said; otherwise the library is loaded, and the page takes what it is given.
+// The begin: what the browser lacks is said; otherwise the library is loaded, and the page takes what it is given. The same
+// script is begun once more in the thread that verifies, which has no document.
 
-// The shortest module with a memory of 64-bit addresses.
-const SHORTEST_64_BIT = Uint8Array.of(0, 97, 115, 109, 1, 0, 0, 0, 5, 3, 1, 4, 1);
+// The shortest module with a memory of 32-bit addresses and a function that takes a number of 64 bits.
+const SHORTEST = Uint8Array.of(0, 97, 115, 109, 1, 0, 0, 0, 1, 5, 1, 96, 1, 126, 0, 5, 3, 1, 0, 1);
 
 function hasWebAssembly() {
-  return typeof WebAssembly === "object" && WebAssembly.validate(SHORTEST_64_BIT);
+  return typeof WebAssembly === "object" && WebAssembly.validate(SHORTEST);
 }
 
 // What the browser lacks, in words.
 async function lackingParts() {
-  const parts = hasWebAssembly() ? [] : ["64-bit WebAssembly"];
+  const parts = hasWebAssembly() ? [] : ["WebAssembly"];
   if (!await hasEd25519()) {
-    parts.push(isSecureContext ? "Ed25519 in WebCrypto" : "Ed25519 here, since this page was not opened from disk or by https");
+    parts.push(isSecureContext ? "Ed25519 in WebCrypto"
+      : "Ed25519 here, since this page was not opened from disk or by https");
   }
   return parts;
 }
 
+// Says why the page verifies nothing.
 function refuse(words) {
   at("lacking").textContent = words;
-  at("lacking").hidden = false;
+  document.documentElement.dataset.ready = "no";
 }
 
-async function begin() {
+async function begin(script) {
   const parts = await lackingParts();
   if (parts.length > 0) {
-    refuse(`This browser lacks ${parts.join(", and ")}, so this page verifies nothing in it. A newer browser may have what is missing.`);
+    refuse(`This browser lacks ${parts.join(", and ")}, so this page verifies nothing in it. ` +
+      "A newer browser may have what is missing.");
     return;
   }
   try {
-    library = await Library.load(Uint8Array.from(atob(MODULE), letter => letter.charCodeAt(0)));
+    library = await Library.load(moduleBytes());
   } catch {
     refuse("This browser does not run the proved library, so this page verifies nothing in it. A newer browser may run it.");
     return;
   }
+  engineBegun = beginEngine(script, library);
+  showBuiltIn();
   listen();
+  at("lacking").hidden = true;
   at("controls").hidden = false;
   document.documentElement.dataset.ready = "yes";
-  takeAddress();
+  inTurn(takeFirstKey);
+}
+
+// A key that is built in is shown, and no other can be given.
+function showBuiltIn() {
+  at("key-places").hidden = BUILT_IN_KEY !== "";
+  at("of-the-key").hidden = BUILT_IN_KEY !== "";
 }
 
 function listen() {
+  at("key-text").value = "";
   at("key-text").addEventListener("input", () => {
     at("key-file").value = "";
-    takeKeyText(at("key-text").value, "");
+    const typed = at("key-text").value;
+    inTurn(() => takeKeyText(typed));
   });
-  at("key-file").addEventListener("change", () => takeEach(at("key-file"), files => takeKeyFile(files[0])));
+  at("key-file").addEventListener("change", () => takeEach(at("key-file"), files => takeKeyFile(files[0], "chosen")));
+  at("key-remove").addEventListener("click", () => inTurn(removeKey));
   at("files").addEventListener("change", () => takeEach(at("files"), takeFiles));
-  at("clear").addEventListener("click", clearList);
-  addEventListener("hashchange", takeAddress);
+  at("clear").addEventListener("click", () => inTurn(clearList));
+  // Whoever opened this page can change what stands behind # of its address: then all begins anew.
+  addEventListener("hashchange", () => location.reload());
   for (const name of ["dragenter", "dragover"]) {
     addEventListener(name, event => {
       event.preventDefault();
@@ -59,28 +76,31 @@ function listen() {
   }
   addEventListener("drop", event => {
     event.preventDefault();
-    const files = droppedFiles(event.dataTransfer);
-    if (files.length === 1 && at("key").contains(event.target)) {
-      takeKeyFile(files[0]);
-    } else {
-      takeFiles(files);
-    }
+    const {files, hasFolders} = droppedFiles(event.dataTransfer);
+    const isKey = files.length === 1 && !hasFolders && !BUILT_IN_KEY && at("key").contains(event.target);
+    inTurn(() => isKey ? takeKeyFile(files[0], "chosen") : takeFiles(files, hasFolders));
   });
 }
 
-// The files that were dropped, without folders.
+// The files that were dropped, and whether there were folders among them.
 function droppedFiles(transfer) {
-  const isFile = item => item.kind === "file" && !item.webkitGetAsEntry()?.isDirectory;
-  return [...transfer.items].filter(isFile).map(item => item.getAsFile()).filter(file => file !== null);
+  const items = [...transfer.items].filter(item => item.kind === "file");
+  const isFolder = item => item.webkitGetAsEntry()?.isDirectory === true;
+  const files = items.filter(item => !isFolder(item)).map(item => item.getAsFile()).filter(file => file !== null);
+  return {files, hasFolders: items.some(isFolder)};
 }
 
 // Passes on what was chosen, and leaves the place empty, so that the same file can be chosen again.
 function takeEach(input, take) {
   const files = [...input.files];
   if (files.length > 0) {
-    take(files);
+    inTurn(() => take(files));
     input.value = "";
   }
 }
 
-begin();
+if (typeof document === "undefined") {
+  serve();
+} else {
+  begin(document.currentScript.textContent);
+}

@@ -1,32 +1,61 @@
 #!/usr/bin/env python3
-"""Proves the crate minisign_page for 64-bit WebAssembly, builds it, and writes the page that verifies a download: one file,
-with the module in it, that loads nothing.
+"""Proves the crate minisign_page for 64-bit WebAssembly, builds it, has wasm-opt make a module with a memory of 32 bits of
+it, which each browser of the last years runs, and writes the page that verifies a download: one file, with the module in
+it, that loads nothing.
 
-    page/build.py [OUT]
+    page/build.py [--key LETTERS] [--title TITLE] [--from PAGE] [OUT]
+    page/build.py --sources
 
 OUT is the page, `page/minisign.html` where none is named. It has the script, the style and the module in it, and a policy
-that allows exactly these. `rt` proves the crate for this processor, as `rt ci` takes none for WebAssembly, so the prover is
-called for it here. Libraries below it that stand proved are taken as they are, and the others proved first
-(`tests/shared/proved.py`).
+that allows exactly these. With --key it has this public key, a line of 56 letters, and takes no other; --title is its
+heading. With --from the module is that of a page which was built before, and neither the kit nor wasm-opt is needed. The
+same sources give the same bytes, whose SHA-256 sum is printed. The page names its version and the sum of the sources that
+it is made from: the SHA-256 sum of the lines that --sources prints, as of `sha256sum`.
 
-Needs Python 3.9 or later and the kit.
+`rt` proves the crate for this processor, as `rt ci` takes none for WebAssembly, so the prover is called for it here.
+Libraries below it that stand proved are taken as they are, and the others proved first (`tests/shared/proved.py`).
+
+Needs Python 3.9 or later, the kit, and Debian's binaryen.
 """
 
+import argparse
 import base64
+import binascii
 import hashlib
+import html
+import json
 import os
+import re
+import shutil
+import subprocess
 import sys
 import tempfile
 
 HERE = os.path.dirname(os.path.realpath(__file__))
-sys.path.append(os.path.join(HERE, "..", "tests", "shared"))
+TOP = os.path.dirname(HERE)
+sys.path.append(os.path.join(TOP, "tests", "shared"))
 
+import needs
 import proved
 
 CRATE = "minisign_page"
 # A stack of 1 MiB, and 2 MiB for what the page copies in and out.
 MEMORY = 3 * 1048576
-SCRIPTS = ("library.js", "ed25519.js", "words.js", "page.js", "rows.js", "begin.js")
+SCRIPTS = ("library.js", "engine.js", "ed25519.js", "texts.js", "words.js", "page.js", "rows.js", "begin.js")
+TITLE = "Verify a download"
+KEY_LETTERS = 56
+KEY_BYTES = 42
+
+# What wasm-opt is told: which parts of WebAssembly the proved module may use, and to make its addresses numbers of 32 bits.
+FEATURES = ("memory64", "bulk-memory", "mutable-globals", "sign-ext", "nontrapping-float-to-int")
+LOWERING = (*(f"--enable-{feature}" for feature in FEATURES), "--memory64-lowering")
+
+
+class NotPossible(Exception):
+    """Why no page is written."""
+
+
+# ---- The sources ----
 
 
 def read(name):
@@ -35,8 +64,41 @@ def read(name):
         return file.read()
 
 
-def module():
-    """The module, proved and built."""
+def sources():
+    """The paths of all that the page is made from, in their order: page/, and the crates of its library."""
+    crates = [*proved.crates()[CRATE].below, CRATE]
+    found = ["LICENSE", "crates.txt", "include/minisign.h", "page/build.py", "page/page.css", "page/page.html"]
+    found += [f"page/{name}" for name in SCRIPTS]
+    for crate in crates:
+        for part in ("src", "specs"):
+            for folder, _, names in os.walk(os.path.join(TOP, "crates", crate, part)):
+                named = [name for name in names if name.endswith((".rt", ".antt"))]
+                found += [os.path.relpath(os.path.join(folder, name), TOP) for name in named]
+    return sorted(found)
+
+
+def source_lines():
+    """A line for each source, as sha256sum writes it."""
+    lines = []
+    for path in sources():
+        with open(os.path.join(TOP, path), "rb") as file:
+            lines.append(f"{hashlib.sha256(file.read()).hexdigest()}  {path}\n")
+    return "".join(lines)
+
+
+def version():
+    """The version that the header names."""
+    with open(os.path.join(TOP, "include", "minisign.h"), encoding="utf-8") as file:
+        return re.search(r'#define MINISIGN_VERSION_TEXT "(.*)"', file.read())[1]
+
+
+# ---- The module ----
+
+
+def proved_module():
+    """The module for a memory of 64 bits, proved and built."""
+    if shutil.which("rt") is None:
+        raise NotPossible("the page's library is proved and built by the kit of Rattle, whose command `rt` is not here.")
     print("page: building its module, and proving first what is not proved", flush=True)
     with tempfile.TemporaryDirectory(prefix="minisign-page-") as room:
         archive, linked = f"{room}/lib{CRATE}.a", f"{room}/{CRATE}.wasm"
@@ -46,41 +108,117 @@ def module():
             return file.read()
 
 
+def lowered(wasm):
+    """The module for a memory of 32 bits that wasm-opt makes of one for 64."""
+    with tempfile.TemporaryDirectory(prefix="minisign-page-") as room:
+        wide, narrow = f"{room}/wide.wasm", f"{room}/narrow.wasm"
+        with open(wide, "wb") as file:
+            file.write(wasm)
+        ran = subprocess.run([needs.wasm_opt(), *LOWERING, wide, "-o", narrow], stdin=subprocess.DEVNULL,
+                             stdout=subprocess.PIPE, stderr=subprocess.STDOUT, errors="replace")
+        if ran.returncode != 0:
+            raise NotPossible(f"wasm-opt made no module: {ran.stdout[-300:]}")
+        with open(narrow, "rb") as file:
+            return file.read()
+
+
+def lowering():
+    """What made the module for 32 bits: the program with its version."""
+    ran = subprocess.run([needs.wasm_opt(), "--version"], stdin=subprocess.DEVNULL, stdout=subprocess.PIPE, check=True)
+    return ran.stdout.decode().strip().split(" (")[0]
+
+
+def taken_from(path):
+    """The module of a page that was built before, and what made it for 32 bits."""
+    try:
+        with open(path, encoding="utf-8") as file:
+            text = file.read()
+    except (OSError, UnicodeDecodeError) as why:
+        raise NotPossible(f"{path} cannot be read: {why}") from None
+    module, by = re.search(r'^const MODULE = "(.*)";$', text, re.M), re.search(r"^const LOWERED_BY = (\".*\");$", text, re.M)
+    if module is None or by is None:
+        raise NotPossible(f"{path} is no page that page/build.py has built")
+    return base64.b64decode(module[1]), json.loads(by[1])
+
+
+# ---- The page ----
+
+
 def digest(text):
     """How a policy names a script or a style."""
     return f"'sha256-{base64.b64encode(hashlib.sha256(text.encode()).digest()).decode()}'"
 
 
 def policy(script, style):
-    """The page's policy: this script, this style and WebAssembly, no text made into markup, and nothing from anywhere."""
+    """
+    The page's policy: this script, this style and WebAssembly, this script once more in a thread, no text made into markup,
+    and nothing from anywhere.
+    """
     return "; ".join([
-        "default-src 'none'", f"script-src {digest(script)} 'wasm-unsafe-eval'", f"style-src {digest(style)}", "img-src data:",
-        "base-uri 'none'", "form-action 'none'", "require-trusted-types-for 'script'", "trusted-types 'none'",
+        "default-src 'none'", f"script-src {digest(script)} 'wasm-unsafe-eval'", "worker-src blob:",
+        f"style-src {digest(style)}", "img-src data:", "base-uri 'none'", "form-action 'none'",
+        "require-trusted-types-for 'script'", "trusted-types minisign-thread",
     ])
 
 
-def page(wasm):
-    """The page around a module."""
+def checked_key(letters):
+    """The line of a public key that can be built in."""
+    try:
+        record = base64.b64decode(letters, validate=True)
+    except (binascii.Error, ValueError):
+        record = b""
+    if len(letters) != KEY_LETTERS or len(record) != KEY_BYTES or record[:2] != b"Ed":
+        raise NotPossible(f"a key is one line of {KEY_LETTERS} letters that begins with RW, and {letters!r:.80} is none")
+    return letters
+
+
+def page(module, by, key="", title=TITLE):
+    """The page around a module for 32 bits that was made by this program, with this key built in, if there is one."""
     scripts = "\n".join(read(name) for name in SCRIPTS)
-    script = f'"use strict";\nconst MODULE = "{base64.b64encode(wasm).decode()}";\n{scripts}'
+    constants = [f'const MODULE = "{base64.b64encode(module).decode()}";', f"const LOWERED_BY = {json.dumps(by)};",
+                 f'const BUILT_IN_KEY = "{key and checked_key(key)}";']
+    script = "\n".join(['"use strict";', *constants, scripts])
     style = read("page.css")
-    parts = {"policy": policy(script, style), "style": style, "script": script}
-    text = read("page.html")
-    for name, part in parts.items():
-        text = text.replace("{{" + name + "}}", part)
-    return text
+    with open(os.path.join(TOP, "LICENSE"), encoding="utf-8") as file:
+        licence = file.read().strip()
+    parts = {"policy": policy(script, style), "style": style, "script": script, "title": html.escape(title),
+             "licence": licence, "version": version(), "sources": hashlib.sha256(source_lines().encode()).hexdigest(),
+             "lowering": html.escape(by)}
+    return re.sub(r"\{\{(\w+)\}\}", lambda found: parts[found[1]], read("page.html"))
+
+
+def write(out, text):
+    """Writes a page, and says its length and its sum."""
+    data = text.encode()
+    with open(out, "wb") as file:
+        file.write(data)
+    print(f"page: {os.path.relpath(out)}, {len(data)} bytes, SHA-256 {hashlib.sha256(data).hexdigest()}")
+
+
+def options(words):
+    """What is asked for."""
+    parser = argparse.ArgumentParser(prog="page/build.py", description="Writes the page that verifies a download.")
+    parser.add_argument("--key", default="", metavar="LETTERS", help="the key that is built in: its line of 56 letters")
+    parser.add_argument("--title", default=TITLE, metavar="TITLE", help="the page's heading")
+    parser.add_argument("--from", dest="built", metavar="PAGE", help="a page that was built before, whose module is taken")
+    parser.add_argument("--sources", action="store_true", help="print the sums of the sources, and write no page")
+    parser.add_argument("out", nargs="?", default=os.path.join(HERE, "minisign.html"), metavar="OUT",
+                        help="the page that is written")
+    return parser.parse_args(words)
 
 
 def main(words):
-    out = os.path.abspath(words[0]) if words else os.path.join(HERE, "minisign.html")
+    asked = options(words)
+    if asked.sources:
+        sys.stdout.write(source_lines())
+        return 0
     try:
-        wasm = module()
-    except proved.NotBuilt as why:
-        print(f"FAILED: {why}")
+        key = asked.key and checked_key(asked.key)
+        module, by = taken_from(asked.built) if asked.built else (lowered(proved_module()), lowering())
+        write(os.path.abspath(asked.out), page(module, by, key, asked.title))
+    except (NotPossible, needs.Missing, proved.NotBuilt, OSError) as why:
+        print(f"page/build.py: {why}", file=sys.stderr)
         return 1
-    with open(out, "w", encoding="utf-8", newline="") as file:
-        file.write(page(wasm))
-    print(f"page: {os.path.relpath(out)}, {os.path.getsize(out)} bytes, of which the module has {len(wasm)}")
     return 0
 
 

@@ -1,6 +1,8 @@
-// The proved library, built for 64-bit WebAssembly from the crate minisign_page: its calls, and where in its memory they find
-// what they are passed. What a caller owes them is in include/minisign.h, "What you owe". Each method copies in what it
-// passes and copies out what was written, so nothing but the state lasts from one call to the next.
+// The proved library, built from the crate minisign_page: its calls, and where in its memory they find what they are passed.
+// They are proved and built for 64-bit WebAssembly; the page carries the module that wasm-opt made of that for a memory of
+// 32 bits, whose calls still take each address and length as a number of 64 bits. Both modules can be loaded here. What a
+// caller owes the calls is in include/minisign.h, "What you owe". Each method copies in what it passes and copies out what
+// was written, so nothing but the state lasts from one call to the next.
 
 const ANSWER_YES = 0x796573;
 const ANSWER_NO = 0x6e6f;
@@ -69,11 +71,16 @@ class Library {
     return new TextDecoder().decode(this.bytesAt(this.words, length));
   }
 
-  // Reads a public key, of two lines or of its base64 alone: its identifier, or the number of why there is none.
+  // Reads a public key, of two lines or of its base64 alone: its identifier, and the bytes of both as a record has them; or
+  // the number of why there is none.
   readKey(text, isBare) {
     const read = isBare ? this.calls.page_read_bare_public_key : this.calls.page_read_public_key;
     const number = read(...this.put(this.keyText, TEXT_BYTES, text), BigInt(this.publicKey), BigInt(this.keyId)) >>> 0;
-    return {number, keyId: number === 0 ? identifierOf(this.bytesAt(this.keyId, 8)) : ""};
+    if (number !== 0) {
+      return {number, keyId: "", record: new Uint8Array(0)};
+    }
+    const keyId = this.bytesAt(this.keyId, 8);
+    return {number, keyId: identifierOf(keyId), record: Uint8Array.of(...keyId, ...this.bytesAt(this.publicKey, 32))};
   }
 
   // Begins: nothing was fed.
@@ -81,9 +88,14 @@ class Library {
     this.calls.page_init(BigInt(this.state));
   }
 
-  // Feeds a piece of the data: 0, or the number of a wrong use.
-  feed(piece) {
-    return this.calls.page_update(BigInt(this.state), ...this.put(this.piece, PIECE_BYTES, piece)) >>> 0;
+  // Feeds the next bytes of the data, however many: 0, or the number of a wrong use.
+  feed(bytes) {
+    let number = 0;
+    for (let begin = 0; begin < bytes.length && number === 0; begin += PIECE_BYTES) {
+      const piece = bytes.subarray(begin, begin + PIECE_BYTES);
+      number = this.calls.page_update(BigInt(this.state), ...this.put(this.piece, PIECE_BYTES, piece)) >>> 0;
+    }
+    return number;
   }
 
   // Asks what Ed25519 has to answer: 0 and the questions, or the number of why the texts are refused. The identifiers are
@@ -109,8 +121,10 @@ class Library {
     };
   }
 
-  // The verdict from two answers, yes or no: 0 exactly where the texts vouch for what was fed, or the number of the first reason why not.
+  // The verdict from two answers, yes or no: 0 exactly where the texts vouch for what was fed, or the number of the first
+  // reason why not.
   verdict(first, second) {
-    return this.calls.page_verdict(BigInt(this.state), first ? ANSWER_YES : ANSWER_NO, second ? ANSWER_YES : ANSWER_NO) >>> 0;
+    const answers = [first, second].map(it => it ? ANSWER_YES : ANSWER_NO);
+    return this.calls.page_verdict(BigInt(this.state), ...answers) >>> 0;
   }
 }

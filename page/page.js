@@ -2,61 +2,91 @@
 // Ed25519, one after another, and shows the verdicts.
 
 const SIGNATURE_ENDING = ".minisig";
+const KEY_ENDING = ".pub";
 // The data of a signature of the older kind is held in memory as a whole, up to this many bytes.
 const MOST_LEGACY_BYTES = 64 * 1048576;
-
-// How many bytes of a file are read at a time.
+// How many bytes of a file are read at a time: two such pieces are in memory.
 const READ_BYTES = 4 * 1048576;
-
-const TOO_LONG_A_KEY = "No public key: this cannot be read, or is longer than the text of a key.";
+// How many milliseconds a progress that is shown stays at least: showing it takes longer than one may think.
+const SHOWN_MILLISECONDS = 100;
 
 const at = id => document.getElementById(id);
 
+// The library in the page's own thread reads keys and has the words of numbers; the engine that has begun is where it
+// verifies.
 let library;
-// The text of two lines and the identifier of the public key, or nothing while there is none.
+let engineBegun;
+// The public key: its text of two lines, its identifier, its 56 letters, and its source, which is a kind of SOURCES and the
+// name of a file; or nothing while there is none.
 let key = null;
-// How often a key was given or taken away.
-let keyTurn = 0;
 // A file, its signature and its row, by the file's name and in the order in which they came.
 const downloads = new Map();
 let isWorking = false;
+// What a person does is taken in its order, also where a file has to be read to know what it is.
+let lastTurn = Promise.resolve();
+let pendingTurns = 0;
+
+// Has an act of the person's done once those before it are.
+function inTurn(act) {
+  const showPending = change => {
+    pendingTurns += change;
+    document.documentElement.dataset.pending = pendingTurns;
+  };
+  showPending(1);
+  lastTurn = lastTurn.then(act).catch(() => sayOfFiles([WENT_WRONG])).finally(() => {
+    showPending(-1);
+    reviewAll();
+  });
+}
 
 // ---- The public key ----
 
-function setKey(text, isBare, origin) {
+function setKey(text, isBare, source) {
   dropKey();
   const bytes = isBare ? joined("untrusted comment: \n", text, "\n") : text;
-  if (bytes.length < TEXT_BYTES) {
-    const {number, keyId} = library.readKey(text, isBare);
-    key = number === 0 ? {text: bytes, keyId} : null;
-    sayOfKey(key ? "good" : "bad", key ? `Key ${keyId}` : `No public key: ${whyNoKey(number)}`, origin);
-    at("key-said").dataset.number = number;
-  } else {
-    sayOfKey("bad", TOO_LONG_A_KEY, origin);
+  if (bytes.length >= TEXT_BYTES) {
+    sayOfKey("bad", TOO_LONG_A_KEY, ...beside(source));
+    return;
   }
-  reviewAll();
+  const {number, keyId, record} = library.readKey(text, isBare);
+  const words = new TextDecoder().decode(text);
+  if (number === 0) {
+    key = {text: bytes, keyId, letters: lettersOf(words, isBare, record), source};
+    sayOfKey("good", `Key ${keyId}, `, ...sourceOf(source), ".");
+    at("key-whole").replaceChildren("In full: ", element("code", "letters", key.letters));
+    at("key-whole").hidden = false;
+    at("key-remove").hidden = source.kind === "page";
+  } else {
+    sayOfKey("bad", `No public key: ${HINTS.get(hintOf(words)) ?? whyNoKey(number)}`, ...beside(source));
+  }
+  at("key-said").dataset.number = number;
+}
+
+// The name of a file that is no key, behind what is said of it.
+function beside({name}) {
+  return name === undefined ? [] : [" (", nameOf(name), ")"];
 }
 
 function clearKey() {
   dropKey();
-  sayOfKey("", "", "");
-  reviewAll();
+  sayOfKey("");
 }
 
 // What was found with the key is found no more.
 function dropKey() {
-  keyTurn += 1;
   key = null;
+  emptyLog();
   delete at("key-said").dataset.number;
+  at("key-whole").hidden = at("key-remove").hidden = true;
   for (const download of downloads.values()) {
     stop(download);
     download.state = "";
   }
 }
 
-function sayOfKey(verdict, words, origin) {
+function sayOfKey(verdict, ...words) {
   at("key-said").dataset.verdict = verdict;
-  at("key-said").replaceChildren(words, ...(origin ? [" ", ...shown(origin)] : []));
+  at("key-said").replaceChildren(...words);
 }
 
 function joined(front, bytes, end) {
@@ -70,40 +100,41 @@ function joined(front, bytes, end) {
   return all;
 }
 
-// A text that was typed, pasted or part of the address: two lines, or the base64 alone.
-function takeKeyText(typed, origin) {
+// A text that was typed or pasted: two lines, or the base64 alone.
+function takeKeyText(typed) {
   const text = typed.trim();
   if (text === "") {
     clearKey();
   } else {
-    setKey(new TextEncoder().encode(text), !text.includes("\n"), origin);
+    setKey(new TextEncoder().encode(text), !text.includes("\n"), {kind: "typed"});
   }
 }
 
-async function takeKeyFile(file) {
+// A file that is the key, as its place was given it ("chosen") or as it came among the files ("files").
+async function takeKeyFile(file, kind) {
   clearKey();
   at("key-text").value = "";
-  const turn = keyTurn;
   const bytes = await textOfFile(file);
-  if (turn !== keyTurn) {
-    // Another key was given meanwhile.
-  } else if (bytes === null) {
-    sayOfKey("bad", TOO_LONG_A_KEY, `(${file.name})`);
+  if (bytes === null) {
+    sayOfKey("bad", TOO_LONG_A_KEY, ...beside(file));
   } else {
-    setKey(bytes, false, `(from ${file.name})`);
+    setKey(bytes, false, {kind, name: file.name});
   }
 }
 
-function takeAddress() {
-  let typed = location.hash.slice(1);
-  try {
-    typed = decodeURIComponent(typed);
-  } catch {
-    // Then it is taken as it stands.
-  }
-  if (typed.trim() !== "") {
-    at("key-text").value = typed.trim();
-    takeKeyText(typed, "(from the address of this page, so it is whoever made the link that chose it)");
+function removeKey() {
+  at("key-text").value = "";
+  clearKey();
+  at("key-text").focus();
+}
+
+// The key that is built into the page, or that its address has.
+function takeFirstKey() {
+  const letters = BUILT_IN_KEY || lettersOfAddress(location.hash.slice(1));
+  if (letters) {
+    setKey(new TextEncoder().encode(letters), true, {kind: BUILT_IN_KEY ? "page" : "link"});
+  } else if (location.hash.length > 1) {
+    sayOfKey("bad", NO_KEY_IN_ADDRESS);
   }
 }
 
@@ -124,43 +155,82 @@ async function textOfFile(file) {
   return file.size < TEXT_BYTES ? await bytesOfFile(file, 0, file.size) : null;
 }
 
-function isSignature(file) {
-  return file.name.endsWith(SIGNATURE_ENDING);
+// What a file is by its text, or by the ending of its name where the text is of no kind.
+async function kindOfFile(file) {
+  const bytes = await textOfFile(file);
+  const kind = bytes === null ? "" : kindOfText(new TextDecoder().decode(bytes));
+  if (kind) {
+    return kind;
+  }
+  const isKey = file.name.endsWith(KEY_ENDING) && file.size < TEXT_BYTES;
+  return file.name.endsWith(SIGNATURE_ENDING) ? "signature" : isKey ? "key" : "data";
 }
 
-// A file that was taken for a download before, or comes with its signature, is no key.
-function isKeyFile(file, names) {
-  return file.name.endsWith(".pub") && !names.has(file.name + SIGNATURE_ENDING) && !downloads.has(file.name);
+// The name of the file that a signature of this name is of.
+function nameOfSigned(name) {
+  const end = name.lastIndexOf(SIGNATURE_ENDING);
+  return end > 0 ? name.slice(0, end) : name.replace(/([^])\.[^.]*$/, "$1");
 }
 
-// Takes files that were chosen or dropped together: each is a public key, a signature or data, by its name. One file and
-// one signature belong together whatever their names are.
-function takeFiles(files) {
+// Takes files that were chosen or dropped together: each is a public key, a signature or data. One file and one signature
+// belong together whatever their names are.
+async function takeFiles(files, hasFolders = false) {
+  emptyLog();
+  sayOfFiles(hasFolders ? [HAS_FOLDERS] : []);
   const names = new Set(files.map(file => file.name));
-  const keys = files.filter(file => isKeyFile(file, names));
-  const others = files.filter(file => !keys.includes(file));
-  const data = others.filter(file => !isSignature(file));
-  for (const file of others) {
-    const isPair = others.length === 2 && data.length === 1;
-    takeDownload(file, isPair ? data[0].name : isSignature(file) ? file.name.slice(0, -SIGNATURE_ENDING.length) : file.name);
+  // A file that was taken for a download before, or comes with its signature, is one whatever is in it.
+  const isDownload = ({name}) =>
+    !name.endsWith(SIGNATURE_ENDING) && (names.has(name + SIGNATURE_ENDING) || downloads.has(name));
+  const kindOf = async file => isDownload(file) ? "data" : await kindOfFile(file);
+  const given = await Promise.all(files.map(async file => ({file, kind: await kindOf(file)})));
+  const of = kind => given.filter(it => it.kind === kind).map(it => it.file);
+  const [data, signatures] = [of("data"), of("signature")];
+  const isPair = data.length === 1 && signatures.length === 1;
+  for (const {file, kind} of given) {
+    if (kind === "data") {
+      takeDownload(file, file.name, "data");
+    } else if (kind === "signature") {
+      takeDownload(file, isPair ? data[0].name : nameOfSigned(file.name), "signature");
+    }
   }
-  if (keys.length > 1) {
-    clearKey();
-    sayOfKey("bad", "No public key: these are several keys. Choose or drop one of them.", "");
-  } else if (keys.length === 1) {
-    takeKeyFile(keys[0]);
+  for (const file of of("secret key")) {
+    sayOfFiles([nameOf(file.name), ` ${HINTS.get("secret key")}`]);
   }
-  reviewAll();
+  await takeKeysAmongFiles(of("key"));
 }
 
-function takeDownload(file, name) {
+// Of keys that came among files one is taken where there is no key. One that is there stays.
+async function takeKeysAmongFiles(files) {
+  if (key) {
+    for (const file of files) {
+      sayOfFiles([nameOf(file.name), ` came with the files and was not taken: the key above stays, ${key.keyId}.`]);
+    }
+  } else if (files.length > 1) {
+    clearKey();
+    sayOfKey("bad", SEVERAL_KEYS);
+  } else if (files.length === 1) {
+    await takeKeyFile(files[0], "files");
+  }
+}
+
+// Says something of what was chosen or dropped, in a line below what was said before; no words take all of it away.
+function sayOfFiles(words) {
+  if (words.length === 0) {
+    at("files-said").replaceChildren();
+  } else {
+    at("files-said").append(element("p", "", ...words));
+  }
+}
+
+// Takes a file as the data or the signature of a download.
+function takeDownload(file, name, part) {
   if (!downloads.has(name)) {
     downloads.set(name, {name, data: null, signature: null, row: element("li", ""), run: null, state: ""});
     at("verdicts").append(downloads.get(name).row);
   }
   const download = downloads.get(name);
   stop(download);
-  download[isSignature(file) ? "signature" : "data"] = file;
+  download[part] = file;
   download.state = "";
 }
 
@@ -174,8 +244,8 @@ function clearList() {
   for (const download of [...downloads.values()]) {
     remove(download);
   }
-  at("log").replaceChildren();
-  reviewAll();
+  emptyLog();
+  sayOfFiles([]);
   at("files").focus();
 }
 
@@ -213,7 +283,7 @@ async function work() {
     const verdict = await verdictOn(download, run).catch(() => ({kind: "bad", why: WENT_WRONG}));
     if (!run.isStopped) {
       download.state = "shown";
-      showVerdict(download, verdict);
+      showVerdict(download, verdict, run.key.source);
     }
   }
   isWorking = false;
@@ -231,30 +301,36 @@ async function verdictOn(download, run) {
   if (text === null) {
     return {kind: "bad", why: "The signature cannot be read, or is longer than a signature."};
   }
+  const engine = await engineBegun;
   // What is wrong with the texts is known before any data is read.
   const allowsLegacy = data.size <= MOST_LEGACY_BYTES;
-  library.begin();
-  const asked = library.ask(run.key.text, text, allowsLegacy);
+  await engine.call("begin");
+  const asked = await engine.call("ask", run.key.text, text, allowsLegacy);
   if (asked.number !== 0) {
     return refused(asked.number, asked);
   }
-  library.begin();
+  await engine.call("begin");
   const whole = asked.isLegacy ? await bytesOfFile(data, 0, data.size) : null;
-  const isRead = asked.isLegacy ? whole !== null && feedAll(whole) : await feedFile(download, run);
+  const isRead = asked.isLegacy ? whole !== null && await engine.call("feed", whole.slice()) === 0
+    : await feedFile(engine, download, run);
   if (run.isStopped) {
     return null;
   }
   if (!isRead) {
     return {kind: "bad", why: "The file cannot be read, or it was changed meanwhile."};
   }
-  const questions = library.ask(run.key.text, text, allowsLegacy);
+  const questions = await engine.call("ask", run.key.text, text, allowsLegacy);
   if (questions.number !== 0) {
     return refused(questions.number, questions);
   }
   const first = await accepts(questions.publicKey, questions.signature, questions.isLegacy ? whole : questions.digest);
   const second = await accepts(questions.publicKey, questions.commentSignature, questions.message);
-  const number = library.verdict(first, second);
-  return number === 0 ? {kind: "good", number, questions, comment: commentOf(questions)} : refused(number, questions);
+  const number = await engine.call("verdict", first, second);
+  if (number === 0) {
+    return {kind: "good", number, questions, comment: commentOf(questions)};
+  }
+  const verdict = refused(number, questions);
+  return first && await isOfOtherEnds(new TextDecoder().decode(text), questions) ? {...verdict, why: WHY_NOT_ENDS} : verdict;
 }
 
 // The trusted comment: the message of the second question without the first signature. (The library has read it as UTF-8.)
@@ -262,50 +338,33 @@ function commentOf(questions) {
   return new TextDecoder("utf-8", {fatal: true, ignoreBOM: true}).decode(questions.message.subarray(64));
 }
 
-// Feeds bytes of any length.
-function feedAll(bytes) {
-  for (let begin = 0; begin < bytes.length; begin += PIECE_BYTES) {
-    if (library.feed(bytes.subarray(begin, begin + PIECE_BYTES)) !== 0) {
-      return false;
+// Whether the trusted comment, which is not the one that was signed, differs from that by white space at its ends alone.
+async function isOfOtherEnds(signatureText, questions) {
+  for (const comment of commentsWithEnds(signatureText, commentOf(questions))) {
+    const message = Uint8Array.of(...questions.signature, ...new TextEncoder().encode(comment));
+    if (await accepts(questions.publicKey, questions.commentSignature, message)) {
+      return true;
     }
   }
-  return true;
+  return false;
 }
 
-// Feeds a file, of which two pieces are in memory: one is read while the other is hashed. Answers whether all of it was read.
-async function feedFile(download, run) {
+// Feeds a file, of which two pieces are in memory: one is read while the other is hashed. Answers whether all of it was
+// read.
+async function feedFile(engine, download, run) {
   const file = download.data;
-  let next = bytesOfFile(file, 0, READ_BYTES);
+  let next = bytesOfFile(file, 0, READ_BYTES), fed = Promise.resolve(0), shownAt = 0;
   for (let begin = 0; begin < file.size; begin += READ_BYTES) {
     const piece = await next;
-    if (run.isStopped || piece === null) {
+    if (await fed !== 0 || run.isStopped || piece === null) {
       return false;
     }
     next = bytesOfFile(file, begin + READ_BYTES, begin + 2 * READ_BYTES);
-    if (!feedAll(piece)) {
-      return false;
+    fed = engine.call("feed", piece);
+    if (performance.now() >= shownAt + SHOWN_MILLISECONDS) {
+      showProgress(download, begin);
+      shownAt = performance.now();
     }
-    showProgress(download, begin + piece.length);
-    giveBack(piece.buffer);
-    await othersTurn();
   }
-  return true;
-}
-
-// Gives the memory of a piece back at once, by posting it to where nobody is: it would lie there until the browser collects what
-// is left behind, which takes long enough for hundreds of megabytes.
-function giveBack(buffer) {
-  const {port1, port2} = new MessageChannel();
-  port2.close();
-  port1.postMessage(null, [buffer]);
-  port1.close();
-}
-
-// Lets the browser do what waits, as a click on "Stop". (A timer would be slow while the page is not in front.)
-function othersTurn() {
-  return new Promise(resolve => {
-    const {port1, port2} = new MessageChannel();
-    port1.onmessage = resolve;
-    port2.postMessage(null);
-  });
+  return await fed === 0;
 }

@@ -1,5 +1,5 @@
-// What is said to a person: why a file is not verified, by the numbers of include/minisign.h, and how a text of a
-// stranger's is shown.
+// What is said to a person: why a file is not verified, by the numbers of include/minisign.h, what helps where something
+// else was given than was asked for, and how a text of a stranger's is shown.
 
 const DAMAGED = "Get the signature again: it was cut short or damaged, or it is no Minisign signature.";
 const NO_KEY = "Get the public key again: it was cut short or damaged, or it is no Minisign key.";
@@ -32,7 +32,52 @@ const WHY_NOT = new Map([
   [32, "The trusted comment is not the one that was signed with the file. Do not use the file."],
 ]);
 
+// Where the comment differs from the signed one by white space at its ends alone, which the library reads away.
+const WHY_NOT_ENDS = "The file is the one that was signed, but its trusted comment was signed with other white space at " +
+  "its ends, and this page takes a comment without any. Nobody need have meant harm: ask for a signature whose comment has " +
+  "none there.";
+
 const WENT_WRONG = "The page went wrong, so nothing is known of the file.";
+const TOO_LONG_A_KEY = "No public key: this cannot be read, or is longer than the text of a key.";
+
+// What stands where a key should, by the words of hintOf.
+const HINTS = new Map([
+  ["secret key", "This is a secret key. Nobody but its owner may ever see it, and no page needs it. " +
+    "The public key is the other file, mostly minisign.pub."],
+  ["signature", "This is a signature, and not a key. Choose or drop it below, together with its file."],
+  ["command", "This is a command line. Paste only the key in it: the 56 letters behind -P, which begin with RW."],
+  ["words", "There are other words around the key. Paste only its 56 letters, which begin with RW."],
+]);
+
+const HAS_FOLDERS = "A folder cannot be verified: open it, and drop the file and its signature themselves.";
+const SEVERAL_KEYS = "No public key: these are several keys. Choose or drop one of them.";
+const NO_KEY_IN_ADDRESS = "No public key: the link to this page has something else behind # than the 56 letters of a key.";
+const COMPARE = "Compare its 56 letters with those that the project publishes";
+const WHOSE = `This page cannot know whose key it is. ${COMPARE}.`;
+const WITH_FILES = "The key came with the files: who made the files may have made the key.";
+const BY_LINK = "The key came with the link to this page: who made the link chose it.";
+
+// How a key came here, by its source: how it goes on behind "the key ..", and what is warned of beside each verdict, good or
+// not. NAME stands for the name of its file.
+const SOURCES = new Map([
+  ["typed", {from: ["which you pasted or typed"], good: WHOSE, bad: ""}],
+  ["chosen", {from: ["which you chose as the file ", "NAME"], good: WHOSE, bad: ""}],
+  ["files", {
+    from: ["which came with the files as ", "NAME"],
+    good: `${WITH_FILES} ${COMPARE} in another place before you use the file.`,
+    bad: WITH_FILES,
+  }],
+  ["link", {
+    from: ["which the link to this page had"],
+    good: `${BY_LINK} ${COMPARE} before you use the file.`,
+    bad: BY_LINK,
+  }],
+  ["page", {
+    from: ["which is built into this page"],
+    good: "The key is built into this page: the verdict is worth as much as the place that you have the page from.",
+    bad: "",
+  }],
+]);
 
 function whyNoKey(number) {
   return WHY_NO_KEY.get(number) ?? WENT_WRONG;
@@ -42,9 +87,10 @@ function whyNot(number) {
   return WHY_NOT.get(number) ?? WENT_WRONG;
 }
 
-// A character that is not shown as one in its place: a control character other than a tab, one that turns the direction or
-// joins, a line's or a paragraph's end, and one that Unicode does not have. What carries marks beyond four on one letter.
-const UNSEEABLE = /(?!\t)[\p{Cc}\p{Cf}\p{Cs}\p{Co}\p{Cn}\p{Zl}\p{Zp}\u034f\u115f\u1160\u17b4\u17b5\u2800\u3164\uffa0\ufe00-\ufe0f\u{e0100}-\u{e01ef}]/gu;
+// A character that is not shown as one in its place: a control character other than a tab, one that is ignored where it
+// cannot be shown, one that turns the direction or joins, a line's or a paragraph's end, a letter without ink, and one that
+// Unicode does not have.
+const UNSEEABLE = /(?!\t)[\p{Cc}\p{Cf}\p{Cs}\p{Co}\p{Cn}\p{Zl}\p{Zp}\p{Default_Ignorable_Code_Point}\u2800]/gu;
 
 function codeOf(character) {
   return `U+${character.codePointAt(0).toString(16).toUpperCase().padStart(4, "0")}`;
@@ -74,6 +120,16 @@ function shown(text) {
     at = found.index + found[0].length;
   }
   return [...nodes, text.slice(at)];
+}
+
+// The name of a file, in its own box.
+function nameOf(name) {
+  return element("bdi", "name", ...shown(name));
+}
+
+// How a key came here, as nodes.
+function sourceOf({kind, name}) {
+  return SOURCES.get(kind).from.map(part => part === "NAME" ? nameOf(name) : part);
 }
 
 function sizeOf(bytes) {

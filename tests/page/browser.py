@@ -1,6 +1,5 @@
-"""A real browser with the page that verifies a download: Debian's Chromium without a window, driven by its own driver.
-
-A person's steps are taken as a person takes them, as far as a driver can: keys are typed and files are chosen or dropped.
+"""A real browser with the page that verifies a download, without a window: what a person does there and sees, as far as a driver
+can do it, and Debian's Chromium, driven by its own driver. (Firefox is in firefox.py.)
 """
 
 import contextlib
@@ -21,51 +20,47 @@ FLAGS = ("--headless=new", "--no-sandbox", "--disable-gpu", "--disable-dev-shm-u
 ROWS = """return Array.from(document.querySelectorAll("#verdicts > li"), row => ({
   verdict: row.dataset.verdict, number: row.dataset.number === undefined ? null : Number(row.dataset.number),
   head: row.querySelector(".verdict").textContent, name: row.querySelector(".name").textContent, text: row.innerText,
-  why: row.querySelector(".why")?.textContent ?? "", comment: row.querySelector(".comment")?.textContent ?? null}))"""
-IS_BUSY = """return document.querySelector('#verdicts > li[data-verdict="reading"]') !== null
+  why: row.querySelector(".why")?.textContent ?? "", comment: row.querySelector(".comment")?.textContent ?? null,
+  cautions: Array.from(row.querySelectorAll(".caution"), it => it.innerText)}))"""
+# Whether something that a person did is still taken in, or a row is being verified or waits for others.
+IS_BUSY = """return Number(document.documentElement.dataset.pending) > 0
+  || document.querySelector('#verdicts > li[data-verdict="reading"]') !== null
   || Array.from(document.querySelectorAll("#verdicts > li"), row => row.innerText).some(text => text.includes("It waits for those before it."))"""
+IS_READY = "return document.documentElement.dataset.ready !== undefined"
 
 
 class Browser:
-    """A browser, whose profile is in this folder."""
+    """What is the same in each browser. It has `run`, `run_later`, `go`, `send`, `press`, `drop`, `processes`, `quit` and `picture`."""
 
-    def __init__(self, chromium, chromedriver, folder, width=800, height=1000):
-        options = Options()
-        options.binary_location = chromium
-        for flag in (*FLAGS, f"--window-size={width},{height}", f"--user-data-dir={os.path.join(folder, 'profile')}"):
-            options.add_argument(flag)
-        options.set_capability("goog:loggingPrefs", {"browser": "ALL", "performance": "ALL"})
-        self.driver = webdriver.Chrome(service=Service(chromedriver), options=options)
-        self.driver.set_script_timeout(SECONDS)
-
-    def quit(self):
-        self.driver.quit()
-
-    def run(self, script, *arguments):
-        return self.driver.execute_script(script, *arguments)
-
-    def command(self, name, **arguments):
-        """A command of the browser's own protocol."""
-        return self.driver.execute_cdp_cmd(name, arguments)
+    # Whether it is Chromium, whose own protocol shows and changes what a page cannot.
+    is_chromium = False
 
     def open(self, address):
         """Opens the page anew, and waits until it can be used or says that it cannot."""
-        self.driver.get("about:blank")
-        self.driver.get(address)
-        self.wait(lambda: self.run("return document.documentElement.dataset.ready === 'yes' || !document.getElementById('lacking').hidden"))
+        self.go("about:blank")
+        self.go(address)
+        self.wait_ready()
+
+    def wait_ready(self):
+        self.wait(lambda: self.run(IS_READY))
+        self.taken()
 
     def wait(self, holds, seconds=SECONDS):
         end = time.monotonic() + seconds
         while not holds():
             if time.monotonic() > end:
-                raise TimeoutError(f"the page did not get there in {seconds} s: {self.driver.find_element('tag name', 'body').text[:500]}")
+                raise TimeoutError(f"the page did not get there in {seconds} s: {self.run('return document.body.innerText')[:500]}")
             time.sleep(0.02)
 
-    def element(self, name):
-        return self.driver.find_element("id", name)
+    def taken(self):
+        """Waits until the page has taken in what a person did."""
+        self.wait(lambda: self.run("return !(Number(document.documentElement.dataset.pending) > 0)"))
 
     def text_of(self, name):
         return self.run("return document.getElementById(arguments[0]).innerText", name)
+
+    def is_shown(self, name):
+        return self.run("return document.getElementById(arguments[0]).checkVisibility()", name)
 
     # What a person does.
 
@@ -73,31 +68,24 @@ class Browser:
         """Has the key's field hold this text, as if it were pasted."""
         self.run("""const field = document.getElementById("key-text"); field.value = arguments[0];
           field.dispatchEvent(new Event("input", {bubbles: true}));""", text)
+        self.taken()
 
     def choose_key(self, path):
-        self.element("key-file").send_keys(os.path.realpath(path))
+        self.send("key-file", os.path.realpath(path))
+        self.taken()
         self.wait(lambda: self.run("return document.getElementById('key-said').innerText !== ''"))
 
     def choose(self, *paths):
         """Chooses files together."""
-        self.element("files").send_keys("\n".join(map(os.path.realpath, paths)))
+        self.send("files", "\n".join(map(os.path.realpath, paths)))
+        self.taken()
 
-    def drop(self, place, *paths):
-        """Drops files together on the element of this name."""
-        box = self.run("""const box = document.getElementById(arguments[0]).getBoundingClientRect();
-          return [box.left + box.width / 2, box.top + Math.min(box.height, innerHeight) / 2]""", place)
-        data = {"items": [], "files": [os.path.realpath(path) for path in paths], "dragOperationsMask": 1}
-        for kind in ("dragEnter", "dragOver", "drop"):
-            self.command("Input.dispatchDragEvent", type=kind, x=box[0], y=box[1], data=data)
+    def click(self, name):
+        self.run("document.getElementById(arguments[0]).click()", name)
+        self.taken()
 
-    def press(self, *keys):
-        """Presses keys, one after another, wherever the focus is."""
-        ActionChains(self.driver).send_keys(*keys).perform()
-
-    def tab(self):
-        """Moves the focus on by the keyboard: what has it then."""
-        self.press(Keys.TAB)
-        return self.run("const it = document.activeElement; return it.id || it.className || it.textContent")
+    def clear(self):
+        self.click("clear")
 
     # What a person sees.
 
@@ -112,8 +100,104 @@ class Browser:
     def row(self, name):
         return next(row for row in self.rows() if row["name"] == name)
 
-    def clear(self):
-        self.run("document.getElementById('clear').click()")
+    def log(self):
+        """What a screen reader was told."""
+        return self.run("return Array.from(document.querySelectorAll('#log p'), it => it.textContent)")
+
+    # What it takes.
+
+    def children_of(self, process):
+        """The numbers of the processes below this one."""
+        children = {}
+        for number in filter(str.isdigit, os.listdir("/proc")):
+            with contextlib.suppress(OSError), open(f"/proc/{number}/stat", encoding="ascii", errors="replace") as file:
+                parent = file.read().rpartition(")")[2].split()[1]
+                children.setdefault(parent, []).append(number)
+        found, waiting = [], [str(process)]
+        while waiting:
+            below = children.get(waiting.pop(), [])
+            found += below
+            waiting += below
+        return found
+
+    def page_processes(self):
+        """The numbers of the processes that may show the page."""
+        found = []
+        for number in self.processes():
+            with contextlib.suppress(OSError), open(f"/proc/{number}/cmdline", "rb") as file:
+                if self.SHOWS_PAGE in file.read():
+                    found.append(number)
+        return found
+
+    def memory(self, processes=None):
+        """The resident memory in MiB of the greatest of these processes, or of those that may show the page."""
+        sizes = [0]
+        for number in self.page_processes() if processes is None else processes:
+            with contextlib.suppress(OSError), open(f"/proc/{number}/statm", encoding="ascii") as file:
+                sizes.append(int(file.read().split()[1]) * os.sysconf("SC_PAGE_SIZE") / 1048576)
+        return max(sizes)
+
+
+class Chromium(Browser):
+    """Debian's Chromium, whose profile is in this folder."""
+
+    name = "Chromium"
+    is_chromium = True
+    # What the command of a process has that shows a page.
+    SHOWS_PAGE = b"--type=renderer"
+
+    def __init__(self, chromium, chromedriver, folder, width=800, height=1000):
+        options = Options()
+        options.binary_location = chromium
+        for flag in (*FLAGS, f"--window-size={width},{height}", f"--user-data-dir={os.path.join(folder, 'profile')}"):
+            options.add_argument(flag)
+        options.set_capability("goog:loggingPrefs", {"browser": "ALL", "performance": "ALL"})
+        self.driver = webdriver.Chrome(service=Service(chromedriver), options=options)
+        self.driver.set_script_timeout(SECONDS)
+
+    def quit(self):
+        self.driver.quit()
+
+    def version(self):
+        return self.driver.capabilities["browserVersion"]
+
+    def run(self, script, *arguments):
+        return self.driver.execute_script(script, *arguments)
+
+    def run_later(self, script, *arguments):
+        """Runs a script that calls its last argument with what it answers."""
+        return self.driver.execute_async_script(script, *arguments)
+
+    def command(self, name, **arguments):
+        """A command of the browser's own protocol."""
+        return self.driver.execute_cdp_cmd(name, arguments)
+
+    def go(self, address):
+        self.driver.get(address)
+
+    def send(self, name, text):
+        """Types into the element of this name, or chooses files there."""
+        self.driver.find_element("id", name).send_keys(text)
+
+    def drop(self, place, *paths):
+        """Drops files together on the element of this name."""
+        box = self.run("""document.getElementById(arguments[0]).scrollIntoView();
+          const box = document.getElementById(arguments[0]).getBoundingClientRect();
+          return [box.left + box.width / 2, box.top + Math.min(box.height, innerHeight) / 2]""", place)
+        data = {"items": [], "files": [os.path.realpath(path) for path in paths], "dragOperationsMask": 1}
+        for kind in ("dragEnter", "dragOver", "drop"):
+            self.command("Input.dispatchDragEvent", type=kind, x=box[0], y=box[1], data=data)
+        self.taken()
+
+    def press(self, *keys):
+        """Presses keys, one after another, wherever the focus is."""
+        ActionChains(self.driver).send_keys(*keys).perform()
+        self.taken()
+
+    def tab(self):
+        """Moves the focus on by the keyboard: what has it then."""
+        self.press(Keys.TAB)
+        return self.run("const it = document.activeElement; return it.id || it.className || it.textContent")
 
     def said(self):
         """What the browser's console has: errors, and what the policy refused."""
@@ -128,33 +212,11 @@ class Browser:
                 found.append(message["params"]["request"]["url"])
         return found
 
-    def picture(self, path, name="main"):
+    def picture(self, path):
         """Writes a picture of the page from its top."""
         with open(path, "wb") as file:
             file.write(self.driver.get_screenshot_as_png())
 
     def processes(self):
         """The numbers of the processes of the browser."""
-        children = {}
-        for number in filter(str.isdigit, os.listdir("/proc")):
-            with contextlib.suppress(OSError), open(f"/proc/{number}/stat", encoding="ascii", errors="replace") as file:
-                parent = file.read().rpartition(")")[2].split()[1]
-                children.setdefault(parent, []).append(number)
-        found, waiting = [], [str(self.driver.service.process.pid)]
-        while waiting:
-            below = children.get(waiting.pop(), [])
-            found += below
-            waiting += below
-        return found
-
-    def memory(self):
-        """The resident memory in MiB of the process that shows the page, or of the greatest that may."""
-        sizes = [0]
-        for number in self.processes():
-            with contextlib.suppress(OSError):
-                with open(f"/proc/{number}/cmdline", "rb") as file:
-                    is_page = b"--type=renderer" in file.read()
-                if is_page:
-                    with open(f"/proc/{number}/statm", encoding="ascii") as file:
-                        sizes.append(int(file.read().split()[1]) * os.sysconf("SC_PAGE_SIZE") / 1048576)
-        return max(sizes)
+        return self.children_of(self.driver.service.process.pid)

@@ -119,6 +119,9 @@ HOSTILE_COMMENTS = [
     ("a\t" * 1500 + "end", None),
     ("caf\u00e9 \u20ac \U0001f512", None),
     ("[U+202E] is text here", None),
+    ("\u034f\u115f\u1160\u17b4\u17b5\u180b\u180f\u2800\u3164\uffa0\ufe0f\U000e0100\U000e0fff",
+     "U+034FU+115FU+1160U+17B4U+17B5U+180BU+180FU+2800U+3164U+FFA0U+FE0FU+E0100U+E0FFF"),
+    ("x\u206ay\ufff0z\U0001d173", "xU+206AyU+FFF0zU+1D173"),
 ]
 
 # Names of files, with what the page has to show of each.

@@ -35,14 +35,20 @@ def check_hostile(person, minisign):
     sig = minisign.sign("first", b"data", trusted="t")
     wanted = []
     for name, shown_as in cases.HOSTILE_NAMES:
-        # (a driver's list of chosen files is cut at line feeds, so these are dropped)
+        # (a driver's list of chosen files is cut at line feeds, and Chromium alone can be dropped files without one)
+        if "\n" in name and not browser.is_chromium:
+            continue
         browser.drop("downloads", *person.pair(name, b"other" if "Verified" in name else b"data", sig))
         wanted.append((name if shown_as is None else shown_as, 31 if "Verified" in name else 0))
     rows = person.settled("hostile names")
     checks.same([(row["name"], row["number"]) for row in rows], wanted, "hostile names")
     check_plain(person, "hostile names")
-    checks.same(looks.contrasts_wrong(browser), [], "texts that are hard to read")
-    log = browser.run("return document.getElementById('log').textContent")
+    if browser.is_chromium:
+        checks.same(looks.contrasts_wrong(browser), [], "texts that are hard to read")
+    browser.clear()
+    browser.drop("downloads", *person.pair("exe.\u202egpj.zip", b"data", sig))
+    person.settled("a name that turns")
+    log = "".join(browser.log())
     checks.check("\u202e" not in log and "[U+202E]" in log, "a screen reader is told a mark that turns the direction")
 
 
@@ -54,6 +60,7 @@ def check_plain(person, what):
     checks.same(browser.run("""return Array.from(document.querySelectorAll(".comment *, .name *"), it => it.className).filter(it => it !== "unseeable")"""),
                 [], f"{what}: elements in a stranger's text")
     checks.check(browser.run(looks.FITS), f"{what}: something stands outside of its place")
-    looks.narrow(browser)
-    checks.check(browser.run(looks.FITS), f"{what}: something stands outside of its place on a narrow screen")
-    looks.wide(browser)
+    if browser.is_chromium:
+        looks.narrow(browser)
+        checks.check(browser.run(looks.FITS), f"{what}: something stands outside of its place on a narrow screen")
+        looks.wide(browser)

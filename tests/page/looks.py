@@ -42,6 +42,13 @@ return document.documentElement.scrollWidth <= document.documentElement.clientWi
   && rows.every(row => Array.from(row.querySelectorAll(".verdict, .name, .comment, .why, button, progress")).every(it => within(it, row)));"""
 
 
+# What is cut at its right, or goes out of its place there.
+CUT = """
+return Array.from(document.querySelectorAll("main, main *, footer, footer *"))
+  .filter(it => it.checkVisibility() && !it.closest(".unseen") && it.clientWidth > 0 && it.scrollWidth > it.clientWidth + 1)
+  .map(it => `${it.tagName} ${it.className}: ${it.innerText.slice(0, 40)}`)"""
+
+
 def contrasts_wrong(browser):
     """The texts that are hard to read, in light and in dark."""
     wrong = []
@@ -54,6 +61,22 @@ def contrasts_wrong(browser):
             wrong.append(f"{scheme}: the page's ground is {grounds}")
     browser.command("Emulation.setEmulatedMedia", features=[])
     return wrong
+
+
+def forced_contrasts_wrong(browser):
+    """The texts that are hard to read in colours that the system forces on the page, and the rows that have no border then."""
+    browser.command("Emulation.setEmulatedMedia", features=[{"name": "forced-colors", "value": "active"}])
+    wrong = [] if browser.run("return matchMedia('(forced-colors: active)').matches") else ["no colours are forced"]
+    wrong += [f"forced: {text!r} has contrast {value:.1f}" for value, text in browser.run(CONTRASTS) if value < LEAST_CONTRAST]
+    widths = browser.run("return Array.from(document.querySelectorAll('#verdicts > li, .caution'), it => getComputedStyle(it).borderLeftWidth)")
+    wrong += [f"forced: a border is {width} wide" for width in widths if width == "0px"]
+    browser.command("Emulation.setEmulatedMedia", features=[])
+    return wrong
+
+
+def large(browser, share=200):
+    """Makes the letters so large, in hundredths of what they are by default."""
+    browser.run("document.documentElement.style.fontSize = arguments[0]", f"{share}%" if share != 100 else "")
 
 
 def narrow(browser, width=NARROW):

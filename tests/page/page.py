@@ -1,19 +1,22 @@
 #!/usr/bin/env python3
-"""Tries the page that verifies a download in a real browser.
+"""Tries the page that verifies a download in real browsers.
 
-    tests/page/page.py [PAGE]
+    tests/page/page.py [PAGE [MODULE]]
 
 The module's calls have the contracts of those from C, word for word but for what a number means. The page is built, and
-its module proved for WebAssembly before (`page/build.py`), where no PAGE is named. Then Chromium, without a window, is
-given the kept corpus of Minisign's own program, keys and signatures that are made now, each fault, hostile comments and
-names, files that are dropped and stopped, 2 GB, and 500 changed texts, of which the verdicts and their reasons are
-compared with those of `c/minisign-verify`. Numbers that are no flag are passed to the module itself, beside
-the library for C. It looks at what is asked for from outside, at the names for a screen reader, the order of the keyboard,
-the contrast of colours and a narrow screen, and at what is said where the browser lacks something. It prints a line for
-each failure; the last line is `N passed, M failed`.
+its module proved for WebAssembly before (`page/build.py`), where no PAGE is named; MODULE is the proved module then, for a
+memory of 64 bits. The module that wasm-opt made of it for the page has to answer the same on all texts, in Node and in
+Chromium, which takes both. Then Chromium and Firefox, without a window, are given the kept corpus of Minisign's own
+program, keys and signatures that are made now, each fault, the vectors of Ed25519 that browsers answer differently, keys
+of other people, things in another's place, hostile comments and names, files that are dropped and stopped, 2 GB, and 500
+changed texts (150 in Firefox), of which the verdicts and their reasons are compared with those of `c/minisign-verify`. Numbers
+that are no flag are passed to the module itself, beside the library for C. In
+Chromium it looks also at what is asked for from outside, at the names for a screen reader, the order of the keyboard, the
+contrast of colours, large letters and a narrow screen, and at what is said where the browser lacks something. It prints a
+line for each failure; the last line is `N passed, M failed`.
 
-Needs Python 3.9 or later, chromium, chromium-driver, python3-selenium, a C compiler, make, libsodium with its header and
-minisign 0.11, and installs what is not there where it may.
+Needs Python 3.9 or later, chromium, chromium-driver, python3-selenium, firefox-esr, nodejs, binaryen, a C compiler, make,
+libsodium with its header and minisign 0.11, and installs what is not there where it may.
 """
 
 import os
@@ -34,61 +37,102 @@ except needs.Missing as why:
 if PYTHON != sys.executable:
     os.execv(PYTHON, [PYTHON, os.path.realpath(__file__), *sys.argv[1:]])
 
-import functools
 import tempfile
 import time
 import traceback
 
 import build
 import static_library
+from acts import check_acts
 from beside_c import Programs, check_flags, check_texts
-from browser import Browser
+from browser import Chromium
+from firefox import Firefox
+from helps import check_helps, check_not_started
 from hostile import check_hostile
+from keys import check_comments, check_keys, check_links, check_own_page
 from long_files import check_big, check_stopping
 from minisign_cases import Minisign
-from page_sources import check_contracts, check_file, check_numbers
+from modules import check_modules
+from page_sources import check_building, check_contracts, check_file, check_numbers, check_same_bytes
 from person import Checks, Person
-from surroundings import check_alone, check_lacking, check_use
+from surroundings import check_alone, check_lacking, check_looks, check_use
+from vectors import check_vectors
 from verdicts import check_corpus, check_faults, check_made, check_several
 
+# How many changed texts Firefox is given.
+TEXTS_IN_FIREFOX = 150
 
-def page_path(room):
-    """The page that is named, or that is built now."""
+
+def built(room):
+    """The path of the page that is named, or that is built now, and the module for 64 bits, where there is one."""
+    if len(sys.argv) > 2:
+        with open(sys.argv[2], "rb") as file:
+            return os.path.realpath(sys.argv[1]), file.read()
     if len(sys.argv) > 1:
-        return os.path.realpath(sys.argv[1])
-    path = os.path.join(room, "minisign.html")
-    with open(path, "w", encoding="utf-8", newline="") as file:
-        file.write(build.page(build.module()))
-    return path
+        return os.path.realpath(sys.argv[1]), None
+    wide, path = build.proved_module(), os.path.join(room, "minisign.html")
+    build.write(path, build.page(build.lowered(wide), build.lowering()))
+    return path, wide
+
+
+def steps_in(person, minisign, programs, page, wide):
+    """What is tried in a browser, in order: in each what a person sees, and in Chromium what its own protocol shows besides."""
+    narrow = build.taken_from(page)[0]
+    steps = {
+        "corpus": lambda: check_corpus(person), "keys and signatures": lambda: check_made(person, minisign),
+        "several files": lambda: check_several(person, minisign), "faults": lambda: check_faults(person, minisign, programs.meaning),
+        "vectors": lambda: check_vectors(person), "whose key": lambda: check_keys(person, minisign), "links": lambda: check_links(person, minisign),
+        "comments": lambda: check_comments(person, minisign), "random acts": lambda: check_acts(person, minisign), "a page of its own": lambda: check_own_page(person, minisign, page),
+        "helping": lambda: check_helps(person, minisign), "not started": lambda: check_not_started(person, page),
+        "hostile texts": lambda: check_hostile(person, minisign),
+        "changed texts": lambda: check_texts(person, TEXTS_IN_FIREFOX) if not person.browser.is_chromium else check_texts(person),
+        "long files": lambda: check_big(person, check_stopping(person, minisign)),
+    }
+    if person.browser.is_chromium:
+        steps.update({"modules": lambda: check_modules(person, minisign, wide, narrow), "flags": lambda: check_flags(person), "lacking": lambda: check_lacking(person),
+                      "looks": lambda: check_looks(person, minisign), "keyboard": lambda: check_use(person, minisign), "alone": lambda: check_alone(person, minisign, page)})
+    return steps
+
+
+def run_in(browser, checks, room, made):
+    """Runs everything in a browser."""
+    minisign, programs, page, wide = made
+    folder = os.path.join(room, browser.name)
+    os.mkdir(folder)
+    person = Person(checks, browser, f"file://{page}", folder, programs)
+    for what, step in steps_in(person, minisign, programs, page, wide).items():
+        begun = time.monotonic()
+        try:
+            step()
+        except Exception as why:
+            traceback.print_exc()
+            checks.check(False, f"{browser.name}, {what}: ended early: {why!r:.300}")
+        if browser.is_chromium:
+            errors = [it for it in browser.said() if "Uncaught" in it]
+            checks.check(not errors, f"the page's console has {errors}")
+        print(f"page: {browser.name}, {what}, {time.monotonic() - begun:.1f} s", flush=True)
 
 
 def run_all(checks, room):
     """Runs everything."""
     check_contracts(checks)
     check_numbers(checks)
-    page = page_path(room)
+    page, wide = built(room)
     check_file(checks, page)
+    check_same_bytes(checks, page)
+    check_building(checks, page, room)
     programs = Programs(room)
     keys = os.path.join(room, "keys")
     os.mkdir(keys)
     minisign = Minisign(needs.minisign(), keys)
     for name in ("first", "second"):
         minisign.make_pair(name)
-    browser = Browser(*needs.chromium(), room)
-    person = Person(checks, browser, f"file://{page}", room, programs)
-    steps = [check_lacking, check_corpus, functools.partial(check_made, minisign=minisign), functools.partial(check_several, minisign=minisign),
-             functools.partial(check_faults, minisign=minisign, meaning=programs.meaning), functools.partial(check_hostile, minisign=minisign),
-             functools.partial(check_use, minisign=minisign), functools.partial(check_alone, minisign=minisign, page=page), check_flags, check_texts,
-             lambda it: check_big(it, check_stopping(it, minisign))]
-    try:
-        for step in steps:
-            begun = time.monotonic()
-            step(person)
-            errors = [it for it in browser.said() if "Uncaught" in it]
-            checks.check(not errors, f"the page's console has {errors}")
-            print(f"page: {getattr(step, 'func', step).__name__}, {time.monotonic() - begun:.1f} s", flush=True)
-    finally:
-        browser.quit()
+    for begin in (lambda: Chromium(*needs.chromium(), room), lambda: Firefox(needs.firefox(), room)):
+        browser = begin()
+        try:
+            run_in(browser, checks, room, (minisign, programs, page, wide))
+        finally:
+            browser.quit()
 
 
 def main():

@@ -1,7 +1,10 @@
 """What the sources of the page have to have in common with those of the library for C, and what the built page may name."""
 
+import hashlib
 import os
 import re
+import subprocess
+import sys
 
 import build
 import cases
@@ -44,20 +47,68 @@ def check_numbers(checks):
     for name, struct in (("STATE_BYTES", "minisign_state"), ("QUESTIONS_BYTES", "minisign_external")):
         checks.same(re.search(rf"const {name} = (\d+)", script)[1], sizes.get(struct), f"library.js: {name}")
     words = build.read("words.js")
-    told = {name: {int(number) for number in re.findall(r"^  \[(\d+), ", re.search(rf"{name} = new Map\(\[(.*?)\]\);", words, re.S)[1], re.M)}
+    told = {name: {int(number) for number in re.findall(r"^  \[(\d+), ", re.search(rf"{name} = new Map\(\[(.*?)\]\);",
+                                                                                   words, re.S)[1], re.M)}
             for name in ("WHY_NO_KEY", "WHY_NOT")}
     pk, sig = cases.read_kept("first.pub"), cases.read_kept("hello.minisig")
     of_keys = {fault.number for fault in (*cases.key_faults(pk), *cases.typed_key_faults(pk))}
     checks.same(told["WHY_NO_KEY"], of_keys, "words.js: the faults of keys")
-    checks.same(told["WHY_NOT"], {fault.number for fault in cases.signature_faults(sig, sig)} | {30}, "words.js: the faults of signatures")
+    checks.same(told["WHY_NOT"], {fault.number for fault in cases.signature_faults(sig, sig)} | {30},
+                "words.js: the faults of signatures")
 
 
 def check_file(checks, path):
     """The page is one file that names nothing else, under a policy that allows nothing else."""
     with open(path, encoding="utf-8") as file:
         text = file.read()
-    checks.check(not re.search(r"https?:|\ssrc=|@import|url\(|<link (?!rel=\"icon\" href=\"data:,\")|\{\{", text), "the page names something outside of it")
+    checks.check(not re.search(r"https?:|\ssrc=|@import|url\(|<link (?!rel=\"icon\" href=\"data:,\")|\{\{", text),
+                 "the page names something outside of it")
     policy = re.search(r'http-equiv="Content-Security-Policy" content="([^"]*)"', text)[1]
     checks.check(policy.startswith("default-src 'none'; ") and "unsafe-inline" not in policy and "'unsafe-eval'" not in policy
-                 and "connect-src" not in policy, f"the policy is {policy}")
+                 and "connect-src" not in policy and policy.endswith("; trusted-types minisign-thread"), f"the policy is {policy}")
     checks.same(len(re.findall("<script", text)), 1, "the number of scripts")
+
+
+def check_same_bytes(checks, path):
+    """The same module and sources give the same bytes, which name the version, the licence, and the sum that `--sources` stands for."""
+    with open(path, encoding="utf-8", newline="") as file:
+        text = file.read()
+    checks.check(build.page(*build.taken_from(path)) == text,
+                 "the page's module and sources give other bytes than the page has")
+    lines = build.source_lines()
+    for line in lines.splitlines():
+        digest, name = line.split("  ")
+        with open(os.path.join(TOP, name), "rb") as file:
+            checks.check(hashlib.sha256(file.read()).hexdigest() == digest, f"--sources has another sum of {name}")
+    for words in (f"Minisign in Rattle {build.version()}, under the MIT License",
+                  hashlib.sha256(lines.encode()).hexdigest(), "Permission is hereby granted"):
+        checks.check(words in text, f"the page does not name {words!r}")
+    for name in ("crates/minisign/src/", "crates/minisign_hash/specs/", "crates/minisign_page/src/lib.rt", "page/page.js",
+                 "include/minisign.h"):
+        checks.check(name in lines, f"{name} is not among the sources")
+
+
+def check_building(checks, page, room):
+    """`build.py` says the sum of what it wrote, and why it writes nothing."""
+    def run(*words, path=os.environ["PATH"]):
+        command = [sys.executable, os.path.join(build.HERE, "build.py"), *words]
+        return subprocess.run(command, env=dict(os.environ, PATH=path), stdin=subprocess.DEVNULL, stdout=subprocess.PIPE,
+                              stderr=subprocess.PIPE, text=True)
+
+    out = os.path.join(room, "made.html")
+    ran = run("--from", page, out)
+    with open(out, "rb") as made, open(page, "rb") as named:
+        data = made.read()
+        checks.check(data == named.read(), "a page that is made of a page has other bytes")
+    checks.check(ran.returncode == 0 and ran.stdout.split()[-1] == hashlib.sha256(data).hexdigest(),
+                 f"build.py --from: {ran.stdout!r} {ran.stderr!r}")
+    checks.same(run("--sources").stdout, build.source_lines(), "build.py --sources")
+    os.remove(out)
+    for words, path, part in (((out,), "", "the kit of Rattle"), (("--from", page, "--key", "RWQ", out), "",
+                                                                  "one line of 56 letters"),
+                              (("--from", os.path.join(build.HERE, "page.js"), out), "",
+                               "no page that page/build.py has built"),
+                              (("--from", os.path.join(room, "absent.html"), out), "", "cannot be read")):
+        ran = run(*words, path=path)
+        checks.check(ran.returncode == 1 and part in ran.stderr and ran.stderr.count("\n") == 1 and not os.path.exists(out),
+                     f"build.py {words}: {ran.returncode}, {ran.stderr!r}")

@@ -68,8 +68,8 @@ class Person:
         rows = self.browser.settle(seconds)
         for row in rows:
             self.checks.check(row["head"] == STANDS[row["verdict"]] and (row["verdict"] == "good") == (row["number"] == 0)
-                              and row["text"].startswith(row["head"]) and (row["comment"] is None or row["number"] == 0),
-                              f"{what}: a row stands for {row}")
+                              and row["text"].startswith(f"{row['head']}\n") and (row["comment"] is None or row["number"] == 0)
+                              and (row["verdict"] != "good" or row["cautions"]), f"{what}: a row stands for {row}")
         return rows
 
     def expect(self, row, number, what, comment=None):

@@ -24,7 +24,7 @@ def check_alone(person, minisign, page):
         person.address, kept = served.address, person.address
         person.expect(person.verdict("served", key, *paths), 0, "served", "t")
         person.address = kept
-        refused = browser.driver.execute_async_script("""const done = arguments[1], tried = [];
+        refused = browser.run_later("""const done = arguments[1], tried = [];
           fetch(arguments[0] + "?fetched").then(() => tried.push("fetch"), () => {}).then(() => {
             const picture = new Image(); picture.onload = picture.onerror = () => done(tried); picture.src = arguments[0] + "?picture"; })""", served.address)
         checks.same(refused, [], "what the policy lets through")
@@ -34,9 +34,9 @@ def check_alone(person, minisign, page):
 
 
 class Served:
-    """A server with the page and nothing else, which notes what it is asked for."""
+    """A server with the page and nothing else, under these headers, which notes what it is asked for."""
 
-    def __init__(self, page):
+    def __init__(self, page, headers=None):
         with open(page, "rb") as file:
             body = file.read()
         asked = self.asked = []
@@ -46,6 +46,8 @@ class Served:
                 asked.append(self.path)
                 self.send_response(200 if self.path == "/minisign.html" else 404)
                 self.send_header("Content-Type", "text/html; charset=utf-8")
+                for name, value in (headers or {}).items():
+                    self.send_header(name, value)
                 self.end_headers()
                 self.wfile.write(body)
 
@@ -66,11 +68,11 @@ class Served:
 
 # What a browser may lack, how it is taken away, and what the page has to say.
 LACKING = [
-    ("WebAssembly.validate = () => false;", "64-bit WebAssembly", "Ed25519"),
-    ("delete globalThis.WebAssembly;", "64-bit WebAssembly", "Ed25519"),
+    ("WebAssembly.validate = () => false;", "WebAssembly", "Ed25519"),
+    ("delete globalThis.WebAssembly;", "WebAssembly", "Ed25519"),
     ("crypto.subtle.importKey = async () => { throw new DOMException('no', 'NotSupportedError'); };", "Ed25519", "WebAssembly"),
     ("crypto.subtle.verify = async () => true;", "Ed25519", "WebAssembly"),
-    ("WebAssembly.validate = () => false; crypto.subtle.verify = async () => false;", "64-bit WebAssembly, and Ed25519", "does not run"),
+    ("WebAssembly.validate = () => false; crypto.subtle.verify = async () => false;", "WebAssembly, and Ed25519", "does not run"),
     ("WebAssembly.instantiate = async () => { throw new RangeError('memory'); };", "does not run the proved library", "lacks"),
 ]
 
@@ -85,8 +87,30 @@ def check_lacking(person):
         browser.open(person.address)
         said = browser.text_of("lacking")
         checks.check(wanted in said and unwanted not in said, f"after {script}: {said!r}")
-        checks.check(not browser.element("controls").is_displayed() and not browser.rows(), f"after {script}: the page can be used")
+        checks.check(not browser.is_shown("controls") and browser.is_shown("lacking") and not browser.rows(), f"after {script}: the page can be used")
         browser.command("Page.removeScriptToEvaluateOnNewDocument", identifier=number)
+
+
+def check_looks(person, minisign):
+    """Nothing is cut on a narrow screen with letters of twice the size, and all can be read in forced colours too."""
+    browser, checks = person.browser, person.checks
+    own = minisign.read("first.pub")
+    browser.open(person.address)
+    browser.choose_key(person.put(f"{'k' * 60}.pub", own))
+    browser.choose(*person.pair("Update-1.0-" + "long" * 20 + ".tar.gz", b"data", minisign.sign("first", b"data", trusted="timestamp:1\tfile:" + "y" * 80)),
+                   *person.pair("foreign", b"data", minisign.sign("second", b"data")), person.put("alone", b"x"), person.put("other.pub", own))
+    person.settled("looks")
+    checks.same(len(browser.rows()), 3, "looks: the rows")
+    for what, share in (("letters as they are", 100), ("letters of twice the size", 200)):
+        looks.large(browser, share)
+        for place in (looks.wide, looks.narrow):
+            place(browser)
+            checks.check(browser.run(looks.FITS), f"{what}, {place.__name__}: something stands outside of its place")
+            checks.same(browser.run(looks.CUT), [], f"{what}, {place.__name__}: what is cut")
+    looks.wide(browser)
+    looks.large(browser, 100)
+    checks.same(looks.contrasts_wrong(browser), [], "texts that are hard to read")
+    checks.same(looks.forced_contrasts_wrong(browser), [], "what is hard to see in forced colours")
 
 
 def check_use(person, minisign):
@@ -102,25 +126,29 @@ def check_use(person, minisign):
     checks.check(browser.text_of("key-said").startswith("Key "), "a key that is typed is not taken")
     checks.same(browser.tab(), "key-file", "the second for the keyboard")
     checks.check(browser.run("return getComputedStyle(document.querySelector('#key-file + label')).outlineStyle") == "solid", "the focus is not seen")
-    checks.same(browser.tab(), "files", "the third for the keyboard")
+    checks.same(browser.tab(), "key-remove", "the third for the keyboard")
+    checks.same(browser.tab(), "files", "the fourth for the keyboard")
     browser.choose(*person.pair("data", b"data", minisign.sign("first", b"data", trusted="t")),
                    *person.pair("bad", b"bad", minisign.sign("first", b"data", trusted="t")))
     person.settled("the keyboard")
     browser.run("document.getElementById('files').focus()")
-    checks.same(browser.tab(), "comment", "the fourth for the keyboard")
-    checks.same(browser.tab(), "clear", "the fifth for the keyboard")
+    checks.same(browser.tab(), "comment", "the fifth for the keyboard")
+    checks.same(browser.tab(), "clear", "the sixth for the keyboard")
     found = looks.nodes(browser)
     named = {(role, name) for role, name, _ in found}
-    for role, name in (("textbox", "Paste its text, or its line of 56 letters"), ("button", "Clear the list"), ("heading", "3. The verdicts"), ("main", "")):
+    for role, name in (("textbox", "Paste its text, or its line of 56 letters"), ("button", "Clear the list"), ("heading", "3. The verdicts"),
+                       ("heading", "Verified data"), ("heading", "NOT verified bad"), ("main", "")):
         checks.check((role, name) in named, f"a screen reader is told of no {role} {name!r}: {sorted(named)!r:.400}")
     for part in ("minisign.pub", ".minisig"):
         checks.check(any(part in name and properties.get("focusable") for _, name, properties in found), f"a screen reader is told of no place for {part}")
     live = {properties.get("live") for role, _, properties in found if role in ("log", "status")}
     checks.same(live, {"polite"}, "what a screen reader is told as it changes")
     checks.same(looks.nameless(browser), [], "what has no name for a screen reader")
-    log = browser.run("return Array.from(document.querySelectorAll('#log p'), it => it.textContent)")
-    checks.check(len(log) == 2 and log[0].startswith("data: verified, signed with key ") and log[1].startswith("bad: NOT verified. This file is not the one"),
-                 f"a screen reader is told {log}")
+    log = browser.log()
+    checks.check(len(log) == 2 and log[0].startswith("Verified, signed with the key ") and log[0].endswith(" The file's name: data")
+                 and log[1].startswith("NOT verified. This file is not the one") and log[1].endswith(" The file's name: bad"), f"a screen reader is told {log}")
+    checks.same(browser.run("return Array.from(document.querySelectorAll('#verdicts > li'), it => it.firstElementChild.tagName)"), ["H3", "H3"],
+                "what the rows begin with")
     browser.press(Keys.ENTER)
     checks.same(browser.rows(), [], "a list that was cleared by the keyboard")
     checks.same(browser.run("return document.activeElement.id"), "files", "where the focus is after that")

@@ -114,6 +114,21 @@ def minisign():
     return program("minisign", "minisign")
 
 
+def wasm_opt():
+    """The path of the program that makes modules with a memory of 32 bits of such for 64."""
+    return program("wasm-opt", "binaryen")
+
+
+def node():
+    """The path of the program that runs scripts of a browser's language outside of one."""
+    return program("node", "nodejs")
+
+
+def firefox():
+    """The path of the browser firefox, with letters to show."""
+    return need(lambda: shutil.which("firefox-esr"), "the program firefox-esr", "firefox-esr", "fonts-dejavu-core")
+
+
 def chromium():
     """The paths of the browser chromium, with letters to show, and of its driver."""
     browser = need(lambda: shutil.which("chromium"), "the program chromium", "chromium", "fonts-dejavu-core")

@@ -1,0 +1,96 @@
+// What a text is: a key, a secret key, a signature, a command line; which key an address has; what a signed comment tells.
+
+const KEY_LETTERS = /^[A-Za-z0-9+/]{56}$/;
+// How the second lines begin: the algorithms of a public key and of the two kinds of signatures, and those of a secret key,
+// with a password and without one.
+const KEY_LINE = /^RW[A-Za-z0-9+/]{54}$/;
+const SIGNATURE_LINE = /^R[UW][A-Za-z0-9+/]{97}=$/;
+const SECRET_KEY_LINE = /RW(RTY0Iy|QAAEIy)[A-Za-z0-9+/]{100}/;
+const COMMAND = /\bminisign(-verify)?(\.exe)?["']?\s+-|(^|\s)-P\s*["']?RW/;
+
+function linesOf(text) {
+  return text.split("\n").map(line => line.trim());
+}
+
+// "secret key", "signature", "key", or nothing where it is none of them.
+function kindOfText(text) {
+  const lines = linesOf(text);
+  if (lines.some(line => SECRET_KEY_LINE.test(line))) {
+    return "secret key";
+  }
+  if (lines[0].startsWith("untrusted comment:") && lines[2]?.startsWith("trusted comment:")) {
+    return "signature";
+  }
+  return lines[0].startsWith("untrusted comment:") && KEY_LINE.test(lines[1] ?? "") ? "key" : "";
+}
+
+// What stands where a key should, in a word of HINTS, or nothing where it cannot be told.
+function hintOf(text) {
+  const lines = linesOf(text);
+  const kind = kindOfText(text);
+  if (kind === "secret key" || kind === "signature") {
+    return kind;
+  }
+  if (lines.some(line => SIGNATURE_LINE.test(line))) {
+    return "signature";
+  }
+  if (COMMAND.test(text)) {
+    return "command";
+  }
+  const hasLine = lines.some(line => KEY_LINE.test(line));
+  return !hasLine && text.split(/[\s"'`<>:;,.=()]+/).some(word => KEY_LINE.test(word)) ? "words" : "";
+}
+
+// The 56 letters of a public key that the library has read, whose record has the bytes that it told.
+function lettersOf(text, isBare, record) {
+  const lines = linesOf(text);
+  const letters = isBare ? lines[0] : lines[1];
+  const bytes = Uint8Array.from(atob(letters), letter => letter.charCodeAt(0));
+  if (!KEY_LETTERS.test(letters) || record.some((byte, at) => byte !== bytes[at + 2])) {
+    throw new Error("these are not the letters of the key");
+  }
+  return letters;
+}
+
+// The 56 letters behind # of an address, as they stand or as key=, or nothing where it has no key, or more than one. Other
+// words are never taken.
+function lettersOfAddress(behind) {
+  const parts = behind.split("&");
+  const named = parts.filter(part => part.startsWith("key=")).map(part => part.slice(4));
+  const found = named.length === 0 ? parts : named;
+  try {
+    const letters = decodeURIComponent(found[0]);
+    return found.length === 1 && KEY_LETTERS.test(letters) ? letters : "";
+  } catch {
+    return "";
+  }
+}
+
+// What Minisign writes into a signed comment where the signer names none: the file's names and the time, as far as they are
+// there.
+function toldByComment(comment) {
+  const told = {names: [], time: ""};
+  for (const part of comment.split("\t")) {
+    if (part.startsWith("file:")) {
+      told.names.push(part.slice(5));
+    } else if (/^timestamp:\d{1,11}$/.test(part)) {
+      told.time = `${new Date(1000 * Number(part.slice(10))).toISOString().slice(0, 16).replace("T", ", ")} UTC`;
+    }
+  }
+  return told;
+}
+
+// Whether two names are the same, but for how letters with marks are written.
+function isSameName(name, other) {
+  return name.normalize() === other.normalize();
+}
+
+// The trusted comments that may have been signed where the text's own, cut of white space, was not: with what stands at its
+// ends in the text, and with some white space that was lost there.
+function commentsWithEnds(signatureText, comment) {
+  const line = signatureText.split("\n")[2] ?? "";
+  const asItStands = line.slice(line.indexOf(":") + 1).replace(/^ /, "");
+  const lost = [" ", "  ", "\t", "\r"];
+  return [asItStands, asItStands.replace(/\r$/, ""), ...lost.map(it => comment + it), ...lost.map(it => it + comment)]
+    .filter(it => it !== comment);
+}

@@ -1,0 +1,143 @@
+"""Debian's Firefox with the page that verifies a download, without a window. Debian has no driver of it, so it is driven by
+its own protocol, Marionette: lists in JSON, each behind its length and a colon.
+"""
+
+import base64
+import contextlib
+import json
+import os
+import signal
+import socket
+import subprocess
+import time
+
+from browser import SECONDS, Browser
+
+# What keeps it from asking for anything from outside, and from showing anything but the page.
+PREFERENCES = {
+    "marionette.port": 0, "browser.shell.checkDefaultBrowser": False, "datareporting.policy.dataSubmissionEnabled": False,
+    "toolkit.telemetry.enabled": False, "app.update.enabled": False, "browser.startup.homepage": "about:blank",
+    "startup.homepage_welcome_url": "about:blank", "network.captive-portal-service.enabled": False,
+    "network.connectivity-service.enabled": False, "app.normandy.enabled": False,
+    "services.settings.server": "http://127.0.0.1:1/", "extensions.update.enabled": False,
+    "browser.safebrowsing.update.enabled": False, "browser.safebrowsing.malware.enabled": False,
+    "browser.safebrowsing.phishing.enabled": False, "network.proxy.type": 0,
+}
+
+
+class Firefox(Browser):
+    """Debian's Firefox, whose profile is in this folder."""
+
+    name = "Firefox"
+    SHOWS_PAGE = b" tab\0"
+
+    def __init__(self, program, folder, width=800, height=1000):
+        profile = os.path.join(folder, "firefox")
+        os.makedirs(profile)
+        with open(os.path.join(profile, "user.js"), "w", encoding="utf-8") as file:
+            for name, value in PREFERENCES.items():
+                file.write(f"user_pref({json.dumps(name)}, {json.dumps(value)});\n")
+        command = [program, "--headless", "--marionette", "--no-remote", "--profile", profile, f"--width={width}",
+                   f"--height={height}", "about:blank"]
+        self.process = subprocess.Popen(command, stdin=subprocess.DEVNULL, stdout=subprocess.DEVNULL,
+                                        stderr=subprocess.DEVNULL,
+                                        start_new_session=True, env=dict(os.environ, HOME=profile,
+                                                                         MOZ_HEADLESS_WIDTH=str(width),
+                                                                         MOZ_HEADLESS_HEIGHT=str(height)))
+        try:
+            self.begin(os.path.join(profile, "MarionetteActivePort"))
+        except BaseException:
+            self.end()
+            raise
+
+    def begin(self, port_file):
+        """Begins a session, once the browser has written at which port it listens."""
+        end = time.monotonic() + SECONDS
+        while True:
+            with contextlib.suppress(OSError, ValueError), open(port_file, encoding="ascii") as file:
+                self.socket = socket.create_connection(("127.0.0.1", int(file.read())), 10)
+                break
+            if self.process.poll() is not None or time.monotonic() > end:
+                raise TimeoutError("firefox did not begin")
+            time.sleep(0.1)
+        self.socket.settimeout(10 * SECONDS)
+        self.answers, self.count = self.socket.makefile("rb"), 0
+        self.read()
+        self.capabilities = self.order("WebDriver:NewSession", capabilities={})["capabilities"]
+        self.order("WebDriver:SetTimeouts", script=1000 * SECONDS, pageLoad=1000 * SECONDS, implicit=0)
+
+    def read(self):
+        """The next message."""
+        length = b""
+        while (digit := self.answers.read(1)) not in (b":", b""):
+            length += digit
+        return json.loads(self.answers.read(int(length)))
+
+    def order(self, name, **arguments):
+        """Has the browser do something, and answers what that gives."""
+        self.count += 1
+        message = json.dumps([0, self.count, name, arguments]).encode()
+        self.socket.sendall(str(len(message)).encode() + b":" + message)
+        _, _, error, result = self.read()
+        if error:
+            raise RuntimeError(f"{name}: {error.get('error')}: {error.get('message')}")
+        return result["value"] if isinstance(result, dict) and list(result) == ["value"] else result
+
+    def quit(self):
+        with contextlib.suppress(OSError, RuntimeError, ValueError):
+            self.order("Marionette:Quit", flags=["eForceQuit"])
+        with contextlib.suppress(subprocess.TimeoutExpired):
+            self.process.wait(20)
+        self.end()
+
+    def end(self):
+        """Ends the browser's processes, which have a group of their own."""
+        with contextlib.suppress(ProcessLookupError):
+            os.killpg(self.process.pid, signal.SIGKILL)
+        self.process.wait()
+
+    def version(self):
+        return self.capabilities["browserVersion"]
+
+    def run(self, script, *arguments):
+        return self.order("WebDriver:ExecuteScript", script=script, args=list(arguments), sandbox=None)
+
+    def run_later(self, script, *arguments):
+        """Runs a script that calls its last argument with what it answers."""
+        return self.order("WebDriver:ExecuteAsyncScript", script=script, args=list(arguments), sandbox=None)
+
+    def go(self, address):
+        self.order("WebDriver:Navigate", url=address)
+
+    def send(self, name, text):
+        """Types into the element of this name, or chooses files there."""
+        found = self.order("WebDriver:FindElement", using="css selector", value=f"#{name}")
+        self.order("WebDriver:ElementSendKeys", id=next(iter(found.values())), text=text)
+
+    def drop(self, place, *paths):
+        """Drops files together on the element of this name: an event with files that another place was given."""
+        self.run("""const input = document.createElement("input");
+          input.type = "file"; input.multiple = true; input.id = "dropped";
+          document.body.append(input)""")
+        self.send("dropped", "\n".join(map(os.path.realpath, paths)))
+        self.run("""const input = document.getElementById("dropped"), data = new DataTransfer();
+          for (const file of input.files) data.items.add(file);
+          input.remove();
+          const event = new DragEvent("drop", {dataTransfer: data, bubbles: true, cancelable: true});
+          document.getElementById(arguments[0]).dispatchEvent(event)""", place)
+        self.taken()
+
+    def press(self, *keys):
+        """Presses keys, one after another, wherever the focus is."""
+        steps = [{"type": kind, "value": key} for key in "".join(keys) for kind in ("keyDown", "keyUp")]
+        self.order("WebDriver:PerformActions", actions=[{"type": "key", "id": "keyboard", "actions": steps}])
+        self.taken()
+
+    def picture(self, path):
+        """Writes a picture of the whole page."""
+        with open(path, "wb") as file:
+            file.write(base64.b64decode(self.order("WebDriver:TakeScreenshot", full=True)))
+
+    def processes(self):
+        """The numbers of the processes of the browser."""
+        return self.children_of(self.process.pid)

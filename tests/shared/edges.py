@@ -1,0 +1,43 @@
+"""Signatures of Ed25519 that implementations answer differently, and what libsodium answers.
+
+`ed25519_vectors.json` has 293 of them, made after the classes of "Taming the many EdDSAs" (Chalkias, Garillot and
+Nikolaenko, 2020): keys and first halves of small and of mixed order, encodings that are not canonical, second halves that
+are not below the order. `A` is the public key, `sig` the signature and `msg` the message, in hexadecimal digits; `sodium`
+is the answer of libsodium 1.0.18; `cofactorless` and `cofactored` say which of the two equations holds.
+"""
+
+import base64
+import json
+import os
+
+HERE = os.path.dirname(os.path.realpath(__file__))
+KEY_ID = b"\x01\x02\x03\x04\x05\x06\x07\x08"
+# The neutral element, of order 1, as a key and as a first half: with a second half of 0 the equation holds for every
+# message.
+NEUTRAL = b"\x01" + bytes(31)
+
+
+def vectors():
+    """The vectors, as they stand in the file."""
+    with open(os.path.join(HERE, "ed25519_vectors.json"), encoding="utf-8") as file:
+        return json.load(file)
+
+
+def texts_for_every_file():
+    """A public key and a signature that an implementation which takes points of small order accepts for every file."""
+    record = lambda algorithm, rest: base64.b64encode(algorithm + KEY_ID + rest)
+    key = b"untrusted comment: small order\n" + record(b"Ed", NEUTRAL) + b"\n"
+    signature = NEUTRAL + bytes(32)
+    lines = [b"untrusted comment: small order", record(b"ED", signature), b"trusted comment: t", base64.b64encode(signature)]
+    return key, b"".join(line + b"\n" for line in lines)
+
+
+def legacy_texts(vector):
+    """
+    A public key and a signature of the older kind, of the vector's message as the data: a host that accepts the vector
+    refuses the comment's signature alone, or nothing.
+    """
+    key, signature = bytes.fromhex(vector["A"]), bytes.fromhex(vector["sig"])
+    record = lambda rest: base64.b64encode(b"Ed" + KEY_ID + rest)
+    lines = [b"untrusted comment: vector", record(signature), b"trusted comment: t", base64.b64encode(signature)]
+    return b"untrusted comment: vector\n" + record(key) + b"\n", b"".join(line + b"\n" for line in lines)
