@@ -1,6 +1,7 @@
 //! The calls for callers and the examples over them, run on the worked texts under the toy.
 
 use crate::folders::{folder_path, make_empty, path_of, put};
+use crate::passwords::sign_with_password;
 use minisign::{
     ErrorKind, Result, SecretKey, copy_verified, open_with_password, sign_bytes, verify_bytes,
     verify_file,
@@ -17,7 +18,7 @@ use minisign_examples::rotating::{NewKey, check_with_new_key};
 use minisign_examples::small_device::open_in_little_memory;
 use minisign_examples::updating::check_update;
 use minisign_fixtures::outcomes::Outcome::{self, Accepted, Refused};
-use minisign_fixtures::outcomes::{comes_to, holds};
+use minisign_fixtures::outcomes::{comes_to, holds, is_so};
 use minisign_fixtures::texts::{KEY_TEXT, LEGACY_TEXT, SEALED, SECRET_TEXT, SIGNATURE_TEXT};
 use std::alloc::Global;
 use std::fs;
@@ -308,4 +309,36 @@ fn a_new_key_is_vouched_for_by_the_old_one(rt: HostRuntime) {
     assert!(rt; is_vouched_by_the_old(rt.alloc(), b"abc", Accepted));
     assert!(rt; is_vouched_by_the_old(rt.alloc(), b"abd", REFUSED));
     assert!(rt; is_checked(rt.alloc(), SIGNATURE_TEXT, b"abc", REFUSED));
+}
+
+// The text over `abc` that the sealed key signs under a password, with random bytes that are zeros.
+fn signed_under(alloc: Global, password: &str) -> Result<String> {
+    sign_with_password(
+        alloc,
+        &ToyScheme::new(),
+        SEALED,
+        String::from_str(alloc, password)?,
+        b"abc",
+        &mut FixedRandom::new(&[0u8; 128]),
+        7,
+    )
+}
+
+// Whether what it signs verifies under the key's public text, with the moment as the comment.
+fn is_signed_to_verify(alloc: Global) -> Result<bool> {
+    let text = signed_under(alloc, "password")?;
+    let comment = verify_bytes(alloc, &ToyScheme::new(), KEY_TEXT, text.as_str(), b"abc")?;
+    Ok(comment.as_str() == "timestamp:7")
+}
+
+// Whether it signs nothing under another password.
+fn is_unsigned(alloc: Global) -> bool {
+    let answer = signed_under(alloc, "passwore");
+    comes_to(&answer, Refused(WrongPassword))
+}
+
+#[test]
+fn what_a_sealed_key_signs_verifies(rt: HostRuntime) {
+    assert!(rt; is_so(is_signed_to_verify(rt.alloc())));
+    assert!(rt; is_unsigned(rt.alloc()));
 }

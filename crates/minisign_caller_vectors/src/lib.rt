@@ -14,8 +14,7 @@ mod callers;
 mod folders;
 #[cfg(test)]
 mod installing;
-#[cfg(test)]
-mod passwords;
+pub mod passwords;
 #[cfg(test)]
 mod reading;
 #[cfg(test)]

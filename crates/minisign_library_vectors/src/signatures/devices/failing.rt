@@ -114,14 +114,7 @@ fn a_mark_and_going_back_fail(rt: HostRuntime) {
                 said: front(SAID, said),
                 copied: b"",
             };
-            let came = verifies(
-                alloc,
-                call,
-                SIGNATURE_TEXT,
-                &mut data,
-                ample(alloc),
-                wanted,
-            );
+            let came = verifies(alloc, call, SIGNATURE_TEXT, &mut data, ample(alloc), wanted);
             assert!(rt; came, "at {calls}");
             assert!(rt;
                 gives_record(read_to_end(alloc, &mut data), left),
