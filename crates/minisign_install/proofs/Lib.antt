@@ -14,3 +14,4 @@ mod Reasons
 mod Refused
 mod Verdicts
 mod Works
+pub mod SignatureComments
