@@ -1,6 +1,6 @@
 -- What the key of a genuine pair signs.
 use Rattle.std.specs.Prelude.{ℕ, List, false, Result, Ok, Err, IfErr, IfOk, MatchResult}
-use Rattle.std.proofs.Common.{inl, inr, sym, ◌∙◌}
+use Rattle.std.proofs.Common.{◌≡◌, inl, inr, sym, ◌∙◌}
 use Rattle.std.proofs.lemmas.Bool.{true≢false}
 use Rattle.minisign.specs.Fault.{Fault}
 use Rattle.minisign.specs.DeviceCalls.{RandomCall}
@@ -9,7 +9,7 @@ use Rattle.minisign.specs.Calls.{BytesSigningFails}
 use Rattle.minisign.specs.Generation.{IsGenuinePair}
 use Rattle.minisign.specs.Headline.{SigningHeadline}
 use Rattle.minisign.specs.Records.{PublicKeyRecord, SecretKeyRecord, SignatureBoxRecord}
-use Rattle.minisign.specs.SignatureText.{SignatureText}
+use Rattle.minisign.specs.SignatureText.{read_signature_box}
 use Rattle.minisign.specs.Signing.{AreChosenReadBack, ChosenComments}
 use Rattle.minisign_examples.specs.Releasing.{IsMemoryOrRandomFault}
 
@@ -17,7 +17,7 @@ use Rattle.minisign_examples.specs.Releasing.{IsMemoryOrRandomFault}
 pub signed_by_pair : {T Z : Type 0} (bytes : T → List ℕ) (r : Result T Fault) (accepts : Verifier) (public_of : List ℕ → List ℕ) (pk : PublicKeyRecord) (sk : SecretKeyRecord)
     (message : List ℕ) (chosen : ChosenComments) (z : RandomCall Z) → IsGenuinePair public_of pk sk → AreChosenReadBack chosen
     → IfOk r (λ t. SigningHeadline accepts public_of sk message chosen (bytes t)) → IfErr r (BytesSigningFails sk z)
-    → MatchResult r (λ t. (x : SignatureBoxRecord) × SignatureText (bytes t) x × Vouches accepts pk x message false) IsMemoryOrRandomFault
+    → MatchResult r (λ t. (x : SignatureBoxRecord) × (read_signature_box (bytes t) ≡ Ok x) × Vouches accepts pk x message false) IsMemoryOrRandomFault
 signed_by_pair bytes (Ok t) accepts public_of pk sk message chosen z pair kept signed fails =
     let (x, read, each) = signed pair.seed pair.genuine kept.one_line in
     (x, read, each pk false pair.key pair.keynum)

@@ -1,12 +1,12 @@
 //! A signing tool in small: keys are made and kept as texts, and what they signed is published with
 //! a text of the signature.
 
-ghost use Rattle.std.specs.Prelude.{false, string_bytes, MatchResult, IfOk, IfErr};
+ghost use Rattle.std.specs.Prelude.{◌≡◌, Ok, false, string_bytes, MatchResult, IfOk, IfErr};
 ghost use Rattle.minisign.specs.Records.{PublicKeyRecord, SecretKeyRecord, SignatureBoxRecord};
 ghost use Rattle.minisign.specs.Acceptance.{Vouches};
 ghost use Rattle.minisign.specs.Generation.{IsGenuinePair};
 ghost use Rattle.minisign.specs.Headline.{TextsVouchFor};
-ghost use Rattle.minisign.specs.SignatureText.{SignatureText};
+ghost use Rattle.minisign.specs.SignatureText.{read_signature_box};
 ghost use Rattle.minisign_examples.specs.Releasing.{ArePairTexts, IsMemoryOrRandomFault, IsPairFault};
 
 use minisign::{
@@ -95,7 +95,7 @@ pub fn sign_update<S: Scheme, Z: RandomSource>(
     // With the key of a genuine pair the text is that of a box that vouches for the update, and the
     // only refusals are running out of memory and a failing random source.
     ensures { (pk : PublicKeyRecord) → IsGenuinePair (S.public_of scheme.now) pk sk.now
-        → MatchResult result (λ t. (x : SignatureBoxRecord) × SignatureText (string_bytes t) x × Vouches (S.accepts scheme.now) pk x update.now false) IsMemoryOrRandomFault }
+        → MatchResult result (λ t. (x : SignatureBoxRecord) × (read_signature_box (string_bytes t) ≡ Ok x) × Vouches (S.accepts scheme.now) pk x update.now false) IsMemoryOrRandomFault }
 {
     default_comments_are_read_back(moment);
     sign_bytes(alloc, scheme, sk, update, None, random, moment)

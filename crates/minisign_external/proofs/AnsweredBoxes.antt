@@ -1,8 +1,8 @@
 -- The box of two answers: it is the one that signing makes, and it vouches for the message where they are accepted.
-use Rattle.std.proofs.Common.{◌≡◌, ◌∙◌, ℕ, List, length, inl, refl, sym, subst, arith}
+use Rattle.std.proofs.Common.{◌≡◌, ◌∙◌, ℕ, List, length, Ok, inl, refl, sym, subst, arith}
 use Rattle.std.proofs.lemmas.List.{take_all}
 use Rattle.minisign.specs.Records.{SecretKeyRecord}
-use Rattle.minisign.specs.SignatureText.{SignatureText, signature_text}
+use Rattle.minisign.specs.SignatureText.{read_signature_box, signature_text}
 use Rattle.minisign.specs.Acceptance.{Verifier, VouchesUnderEachKey}
 use Rattle.minisign.specs.Signing.{ChosenComments, Signer, signed_box}
 use Rattle.minisign_external.specs.Signing.{AcceptsAnswers, IsAnsweredText, SignsSo, answered_box, answered_comments, answered_signature}

@@ -1,11 +1,31 @@
 -- What the reading of two texts decides.
-use Rattle.std.proofs.Common.{◌≡◌, ℕ, Bool, List, Some, Ok, Err, inl, inr, ap, sym, ◌∙◌}
+use Rattle.std.proofs.Common.{◌≡◌, ℕ, Bool, List, Some, Result, Ok, Err, refl, inl, inr, ap, sym, ◌∙◌}
 use Rattle.minisign_base.specs.Fault.{Fault}
+use Rattle.minisign.specs.InPlace.{IsViewOf, SignatureViewRecord, view_of}
 use Rattle.minisign.specs.Records.{CommentsRecord, PublicKeyRecord, SignatureBoxRecord, SignatureRecord}
 use Rattle.minisign.specs.PublicKeyText.{read_public_key}
-use Rattle.minisign.specs.SignatureText.{box_of, read_signature, read_signature_box}
+use Rattle.minisign.specs.SignatureText.{SignatureTextRecord, box_of, read_signature, read_signature_box}
 use Rattle.minisign.specs.Texts.{map_ok}
 use Rattle.minisign_external.specs.Questions.{AreReadAs, AreTexts, IsRefusedUnasked, TextsRecord}
+
+-- the signature and comments that a view is of
+pub seen : (r : Result SignatureTextRecord Fault) (v : SignatureViewRecord) → Ok v ≡ map_ok view_of r → (t : SignatureTextRecord) × (r ≡ Ok t) × (v ≡ view_of t)
+seen (Ok t) v h = (t, refl, cc h)
+seen (Err e) v h = cc h
+
+pub unseen : (r : Result SignatureTextRecord Fault) (e : Fault) → Err e ≡ map_ok view_of r → r ≡ Err e
+unseen (Ok t) e h = cc h
+unseen (Err f) e h = cc h
+
+pub tells_box : (v : SignatureViewRecord) (t : SignatureTextRecord) → v ≡ view_of t → IsViewOf v (box_of t)
+tells_box v t same = record {
+  comments = t.comments;
+  box = refl;
+  signature = ap (λ (w : SignatureViewRecord). w.signature) same;
+  untrusted = ap (λ (w : SignatureViewRecord). w.untrusted) same;
+  trusted = ap (λ (w : SignatureViewRecord). w.trusted) same;
+  comment_signature = ap (λ (w : SignatureViewRecord). w.comment_signature) same;
+}
 
 module _ (pk_text sig_text : List ℕ) where
   -- the first text reads as no key

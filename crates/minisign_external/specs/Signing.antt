@@ -1,5 +1,5 @@
 -- What a signature scheme has to be asked for a signature of a message, and the text that its answers make.
-use Rattle.std.specs.Prelude.{◌≡◌, ◌==◌, ◌⊎◌, ◌<◌, ◌≤◌, ℕ, true, if◌then◌else◌, List, ◌++◌, length, take, Option, None, Some, IfSome, replicate}
+use Rattle.std.specs.Prelude.{◌≡◌, ◌==◌, ◌⊎◌, ◌<◌, ◌≤◌, ℕ, true, if◌then◌else◌, List, ◌++◌, length, take, Option, None, Some, Ok, IfSome, replicate}
 use Rattle.std.specs.Str.{IsUtf8}
 use Rattle.std.specs.Str.Iter.{LacksByte}
 use Rattle.minisign_hash.specs.Blake2b.{blake2b_digest}
@@ -11,7 +11,7 @@ use Rattle.minisign.specs.Headline.{SigningHeadline}
 use Rattle.minisign.specs.Sealing.{IsUnencrypted, no_kdf}
 use Rattle.minisign.specs.SecretKeyText.{SecretKeyText}
 use Rattle.minisign.specs.Signing.{AreChosenReadBack, ChosenComments, IsGenuine, Signer, signed_box}
-use Rattle.minisign.specs.SignatureText.{SignatureText, signature_text}
+use Rattle.minisign.specs.SignatureText.{read_signature_box, signature_text}
 use Rattle.minisign_external.specs.Numbers.{misuse_number, refusal_number}
 use Rattle.minisign_external.specs.States.{HasToldKey, IsMarkedFed, IsNotFed, IsNotTold}
 use Rattle.minisign_external.specs.declared.state.State.{State}

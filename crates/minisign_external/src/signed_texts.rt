@@ -1,10 +1,10 @@
 //! The text of a signature, from the answers of a signature scheme.
 
-ghost use Rattle.std.specs.Prelude.{◌≡◌, ◌⊎◌, ◌<◌, ◌≤◌, ◌+◌, ◌++◌, Some, true, false, string_bytes, length, take, OnOk, OnErr, IfOk, IfErr, IfNone, IfSome, MatchOption, MatchResult};
+ghost use Rattle.std.specs.Prelude.{◌≡◌, ◌⊎◌, ◌<◌, ◌≤◌, ◌+◌, ◌++◌, Some, Ok, true, false, string_bytes, length, take, OnOk, OnErr, IfOk, IfErr, IfNone, IfSome, MatchOption, MatchResult};
 ghost use Rattle.minisign_base.specs.Fault.{Named};
 ghost use Rattle.minisign_base.specs.declared.faults.NamedFault.TheVariants.{OutOfMemory};
 ghost use Rattle.minisign.specs.Signing.{AreChosenReadBack};
-ghost use Rattle.minisign.specs.SignatureText.{SignatureText, signature_text};
+ghost use Rattle.minisign.specs.SignatureText.{read_signature_box, signature_text};
 ghost use Rattle.minisign_external.specs.Signing.{AreReadByMinisign, HoldsText, IsAnsweredText, IsCommentMisuse, IsWritingRefusal, answered_box, answered_comments, answered_signature, comments_of};
 ghost use Rattle.minisign_external.specs.States.{HasToldKey};
 ghost use Rattle.minisign_external.specs.declared.state.Misuse.{Misuse};
@@ -167,8 +167,8 @@ fn written(
 ) -> minisign::Result<String>
     ensures text { IfOk result (λ t. string_bytes t ≡ signature_text (answered_signature key_id.now first.now)
         (answered_comments (comments_of trusted.now untrusted.now) second.now)) }
-    ensures reads_back { AreChosenReadBack (comments_of trusted.now untrusted.now) → IfOk result (λ t. SignatureText (string_bytes t)
-        (answered_box key_id.now (comments_of trusted.now untrusted.now) first.now second.now)) }
+    ensures reads_back { AreChosenReadBack (comments_of trusted.now untrusted.now) → IfOk result (λ t. read_signature_box (string_bytes t)
+        ≡ Ok (answered_box key_id.now (comments_of trusted.now untrusted.now) first.now second.now)) }
     ensures refused { IfErr result (λ e. e ≡ Named OutOfMemory) }
 {
     let signature_box = SignatureBox::from_parts(alloc, key_id, first, untrusted, trusted, second)?;

@@ -21,6 +21,7 @@ use Rattle.minisign_install.specs.Comments.{Says}
 use Rattle.minisign_install.specs.Installing.{IsUpdate, Terms}
 use Rattle.minisign_install.specs.Refusals.{IsCommentRefused, IsDataRefused, IsLibraryFault}
 use Rattle.minisign_install.specs.declared.faults.InstallFault.{InstallFault}
+use Rattle.minisign_install.proofs.SignatureComments.{comments_in}
 
 -- == What the scheme answers ==
 
@@ -62,7 +63,8 @@ module _ (accepts : Verifier) (pk_text sig_text m : List ℕ) (pk : PublicKeyRec
   answers_texts q bytes first second are digest one two = λ k y d key_read box_read both.
       let keys = sym asked.read.key_read ∙ key_read in
       let same_key : pk ≡ k = cc keys in
-      let same_box : x ≡ y = asked.read.one_box y box_read in
+      let boxes = sym asked.read.box_read ∙ box_read in
+      let same_box : x ≡ y = cc boxes in
       let same : c ≡ d = same_comments c d (sym asked.comments ∙ ap (λ (b : SignatureBoxRecord). b.comments) same_box ∙ both) in
       subst (λ d. AnswersSo accepts k y d m first second) same
       (subst (λ y. AnswersSo accepts k y c m first second) same_box
@@ -92,16 +94,16 @@ else_memory S accepts pk_text sig_text m (Err e) refused = inr refused
 
 -- the comment that was signed is the one of the text
 pub vouched_with : (accepts : Verifier) (pk_text sig_text message : List ℕ) (v : TextsVouchFor accepts pk_text sig_text message false)
-    → TextsVouchWith accepts pk_text sig_text message false v.box_read.comments.trusted
-vouched_with accepts pk_text sig_text message v = record { vouched = v; comments = v.box_read.comments; both = v.box_read.box; trusted = refl }
+    → TextsVouchWith accepts pk_text sig_text message false (comments_in sig_text v.box v.box_read).0.trusted
+vouched_with accepts pk_text sig_text message v = record { vouched = v; comments = (comments_in sig_text v.box v.box_read).0; both = (comments_in sig_text v.box v.box_read).1; trusted = refl }
 
 module _ (accepts : Verifier) (terms : Terms) (kept : ℕ) (m : List ℕ) where
   -- the texts vouch for the data: it is an update, or the comment is refused
   pub judged_comment : (S : Type 0) (r : Result ℕ InstallFault) (v : TextsVouchFor accepts terms.pk_text terms.sig_text m false)
-      → MatchResult r (λ n. Says v.box_read.comments.trusted terms.file terms.numbering n × (kept ≤ n)) (IsCommentRefused terms kept v.box_read.comments.trusted)
+      → MatchResult r (λ n. Says (comments_in terms.sig_text v.box v.box_read).0.trusted terms.file terms.numbering n × (kept ≤ n)) (IsCommentRefused terms kept (comments_in terms.sig_text v.box v.box_read).0.trusted)
       → MatchResult r (IsUpdate accepts terms kept m) (λ e. IsLibraryFault (λ f. (f ≡ Named OutOfMemory) × S) e ⊎ IsDataRefused accepts terms kept m e)
   judged_comment S (Ok n) v (says, newer) = record {
-    comment = v.box_read.comments.trusted;
+    comment = (comments_in terms.sig_text v.box v.box_read).0.trusted;
     vouched = vouched_with accepts terms.pk_text terms.sig_text m v;
     says = says;
     newer = newer;

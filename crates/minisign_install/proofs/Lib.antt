@@ -17,3 +17,4 @@ mod Refused
 mod Verdicts
 mod Works
 mod Wants
+pub mod SignatureComments

@@ -1,7 +1,7 @@
 -- An update is installed exactly where it can be.
 use Rattle.std.proofs.Common.{◌≡◌, ◌≢◌, inl, inr, ◌++◌, ℕ, Bool, true, false, List, [], Option, Some, None, ap, sym, subst, ◌∙◌, refl, length, drop, arith, IfErr, OnOk}
 use Rattle.std.proofs.lemmas.Bool.{true≢false}
-use Rattle.std.specs.Str.{trim}
+use Rattle.std.specs.Str.{trim, IsUtf8}
 use Rattle.std.specs.declared.result.Result.{Result}
 use Rattle.std.specs.declared.result.Result.TheVariants.{Ok, Err}
 use Rattle.minisign_base.specs.Fault.{Named}
@@ -9,8 +9,7 @@ use Rattle.minisign_base.specs.declared.faults.NamedFault.TheVariants.{OutOfMemo
 use Rattle.minisign.specs.Acceptance.{Verifier}
 use Rattle.minisign.specs.Calls.{TextsVouchWith}
 use Rattle.minisign.specs.Reading.{IsAhead}
-use Rattle.minisign.specs.Records.{CommentsRecord}
-use Rattle.minisign.specs.SignatureText.{trusted_comment_label}
+use Rattle.minisign.specs.Records.{CommentsRecord, SignatureBoxRecord}
 use Rattle.minisign_install.specs.Comments.{IsNumberText, Says}
 use Rattle.minisign_install.specs.Folders.{HasLocked, IsFound, Run}
 use Rattle.minisign_install.specs.Installing.{HasInstalled, IsKeptNumber, Terms}
@@ -33,14 +32,10 @@ some_comments a b e = cc
 -- the comment that was signed stands in the text, whatever it was signed with
 same_comment : (accepts : Verifier) (pk sig m m' : List ℕ) (a b : List ℕ) → TextsVouchWith accepts pk sig m false a → TextsVouchWith accepts pk sig m' false b → a ≡ b
 same_comment accepts pk sig m m' a b u v =
-    let x = u.vouched.box_read in
-    let y = v.vouched.box_read in
-    let (c, at, trimmed) = x.trusted_comment in
-    let (d, there, cut) = y.trusted_comment in
-    let one : c ≡ d = same_behind trusted_comment_label c d (sym at ∙ there) in
-    let first : u.comments ≡ x.comments = some_comments u.comments x.comments (sym u.both ∙ x.box) in
-    let second : v.comments ≡ y.comments = some_comments v.comments y.comments (sym v.both ∙ y.box) in
-    sym u.trusted ∙ ap (λ k. k.trusted) first ∙ sym trimmed ∙ ap (λ k. trim k) one ∙ cut ∙ sym (ap (λ k. k.trusted) second) ∙ v.trusted
+    let boxes = sym u.vouched.box_read ∙ v.vouched.box_read in
+    let box : u.vouched.box ≡ v.vouched.box = cc boxes in
+    let same = some_comments u.comments v.comments (sym u.both ∙ ap (λ (x : SignatureBoxRecord). x.comments) box ∙ v.both) in
+    sym u.trusted ∙ ap (λ k. k.trusted) same ∙ v.trusted
 
 same_kept : (numbering : Numbering) (first : Bool) (found : Option (List ℕ)) (k l : ℕ) → IsKeptNumber numbering first found k → IsKeptNumber numbering first found l → k ≡ l
 same_kept numbering first found k l (inl (bytes, there, number)) (inl (other, same, is)) =

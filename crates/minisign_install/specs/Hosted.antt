@@ -1,5 +1,5 @@
 -- What an installation that a host in another language holds stands for, and what its calls do.
-use Rattle.std.specs.Prelude.{◌≡◌, ◌⊎◌, ◌==◌, ◌||◌, ◌<◌, ◌≤◌, ℕ, Bool, true, false, if◌then◌else◌, List, [], length, Option, Some, None, MatchResult}
+use Rattle.std.specs.Prelude.{◌≡◌, ◌⊎◌, ◌==◌, ◌||◌, ◌<◌, ◌≤◌, ℕ, Bool, true, false, if◌then◌else◌, List, [], length, Option, Some, None, MatchResult, Ok, nat_le}
 use Rattle.std.specs.declared.result.Result.{Result}
 use Rattle.std.specs.Str.{IsUtf8}
 use Rattle.minisign_base.specs.Fault.{Fault, Named}
@@ -7,7 +7,7 @@ use Rattle.minisign_base.specs.Faults.{fault_row}
 use Rattle.minisign_base.specs.declared.faults.NamedFault.TheVariants.{NotUtf8, OutOfMemory, RandomSourceFailed, ReadingFailed, WritingFailed}
 use Rattle.minisign.specs.Acceptance.{Verifier}
 use Rattle.minisign.specs.Records.{CommentsRecord, SignatureBoxRecord}
-use Rattle.minisign.specs.SignatureText.{SignatureText}
+use Rattle.minisign.specs.SignatureText.{read_signature_box}
 use Rattle.minisign_external.specs.Numbers.{IsAnswer, misuse_number}
 use Rattle.minisign_external.specs.States.{HasAsked, IsAskingRefusal, IsBlank, IsNotFed, verdict_misuse}
 use Rattle.minisign_external.specs.declared.state.Misuse.{Misuse}
@@ -228,7 +228,7 @@ IsJudged judged n terms kept comment =
 -- it is kept of the comment that the text of a signature has, which reads as one
 abbrev pub IsTextJudged : ℕ → ℕ → Terms → ℕ → Type 0
 IsTextJudged judged n terms kept =
-    (x : SignatureBoxRecord) (c : CommentsRecord) → SignatureText terms.sig_text x → x.comments ≡ Some c → IsJudged judged n terms kept c.trusted
+    (x : SignatureBoxRecord) (c : CommentsRecord) → read_signature_box terms.sig_text ≡ Ok x → x.comments ≡ Some c → IsJudged judged n terms kept c.trusted
 
 -- The questions of the two texts were asked, where this number was kept, and the comment of the box that the second
 -- one reads as was judged.

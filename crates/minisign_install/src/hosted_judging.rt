@@ -1,11 +1,11 @@
 //! Asking a signature scheme about what a host has read back, and judging the signed comment. None of it takes memory.
 
-ghost use Rattle.std.specs.Prelude.{◌≡◌, ◌≤◌, ℕ, Bool, List, Some, false, OnOk, OnErr, Err, IfErr, IfOk, IfSome, MatchOption, MatchResult, [], true};
+ghost use Rattle.std.specs.Prelude.{◌≡◌, ◌≤◌, ℕ, Bool, List, Some, false, OnOk, OnErr, Err, IfErr, IfOk, IfSome, MatchOption, MatchResult, [], true, Ok};
 ghost use Rattle.std.specs.Str.{IsUtf8};
 ghost use Rattle.minisign_hash.specs.Blake2b.{blake2b_digest};
 ghost use Rattle.minisign.specs.Records.{CommentsRecord, PublicKeyRecord, SignatureBoxRecord};
 ghost use Rattle.minisign.specs.Acceptance.{Verifier};
-ghost use Rattle.minisign.specs.SignatureText.{SignatureText};
+ghost use Rattle.minisign.specs.SignatureText.{read_signature_box};
 ghost use Rattle.minisign_external.specs.Questions.{AnswersTexts, AreOpen};
 ghost use Rattle.minisign_external.specs.States.{AreQuestions, HasEnded, IsFedState, TellsIdentifiers};
 ghost use Rattle.minisign_install.specs.Comments.{Says};
@@ -195,10 +195,10 @@ pub(crate) fn judge_text(
     numbering: Numbering,
     kept: u64,
 ) -> Result<u64, InstallFault>
-    ensures judged { IsUtf8 sig_text.now → (x : SignatureBoxRecord) (c : CommentsRecord) → SignatureText sig_text.now x → x.comments ≡ Some c
+    ensures judged { IsUtf8 sig_text.now → (x : SignatureBoxRecord) (c : CommentsRecord) → read_signature_box sig_text.now ≡ Ok x → x.comments ≡ Some c
         → (pk_text : List ℕ) → MatchResult result (λ n. Says c.trusted file.now numbering n × (kept ≤ n))
         (IsCommentRefused (wanted_by pk_text sig_text.now file.now numbering) kept c.trusted) }
-    ensures unread { ((x : SignatureBoxRecord) → ¬ (SignatureText sig_text.now x)) → result ≡ Err OtherFile }
+    ensures unread { ((x : SignatureBoxRecord) → ¬ (read_signature_box sig_text.now ≡ Ok x)) → result ≡ Err OtherFile }
 {
     match comment_of(sig_text) {
         Some(comment) => match check_comment(comment, file, numbering, kept) {
@@ -211,9 +211,9 @@ pub(crate) fn judge_text(
 
 // The trusted comment of the text of a signature, where it reads as one.
 fn comment_of(sig_text: &[u8]) -> Option<&str>
-    ensures comment { IsUtf8 sig_text.now → (x : SignatureBoxRecord) (c : CommentsRecord) → SignatureText sig_text.now x → x.comments ≡ Some c
+    ensures comment { IsUtf8 sig_text.now → (x : SignatureBoxRecord) (c : CommentsRecord) → read_signature_box sig_text.now ≡ Ok x → x.comments ≡ Some c
         → MatchOption result ⊥ (λ t. t.now ≡ c.trusted) }
-    ensures reads { IfSome result (λ _. (x : SignatureBoxRecord) × SignatureText sig_text.now x) }
+    ensures reads { IfSome result (λ _. (x : SignatureBoxRecord) × (read_signature_box sig_text.now ≡ Ok x)) }
 {
     let Ok(text) = str::from_utf8(sig_text) else {
         return None;

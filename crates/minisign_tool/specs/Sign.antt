@@ -7,7 +7,7 @@ use Rattle.minisign.specs.NamedFaults.{WritingFailed}
 use Rattle.minisign.specs.Records.{SecretKeyRecord, SignatureBoxRecord}
 use Rattle.minisign.specs.Acceptance.{Verifier, VouchesUnderEachKey}
 use Rattle.minisign.specs.Reading.{IsAhead, ReadsWhole}
-use Rattle.minisign.specs.SignatureText.{SignatureText}
+use Rattle.minisign.specs.SignatureText.{read_signature_box}
 use Rattle.minisign.specs.Signing.{IsGenuine, Signer, comments_or_defaults}
 use Rattle.minisign.specs.SigningTexts.{GivesKey, IsKeyOf, IsSignedText, TextSigningFails}
 use Rattle.minisign.specs.TextFiles.{IsTextFault}
@@ -18,7 +18,7 @@ use Rattle.minisign_tool.specs.declared.sign.SigningDevices.{SigningDevices}
 abbrev pub ReadsBackWhereGenuine : Verifier → (List ℕ → List ℕ) → SecretKeyRecord → List ℕ → List ℕ → Type 0
 ReadsBackWhereGenuine accepts public_of sk message text =
     (seed : List ℕ) → IsGenuine public_of sk seed
-    → (x : SignatureBoxRecord) × SignatureText text x × VouchesUnderEachKey accepts (public_of seed) sk.keynum message x
+    → (x : SignatureBoxRecord) × (read_signature_box text ≡ Ok x) × VouchesUnderEachKey accepts (public_of seed) sk.keynum message x
 
 -- the devices of signing over a run
 pub record SigningCall (K R Z A B : Type 0) : Type 1 where

@@ -1,7 +1,7 @@
 use Rattle.std.proofs.Common.{◌≡◌, Ok, None, inl, inr, subst, sym, ⊎_elim}
 use Rattle.minisign.specs.Generation.{IsGenuinePair, OpensOnlyTo}
 use Rattle.minisign.specs.PublicKeyText.{read_public_key}
-use Rattle.minisign.specs.SignatureText.{SignatureText}
+use Rattle.minisign.specs.SignatureText.{read_signature_box}
 use Rattle.minisign_examples.proofs.Refusals.{passed_up}
 use Rattle.minisign_examples.proofs.releasing.sign_release.Goals as goal
 
@@ -21,5 +21,5 @@ returns-in_err-verify_bytes-clause-refused g c =
     let (x, read, vouches) = c.in_ok-sig_text.ensures pk (subst (λ k. IsGenuinePair (g.S.Scheme.public_of c.args.scheme.now) pk k) (sym same) texts.pair) in
     passed_up c.from_residual-in_err-verify_bytes.result c.in_err-verify_bytes.field-0.0 _ c.from_residual-in_err-verify_bytes.ensures.1
     (⊎_elim (λ memory. inl (inl memory))
-    (λ refused. absurd (refused.unvouched (record { key = pk; box = x; key_read = subst (λ text. read_public_key text ≡ Ok pk) (sym c.as_str-2.ensures.value) texts.public; box_read = subst (λ text. SignatureText text x) (sym c.as_str-3.ensures.value) read; vouches = vouches })))
+    (λ refused. absurd (refused.unvouched (record { key = pk; box = x; key_read = subst (λ text. read_public_key text ≡ Ok pk) (sym c.as_str-2.ensures.value) texts.public; box_read = subst (λ text. read_signature_box text ≡ Ok x) (sym c.as_str-3.ensures.value) read; vouches = vouches })))
     c.in_err-verify_bytes.ensures)

@@ -17,6 +17,7 @@ use Rattle.minisign_install.specs.declared.hosted.Installation.{Installation}
 use Rattle.minisign_install.specs.declared.order.Due.TheVariants.{Remove, TakeRights}
 use Rattle.std.specs.Prelude.{MatchResult, ◌≤◌}
 use Rattle.minisign_install.proofs.Judgements.{vouched_with}
+use Rattle.minisign_install.proofs.SignatureComments.{comments_in}
 use Rattle.minisign_install.proofs.hosted.Installation.answer.Goals as goal
 
 -- what came of the comment is told of a message that is vouched for
@@ -33,9 +34,10 @@ known {T} accepts terms kept message comment new (Err q) vouched (e, is, due, re
 pub returns-in-Ok-clause-answer : goal.returns-in-Ok-clause-answer
 returns-in-Ok-clause-answer c = λ terms kept message accepts asking answers.
     let v = c.in-Ok.ensures.verdict terms.pk_text terms.sig_text message false accepts asking.asked answers in
-    let judged = asking.judged v.box v.box_read.comments v.box_read v.box_read.box in
-    known accepts terms kept message v.box_read.comments.trusted c.take_judgement.new.self c.take_judgement.result
-    (vouched_with accepts terms.pk_text terms.sig_text message v) (c.take_judgement.ensures.judged terms kept v.box_read.comments.trusted judged)
+    let (comments, both) = comments_in terms.sig_text v.box v.box_read in
+    let judged = asking.judged v.box comments v.box_read both in
+    known accepts terms kept message comments.trusted c.take_judgement.new.self c.take_judgement.result
+    (vouched_with accepts terms.pk_text terms.sig_text message v) (c.take_judgement.ensures.judged terms kept comments.trusted judged)
 
 pub returns-in-Err-WrongUse-clause-answer : goal.returns-in-Err-WrongUse-clause-answer
 returns-in-Err-WrongUse-clause-answer c = λ terms kept message accepts asking answers.
