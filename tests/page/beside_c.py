@@ -18,7 +18,7 @@ FLAGS = (0, 1, 2, 3, 2**31, 2**32 - 1)
 # The errors of the header: none, a state that was never begun, and a number that is no flag.
 OK, NOT_BEGUN, BAD_LEGACY_FLAG = 0, 1, 6
 STATE_BYTES, QUESTIONS_BYTES, MESSAGE_BYTES = 512, 256, 65536
-# Has the module ask with any number as `allow_legacy`, where the page passes 0 or 1: its answer, and whether the state stays.
+# Has the module ask with any number as `allow_legacy`, where the page passes 0 or 1: what it says, and if the state stays.
 ASK = """const [key, signature, flag, isBegun] = arguments;
   library.memory.fill(0, library.state, library.state + STATE_BYTES);
   if (isBegun) { library.begin(); }
