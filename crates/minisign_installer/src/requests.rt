@@ -394,9 +394,12 @@ fn most_by(text: Option<&str>) -> Result<Option<u64>, Misuse<'_>>
 fn number_of(text: &str) -> Option<u64>
     ensures { MatchOption result ((n : ℕ) → ¬ (IsNumberText text.now n)) (IsNumberText text.now) }
 {
-    match text.parse::<u64>() {
-        Ok(number) => Some(number),
-        Err(_) => None,
+    match text.as_bytes().first() {
+        Some(b'+') => None,
+        _ => match text.parse::<u64>() {
+            Ok(number) => Some(number),
+            Err(_) => None,
+        },
     }
 }
 
