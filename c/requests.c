@@ -16,7 +16,8 @@
     "Installs DATA at PLACE if the texts of the public key PK and of the signature\n" \
     "SIG vouch for it as the update that is wanted.\n" \
     "\n" \
-    "  --first            take the update also where no number is kept beside PLACE\n" \
+    "  --first            take the update also where no number of FIELD is kept beside\n" \
+    "                     PLACE\n" \
     "  --numbering FIELD  the update's number is the field `timestamp` of the signed\n" \
     "                     comment, as without this option, or `version`\n" \
     "  --name NAME        the name that the signed comment has to have for the file;\n" \
@@ -38,7 +39,7 @@
     "  4  the update is older than what was installed\n" \
     "  5  another installation is at work at this place\n" \
     "  6  the update stands there, but a crash may bring back what stood there before\n" \
-    "  7  no number is kept beside PLACE, and `--first` was not given\n"
+    "  7  no number of FIELD is kept beside PLACE, and `--first` was not given\n"
 
 enum { PATHS = 4 };
 

@@ -22,6 +22,10 @@ const FIRST: &str =
 const SECOND: &str =
     "untrusted comment: c\nRUQBAgMEBQYHCAAAAAAAAAAAAAAAAAAAAAAAAAAAAAAAAAAAAAAAAAAA/4bmf7Gc8IMqobS6xZ4S2sjS+HmqkH3Styw7qQa1i8M=\ntrusted comment: file:app\ttimestamp:6\nAAAAAAAAAAAAAAAAAAAAAAAAAAAAAAAAAAAAAAAAAADDtdBA0afaqXmPh436tzzh//iYFfDKJ4jtdmHzXO/RmQ==\n";
 
+// The same with the comment `file:app`, a tab and `timestamp:+6`, in which no number in digits alone stands.
+const SIGN: &str =
+    "untrusted comment: c\nRUQBAgMEBQYHCAAAAAAAAAAAAAAAAAAAAAAAAAAAAAAAAAAAAAAAAAAA/4bmf7Gc8IMqobS6xZ4S2sjS+HmqkH3Styw7qQa1i8M=\ntrusted comment: file:app\ttimestamp:+6\nAAAAAAAAAAAAAAAAAAAAAAAAAAAAAAAAAAAAAAAAAADDtdBA0afaqXmPh436tzzh//iYCMbKJ4jtdmHzXO/RmQ==\n";
+
 // What is drawn for the names of two stages.
 const DRAWN: [u8; 32] = [
     0x00, 0x01, 0x02, 0x03, 0x04, 0x05, 0x06, 0x07, 0x08, 0x09, 0x0a, 0x0b, 0x0c, 0x0d, 0x0e, 0x0f,
@@ -115,11 +119,11 @@ fn refusal_behind_second(
     sig_text: &str,
 ) -> Option<InstallFault> {
     let mut folder = MemoryFolder::new(alloc);
-    if !installs(alloc, &mut folder, b"second", SECOND, true, b"6") {
+    if !installs(alloc, &mut folder, b"second", SECOND, true, b"timestamp:6") {
         return None;
     }
     let refusal = install(alloc, &mut folder, drawn, update, sig_text, false).err();
-    if holds(&folder, b"second", b"6") {
+    if holds(&folder, b"second", b"timestamp:6") {
         refusal
     } else {
         None
@@ -130,9 +134,9 @@ fn refusal_behind_second(
 fn updates_are_installed_one_after_another(rt: HostRuntime) {
     let alloc = rt.alloc();
     let mut folder = MemoryFolder::new(alloc);
-    assert!(rt; installs(alloc, &mut folder, b"first", FIRST, true, b"5"));
-    assert!(rt; installs(alloc, &mut folder, b"second", SECOND, false, b"6"));
-    assert!(rt; installs(alloc, &mut folder, b"second", SECOND, false, b"6"));
+    assert!(rt; installs(alloc, &mut folder, b"first", FIRST, true, b"timestamp:5"));
+    assert!(rt; installs(alloc, &mut folder, b"second", SECOND, false, b"timestamp:6"));
+    assert!(rt; installs(alloc, &mut folder, b"second", SECOND, false, b"timestamp:6"));
 }
 
 #[test]
@@ -159,6 +163,41 @@ fn is_refused_without_a_number(alloc: Global) -> bool {
 #[test]
 fn without_a_number_only_a_first_installation_goes_through(rt: HostRuntime) {
     assert!(rt; is_refused_without_a_number(rt.alloc()));
+}
+
+#[test]
+fn a_sign_before_a_number_is_refused(rt: HostRuntime) {
+    let refusal = refusal_behind_second(rt.alloc(), &DRAWN, b"second", SIGN);
+    assert!(rt; matches!(refusal, Some(InstallFault::NoNumber)));
+}
+
+// Why an update by its version is refused behind `second`, which is kept by its timestamp, where that stays.
+fn refusal_by_version(alloc: Global, is_first: bool) -> Option<InstallFault> {
+    let mut folder = MemoryFolder::new(alloc);
+    if !installs(alloc, &mut folder, b"second", SECOND, true, b"timestamp:6") {
+        return None;
+    }
+    let wanted = Wanted {
+        pk_text: KEY_TEXT,
+        sig_text: SECOND,
+        file: "app",
+        numbering: Numbering::Version,
+    };
+    let refusal = install_wanted(alloc, &mut folder, &DRAWN, b"second", wanted, is_first).err();
+    if holds(&folder, b"second", b"timestamp:6") {
+        refusal
+    } else {
+        None
+    }
+}
+
+#[test]
+fn a_place_is_kept_by_one_field(rt: HostRuntime) {
+    let refusal = refusal_by_version(rt.alloc(), false);
+    assert!(rt; matches!(refusal, Some(InstallFault::KeptByTimestamp)));
+    // The record holds no version: at a first installation the comment is judged, and has none.
+    let refusal = refusal_by_version(rt.alloc(), true);
+    assert!(rt; matches!(refusal, Some(InstallFault::NoNumber)));
 }
 
 #[test]

@@ -25,9 +25,10 @@ use std::alloc::Global;
 ///
 /// In this order it locks the place (`PlaceInUse`: it does not wait for another run; `folder` holds
 /// the lock until it is let go of), removes what killed runs left there, and reads the number that
-/// is kept beside the place (`NoRecord`, `DamagedRecord`; with `is_first` 0 counts where no number
-/// is kept, and a number that is kept counts all the same). While it has the lock the number in the
-/// record never falls. It copies the data into a new file and verifies what that file holds (the
+/// is kept beside the place for the wanted field (`NoRecord`, `DamagedRecord`, `KeptByTimestamp`,
+/// `KeptByVersion`; with `is_first` 0 counts where no number is kept for the field, and a number that
+/// is kept for it counts all the same). While it has the lock the number that the record has for the
+/// field never falls. It copies the data into a new file and verifies what that file holds (the
 /// first failing case of `verify_texts`; legacy signatures are never taken). It tests the signed
 /// comment: `OtherFile`; `NoNumber`, below 2^64; `OlderUpdate`, where the number is below the kept
 /// one. The same number may be installed again. Then it gives the file the rights of the one at the
@@ -55,26 +56,28 @@ pub fn install_update<S: Scheme, Z: RandomSource, R: Source, F: Folder>(
 ) -> Result<(), InstallFault>
     // Each call of the run leaves at the place what could be found there just before it, or brings
     // an update that the two texts vouch for, whose signed comment names the file and has a number
-    // not below the kept one; and to the record only the number of such an update; through any
-    // crash, and whatever other processes do that leave the run's own stages alone, and the record
-    // while this run holds the lock (`InstallsOnly`, `IsUpdate`, `OthersLeave`).
+    // not below the kept one; and to the record only the number of such an update, behind the label
+    // of its field; through any crash, and whatever other processes do that leave the run's own
+    // stages alone, and the record while this run holds the lock (`InstallsOnly`, `IsUpdate`,
+    // `OthersLeave`).
     //
-    // Nothing is done without the lock; from when it is got, a number in the record stays or is
-    // followed by a greater one, and whenever the run has brought an update to the place, the
-    // record has had its number or a greater one since before: at each moment, and after a crash at
-    // any, also of a run that is refused or cut off (`HasLocked`, `NeverFalls`, `PlacesBehind`).
+    // Nothing is done without the lock; from when it is got, a number that the record has for the
+    // wanted field stays or is followed by a greater one, and whenever the run has brought an update
+    // to the place, the record has had its number or a greater one since before: at each moment, and
+    // after a crash at any, also of a run that is refused or cut off (`HasLocked`, `NeverFalls`,
+    // `PlacesBehind`).
     ensures headline { Known (F.run folder.old) (InstallsOnlyUpdates (S.accepts scheme.now) (terms_of wanted.entry) is_first (F.run folder.old) (F.run folder.new)) }
 
     // On success what was installed is the data that was ahead, and its number is not below the one
-    // that the record held when the lock was got; leftovers were removed as far as they can be, and
-    // the file was given the rights of the one before; the last calls named the record and brought
-    // that to the disk, and then named the place and brought that to the disk.
+    // that the record held for the field when the lock was got; leftovers were removed as far as they
+    // can be, and the file was given the rights of the one before; the last calls named the record
+    // and brought that to the disk, and then named the place and brought that to the disk.
     ensures installed { OnOk result (Known (F.run folder.old) ((locked : Run) × HasLocked (F.run folder.old) locked × HasInstalled (S.accepts scheme.now) (terms_of wanted.entry) is_first (R.ahead update.old) locked (F.run folder.new))) }
 
     // A refusal is `another installation is at work` after one call that changed nothing, and found
     // the lock held by another run; or a device's fault, where its count of faults rose, or the
-    // record's, with nothing brought: the record was absent, or no number, when the lock was got,
-    // and it is not the first installation (`IsLockedRefusal`, `IsDeviceFault`, `IsRecordRefused`).
+    // record's, with nothing brought: the record was absent, or held no number for the field, when
+    // the lock was got, and it is not the first installation (`IsLockedRefusal`, `IsDeviceFault`, `IsRecordRefused`).
     // Or out of memory, where no count rose, but for the folder's, where the stage could not be
     // removed behind that (`IsCallFault`, `IsRunFault`).
     //
@@ -86,10 +89,10 @@ pub fn install_update<S: Scheme, Z: RandomSource, R: Source, F: Folder>(
     ensures refused { IfErr result (λ e. Known (F.run folder.old) (IsRefusal (S.accepts scheme.now) (terms_of wanted.entry) is_first (R.ahead update.old) (counts (Z.random_faults random.old) (R.faults update.old) (F.folder_faults folder.old)) (counts (Z.random_faults random.new) (R.faults update.new) (F.folder_faults folder.new)) (F.run folder.old) (F.run folder.new) e)) }
 
     // Where memory is found and no device fails: if another run holds the lock, that is said;
-    // otherwise the update is installed exactly where the record has a number, or it is the first
-    // installation, the two texts vouch for the data, and the signed comment names the file and has
-    // a number that is not below the kept one; and where it is not installed, the first of these
-    // that fails is returned (`CanBeInstalled`, `CannotBeInstalled`).
+    // otherwise the update is installed exactly where the record has a number for the field, or it is
+    // the first installation, the two texts vouch for the data, and the signed comment names the file
+    // and has a number that is not below the kept one; and where it is not installed, the first of
+    // these that fails is returned (`CanBeInstalled`, `CannotBeInstalled`).
     ensures exactly { Known (F.run folder.old) (InstallsExactly (S.accepts scheme.now) (terms_of wanted.entry) is_first (R.ahead update.old) (counts (Z.random_faults random.old) (R.faults update.old) (F.folder_faults folder.old)) (counts (Z.random_faults random.new) (R.faults update.new) (F.folder_faults folder.new)) (F.run folder.old) (F.run folder.new) result) }
 
     // At the end no stage is the run's own that was not so before: each that it made got a lasting

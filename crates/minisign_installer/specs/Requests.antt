@@ -2,7 +2,7 @@
 -- where it has one, may stand before, behind and between the four paths, once; behind `--` there are paths alone.
 use Rattle.std.specs.Prelude.{◌≡◌, ◌≢◌, ◌==◌, ◌+◌, ◌*◌, ◌-◌, ◌≤◌, ◌⊎◌, ℕ, Bool, true, false, List, [], ◌∷◌, ◌++◌, ◌<◌, ◌^◌, length, ⊤, Option, Some, None, IfSome, IsSome, if◌then◌else◌, option_map, bytes_eq, codes}
 use Rattle.std.specs.Option.{is_some}
-use Rattle.std.specs.Str.Parse.{IsNumeral, digits_value}
+use Rattle.minisign_install.specs.Comments.{IsNumberText}
 use Rattle.minisign_install.specs.declared.comments.Numbering.{Numbering}
 use Rattle.minisign_install.specs.declared.comments.Numbering.TheVariants.{Timestamp, Version}
 use Rattle.minisign_installer.specs.declared.requests.Asked.{Asked}
@@ -144,18 +144,12 @@ pub record WritesMode (text : List ℕ) (mode : ℕ) : Type 0 where
   pub text_is : (text ≡ user ∷ group ∷ others ∷ []) ⊎ (text ≡ 48 ∷ user ∷ group ∷ others ∷ [])
   pub mode_is : mode ≡ mode_value user group others
 
--- the text writes this number below 2^64 in decimal digits, and has nothing else
-pub record WritesNumber (text : List ℕ) (n : ℕ) : Type 0 where
-  pub numeral : IsNumeral 10 text
-  pub is : digits_value 10 text ≡ n
-  pub bound : n < 2 ^ 64
-
 -- the text writes this number of bytes below 2^64 in decimal digits, and behind them the letter of a unit of so many bytes
 pub record WritesUnits (letter unit : ℕ) (text : List ℕ) (n : ℕ) : Type 0 where
   pub digits : List ℕ
   pub count : ℕ
   pub text_is : text ≡ digits ++ (letter ∷ [])
-  pub number : WritesNumber digits count
+  pub number : IsNumberText digits count
   pub is : count * unit ≡ n
   pub bound : n < 2 ^ 64
 
@@ -163,7 +157,7 @@ pub record WritesUnits (letter unit : ℕ) (text : List ℕ) (n : ℕ) : Type 0 
 -- 1024 such units, and so on.
 abbrev pub WritesBytes : List ℕ → ℕ → Type 0
 WritesBytes text n =
-    WritesNumber text n ⊎ WritesUnits 75 (2 ^ 10) text n ⊎ WritesUnits 77 (2 ^ 20) text n ⊎ WritesUnits 71 (2 ^ 30) text n ⊎ WritesUnits 84 (2 ^ 40) text n
+    IsNumberText text n ⊎ WritesUnits 75 (2 ^ 10) text n ⊎ WritesUnits 77 (2 ^ 20) text n ⊎ WritesUnits 71 (2 ^ 30) text n ⊎ WritesUnits 84 (2 ^ 40) text n
 
 -- an option's value that was written, or none, is this value, or none
 abbrev pub Has : {V : Type 0} → (List ℕ → V → Type 0) → Option (List ℕ) → Option V → Type 0

@@ -27,7 +27,8 @@ const HELP: &str = "\
 Installs DATA at PLACE if the texts of the public key PK and of the signature
 SIG vouch for it as the update that is wanted. The toy scheme protects nothing.
 
-  --first            take the update also where no number is kept beside PLACE
+  --first            take the update also where no number of FIELD is kept beside
+                     PLACE
   --numbering FIELD  the update's number is the field `timestamp` of the signed
                      comment, as without this option, or `version`
   --name NAME        the name that the signed comment has to have for the file;
@@ -50,7 +51,7 @@ Each option comes at most once, anywhere before `--`. It ends with
   4  the update is older than what was installed
   5  another installation is at work at this place
   6  the update stands there, but a crash may bring back what stood there before
-  7  no number is kept beside PLACE, and `--first` was not given
+  7  no number of FIELD is kept beside PLACE, and `--first` was not given
 ";
 
 /// Says what is to be said on the error stream.

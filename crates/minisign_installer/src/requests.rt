@@ -1,7 +1,8 @@
 //! What the words behind the program's name ask for.
 
 ghost use Rattle.std.specs.Prelude.{◌≡◌, ℕ, Some, None, IsTrue, ◌<◌, ◌↔◌, map, option_map, MatchOption, MatchResult, IfSome};
-ghost use Rattle.minisign_installer.specs.Requests.{Asks, AsksNothing, CannotAsk, Given, HasMode, HasMost, HasNumbering, IsBad, IsField, IsOctal, IsRequest, WritesBytes, WritesMode, WritesNumber, WritesUnits, given, has_value, is_dashed, kind_of, mode_value, next, next_of_word, nothing, reads, with_path, with_value};
+ghost use Rattle.minisign_install.specs.Comments.{IsNumberText};
+ghost use Rattle.minisign_installer.specs.Requests.{Asks, AsksNothing, CannotAsk, Given, HasMode, HasMost, HasNumbering, IsBad, IsField, IsOctal, IsRequest, WritesBytes, WritesMode, WritesUnits, given, has_value, is_dashed, kind_of, mode_value, next, next_of_word, nothing, reads, with_path, with_value};
 
 use minisign_install::Numbering;
 
@@ -425,7 +426,7 @@ fn units_of(text: &str, letter: char, unit: u64) -> Option<u64>
 // The number below 2^64 that a text writes in decimal digits, and nothing else: `parse` takes a plus
 // before them too.
 fn number_of(text: &str) -> Option<u64>
-    ensures { MatchOption result ((n : ℕ) → ¬ (WritesNumber text.now n)) (WritesNumber text.now) }
+    ensures { MatchOption result ((n : ℕ) → ¬ (IsNumberText text.now n)) (IsNumberText text.now) }
 {
     match text.as_bytes().first() {
         Some(b'+') => None,
