@@ -349,11 +349,10 @@ static void say_refused(const struct request *request, const struct folder *fold
     case MINISIGN_NO_RECORD:
     case MINISIGN_DAMAGED_RECORD: say_more(file, text, "`--first` installs all the same", ""); break;
     case MINISIGN_NO_NUMBER:
-        say_more(file, text, "wanted is the field ",
-                 request->numbering == MINISIGN_NUMBERING_VERSION ? "version; `--numbering timestamp` takes the other"
-                                                                  : "timestamp; `--numbering version` takes the other");
+        say_more(file, text, request->numbering == MINISIGN_NUMBERING_VERSION ? "version" : "timestamp",
+                 ": is the field that is wanted, by `--numbering` or without it");
         break;
-    case MINISIGN_OTHER_FILE: say_more(file, text, "wanted by the place or `--name` is ", wanted_name(request, folder)); break;
+    case MINISIGN_OTHER_FILE: say_more(file, text, wanted_name(request, folder), " is wanted, by the place or `--name`"); break;
     default: say(file, text);
     }
 }

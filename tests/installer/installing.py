@@ -1043,8 +1043,8 @@ def cases(it):
     yield "other data", lambda: it.refuses(b"error: bad: Signature verification failed\n", signed=LATER)
     yield "no data", lambda: it.refuses(b"error: bad: Signature verification failed\n", data=b"", signed=LATER)
     yield "an older update", lambda: it.refuses(b"error: bad: the update is older than what was installed\n", number=4, status=OLDER)
-    yield "another file", lambda: it.refuses(b"error: bad.sig: the signed comment does not name this file (wanted by the place or `--name` is place)\n", names="other")
-    no_number = b"error: bad.sig: the signed comment has no such number (wanted is the field timestamp; `--numbering version` takes the other)\n"
+    yield "another file", lambda: it.refuses(b"error: bad.sig: the signed comment does not name this file (place is wanted, by the place or `--name`)\n", names="other")
+    no_number = b"error: bad.sig: the signed comment has no such number (timestamp: is the field that is wanted, by `--numbering` or without it)\n"
     yield "no number", lambda: it.refuses(no_number, label="version")
     yield "a number too great", lambda: it.refuses(no_number, number=2 ** 64)
     yield "a word for a number", lambda: it.refuses(no_number, number="six")

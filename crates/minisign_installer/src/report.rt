@@ -33,10 +33,9 @@ SIG vouch for it as the update that is wanted. The toy scheme protects nothing.
                      comment, as without this option, or `version`
   --name NAME        the name that the signed comment has to have for the file;
                      without this option it is the last part of PLACE
-  --mode MODE        the rights of the file, as 755; without this option it
-                     keeps the rights of the file at PLACE, but its group gets
-                     none that not all others have, and a new file is for its
-                     owner alone
+  --mode MODE        the permissions of the file, as 755; without this option it
+                     gets those of the file at PLACE, but its group none that
+                     not all others have, and a new file is for its owner alone
   --most BYTES       refuse data that is longer; behind the number K, M, G or T
                      may stand, for units of 1024 bytes, 1024 of these, ..
   --                 what follows are paths
@@ -214,14 +213,19 @@ impl Report {
             }
             InstallFault::NoNumber => {
                 let wanted = match asked.numbering {
-                    Some(Numbering::Version) => "version; `--numbering timestamp` takes the other",
-                    _ => "timestamp; `--numbering version` takes the other",
+                    Some(Numbering::Version) => "version",
+                    _ => "timestamp",
                 };
-                self.hint(path, fault, "wanted is the field ", wanted);
+                self.hint(
+                    path,
+                    fault,
+                    wanted,
+                    ": is the field that is wanted, by `--numbering` or without it",
+                );
             }
             InstallFault::OtherFile => {
                 let name = asked.name.unwrap_or(folder.name());
-                self.hint(path, fault, "wanted by the place or `--name` is ", name);
+                self.hint(path, fault, name, " is wanted, by the place or `--name`");
             }
             _ => self.line(path, fault),
         }

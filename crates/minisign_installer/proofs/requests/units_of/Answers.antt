@@ -1,5 +1,5 @@
 -- Before the letter at the end stands one text.
-use Rattle.std.proofs.Common.{◌≡◌, ◌≢◌, ℕ, Some, None, MatchOption, ◌<◌, ◌*◌, List, ◌++◌, [], ◌∷◌, subst}
+use Rattle.std.proofs.Common.{◌≡◌, ◌≢◌, ℕ, MatchOption, List, ◌++◌, [], ◌∷◌, subst}
 use Rattle.std.proofs.lemmas.Str.Pattern.{strip_suffix_char}
 use Rattle.minisign_installer.proofs.Units.{no_units, writes_product}
 use Rattle.minisign_installer.proofs.requests.units_of.Goals as goal
