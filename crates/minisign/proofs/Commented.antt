@@ -14,6 +14,7 @@ use Rattle.minisign.specs.Headline.{IsVerdict, TextsRefuse, TextsVouchFor}
 use Rattle.minisign.specs.PublicKeyText.{read_public_key}
 use Rattle.minisign.specs.Reading.{IsAhead, ReadingFails, ReadsWhole}
 use Rattle.minisign.specs.Records.{PublicKeyRecord, SignatureBoxRecord, is_prehashed, prehashed_algorithm}
+use Rattle.minisign.specs.SignatureText.{read_signature_box}
 use Rattle.minisign.specs.VerifyingLaws.{fails_without_sinks, fails_without_status}
 use Rattle.minisign.specs.VerifyingTexts.{ReadTexts, TextsFail, VerifyingTextsFails, VerifyingTextsSucceeds}
 use Rattle.minisign.proofs.Passes.{IsReason, why_it_fails}
