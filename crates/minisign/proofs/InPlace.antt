@@ -1,5 +1,5 @@
 -- Texts that are read where they lie: what the front of decoded bytes tells, and what is read of four lines.
-use Rattle.std.proofs.Common.{◌≡◌, take-take, ℕ, ◌<◌, ◌≤◌, min, true, List, ◌++◌, length, take, drop, refl, sym, ap, subst, ◌∙◌, arith, IfOk, IfErr, MatchResult}
+use Rattle.std.proofs.Common.{◌≡◌, take-take, ℕ, ◌<◌, ◌≤◌, min, true, List, ◌++◌, length, take, drop, refl, sym, ap, ◌∙◌, arith, MatchResult}
 use Rattle.std.specs.declared.option.Option.TheVariants.{None, Some}
 use Rattle.std.specs.declared.result.Result.{Result}
 use Rattle.std.specs.declared.result.Result.TheVariants.{Ok, Err}

@@ -1,6 +1,5 @@
 -- Texts of public keys: the function that reads them and the relation agree, and a written text reads as its key.
-use Rattle.std.proofs.Common.{◌≡◌, ◌≢◌, ℕ, ◌≤◌, Bool, true, false, List, [], ◌∷◌, ◌++◌, length, take, drop, codes, refl, sym, ap, subst, ◌∙◌, arith, ◌==◌}
-use Rattle.std.specs.declared.result.Result.{Result}
+use Rattle.std.proofs.Common.{◌≡◌, ◌≢◌, ℕ, ◌≤◌, true, List, [], ◌∷◌, ◌++◌, length, take, drop, codes, refl, sym, ap, subst, ◌∙◌, arith, ◌==◌}
 use Rattle.std.specs.declared.result.Result.TheVariants.{Ok, Err}
 use Rattle.std.specs.Str.{trim}
 use Rattle.std.specs.Str.Lines.{lines}
@@ -9,12 +8,12 @@ use Rattle.std.proofs.lemmas.Bool.{eq-eqb, eqb-true, ne_eqb, le-leb, leb-true}
 use Rattle.std.proofs.lemmas.List.{append_assoc, length-append, length-take-le, length-drop, take-append-drop}
 use Rattle.base64.specs.GeneralPurpose.{IsBytes}
 use Rattle.base64.proofs.EngineFacts.{front_bytes}
-use Rattle.minisign_base.specs.Fault.{Fault, Named}
+use Rattle.minisign_base.specs.Fault.{Named}
 use Rattle.minisign_base.specs.Identifiers.{identifier_text}
 use Rattle.minisign_base.specs.declared.faults.NamedFault.{NamedFault}
 use Rattle.minisign_base.specs.declared.faults.NamedFault.TheVariants.{PublicKeyLineLength, PublicKeyLineNotBase64, BarePublicKeyLength, BarePublicKeyNotBase64, RecordTooShort}
 use Rattle.minisign.specs.Records.{PublicKeyRecord, ReadsPublicKey, public_key_bytes}
-use Rattle.minisign.specs.Texts.{IsBase64Of, IsReading, base64_of, base64_bytes, is_base64, require, untrusted_comment_label}
+use Rattle.minisign.specs.Texts.{IsBase64Of, IsReading, base64_of, base64_bytes, is_base64, untrusted_comment_label}
 use Rattle.minisign.specs.PublicKeyText.{EncodesPublicKey, PublicKeyText, BarePublicKey, decoded_key, key_in_lines, public_key_label, public_key_text, read_bare_public_key, read_public_key}
 use Rattle.minisign.proofs.Base64Texts.{bytes_read, is_read, reads}
 use Rattle.minisign.proofs.Letters.{AllGraphic, graphic_base64, graphic_identifier, trim_graphic}

@@ -15,7 +15,7 @@ use Rattle.minisign_base.specs.declared.faults.NamedFault.TheVariants.{Untrusted
 use Rattle.minisign.specs.Records.{CommentsRecord, SignatureRecord, ReadsSignature, IsKnownAlgorithm, signature_bytes, legacy_algorithm, prehashed_algorithm}
 use Rattle.minisign.specs.Texts.{IsBase64Of, IsReading, base64_of, base64_bytes, is_base64, map_ok, untrusted_comment_label}
 use Rattle.minisign.specs.SignatureText.{AreOneLine, AreReadBack, EncodesSignature, SignatureText, SignatureTextRecord, box_of, comments_read_back, is_known_algorithm, read_signature, read_signature_box, signature_in_four, signature_in_lines, signature_of_bytes, signature_text, trusted_comment_label}
-use Rattle.minisign.proofs.Base64Texts.{bytes_read, is_read, reads, one_decoding}
+use Rattle.minisign.proofs.Base64Texts.{bytes_read, is_read, reads}
 use Rattle.base64.specs.GeneralPurpose.{IsBytes}
 use Rattle.base64.proofs.EngineFacts.{front_bytes}
 use Rattle.minisign.specs.Lines.{line}

@@ -177,8 +177,14 @@ pub(crate) struct SignatureParts<'a> {
 // Reads a signature text.
 pub(crate) fn read_parts(text: &str) -> Result<SignatureParts<'_>>
     ensures { MatchResult result
-        (λ p. (read_signature text.now ≡ Ok (record { signature = p.signature; comments = record {
-          untrusted = p.untrusted_comment.now; trusted = p.trusted_comment.now; signature = base64_bytes p.comment_signature.now } }))
+        (λ p. (read_signature text.now ≡ Ok (record {
+          signature = p.signature;
+          comments = record {
+            untrusted = p.untrusted_comment.now;
+            trusted = p.trusted_comment.now;
+            signature = base64_bytes p.comment_signature.now;
+          };
+        }))
         × (is_base64 p.comment_signature.now ≡ true) × IsKnownAlgorithm p.signature.algorithm
         × (64 + length p.trusted_comment.now ≤ length text.now))
         (λ e. read_signature text.now ≡ Err e) }
@@ -191,8 +197,14 @@ pub(crate) fn read_parts(text: &str) -> Result<SignatureParts<'_>>
 fn read_lines(lines: TextLines<'_>) -> Result<SignatureParts<'_>>
     ensures { MatchResult result
         (λ p. (signature_in_four lines.entry.untrusted_comment.now lines.entry.signature.now lines.entry.trusted_comment.now lines.entry.global_sig.now
-        ≡ Ok (record { signature = p.signature; comments = record {
-          untrusted = p.untrusted_comment.now; trusted = p.trusted_comment.now; signature = base64_bytes p.comment_signature.now } }))
+        ≡ Ok (record {
+          signature = p.signature;
+          comments = record {
+            untrusted = p.untrusted_comment.now;
+            trusted = p.trusted_comment.now;
+            signature = base64_bytes p.comment_signature.now;
+          };
+        }))
         × (is_base64 p.comment_signature.now ≡ true) × IsKnownAlgorithm p.signature.algorithm
         × (64 + length p.trusted_comment.now ≤ length lines.entry.signature.now + length lines.entry.trusted_comment.now))
         (λ e. signature_in_four lines.entry.untrusted_comment.now lines.entry.signature.now lines.entry.trusted_comment.now lines.entry.global_sig.now ≡ Err e) }

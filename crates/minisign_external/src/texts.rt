@@ -10,9 +10,7 @@ ghost use Rattle.minisign.specs.Records.{CommentsRecord, PublicKeyRecord, Signat
 ghost use Rattle.minisign.specs.SignatureText.{read_signature_box};
 ghost use Rattle.minisign_external.specs.Questions.{AreOpen, AreReadAs, AreTexts, HoldsMessage, IsRefusedUnasked, has_whole_signature, told_signature};
 
-use minisign::{
-    PError, PublicKey, Result, SignatureView, read_public_key, read_signature,
-};
+use minisign::{PError, PublicKey, Result, SignatureView, read_public_key, read_signature};
 use minisign_base::NamedFault;
 use std::marker::Model;
 

@@ -1,7 +1,6 @@
 -- An update is installed exactly where it can be.
-use Rattle.std.proofs.Common.{◌≡◌, ◌≢◌, inl, inr, ◌++◌, ℕ, Bool, true, false, List, [], Option, Some, None, ap, sym, subst, ◌∙◌, refl, length, drop, arith, IfErr, OnOk}
+use Rattle.std.proofs.Common.{◌≡◌, ◌≢◌, inl, inr, ℕ, Bool, true, false, List, [], Option, Some, None, ap, sym, subst, ◌∙◌, refl, arith, IfErr, OnOk}
 use Rattle.std.proofs.lemmas.Bool.{true≢false}
-use Rattle.std.specs.Str.{trim, IsUtf8}
 use Rattle.std.specs.declared.result.Result.{Result}
 use Rattle.std.specs.declared.result.Result.TheVariants.{Ok, Err}
 use Rattle.minisign_base.specs.Fault.{Named}

@@ -1,4 +1,4 @@
-use Rattle.std.proofs.Common.{◌≡◌, List, ℕ, refl, ◌<◌, true, false, rules, arith, drop, length, subst, sym, ap, ◌∙◌, ⊎_elim}
+use Rattle.std.proofs.Common.{◌≡◌, List, ℕ, ◌<◌, true, false, rules, arith, drop, length, subst, sym, ap, ◌∙◌, ⊎_elim}
 use Rattle.std.specs.Str.{trim}
 use Rattle.std.proofs.Math.Seq.{drop-append_seam}
 use Rattle.std.proofs.lemmas.List.{length-append}

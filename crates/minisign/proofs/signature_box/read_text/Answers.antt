@@ -1,4 +1,4 @@
-use Rattle.std.proofs.Common.{◌≡◌, List, ℕ, Some, Ok, string_bytes, inl, ap, subst, sym, ◌∙◌, IfSome}
+use Rattle.std.proofs.Common.{◌≡◌, Some, Ok, string_bytes, inl, ap, subst, sym, ◌∙◌, IfSome}
 use Rattle.minisign.specs.SignatureText.{box_of}
 use Rattle.minisign.specs.Texts.{IsBase64Of, base64_bytes, map_ok}
 use Rattle.minisign.proofs.Base64Texts.{bytes_read}
