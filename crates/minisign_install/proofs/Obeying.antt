@@ -1,6 +1,6 @@
 -- A host that does what the header says makes a run of the law: each of its calls is one that was due.
-use Rattle.std.proofs.Common.{◌≡◌, ◌==◌, ◌⊎◌, inl, inr, ◌∙◌, ◌++◌, ℕ, Bool, true, false, List, [], ◌∷◌, Some, Option, ap, sym, subst, refl, append-nil, if◌then◌else◌}
-use Rattle.std.proofs.lemmas.Bool.{true≢false}
+use Rattle.std.proofs.Common.{◌≡◌, ◌==◌, ◌⊎◌, inl, inr, ◌∙◌, ◌++◌, ℕ, Bool, true, false, List, [], ◌∷◌, Some, Option, ap, sym, subst, refl, append-nil, arith, length, if◌then◌else◌}
+use Rattle.std.proofs.lemmas.Bool.{ne_eqb, true≢false}
 use Rattle.minisign_external.specs.States.{IsFedState}
 use Rattle.minisign_external.specs.declared.state.State.{State}
 use Rattle.minisign_install.specs.Folders.{Finds, HasStepped, IsStill, Run}
@@ -312,7 +312,7 @@ module _ (s : Setting) (i i' : Installation) (h h' : Host) where
       })
   tells_piece kept (b ∷ bs) x fed due numbering still more end =
       (More, (still, (b ∷ bs, more)), record {
-        due = due;
+        due = subst (λ (t : Bool). IsDue i' (next (ReadBack kept) (if t then Done else More))) (ne_eqb (length (b ∷ bs)) 0 (λ e. omega (arith, e))) due;
         field = same_field i i' numbering ∙ x.field;
         first = λ e. no e;
         fed = λ e. subst (λ (r : List ℕ). IsFedState i'.state r) (sym more) (fed h.read (x.fed refl));
@@ -332,9 +332,9 @@ module _ (s : Setting) (i i' : Installation) (h h' : Host) where
       ]
 
   -- asking was refused
-  tells_refusal : (t : TellsRefusal s i i' h h') → Stands s (Answer t.refused.1.0) i h → Goes s (Answer t.refused.1.0) i' h h'
+  tells_refusal : (t : TellsRefusal s i i' h h') → Stands s (Answer t.refused.1) i h → Goes s (Answer t.refused.1) i' h h'
   tells_refusal t x =
-      let (rest, kept, due, remove, why) = t.refused in
+      let (rest, kept, due, remove, fault, is, why) = t.refused in
       fails s (Answer kept) i i' h h' x (install_number t.fault) t.still remove (same_field i i' rest.numbering)
 
   at_due : (d e : Due ℕ) → Stands s d i h → IsDue i e → (Stands s e i h → Goes s e i' h h') → Goes s d i' h h'
@@ -349,17 +349,17 @@ module _ (s : Setting) (i i' : Installation) (h h' : Host) where
   obeys d x (inr (inr (inr (inl t)))) = at_due d ReadRecord x t.read.0 (tells_record t)
   obeys d x (inr (inr (inr (inr (inl t))))) =
       at_due d (ReadBack t.read.kept) x t.read.due (λ y. tells_piece t.read.kept t.piece y t.fed t.read.next_due t.read.numbering t.still t.more t.end)
-  obeys d x (inr (inr (inr (inr (inr (inl t)))))) = at_due d (Answer t.asking.0) x t.asking.1.0 (tells_answers t)
-  obeys d x (inr (inr (inr (inr (inr (inr t)))))) = at_due d (Answer t.refused.1.0) x t.refused.1.1.0 (tells_refusal t)
+  obeys d x (inr (inr (inr (inr (inr (inl t)))))) = at_due d (Answer t.asking.0) x t.asking.1 (tells_answers t)
+  obeys d x (inr (inr (inr (inr (inr (inr t)))))) = at_due d (Answer t.refused.1) x t.refused.2 (tells_refusal t)
 
 -- == All calls ==
 
 run_from : (s : Setting) (d : Due ℕ) (i : Installation) (h : Host) (told : List Told) (i' : Installation) (h' : Host) → Stands s d i h → HasObeyed s i h told i' h'
     → (events : List (Event ℕ)) × (due : Due ℕ) × IsDue i' due × HasRun s d h events due h'
 run_from s d i h [] i' h' x (same, host) = ([], d, subst (λ (j : Installation). IsDue j d) (sym same) x.due, (refl, host))
-run_from s d i h (told ∷ more) i' h' x (call, then) =
+run_from s d i h (told ∷ more) i' h' x (call, rest) =
     let (o, made, y) = obeys s i told.installation h told.host d x call in
-    let (events, due, is, run) = run_from s (next d o) told.installation told.host more i' h' y then in
+    let (events, due, is, run) = run_from s (next d o) told.installation told.host more i' h' y rest in
     (record { outcome = o; host = told.host } ∷ events, due, is, (made, run))
 
 pub makes_run : (s : Setting) (i i' : Installation) (h h' : Host) (told : List Told) → HasBegun s i h → HasObeyed s i h told i' h'
