@@ -1,5 +1,5 @@
 -- What the parts of an installation bring together.
-use Rattle.std.proofs.Common.{◌≡◌, ◌≢◌, ◌≤◌, ◌<◌, ◌^◌, inl, inr, ⊎_elim, ℕ, suc, zero, Bool, false, List, Option, Some, None, ap, sym, subst, ◌∙◌, get_or, true, arith, lit<}
+use Rattle.std.proofs.Common.{◌≡◌, ◌≤◌, ◌<◌, ◌^◌, inl, inr, ⊎_elim, ℕ, Bool, false, List, Option, Some, None, ap, sym, subst, ◌∙◌, true, arith}
 use Rattle.minisign.specs.Acceptance.{Verifier}
 use Rattle.minisign.specs.Calls.{TextsVouchWith}
 use Rattle.minisign.specs.Reading.{IsAhead}

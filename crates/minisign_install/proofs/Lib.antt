@@ -3,11 +3,11 @@ mod Counts
 mod Driven
 mod Driving
 mod Fields
-mod Hosting
 mod InMemory
 mod Installs
 mod Judgements
 mod Moments
+mod Obeying
 mod Orders
 mod Pasts
 mod Pieces

@@ -138,7 +138,7 @@ pub nothing_brings : (old new : Run) → CallsNothing old new → BringsNothing 
 nothing_brings old new (inl same) = subst (λ r. BringsNothing old r × OwnsNoMore old r) (sym same) (brings_none N old, own_none old)
 nothing_brings old new (inr (still, own)) = (resting_brings old new still, kept_no_more old new own)
 
-reads_still : (found : Option (List ℕ)) (old new : Run) → HasStepped old new (Finds Record found) → HasStepped old new IsStill
+pub reads_still : (found : Option (List ℕ)) (old new : Run) → HasStepped old new (Finds Record found) → HasStepped old new IsStill
 reads_still found old new s = record { before = s.before; others = s.others; this = s.this.still; noted = s.noted; known = s.known; locked = s.locked }
 
 pub removal_brings : (name : List ℕ) (old new : Run) → HasStepped old new (Perhaps (Removes name)) → BringsNothing old new

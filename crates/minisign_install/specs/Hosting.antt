@@ -1,7 +1,7 @@
 -- A host in another language that does what include/minisign.h says: it makes the call that an installation says is due, as it
 -- is told there, and says how it went by the call that is there for it. Of each call of the header this cites what its clauses
 -- say where it is no wrong use.
-use Rattle.std.specs.Prelude.{◌≡◌, ◌==◌, ◌⊎◌, ◌++◌, ℕ, Bool, List, [], ◌∷◌, Option, Some, false, take}
+use Rattle.std.specs.Prelude.{◌≡◌, ◌==◌, ◌⊎◌, ◌++◌, ℕ, Bool, List, [], ◌∷◌, Option, false, take}
 use Rattle.minisign_hash.specs.Blake2b.{blake2b_digest}
 use Rattle.minisign.specs.Acceptance.{Verifier}
 use Rattle.minisign.specs.Records.{CommentsRecord, PublicKeyRecord, SignatureBoxRecord}

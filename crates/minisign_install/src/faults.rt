@@ -47,7 +47,11 @@ impl InstallFault {
         use InstallFault::*;
         match self {
             Library(fault) => fault.kind(),
-            PlaceInUse | NoRecord | DamagedRecord | FolderNotOnDisk | KeptByTimestamp
+            PlaceInUse
+            | NoRecord
+            | DamagedRecord
+            | FolderNotOnDisk
+            | KeptByTimestamp
             | KeptByVersion => &ErrorKind::Io,
             OtherFile | NoNumber | OlderUpdate => &ErrorKind::Verify,
         }

@@ -1,6 +1,6 @@
-use Rattle.std.proofs.Common.{ℕ, inl, inr, ⊎_elim, refl}
+use Rattle.std.proofs.Common.{inl, inr, refl}
 use Rattle.minisign_install.specs.declared.order.Due.TheVariants.{Installed, Refused}
-use Rattle.minisign_install.proofs.Hosting.{ends_at, makes_run}
+use Rattle.minisign_install.proofs.Obeying.{ends_at, makes_run}
 use Rattle.minisign_install.proofs.Orders.{installed_at_last, nothing_left, runs_safely}
 use Rattle.minisign_install.proofs.hosting.any_host_installs_only_updates.Goals as goal
 

@@ -1,24 +1,23 @@
 -- A host that does what the header says makes a run of the law: each of its calls is one that was due.
-use Rattle.std.proofs.Common.{◌≡◌, ◌==◌, ◌⊎◌, inl, inr, ◌∙◌, ◌++◌, ℕ, Bool, true, false, List, [], ◌∷◌, Some, Option, ap, sym, subst, refl, append-nil, if◌then◌else◌}
-use Rattle.std.proofs.lemmas.Bool.{true≢false}
+use Rattle.std.proofs.Common.{◌≡◌, ◌==◌, inl, inr, ◌∙◌, ◌++◌, ℕ, Bool, true, false, List, [], ◌∷◌, Some, Option, ap, sym, subst, refl, append-nil, arith, length, if◌then◌else◌}
+use Rattle.std.proofs.lemmas.Bool.{ne_eqb, true≢false}
 use Rattle.minisign_external.specs.States.{IsFedState}
 use Rattle.minisign_external.specs.declared.state.State.{State}
-use Rattle.minisign_install.specs.Folders.{Finds, HasStepped, IsStill, Run}
 use Rattle.minisign_install.specs.HostNumbers.{install_number}
 use Rattle.minisign_install.specs.Hosted.{IsAsking, IsDue, failure, numbering_of, read_outcome, wanted_by}
-use Rattle.minisign_install.specs.Hosting.{HasBegun, HasObeyed, Obeys, TellsAnswers, TellsFailure, TellsOutcome, TellsPiece, TellsRecord, TellsRefusal, Told, by_field}
+use Rattle.minisign_install.specs.Hosting.{HasBegun, HasObeyed, Obeys, TellsAnswers, TellsFailure, TellsOutcome, TellsRecord, TellsRefusal, Told, by_field}
 use Rattle.minisign_install.specs.Hosts.{Event, HasRun, Host, Makes, Setting}
 use Rattle.minisign_install.specs.Installing.{IsKeptNumber}
 use Rattle.minisign_install.specs.Order.{after_done, after_failed, next}
 use Rattle.minisign_install.specs.declared.comments.Numbering.{Numbering}
 use Rattle.minisign_install.specs.declared.comments.Numbering.TheVariants.{Timestamp, Version}
-use Rattle.minisign_install.specs.declared.folders.Name.TheVariants.{Record}
 use Rattle.minisign_install.specs.declared.hosted.Installation.{Installation}
 use Rattle.minisign_install.specs.declared.order.Due.{Due}
 use Rattle.minisign_install.specs.declared.order.Due.TheVariants.{Lock, Clear, ReadRecord, Create, Copy, ReadBack, Answer, TakeRights, Settle, CreateRecord, WriteRecord, SettleRecord, RenameRecord, SettleRecordName, Rename, SettleName, RemoveRecord, Remove, Installed, Refused}
 use Rattle.minisign_install.specs.declared.order.Outcome.{Outcome}
 use Rattle.minisign_install.specs.declared.order.Outcome.TheVariants.{Done, More, Number, Failed}
 use Rattle.minisign_install.proofs.Judgements.{answers_texts}
+use Rattle.minisign_install.proofs.Orders.{reads_still}
 
 -- whether the record is still to be read
 abbrev is_unread : Due ℕ → Bool
@@ -224,9 +223,6 @@ failed_judged (Refused f) e = refl
 
 -- == One call ==
 
-reads_still : (found : Option (List ℕ)) (old new : Run) → HasStepped old new (Finds Record found) → HasStepped old new IsStill
-reads_still found old new x = record { before = x.before; others = x.others; this = x.this.still; noted = x.noted; known = x.known; locked = x.locked }
-
 -- the call was one that was due, and what is known of what is due next
 abbrev Goes : Setting → Due ℕ → Installation → Host → Host → Type 0
 Goes s d i' h h' = (o : Outcome ℕ) × Makes s d o h h' × Stands s (next d o) i' h'
@@ -241,33 +237,43 @@ module _ (s : Setting) (d : Due ℕ) (i i' : Installation) (h h' : Host) (x : St
   tells_done : TellsOutcome Done s i i' h h' → Goes s d i' h h'
   tells_done t =
       let same : t.gone.was ≡ d = same_due i t.gone.was d t.gone.due x.due in
-      let made : Makes s d Done h h' = by_setting d Done (subst (λ (w : Due ℕ). Makes (by_field s (numbering_of i)) w Done h h') same t.made) in
-      (Done, made, record {
-        due = subst (λ (w : Due ℕ). IsDue i' (next w Done)) same t.gone.next_due;
-        field = same_field i i' t.gone.rest.numbering ∙ x.field;
-        first = λ e. ap (λ (n : ℕ). n == 1) t.gone.rest.is_first ∙ x.first (unread_before d e);
-        fed = λ e. fed_on t.gone.rest.state (read_stays s i d h h' x.due t.other made e) (x.fed (unjudged_before d e));
-      })
+      let made : Makes s d Done h h' = by_setting d Done (subst (λ (w : Due ℕ). Makes (by_field s (numbering_of i)) w Done h h') same t.made) in (
+        Done,
+        made,
+        record {
+          due = subst (λ (w : Due ℕ). IsDue i' (next w Done)) same t.gone.next_due;
+          field = same_field i i' t.gone.rest.numbering ∙ x.field;
+          first = λ e. ap (λ (n : ℕ). n == 1) t.gone.rest.is_first ∙ x.first (unread_before d e);
+          fed = λ e. fed_on t.gone.rest.state (read_stays s i d h h' x.due t.other made e) (x.fed (unjudged_before d e));
+        },
+      )
 
   tells_more : TellsOutcome More s i i' h h' → Goes s d i' h h'
   tells_more t =
       let same : t.gone.was ≡ d = same_due i t.gone.was d t.gone.due x.due in
-      let made : Makes s d More h h' = by_setting d More (subst (λ (w : Due ℕ). Makes (by_field s (numbering_of i)) w More h h') same t.made) in
-      (More, made, record {
-        due = subst (λ (w : Due ℕ). IsDue i' (next w More)) same t.gone.next_due;
-        field = same_field i i' t.gone.rest.numbering ∙ x.field;
-        first = λ e. ap (λ (n : ℕ). n == 1) t.gone.rest.is_first ∙ x.first e;
-        fed = λ e. fed_on t.gone.rest.state (more_stays s i d h h' x.due t.other made) (x.fed e);
-      })
+      let made : Makes s d More h h' = by_setting d More (subst (λ (w : Due ℕ). Makes (by_field s (numbering_of i)) w More h h') same t.made) in (
+        More,
+        made,
+        record {
+          due = subst (λ (w : Due ℕ). IsDue i' (next w More)) same t.gone.next_due;
+          field = same_field i i' t.gone.rest.numbering ∙ x.field;
+          first = λ e. ap (λ (n : ℕ). n == 1) t.gone.rest.is_first ∙ x.first e;
+          fed = λ e. fed_on t.gone.rest.state (more_stays s i d h h' x.due t.other made) (x.fed e);
+        },
+      )
 
   -- what was refused or failed ends the run
   fails : (e : ℕ) → Makes s d (Failed e) h h' → IsDue i' (after_failed d e) → numbering_of i' ≡ numbering_of i → Goes s d i' h h'
-  fails e made due field = (Failed e, made, record {
-    due = due;
-    field = field ∙ x.field;
-    first = λ u. no (sym (failed_read d e) ∙ u);
-    fed = λ u. no (sym (failed_judged d e) ∙ u);
-  })
+  fails e made due field = (
+    Failed e,
+    made,
+    record {
+      due = due;
+      field = field ∙ x.field;
+      first = λ u. no (sym (failed_read d e) ∙ u);
+      fed = λ u. no (sym (failed_judged d e) ∙ u);
+    },
+  )
 
   tells_failure : TellsFailure s i i' h h' → Goes s d i' h h'
   tells_failure t =
@@ -288,13 +294,16 @@ module _ (s : Setting) (i i' : Installation) (h h' : Host) where
         | inl (kept, create, number) ↦
             let same : IsKeptNumber s.terms.numbering s.first t.found kept =
             subst (λ (f : Numbering). IsKeptNumber f s.first t.found kept) x.field
-            (subst (λ (b : Bool). IsKeptNumber (numbering_of i) b t.found kept) (x.first refl) number) in
-            (Number kept, ((t.found, (stepped, own), same), ahead, read), record {
-              due = create;
-              field = same_field i i' rest.numbering ∙ x.field;
-              first = λ e. no e;
-              fed = λ e. fed_on s ReadRecord i i' h h' x rest.state read (x.fed refl);
-            })
+            (subst (λ (b : Bool). IsKeptNumber (numbering_of i) b t.found kept) (x.first refl) number) in (
+              Number kept,
+              ((t.found, (stepped, own), same), ahead, read),
+              record {
+                due = create;
+                field = same_field i i' rest.numbering ∙ x.field;
+                first = λ e. no e;
+                fed = λ e. fed_on s ReadRecord i i' h h' x rest.state read (x.fed refl);
+              },
+            )
         | inr (e, refused, why) ↦
             fails s ReadRecord i i' h h' x (install_number e) ((reads_still t.found h.run h'.run stepped, own), ahead, read) refused (same_field i i' rest.numbering)
       ]
@@ -303,20 +312,26 @@ module _ (s : Setting) (i i' : Installation) (h h' : Host) where
   tells_piece : (kept : ℕ) (piece : List ℕ) → Stands s (ReadBack kept) i h → ((m : List ℕ) → IsFedState i.state m → IsFedState i'.state (m ++ piece))
       → IsDue i' (next (ReadBack kept) (read_outcome piece)) → i'.numbering ≡ i.numbering → h'.run ≡ h.run → h'.read ≡ h.read ++ piece
       → (piece ≡ [] → h.run.now.holds s.file ≡ h.read) → Goes s (ReadBack kept) i' h h'
-  tells_piece kept [] x fed due numbering still more end =
-      (Done, (still, end refl ∙ sym (append-nil h.read) ∙ sym more), record {
-        due = due;
-        field = same_field i i' numbering ∙ x.field;
-        first = λ e. no e;
-        fed = λ e. subst (λ (r : List ℕ). IsFedState i'.state r) (sym more) (fed h.read (x.fed refl));
-      })
-  tells_piece kept (b ∷ bs) x fed due numbering still more end =
-      (More, (still, (b ∷ bs, more)), record {
-        due = due;
-        field = same_field i i' numbering ∙ x.field;
-        first = λ e. no e;
-        fed = λ e. subst (λ (r : List ℕ). IsFedState i'.state r) (sym more) (fed h.read (x.fed refl));
-      })
+  tells_piece kept [] x fed due numbering still more end = (
+    Done,
+    (still, end refl ∙ sym (append-nil h.read) ∙ sym more),
+    record {
+      due = due;
+      field = same_field i i' numbering ∙ x.field;
+      first = λ e. no e;
+      fed = λ e. subst (λ (r : List ℕ). IsFedState i'.state r) (sym more) (fed h.read (x.fed refl));
+    },
+  )
+  tells_piece kept (b ∷ bs) x fed due numbering still more end = (
+    More,
+    (still, (b ∷ bs, more)),
+    record {
+      due = subst (λ (t : Bool). IsDue i' (next (ReadBack kept) (if t then Done else More))) (ne_eqb (length (b ∷ bs)) 0 (λ e. omega (arith, e))) due;
+      field = same_field i i' numbering ∙ x.field;
+      first = λ e. no e;
+      fed = λ e. subst (λ (r : List ℕ). IsFedState i'.state r) (sym more) (fed h.read (x.fed refl));
+    },
+  )
 
   -- the scheme answered
   tells_answers : (t : TellsAnswers s i i' h h') → Stands s (Answer t.asking.0) i h → Goes s (Answer t.asking.0) i' h h'
@@ -332,9 +347,9 @@ module _ (s : Setting) (i i' : Installation) (h h' : Host) where
       ]
 
   -- asking was refused
-  tells_refusal : (t : TellsRefusal s i i' h h') → Stands s (Answer t.refused.1.0) i h → Goes s (Answer t.refused.1.0) i' h h'
+  tells_refusal : (t : TellsRefusal s i i' h h') → Stands s (Answer t.refused.1) i h → Goes s (Answer t.refused.1) i' h h'
   tells_refusal t x =
-      let (rest, kept, due, remove, why) = t.refused in
+      let (rest, kept, due, remove, fault, is, why) = t.refused in
       fails s (Answer kept) i i' h h' x (install_number t.fault) t.still remove (same_field i i' rest.numbering)
 
   at_due : (d e : Due ℕ) → Stands s d i h → IsDue i e → (Stands s e i h → Goes s e i' h h') → Goes s d i' h h'
@@ -349,17 +364,17 @@ module _ (s : Setting) (i i' : Installation) (h h' : Host) where
   obeys d x (inr (inr (inr (inl t)))) = at_due d ReadRecord x t.read.0 (tells_record t)
   obeys d x (inr (inr (inr (inr (inl t))))) =
       at_due d (ReadBack t.read.kept) x t.read.due (λ y. tells_piece t.read.kept t.piece y t.fed t.read.next_due t.read.numbering t.still t.more t.end)
-  obeys d x (inr (inr (inr (inr (inr (inl t)))))) = at_due d (Answer t.asking.0) x t.asking.1.0 (tells_answers t)
-  obeys d x (inr (inr (inr (inr (inr (inr t)))))) = at_due d (Answer t.refused.1.0) x t.refused.1.1.0 (tells_refusal t)
+  obeys d x (inr (inr (inr (inr (inr (inl t)))))) = at_due d (Answer t.asking.0) x t.asking.1 (tells_answers t)
+  obeys d x (inr (inr (inr (inr (inr (inr t)))))) = at_due d (Answer t.refused.1) x t.refused.2 (tells_refusal t)
 
 -- == All calls ==
 
 run_from : (s : Setting) (d : Due ℕ) (i : Installation) (h : Host) (told : List Told) (i' : Installation) (h' : Host) → Stands s d i h → HasObeyed s i h told i' h'
     → (events : List (Event ℕ)) × (due : Due ℕ) × IsDue i' due × HasRun s d h events due h'
 run_from s d i h [] i' h' x (same, host) = ([], d, subst (λ (j : Installation). IsDue j d) (sym same) x.due, (refl, host))
-run_from s d i h (told ∷ more) i' h' x (call, then) =
+run_from s d i h (told ∷ more) i' h' x (call, rest) =
     let (o, made, y) = obeys s i told.installation h told.host d x call in
-    let (events, due, is, run) = run_from s (next d o) told.installation told.host more i' h' y then in
+    let (events, due, is, run) = run_from s (next d o) told.installation told.host more i' h' y rest in
     (record { outcome = o; host = told.host } ∷ events, due, is, (made, run))
 
 pub makes_run : (s : Setting) (i i' : Installation) (h h' : Host) (told : List Told) → HasBegun s i h → HasObeyed s i h told i' h'
