@@ -3,8 +3,8 @@
  *
  * The machine of minisign.h says which call is due, and judges: the texts, the data as it was staged, and the comment
  * that was signed with it. This program makes the call that is due (folder.h) and tells how it went; libsodium says
- * what Ed25519 accepts. Nothing here decides what comes next, what is refused or what is removed. Before the first call, which
- * locks the place, it receives data that may stand still, as that of a pipe.
+ * what Ed25519 accepts. Nothing here decides what comes next, what is refused or what is removed. Before the first call,
+ * which locks the place, it receives data that may stand still, as that of a pipe.
  */
 #define _POSIX_C_SOURCE 200809L
 
@@ -352,7 +352,9 @@ static void say_refused(const struct request *request, const struct folder *fold
         say_more(file, text, request->numbering == MINISIGN_NUMBERING_VERSION ? "version" : "timestamp",
                  ": is the field that is wanted, by `--numbering` or without it");
         break;
-    case MINISIGN_OTHER_FILE: say_more(file, text, wanted_name(request, folder), " is wanted, by the place or `--name`"); break;
+    case MINISIGN_OTHER_FILE:
+        say_more(file, text, wanted_name(request, folder), " is wanted, by the place or `--name`");
+        break;
     default: say(file, text);
     }
 }
