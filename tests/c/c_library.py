@@ -5,9 +5,9 @@
 
 The layout of its structs as C and as C++ (`layout.c`), wrong use (`wrong_use.c`), what texts are asked about and the
 number of each refusal (`asked_texts.c`), the text of each number (`error_texts.c`), an installation at each of its calls
-(`installations.c`), the texts of public keys (`public_keys.c`), and each request for memory refused, of which verifying
-makes none (`out_of_memory.c`); each program also with what finds wrong use of memory, where the compiler has it. LIBRARY is
-a `libminisign.a`; where none is named it is built, and proved before where it was not (`static_library.py`). It prints a
+(`installations.c`), the texts of public keys (`public_keys.c`), what is taken from malloc and cleared before it is given back
+(`allocations.c`), and each request for memory refused, of which verifying makes none (`out_of_memory.c`); each program also with what finds wrong use of memory, where the compiler has it. LIBRARY is
+a `libminisign.a`; where none is named it is built over `dist/` (`static_library.py`). It prints a
 line for each failure; the last line is `N passed, M failed`.
 
 Needs Python 3.9 or later, a C compiler and a C++ compiler, and installs what is not there where it may.
@@ -32,7 +32,7 @@ WRAPPED = ["-Wl,--wrap=malloc", "-Wl,--wrap=realloc", "-Wl,--wrap=free"]
 
 # The programs, with what each is linked with.
 PROGRAMS = {"wrong_use": [], "asked_texts": [], "error_texts": [], "public_keys": WRAPPED, "out_of_memory": WRAPPED,
-            "installations": WRAPPED, "null": [], "guard_pages": [], "threads": ["-pthread"]}
+            "allocations": [*WRAPPED, "-Wl,--wrap=madvise"], "installations": WRAPPED, "null": [], "guard_pages": [], "threads": ["-pthread"]}
 
 
 def run(command):

@@ -9,7 +9,7 @@ other; a result that is dropped is a warning in C and in C++; the manual pages a
 It prints a line for each failure; the last line is `N passed, M failed`.
 
 Needs Python 3.9 or later, make, binutils, pkg-config, groff, a C and a C++ compiler, rustc, libsodium with its header and
-minisign, and installs what is not there where it may. The library is built, and proved before where it was not
+minisign, and installs what is not there where it may. The library is built over `dist/`
 (`static_library.py`).
 """
 

@@ -3,8 +3,8 @@
 
     tests/page/page.py [PAGE]
 
-The module's calls have the contracts of those from C, word for word but for what a number means. The page is built, and
-its module proved for WebAssembly before (`page/build.py`), where no PAGE is named. Then Chromium, without a window, is
+The module's calls have the contracts of those from C, word for word but for what a number means. PAGE is the one of `dist/`
+where none is named, as `page/build.py` builds it; `tools/dist.py --check` compares. Then Chromium, without a window, is
 given the kept corpus of Minisign's own program, keys and signatures that are made now, each fault, hostile comments and
 names, files that are dropped and stopped, 2 GB, and 500 changed texts, of which the verdicts and their reasons are
 compared with those of `c/minisign-verify`. It looks at what is asked for from outside, at the names for a screen reader, the order of the keyboard,
@@ -38,7 +38,6 @@ import tempfile
 import time
 import traceback
 
-import build
 import static_library
 from beside_c import Programs, check_texts
 from browser import Browser
@@ -51,21 +50,16 @@ from surroundings import check_alone, check_lacking, check_use
 from verdicts import check_corpus, check_faults, check_made, check_several
 
 
-def page_path(room):
-    """The page that is named, or that is built now."""
-    if len(sys.argv) > 1:
-        return os.path.realpath(sys.argv[1])
-    path = os.path.join(room, "minisign.html")
-    with open(path, "w", encoding="utf-8", newline="") as file:
-        file.write(build.page(build.module()))
-    return path
+def page_path():
+    """The page that is named, or the one of dist/."""
+    return os.path.realpath(sys.argv[1]) if len(sys.argv) > 1 else os.path.join(static_library.DIST, "minisign.html")
 
 
 def run_all(checks, room):
     """Runs everything."""
     check_contracts(checks)
     check_numbers(checks)
-    page = page_path(room)
+    page = page_path()
     check_file(checks, page)
     programs = Programs(room)
     keys = os.path.join(room, "keys")
