@@ -11,6 +11,8 @@ from proved import NotBuilt
 
 FOLDER = os.path.join(proved.ROOT, "c")
 DIST = os.path.join(proved.ROOT, "dist")
+# Here each warning is an error; a user's compiler may have others.
+STRICT = "WARNINGS=-std=c11 -Wall -Wextra -Wpedantic -Werror"
 
 
 def path_without_kit():
@@ -20,7 +22,7 @@ def path_without_kit():
 
 def run_make(*arguments):
     """Runs make in the folder of the library."""
-    command = [needs.program("make", "make"), "-s", "-C", FOLDER, f"CC={needs.c_compiler()}", *arguments]
+    command = [needs.program("make", "make"), "-s", "-C", FOLDER, STRICT, f"CC={needs.c_compiler()}", *arguments]
     ran = subprocess.run(command, env=dict(os.environ, PATH=path_without_kit()), stdin=subprocess.DEVNULL, stdout=subprocess.PIPE,
                          stderr=subprocess.STDOUT)
     if ran.returncode != 0:
