@@ -12,8 +12,8 @@
  * malloc is cleared and given back; that MINISIGN_TEXT_BYTES is room enough; what c/boundary.c and c/allocation.c do, which
  * stand between this page, the proved calls and malloc; and that the English of this page says what the contracts say.
  *
- * Only for x86-64 with 64-bit pointers: any processor since 2009 (x86-64-v2). On one with AVX2 (x86-64-v3) a second
- * copy of the calls is used, built for it.
+ * For x86-64, any processor since 2009 (x86-64-v2), and for AArch64, with little-endian numbers and pointers of 64 bits. On
+ * an x86-64 with AVX2 (x86-64-v3) a second copy of the calls is used, built for it.
  *
  * Compile and link with the flags that `pkg-config --cflags --libs minisign` tells. There is no more to link.
  *

@@ -137,7 +137,8 @@ def check_release(checks, room):
     """A release, in a place without anything else: what is unpacked."""
     for name in ("one", "two"):
         status, said = make("-s", "release", f"OUT={room}/{name}")
-        checks.check(status == 0, f"make release: {said[-600:]}")
+        if status != 0:
+            raise static_library.NotBuilt(f"make release: {said[-600:]}")
     archives = [glob.glob(f"{room}/{name}/*.tar.gz")[0] for name in ("one", "two")]
     data = []
     for archive in archives:
@@ -223,7 +224,7 @@ def main():
     with tempfile.TemporaryDirectory(prefix="packaging-") as room:
         try:
             run_all(checks, room)
-        except (needs.Missing, OSError, subprocess.SubprocessError) as why:
+        except (needs.Missing, static_library.NotBuilt, OSError, subprocess.SubprocessError) as why:
             checks.check(False, str(why))
     print(f"{checks.passed} passed, {checks.failed} failed")
     return 1 if checks.failed else 0
