@@ -13,7 +13,8 @@ With another kit of the same logic the bytes may differ. `--check` then says so,
 and signatures of `tests/corpus`; of the page, also where another wasm-opt lowered it, it compares all but the module. `--check` prints a line for each failure; the last
 line is `N passed, M failed`.
 
-Needs Python 3.9 or later, the kit, what `page/build.py` needs, and for archives that differ make, a C compiler and libsodium.
+Needs Python 3.9 or later, the kit, what `page/build.py` needs, and for archives that differ make, a C compiler, libsodium, and for
+the one of AArch64 what `tests/c/aarch64.py` needs.
 """
 
 import argparse
@@ -29,8 +30,9 @@ from dataclasses import dataclass
 
 HERE = os.path.dirname(os.path.realpath(__file__))
 ROOT = os.path.dirname(HERE)
-sys.path += [os.path.join(ROOT, *it) for it in (("tests", "shared"), ("page",))]
+sys.path += [os.path.join(ROOT, *it) for it in (("tests", "shared"), ("tests", "c"), ("page",))]
 
+import aarch64
 import build
 import needs
 import proved
@@ -42,7 +44,8 @@ PROVED, SUMS = "PROVED", "SHA256SUMS"
 CALLS, PAGE = "minisign_c", "minisign_page"
 PAGE_FILE, LOWERED = "minisign.html", "its module was lowered to 32 bits by"
 # The archives, with the flags that they are built by.
-ARCHIVES = {"calls-x86-64-v2.a": [], "calls-x86-64-v3.a": ["--cpu=x86-64-v3"]}
+ARCHIVES = {"calls-x86-64-v2.a": [], "calls-x86-64-v3.a": ["--cpu=x86-64-v3"],
+            "calls-aarch64.a": ["--target", "aarch64-unknown-linux-gnu"]}
 # The parts, with the crate of each.
 PARTS = {"calls": CALLS, "page": PAGE}
 
@@ -211,10 +214,11 @@ def check_sources(report, parts, lines):
 
 
 def verifier(room, name, archive):
-    """The program that verifies over this archive alone, built by make."""
-    out = os.path.join(room, name)
-    static_library.run_make(f"OUT={out}", f"V2={archive}", f"V3={archive}", f"CC={needs.libsodium()}", f"{out}/minisign-verify")
-    return f"{out}/minisign-verify"
+    """The words that run the program that verifies over this archive alone, built by make."""
+    out, is_own = os.path.join(room, name), "aarch64" not in os.path.basename(archive)
+    flags = [f"V2={archive}", f"V3={archive}", f"CC={needs.libsodium()}"] if is_own else [f"AARCH64={archive}", *aarch64.make_flags()]
+    static_library.run_make(f"OUT={out}", *flags, f"{out}/minisign-verify")
+    return [*([] if is_own else aarch64.emulator()), f"{out}/minisign-verify"]
 
 
 def check_doing(report, name, data):
@@ -229,7 +233,7 @@ def check_doing(report, name, data):
         for case in cases:
             answers = []
             for program in programs:
-                ran = subprocess.run([program, "-Vm", case["data"], "-p", case["key"], "-x", case["signature"]], cwd=CORPUS,
+                ran = subprocess.run([*program, "-Vm", case["data"], "-p", case["key"], "-x", case["signature"]], cwd=CORPUS,
                                      stdin=subprocess.DEVNULL, stdout=subprocess.PIPE, stderr=subprocess.PIPE)
                 answers.append((ran.returncode, ran.stdout, ran.stderr))
             what = f"{name}, {case['signature']} of {case['data']} with {case['key']}"
