@@ -29,7 +29,7 @@ def run_make(*arguments):
         raise NotBuilt(f"make {' '.join(arguments)} in c/: {ran.stdout.decode(errors='replace')[-1000:]}")
 
 
-def library(out):
+def library(out, *arguments):
     """The path of the static library that make builds in this folder."""
-    run_make(f"OUT={out}", "library")
+    run_make(f"OUT={out}", *arguments, "library")
     return os.path.join(out, "libminisign.a")

@@ -2,6 +2,7 @@
 terminal. Both have to write and leave the same; where they differ by intent, the case names the row of
 docs/DIFFERENCES.md that says so, and how both end."""
 
+import re
 from dataclasses import dataclass, field
 from typing import Callable, Optional
 
@@ -118,6 +119,13 @@ def usage(theirs, ours):
     return "" if shown and theirs.ran[-1].output.startswith(b"Usage:\n") else f"ours: {ours.ran[-1]}"
 
 
+def version(theirs, ours):
+    """The same line, and one that names this implementation and its version."""
+    shown = ours.ran[-1].output
+    wanted = re.escape(theirs.ran[-1].output) + rb"Minisign in Rattle \d+\.\d+\.\d+\n"
+    return "" if re.fullmatch(wanted, shown) else f"ours: {shown!r}"
+
+
 # ---- The cases ----
 
 
@@ -126,7 +134,7 @@ def usages():
                       ("-c", "x"), ("-m", "data"), ("-VS",), ("-S", "-m")):
         yield Case(f"usage of {' '.join(arguments)}", (Step(arguments),), row="`-k ROWS`", theirs=(2,), ours=(2,), judge=usage)
     for arguments in (("-v",), ("-G", "-v"), ("-v", "-Z")):
-        yield Case(f"version of {' '.join(arguments)}", (Step(arguments),))
+        yield Case(f"version of {' '.join(arguments)}", (Step(arguments),), row="the version", theirs=(0,), ours=(0,), judge=version)
     for arguments in (("-k", "0"), ("-k", "x"), ("-k", "-1"), ("-k", "9999999999"), ("-k", "")):
         yield Case(f"no rows: {arguments[1]!r}", (Step(("-S", "-m", "data", *arguments)),), row="`-k ROWS`", theirs=(2,),
                    ours=(2,), judge=usage)
