@@ -5,8 +5,9 @@
  * stands in front of the block, with what malloc gave. A block grows by a new one, a copy, and clearing the old one.
  *
  * Of a large block, which has the rows of a key derivation, every page will be written. So the system is asked for huge pages
- * there, and to bring all pages in at once; where it has none of that, they come one by one, as they are written. At the end it is
- * asked to take them back, so that zeros are read there; where it does not, zeros are written.
+ * there, and to bring all pages in at once; where it has none of that, they come one by one, as they are written. A virtual machine
+ * may have lent its huge pages to its host, and waits for each: where they take longer than other pages, the rest is of these. At
+ * the end the system is asked to take all back, so that zeros are read there; where it does not, zeros are written.
  *
  * SPDX-License-Identifier: MIT
  */
@@ -18,10 +19,13 @@
 #include <stdlib.h>
 #include <string.h>
 #include <sys/mman.h>
+#include <time.h>
 #include <unistd.h>
 
 #define LARGE_BYTES ((size_t) 4 << 20)
 #define HUGE_PAGE_BYTES ((size_t) 2 << 20)
+/* How much of a large block is brought in before it is looked how long that took. */
+#define PART_BYTES ((size_t) 16 << 20)
 
 /* What stands in front of a block. */
 struct front {
@@ -63,21 +67,50 @@ static size_t whole_pages(size_t len)
     return len / page * page;
 }
 
+#if defined(MADV_HUGEPAGE) && defined(MADV_POPULATE_WRITE)
+
+/* Has the system bring in a part of a block, in pages of this kind: the nanoseconds of the processor that it took. */
+static int64_t bring_in_part(char *part, size_t len, int kind)
+{
+    struct timespec begun = { 0, 0 }, ended = { 0, 0 };
+
+    clock_gettime(CLOCK_THREAD_CPUTIME_ID, &begun);
+    madvise(part, len, kind);
+    madvise(part, len, MADV_POPULATE_WRITE);
+    clock_gettime(CLOCK_THREAD_CPUTIME_ID, &ended);
+    return (ended.tv_sec - begun.tv_sec) * (int64_t) 1000000000 + ended.tv_nsec - begun.tv_nsec;
+}
+
 /* Has the system bring in the pages of a large block. */
 static void bring_in(char *block, size_t len)
 {
-    int before = errno;
+    size_t whole = whole_pages(len), at = 0, part = PART_BYTES;
+    int before = errno, kind = MADV_HUGEPAGE;
+    /* How long a part of other pages takes, where there are several parts. */
+    int64_t usual = INT64_MAX, took;
 
-#ifdef MADV_HUGEPAGE
-    madvise(block, whole_pages(len), MADV_HUGEPAGE);
-#endif
-#ifdef MADV_POPULATE_WRITE
-    madvise(block, whole_pages(len), MADV_POPULATE_WRITE);
-#endif
-    (void) block;
-    (void) len;
+    if (whole > PART_BYTES) {
+        usual = bring_in_part(block, PART_BYTES, MADV_NOHUGEPAGE);
+        usual += usual / 4;
+        at = PART_BYTES;
+    }
+    for (; at < whole; at += part) {
+        part = whole - at < PART_BYTES ? whole - at : PART_BYTES;
+        took = bring_in_part(block + at, part, kind);
+        kind = took > usual ? MADV_NOHUGEPAGE : kind;
+    }
     errno = before;
 }
+
+#else
+
+static void bring_in(char *block, size_t len)
+{
+    (void) block;
+    (void) len;
+}
+
+#endif
 
 /* Writes zeros, also where nothing reads them. */
 static void write_zeros(char *block, size_t len)

@@ -16,15 +16,20 @@
 enum { MOST = 256 };
 
 static unsigned passed, failed;
-/* What malloc gave and was not given back, with the lengths. */
-static struct { char *block; size_t len; } held[MOST];
+/*
+ * What the calls that are wrapped here note is volatile: the compiler knows malloc, free and madvise as functions that change nothing
+ * of this file's own.
+ *
+ * What malloc gave and was not given back, with the lengths.
+ */
+static volatile struct { char *block; size_t len; } held[MOST];
 /* Requests so far, whether they are refused, blocks that were given back with more in them than a front, and blocks in all. */
-static unsigned requests, is_refusing, uncleared, given_back;
+static volatile unsigned requests, is_refusing, uncleared, given_back;
 /* What the system was asked for: how often, and each time the range. */
-static struct { char *from; size_t len; int hint; } hinted[64];
-static unsigned hints;
-/* Whether it does what it is asked, refuses, or says yes and does nothing. */
-static enum { WILLING, REFUSING, LYING } system_is;
+static volatile struct { char *from; size_t len; int hint; } hinted[64];
+static volatile unsigned hints;
+/* Whether it does what it is asked, refuses, says yes and does nothing, or is slow with huge pages. */
+static volatile enum { WILLING, REFUSING, LYING, SLOW } system_is;
 
 void *__real_malloc(size_t size);
 void *__real_realloc(void *old, size_t size);
@@ -112,6 +117,12 @@ int __wrap_madvise(void *from, size_t len, int hint)
     hinted[hints % 64].from = from;
     hinted[hints % 64].len = len;
     hinted[hints++ % 64].hint = hint;
+    if (system_is == SLOW && hint == MADV_HUGEPAGE) {
+        clock_t until = clock() + CLOCKS_PER_SEC / 20;
+
+        while (clock() < until) {
+        }
+    }
     errno = EINVAL;
     return system_is == REFUSING ? -1 : system_is == LYING ? 0 : __real_madvise(from, len, hint);
 }
@@ -178,6 +189,28 @@ static void check_block(size_t len, size_t alignment, size_t other)
     check(errno == 77, "errno was changed by giving back", other, alignment);
 }
 
+/* A block of several parts: all is brought in, from its begin to its end, and the part behind a slow one in other pages. */
+static void check_parts(void)
+{
+    size_t len = 3 * PART_BYTES + 12345, at = 0;
+    struct grant grant;
+
+    hints = 0;
+    grant = rattle_alloc(len, 1);
+    check(grant.is_granted == 1 && hints == 8, "a block of several parts", len, 1);
+    for (unsigned part = 0; part < hints; part += 2) {
+        check(hinted[part].from == (char *) grant.block + at && hinted[part + 1].from == hinted[part].from
+                  && hinted[part].len == hinted[part + 1].len && hinted[part + 1].hint == MADV_POPULATE_WRITE, "a part", len, 1);
+        check(system_is != SLOW || hinted[part].hint == (part == 2 ? MADV_HUGEPAGE : MADV_NOHUGEPAGE), "a slow part", len, 1);
+        check(part > 2 || hinted[part].hint == (part == 2 ? MADV_HUGEPAGE : MADV_NOHUGEPAGE), "the first parts", len, 1);
+        at += hinted[part].len;
+    }
+    check(at <= len && at + 65536 > len, "all of a block", len, 1);
+    fill(grant.block, len);
+    rattle_dealloc(grant.block);
+    check(blocks_held() == 0 && uncleared == 0, "a block of several parts that was given back", len, 1);
+}
+
 static void check_blocks(void)
 {
     static const size_t lens[] = { 0, 1, 15, 16, 17, 1000, LARGE_BYTES - 1, LARGE_BYTES, LARGE_BYTES + 123457 };
@@ -192,7 +225,10 @@ static void check_blocks(void)
     check_block(LARGE_BYTES, 8, 2 * LARGE_BYTES + 12345);
     system_is = LYING;
     check_block(LARGE_BYTES, 8, 2 * LARGE_BYTES + 12345);
+    system_is = SLOW;
+    check_parts();
     system_is = WILLING;
+    check_parts();
 }
 
 /* Lengths that no block can have are refused, and malloc is not asked. */
