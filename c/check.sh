@@ -1,4 +1,6 @@
 #!/bin/sh
+# SPDX-License-Identifier: MIT
+#
 # Has a program verify the keys and signatures that Minisign's own program made (tests/corpus): it accepts what that accepts and
 # refuses what that refuses, but for the few texts of which docs/DIFFERENCES.md tells.
 #

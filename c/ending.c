@@ -1,3 +1,4 @@
+/* SPDX-License-Identifier: MIT */
 /* What is to be done however the program ends, also where a signal ends it. */
 #define _POSIX_C_SOURCE 200809L
 

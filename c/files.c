@@ -1,3 +1,4 @@
+/* SPDX-License-Identifier: MIT */
 /* Reading and writing files. */
 #define _POSIX_C_SOURCE 200809L
 

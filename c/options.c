@@ -1,3 +1,4 @@
+/* SPDX-License-Identifier: MIT */
 /* The command line of minisign, and the files by default. */
 #define _GNU_SOURCE
 
