@@ -4,7 +4,7 @@ in PATH but a C compiler, make, binutils and what every Debian has.
 
     tests/c/at_hand.py
 
-They verify a download within 30 seconds. Where a source of the proved calls was changed since `dist/` was made, make stops with a
+They verify a download within 30 seconds, of the processor where others use it meanwhile. Where a source of the proved calls was changed since `dist/` was made, make stops with a
 sentence and installs nothing; likewise where an archive was damaged; a source that was only touched stops nothing, and other
 archives can be named. Where the kit is needed one sentence says so. It prints a line for each failure; the last line is
 `N passed, M failed`.
@@ -102,17 +102,24 @@ def first_commands():
         return re.search(r"^```sh\n(.*?)^```$", file.read(), re.M | re.S)[1].splitlines()
 
 
+def processor_time():
+    """The seconds of the processor of all programs that were run."""
+    times = os.times()
+    return times.children_user + times.children_system
+
+
 def check_building(checks, tree):
     """README's first commands."""
     commands = first_commands()
     checks.check(len(commands) == 2 and commands[0] == MAKE, f"README begins with other commands: {commands}")
-    began = time.monotonic()
+    began, used = time.monotonic(), processor_time()
     for number, command in enumerate(commands):
         status, said = tree.run(command)
         checks.check(status == 0 and (number == 0 or said == VERIFIED), f"{command}: status {status}: {said[-600:]}")
-    took = time.monotonic() - began
-    print(f"at hand: built, and a download verified, in {took:.1f} s")
-    checks.check(took <= SECONDS, f"that took {took:.1f} s")
+    took, used = time.monotonic() - began, processor_time() - used
+    print(f"at hand: built, and a download verified, in {took:.1f} s, of which {used:.1f} of the processor")
+    is_busy = os.getloadavg()[0] > os.cpu_count()
+    checks.check((used if is_busy else took) <= SECONDS, f"that took {took:.1f} s, of which {used:.1f} of the processor")
     status, said = tree.run("c/out/minisign -Vm tests/corpus/hello -p tests/corpus/published.pub -x tests/corpus/published.minisig")
     checks.check(status != 0, f"another file was verified: {said}")
 
