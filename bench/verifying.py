@@ -42,7 +42,7 @@ def main():
         processor_timed([minisign, "-G", "-W", "-p", pk, "-s", sk])
         processor_timed([minisign, "-S", "-s", sk, "-m", data, "-x", sig])
         arguments = ["-V", "-q", "-p", pk, "-x", sig, "-m", data]
-        v2, v3 = static_library.built()
+        v2, v3 = (os.path.join(static_library.DIST, f"calls-x86-64-{it}.a") for it in ("v2", "v3"))
         programs = {name: build(name, v2, of_v3, folder) for name, of_v3 in (("chosen", v3), ("x86-64-v2", v2))}
         compare(
             [(name, lambda it=it: processor_timed([it, *arguments])) for name, it in programs.items()]

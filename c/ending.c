@@ -1,3 +1,4 @@
+/* SPDX-License-Identifier: MIT */
 /* What is to be done however the program ends, also where a signal ends it. */
 #define _GNU_SOURCE
 

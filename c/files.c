@@ -1,3 +1,4 @@
+/* SPDX-License-Identifier: MIT */
 /* Reading and writing files. */
 #define _GNU_SOURCE
 

@@ -1,3 +1,4 @@
+/* SPDX-License-Identifier: MIT */
 /*
  * Reading and writing files. Each function ends the program with TROUBLE and a line on the error
  * stream where it cannot do what it is named for.

@@ -1,3 +1,4 @@
+/* SPDX-License-Identifier: MIT */
 /* The folder of a place, and the calls of the system that an installation makes there. */
 #define _GNU_SOURCE
 

@@ -1,3 +1,4 @@
+/* SPDX-License-Identifier: MIT */
 /*
  * The folder of a place, and the calls of the system that an installation makes there: one function for each call of
  * the machine of minisign.h, which is told what the function answers. All names are looked up in the folder, which is

@@ -1,3 +1,4 @@
+/* SPDX-License-Identifier: MIT */
 /*
  * Secret keys. The library reads and writes their texts and derives keys from passwords; libsodium makes a pair of
  * Ed25519 and draws random bytes.

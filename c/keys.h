@@ -1,3 +1,4 @@
+/* SPDX-License-Identifier: MIT */
 /*
  * Secret keys: how one is opened, and minisign -G, -R and -C.
  */

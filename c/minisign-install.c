@@ -1,3 +1,4 @@
+/* SPDX-License-Identifier: MIT */
 /*
  * minisign-install PK DATA SIG PLACE: installs an update that two texts vouch for, and nothing else.
  *

@@ -1,3 +1,4 @@
+/* SPDX-License-Identifier: MIT */
 /*
  * minisign-sign: what `minisign -S` does for one file, with its flags, defaults and exit statuses.
  *

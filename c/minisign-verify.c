@@ -1,3 +1,4 @@
+/* SPDX-License-Identifier: MIT */
 /*
  * minisign-verify: what `minisign -V` does, with its flags, messages and exit statuses.
  *

@@ -1,3 +1,4 @@
+/* SPDX-License-Identifier: MIT */
 /*
  * minisign: what Minisign 0.11 does, with its flags, questions, messages, files and exit statuses.
  *

@@ -1,3 +1,4 @@
+/* SPDX-License-Identifier: MIT */
 /* The command line of minisign, and the files by default. */
 #define _GNU_SOURCE
 
@@ -9,9 +10,10 @@
 #include <unistd.h>
 
 #include "files.h"
+#include "minisign.h"
 
-/* The version of Minisign whose flags, questions, files and exit statuses these are. */
-#define VERSION "minisign 0.11"
+/* The version of Minisign whose flags, questions, files and exit statuses these are, and this implementation. */
+#define VERSION "minisign 0.11\nMinisign in Rattle " MINISIGN_VERSION_TEXT
 
 #define MOST_ROWS 1048576
 

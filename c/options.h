@@ -1,3 +1,4 @@
+/* SPDX-License-Identifier: MIT */
 /*
  * What the program minisign is asked to do: its command line, and the files by default.
  */

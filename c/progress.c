@@ -1,3 +1,4 @@
+/* SPDX-License-Identifier: MIT */
 /* Signs of life on the error stream, where it is a terminal. */
 #define _GNU_SOURCE
 

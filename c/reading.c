@@ -1,3 +1,4 @@
+/* SPDX-License-Identifier: MIT */
 /* Data that is hashed while it is read, and copied out once it was verified. */
 #define _POSIX_C_SOURCE 200809L
 

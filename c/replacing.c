@@ -1,3 +1,4 @@
+/* SPDX-License-Identifier: MIT */
 /* Files that are replaced in one step. */
 #define _GNU_SOURCE
 

@@ -1,3 +1,4 @@
+/* SPDX-License-Identifier: MIT */
 /*
  * Files that are replaced in one step: whoever looks finds the older file or the new one, whole, also after a kill.
  */

@@ -1,3 +1,4 @@
+/* SPDX-License-Identifier: MIT */
 /* What minisign-install says. */
 #define _POSIX_C_SOURCE 200809L
 

@@ -1,3 +1,4 @@
+/* SPDX-License-Identifier: MIT */
 /*
  * What minisign-install says, each line in one write, and its exit statuses. What cannot be written changes no status.
  */

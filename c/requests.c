@@ -1,3 +1,4 @@
+/* SPDX-License-Identifier: MIT */
 /* The command line of minisign-install. */
 #define _POSIX_C_SOURCE 200809L
 

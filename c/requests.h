@@ -1,3 +1,4 @@
+/* SPDX-License-Identifier: MIT */
 /*
  * What minisign-install is asked to do: its command line.
  */

@@ -1,3 +1,4 @@
+/* SPDX-License-Identifier: MIT */
 /*
  * minisign -S. The library hashes the data, says what has to be signed and writes the text of the signature; libsodium
  * signs with Ed25519, and nothing else. The key is opened once, and the first text that it makes is verified as others

@@ -1,3 +1,4 @@
+/* SPDX-License-Identifier: MIT */
 /*
  * Tags of the pieces of data that is read twice. Blake2b of the first reading says that the data is what was signed; that
  * the second reading gave the same needs less. A tag takes less than a tenth of its time.

@@ -1,3 +1,4 @@
+/* SPDX-License-Identifier: MIT */
 /*
  * Talking to a person: passwords that are typed, and comments that are shown.
  */

@@ -1,3 +1,4 @@
+/* SPDX-License-Identifier: MIT */
 /*
  * minisign -V: what a public key and a signature say of a file.
  */

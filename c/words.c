@@ -1,3 +1,4 @@
+/* SPDX-License-Identifier: MIT */
 /* What Minisign says, and texts as they are shown to a person. */
 #include "words.h"
 

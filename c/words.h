@@ -1,3 +1,4 @@
+/* SPDX-License-Identifier: MIT */
 /*
  * What Minisign says, for the errors of the library and for identifiers, and texts of others as they are shown to a person.
  */

@@ -9,11 +9,11 @@
  *
  * What is proved, for a caller that keeps "What you owe" below: what each call answers and writes, as the contract of
  * its export says in crates/minisign_c/src/lib.rt of the sources. By tests alone is shown: that what was taken from
- * malloc is given back; that MINISIGN_TEXT_BYTES is room enough; what c/boundary.c does, which stands between this page
- * and the proved calls; and that the English of this page says what the contracts say.
+ * malloc is cleared and given back; that MINISIGN_TEXT_BYTES is room enough; what c/boundary.c and c/allocation.c do, which
+ * stand between this page, the proved calls and malloc; and that the English of this page says what the contracts say.
  *
- * Only for x86-64 with 64-bit pointers: any processor since 2009 (x86-64-v2). On one with AVX2 (x86-64-v3) a second
- * copy of the calls is used, built for it.
+ * For x86-64, any processor since 2009 (x86-64-v2), and for AArch64, with little-endian numbers and pointers of 64 bits. On
+ * an x86-64 with AVX2 (x86-64-v3) a second copy of the calls is used, built for it.
  *
  * Compile and link with the flags that `pkg-config --cflags --libs minisign` tells. There is no more to link.
  *
@@ -119,9 +119,9 @@
  *
  * ---- Signing, in full, with libsodium ----
  *
- * The secret key leaves the library here, into your memory and your Ed25519. The library itself clears neither the
- * stack nor what it gives back to free, and both have held the secret, the text of the key and the password. A signature is
- * verified before it leaves this program: see minisign_ask_signing.
+ * The secret key leaves the library here, into your memory and your Ed25519. The library clears what it
+ * gives back to free, and not the stack, which has held the secret, the text of the key and the password.
+ * A signature is verified before it leaves this program: see minisign_ask_signing.
  *
  * The example, made by tools/header.py from c/examples/sign.c.
  *
@@ -328,7 +328,7 @@ extern "C" {
  *   was given before the call has returned. Different states may be used by different threads at once: the
  *   library has no variables that change, but what the processor can is found out once, before main.
  * - All memory is yours. The library keeps no pointer beyond a call, and what it takes from malloc during
- *   one it has given back when the call returns. malloc, realloc and free belong together, and align a
+ *   one it has cleared and given back when the call returns. malloc and free belong together, and align a
  *   block of n bytes to every power of two up to 16 that divides n. Verifying takes no memory. The calls that
  *   take it, minisign_ask_signing, minisign_signed_text and those that make keys, are not made in a signal
  *   handler or in the forked child of a process with threads.

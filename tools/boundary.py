@@ -159,29 +159,57 @@ HEAD = """\
  * The boundary between minisign.h and the proved calls of the crate minisign_c. Made by tools/header.py.
  *
  * It decides two things. A pointer that is NULL where its length is 0 is replaced by one that is not, which the
- * proved calls need. And of the two copies of these calls, one built for x86-64-v2 and one for x86-64-v3, it takes
- * the second where the processor has what that needs.
+ * proved calls need. And where there are two copies of these calls, one built for x86-64-v2 and one for x86-64-v3,
+ * it takes the second if the processor has what that needs.
  *
  * SPDX-License-Identifier: MIT
  */
+#if !(defined(__x86_64__) || defined(__aarch64__)) || !defined(__LP64__) || __BYTE_ORDER__ != __ORDER_LITTLE_ENDIAN__
+#error "minisign is for x86-64 and AArch64, little-endian and with pointers of 64 bits"
+#endif
+
 #include <stddef.h>
 #include <stdint.h>
 
 #include "minisign.h"
+
+#ifdef __x86_64__
+
+#include <cpuid.h>
+
+/* Both copies of a call, and the one that is taken. */
+#define PROVED(kind, name, parameters) kind v2_##name parameters; kind v3_##name parameters
+#define CALL(name) (has_v3 ? v3_##name : v2_##name)
+
+static int has_v3;
+
+/* Whether the processor, and the system on it, have what x86-64-v3 is: found out once, before main. */
+__attribute__((constructor)) static void look_at_processor(void)
+{
+    const unsigned one = bit_FMA | bit_MOVBE | bit_OSXSAVE | bit_AVX | bit_F16C, seven = bit_BMI | bit_AVX2 | bit_BMI2;
+    unsigned a, b, c, d, kept, kept_above;
+
+    if (!__get_cpuid(1, &a, &b, &c, &d) || (c & one) != one) {
+        return;
+    }
+    /* (bits 1 and 2: the system keeps the registers of SSE and AVX for each program) */
+    __asm__ __volatile__("xgetbv" : "=a"(kept), "=d"(kept_above) : "c"(0));
+    has_v3 = (kept & 6) == 6 && __get_cpuid_count(7, 0, &a, &b, &c, &d) && (b & seven) == seven
+             && __get_cpuid(0x80000001, &a, &b, &c, &d) && (c & bit_LZCNT) == bit_LZCNT;
+}
+
+#else
+
+#define PROVED(kind, name, parameters) kind aarch64_##name parameters
+#define CALL(name) aarch64_##name
+
+#endif
 
 /* Nothing is read or written here. */
 static const uint8_t nothing;
 
 #define READ(pointer, length) ((pointer) == NULL && (length) == 0 ? &nothing : (const uint8_t *) (pointer))
 #define WRITTEN(pointer, length) ((pointer) == NULL && (length) == 0 ? (uint8_t *) &nothing : (uint8_t *) (pointer))
-
-/* Whether the processor, and the system on it, have what x86-64-v3 is. */
-static int is_v3(void)
-{
-    return __builtin_cpu_supports("avx2") && __builtin_cpu_supports("bmi") && __builtin_cpu_supports("bmi2")
-           && __builtin_cpu_supports("f16c") && __builtin_cpu_supports("fma") && __builtin_cpu_supports("lzcnt")
-           && __builtin_cpu_supports("movbe");
-}
 
 uint32_t minisign_version(void)
 {
@@ -197,18 +225,10 @@ def boundary_text(header, crate):
         kinds = [parameter.plain for parameter in it.parameters]
         names = [parameter.text for parameter in it.parameters]
         arguments = [argument(parameter) for parameter in it.parameters]
-        for copy in ("v2", "v3"):
-            parts.append(in_lines(f"{spaced(it.plain_kind)}{copy}_{it.name}(", kinds, ");"))
-        parts.append("")
-        parts.append(in_lines(f"{spaced(it.kind)}{it.name}(", names, ")"))
-        parts.append("{")
+        parts += [in_lines(f"PROVED({it.plain_kind}, {it.name}, (", kinds, "));"), ""]
+        parts += [in_lines(f"{spaced(it.kind)}{it.name}(", names, ")"), "{"]
         result = "" if it.kind == "void" else "return " if it.kind == it.plain_kind else f"return ({it.kind}) "
-        parts.append("    if (is_v3()) {")
-        parts.append(in_lines(f"        {result}v3_{it.name}(", arguments, ");"))
-        parts += ["        return;"] if it.kind == "void" else []
-        parts.append("    }")
-        parts.append(in_lines(f"    {result}v2_{it.name}(", arguments, ");"))
-        parts += ["}", ""]
+        parts += [in_lines(f"    {result}CALL({it.name})(", arguments, ");"), "}", ""]
     return "\n".join(parts)
 
 

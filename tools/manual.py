@@ -1,6 +1,6 @@
 """Makes the manual page of the header, `c/man/minisign.3`, from the header. `tools/header.py` calls it.
 
-Comments become text, and what stands between them code.
+Comments become text, and what stands between them code. What tells tools/header.py where to write is left out.
 """
 
 import re
@@ -29,6 +29,7 @@ END = """\
 """
 
 PIECE = re.compile(r"/\*.*?\*/", re.S)
+MAKERS_NOTE = re.compile(r"(?:[\w ]+, made by tools/header\.py(?: from [\w/.]+)?|The end of the [a-z]+)\.")
 
 
 def escaped(line):
@@ -58,6 +59,8 @@ def prose(comment):
             block.append(line)
             continue
         flush()
+        if MAKERS_NOTE.fullmatch(line.strip()):
+            continue
         if heading:
             made.append(f".SH {heading[1].upper()}")
         elif line.startswith("- "):

@@ -5,10 +5,11 @@
 
 The layout of its structs as C and as C++ (`layout.c`), wrong use (`wrong_use.c`), what texts are asked about and the
 number of each refusal (`asked_texts.c`), the text of each number (`error_texts.c`), an installation at each of its calls
-(`installations.c`), the texts of public keys (`public_keys.c`), and each request for memory refused, of which verifying
-makes none (`out_of_memory.c`); each program also with what finds wrong use of memory, where the compiler has it. LIBRARY is
-a `libminisign.a`; where none is named it is built, and proved before where it was not (`static_library.py`). It prints a
-line for each failure; the last line is `N passed, M failed`.
+(`installations.c`), the texts of public keys (`public_keys.c`), what is taken from malloc and cleared before it is given back
+(`allocations.c`), and each request for memory refused, of which verifying makes none (`out_of_memory.c`); each program also
+with what finds wrong use of memory, where the compiler has it. LIBRARY is a `libminisign.a`; where none is named it is built
+over `dist/` (`static_library.py`), and once more with the copy of the calls that is for processors without AVX2 alone. It
+prints a line for each failure; the last line is `N passed, M failed`.
 
 Needs Python 3.9 or later, a C compiler and a C++ compiler, and installs what is not there where it may.
 """
@@ -32,7 +33,7 @@ WRAPPED = ["-Wl,--wrap=malloc", "-Wl,--wrap=realloc", "-Wl,--wrap=free"]
 
 # The programs, with what each is linked with.
 PROGRAMS = {"wrong_use": [], "asked_texts": [], "error_texts": [], "public_keys": WRAPPED, "out_of_memory": WRAPPED,
-            "installations": WRAPPED, "null": [], "guard_pages": [], "threads": ["-pthread"]}
+            "allocations": [*WRAPPED, "-Wl,--wrap=madvise"], "installations": WRAPPED, "null": [], "guard_pages": [], "threads": ["-pthread"]}
 
 
 def run(command):
@@ -92,11 +93,25 @@ def run_all(library, room):
     return failures, count
 
 
+def run_older(room):
+    """Runs the programs over the copy of the calls that is for processors without AVX2: the failures, and how many checks hold."""
+    library = static_library.library(os.path.join(room, "older"), f"V3={static_library.DIST}/calls-x86-64-v2.a")
+    failures, count = [], 0
+    for name in PROGRAMS:
+        some, ran = program_failures(needs.c_compiler(), library, name, [], room)
+        failures += [f"for x86-64-v2: {it}" for it in some]
+        count += ran
+    return failures, count
+
+
 def main():
     with tempfile.TemporaryDirectory(prefix="c-library-") as room:
         try:
             library = sys.argv[1] if len(sys.argv) > 1 else static_library.library(os.path.join(room, "c"))
             failures, count = run_all(os.path.realpath(library), room)
+            if len(sys.argv) <= 1:
+                some, ran = run_older(room)
+                failures, count = failures + some, count + ran
         except (needs.Missing, static_library.NotBuilt) as why:
             failures, count = [str(why)], 0
     for failure in failures:

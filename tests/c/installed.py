@@ -4,12 +4,12 @@ as a shared library, from C++, from Rust and from Python. The examples of the he
 
     tests/c/installed.py
 
-Also: exactly these files are installed; the shared library has its soname, and like the static one the names of the header and no
+Also: exactly these files are installed, with a page for each call that leads to the manual page; the shared library has its soname, and like the static one the names of the header and no
 other; a result that is dropped is a warning in C and in C++; the manual pages are read without a word.
 It prints a line for each failure; the last line is `N passed, M failed`.
 
 Needs Python 3.9 or later, make, binutils, pkg-config, groff, a C and a C++ compiler, rustc, libsodium with its header and
-minisign, and installs what is not there where it may. The library is built, and proved before where it was not
+minisign, and installs what is not there where it may. The library is built over `dist/`
 (`static_library.py`).
 """
 
@@ -91,8 +91,10 @@ def installed_files(checks, root):
     """What was installed, and the names in it."""
     found = {os.path.relpath(os.path.join(at, name), root) for at, _, names in os.walk(root) for name in names}
     versions = [name for name in found if re.fullmatch(r"lib/libminisign\.so\.\d+(?:\.\d+\.\d+)?", name)]
-    checks.check(len(versions) == 2 and found == {*FILES, *versions}, f"other files were installed: {sorted(found)}")
     names = header_names(os.path.join(root, "include", "minisign.h"))
+    links = {f"share/man/man3/{name}.3" for name in names}
+    checks.check(len(versions) == 2 and found == {*FILES, *versions, *links}, f"other files were installed: {sorted(found)}")
+    checks.check(all(read(os.path.join(root, link)) == b".so man3/minisign.3\n" for link in links), "a page of a call leads elsewhere")
     checks.check(len(names) >= 9, f"the header has only the names {sorted(names)}")
     for name, flags in (("libminisign.so", ["-D"]), ("libminisign.a", [])):
         defined = defined_names(os.path.join(root, "lib", name), *flags)

@@ -3,7 +3,7 @@
 
     tests/installer/real_installing.py [PROGRAM ..]
 
-Without arguments the program is built over the static library, which is proved before where it was not
+Without arguments the program is built over the static library of `dist/`
 (`static_library.py`). It prints a line for each case that failed or was skipped; the last line is `N passed, M failed`.
 
 Needs besides what `installing.py` needs make, libsodium with its header and minisign, and installs what is not there where it

@@ -3,15 +3,15 @@
 
     tests/page/page.py [PAGE [MODULE]]
 
-The module's calls have the contracts of those from C, word for word but for what a number means. The page is built, and
-its module proved for WebAssembly before (`page/build.py`), where no PAGE is named; MODULE is the proved module then, for a
-memory of 64 bits. The module that wasm-opt made of it for the page has to answer the same on all texts, in Node and in
-Chromium, which takes both. Then Chromium and Firefox, without a window, are given the kept corpus of Minisign's own
-program, keys and signatures that are made now, each fault, the vectors of Ed25519 that browsers answer differently, keys
-of other people, things in another's place, hostile comments and names, files that are dropped and stopped, 2 GB, and 500
-changed texts (150 in Firefox), of which the verdicts and their reasons are compared with those of `c/minisign-verify`. Numbers
-that are no flag are passed to the module itself, beside the library for C. In
-Chromium it looks also at what is asked for from outside, at the names for a screen reader, the order of the keyboard, the
+The module's calls have the contracts of those from C, word for word but for what a number means. PAGE is the one of `dist/`
+where none is named, as `page/build.py` builds it; `tools/dist.py --check` compares. MODULE is the proved module, for a
+memory of 64 bits, which is proved and built where no PAGE is named. The module that wasm-opt made of it for the page has to
+answer the same on all texts, in Node and in Chromium, which takes both. Firefox and Chromium, without a window, are given
+the kept corpus of Minisign's own program, keys and signatures that are made now, each fault, the vectors of Ed25519 that
+browsers answer differently, keys of other people, things in another's place, hostile comments and names, files that are
+dropped and stopped, 2 GB, and 500 changed texts (150 in Firefox), of which the verdicts and their reasons are compared with
+those of `c/minisign-verify`. In Chromium numbers that are no flag are passed to the module itself, beside the library for
+C; it looks also at what is asked for from outside, at the names for a screen reader, the order of the keyboard, the
 contrast of colours, large letters and a narrow screen, and at what is said where the browser lacks something. It prints a
 line for each failure; the last line is `N passed, M failed`.
 
@@ -63,19 +63,20 @@ from verdicts import check_corpus, check_faults, check_made, check_several
 TEXTS_IN_FIREFOX = 150
 
 
-def built(room):
-    """The path of the page that is named, or that is built now, and the module for 64 bits, where there is one."""
+def page_path():
+    """The page that is named, or the one of dist/."""
+    return os.path.realpath(sys.argv[1]) if len(sys.argv) > 1 else os.path.join(static_library.DIST, "minisign.html")
+
+
+def wide_module():
+    """The module for 64 bits that is named, or that is proved and built now; nothing beside a page that is named alone."""
     if len(sys.argv) > 2:
         with open(sys.argv[2], "rb") as file:
-            return os.path.realpath(sys.argv[1]), file.read()
-    if len(sys.argv) > 1:
-        return os.path.realpath(sys.argv[1]), None
-    wide, path = build.proved_module(), os.path.join(room, "minisign.html")
-    build.write(path, build.page(build.lowered(wide), build.lowering()))
-    return path, wide
+            return file.read()
+    return None if len(sys.argv) > 1 else build.proved_module()
 
 
-def steps_in(person, minisign, programs, page, wide):
+def steps_in(person, minisign, programs, page):
     """What is tried in a browser, in order: in each what a person sees, and in Chromium what its own protocol shows besides."""
     narrow = build.taken_from(page)[0]
     steps = {
@@ -89,18 +90,19 @@ def steps_in(person, minisign, programs, page, wide):
         "long files": lambda: check_big(person, check_stopping(person, minisign)),
     }
     if person.browser.is_chromium:
-        steps.update({"modules": lambda: check_modules(person, minisign, wide, narrow), "flags": lambda: check_flags(person), "lacking": lambda: check_lacking(person),
-                      "looks": lambda: check_looks(person, minisign), "keyboard": lambda: check_use(person, minisign), "alone": lambda: check_alone(person, minisign, page)})
+        steps.update({"flags": lambda: check_flags(person), "lacking": lambda: check_lacking(person),
+                      "looks": lambda: check_looks(person, minisign), "keyboard": lambda: check_use(person, minisign), "alone": lambda: check_alone(person, minisign, page),
+                      "modules": lambda: check_modules(person, minisign, wide_module(), narrow)})
     return steps
 
 
 def run_in(browser, checks, room, made):
     """Runs everything in a browser."""
-    minisign, programs, page, wide = made
+    minisign, programs, page = made
     folder = os.path.join(room, browser.name)
     os.mkdir(folder)
     person = Person(checks, browser, f"file://{page}", folder, programs)
-    for what, step in steps_in(person, minisign, programs, page, wide).items():
+    for what, step in steps_in(person, minisign, programs, page).items():
         begun = time.monotonic()
         try:
             step()
@@ -117,7 +119,7 @@ def run_all(checks, room):
     """Runs everything."""
     check_contracts(checks)
     check_numbers(checks)
-    page, wide = built(room)
+    page = page_path()
     check_file(checks, page)
     check_same_bytes(checks, page)
     check_building(checks, page, room)
@@ -127,10 +129,10 @@ def run_all(checks, room):
     minisign = Minisign(needs.minisign(), keys)
     for name in ("first", "second"):
         minisign.make_pair(name)
-    for begin in (lambda: Chromium(*needs.chromium(), room), lambda: Firefox(needs.firefox(), room)):
+    for begin in (lambda: Firefox(needs.firefox(), room), lambda: Chromium(*needs.chromium(), room)):
         browser = begin()
         try:
-            run_in(browser, checks, room, (minisign, programs, page, wide))
+            run_in(browser, checks, room, (minisign, programs, page))
         finally:
             browser.quit()
 

@@ -23,6 +23,10 @@ ENDED = "rt ci has ended"
 WASM = "wasm64-unknown-unknown"
 
 
+# The last verdict line of each static library that was built here.
+verdicts = {}
+
+
 class NotBuilt(Exception):
     """Something was not built, and what was said."""
 
@@ -141,14 +145,22 @@ def rattle(verb, name, folder, *flags, before=(), crate=None):
     return run([*before, f"{kit()}/bin/rattle", verb, *words, "--jobs", "1", *flags], folder)
 
 
+def verdict_of(words):
+    """The verdict line of a check that proved its crate."""
+    return re.findall(r"(?m)^logic=proved .*$", words)[-1]
+
+
 def build_archive(name, archive, *flags):
-    """Proves a static library over those below it, and builds its archive."""
+    """Proves a static library over those below it, and builds its archive: its verdict line."""
     why = supply(crates()[name].below)
     if why:
         raise NotBuilt(why)
     os.makedirs(os.path.dirname(archive), exist_ok=True)
     words = ["--toolchain", f"{kit()}/toolchain", "--backend", "llvm", *flags, "-o", archive]
-    hold(rattle("build", name, f"{ROOT}/crates/{name}", *words), name)
+    ran = rattle("build", name, f"{ROOT}/crates/{name}", *words)
+    hold(ran, name)
+    verdicts[name] = verdict_of(ran.stdout)
+    return verdicts[name]
 
 
 def link_module(archive, module, memory):

@@ -3,6 +3,7 @@ terminal. Both have to write and leave the same; where they differ by intent, th
 docs/DIFFERENCES.md that says so, and how both end."""
 
 import os
+import re
 from dataclasses import dataclass, field
 from typing import Callable, Optional
 
@@ -129,6 +130,13 @@ def usage(theirs, ours):
     return "" if shown and theirs.ran[-1].output.startswith(b"Usage:\n") else f"ours: {ours.ran[-1]}"
 
 
+def version(theirs, ours):
+    """The same line, and one that names this implementation and its version."""
+    shown = ours.ran[-1].output
+    wanted = re.escape(theirs.ran[-1].output) + rb"Minisign in Rattle \d+\.\d+\.\d+\n"
+    return "" if re.fullmatch(wanted, shown) else f"ours: {shown!r}"
+
+
 # ---- The cases ----
 
 
@@ -137,7 +145,7 @@ def usages():
                       ("-c", "x"), ("-m", "data"), ("-VS",), ("-S", "-m")):
         yield Case(f"usage of {' '.join(arguments)}", (Step(arguments),), row="`-k ROWS`", theirs=(2,), ours=(2,), judge=usage)
     for arguments in (("-v",), ("-G", "-v"), ("-v", "-Z")):
-        yield Case(f"version of {' '.join(arguments)}", (Step(arguments),))
+        yield Case(f"version of {' '.join(arguments)}", (Step(arguments),), row="the version", theirs=(0,), ours=(0,), judge=version)
     for flag, row in (("-k", "`-k ROWS`"), ("-K", "`-K WORK`")):
         for number in ("0", "x", "-1", "9999999999", "+1", ""):
             yield Case(f"{flag} {number!r}", (Step(("-S", "-m", "data", flag, number)),), row=row, theirs=(2,), ours=(2,), judge=usage)

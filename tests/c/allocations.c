@@ -1,0 +1,282 @@
+/*
+ * The calls for memory of c/allocation.c, which the proved calls make: each block is whole and aligned, and cleared when it is given
+ * back, also where it was moved because it grew; what is refused leaves the older block; only large blocks are brought in at
+ * once, and it does no harm where the system refuses that. Then the same of the library's own: a key that is made, opened and
+ * signed with gives everything back, and cleared.
+ *
+ * Linked with -Wl,--wrap=malloc -Wl,--wrap=realloc -Wl,--wrap=free -Wl,--wrap=madvise. Prints a line for each check that failed; the
+ * last line is `N passed, M failed`.
+ */
+#include "../../c/allocation.c"
+
+#include <stdio.h>
+
+#include "minisign.h"
+
+enum { MOST = 256 };
+
+static unsigned passed, failed;
+/*
+ * What the calls that are wrapped here note is volatile: the compiler knows malloc, free and madvise as functions that change nothing
+ * of this file's own.
+ *
+ * What malloc gave and was not given back, with the lengths.
+ */
+static volatile struct { char *block; size_t len; } held[MOST];
+/* Requests so far, whether they are refused, blocks that were given back with more in them than a front, and blocks in all. */
+static volatile unsigned requests, is_refusing, uncleared, given_back;
+/* What the system was asked for: how often, and each time the range. */
+static volatile struct { char *from; size_t len; int hint; } hinted[64];
+static volatile unsigned hints;
+/* Whether it does what it is asked, refuses, says yes and does nothing, or is slow with huge pages. */
+static volatile enum { WILLING, REFUSING, LYING, SLOW } system_is;
+
+void *__real_malloc(size_t size);
+void *__real_realloc(void *old, size_t size);
+void __real_free(void *block);
+int __real_madvise(void *from, size_t len, int hint);
+void *__wrap_malloc(size_t size);
+void *__wrap_realloc(void *old, size_t size);
+void __wrap_free(void *block);
+int __wrap_madvise(void *from, size_t len, int hint);
+
+static void check(int holds, const char *what, size_t len, size_t alignment)
+{
+    if (holds) {
+        passed++;
+    } else {
+        failed++;
+        printf("%s: %zu bytes, aligned to %zu\n", what, len, alignment);
+    }
+}
+
+void *__wrap_malloc(size_t size)
+{
+    char *block;
+    unsigned at = 0;
+
+    requests++;
+    if (is_refusing) {
+        return NULL;
+    }
+    block = __real_malloc(size);
+    while (at < MOST && held[at].block != NULL) {
+        at++;
+    }
+    if (block == NULL || at == MOST) {
+        abort();
+    }
+    memset(block, 0, size);
+    held[at].block = block;
+    held[at].len = size;
+    return block;
+}
+
+/* Not called: what grows is moved by a new block. */
+void *__wrap_realloc(void *old, size_t size)
+{
+    uncleared++;
+    return __real_realloc(old, size);
+}
+
+/* All of it is zero but for one front. */
+static int is_cleared(const char *block, size_t len)
+{
+    size_t first = 0;
+
+    while (first < len && block[first] == 0) {
+        first++;
+    }
+    first = first / sizeof(struct front) * sizeof(struct front);
+    for (size_t at = first + sizeof(struct front); at < len; at++) {
+        if (block[at] != 0) {
+            return 0;
+        }
+    }
+    return 1;
+}
+
+void __wrap_free(void *block)
+{
+    unsigned at = 0;
+
+    while (at < MOST && held[at].block != block) {
+        at++;
+    }
+    if (at == MOST) {
+        abort();
+    }
+    given_back++;
+    uncleared += !is_cleared(block, held[at].len);
+    held[at].block = NULL;
+    __real_free(block);
+}
+
+int __wrap_madvise(void *from, size_t len, int hint)
+{
+    hinted[hints % 64].from = from;
+    hinted[hints % 64].len = len;
+    hinted[hints++ % 64].hint = hint;
+    if (system_is == SLOW && hint == MADV_HUGEPAGE) {
+        clock_t until = clock() + CLOCKS_PER_SEC / 20;
+
+        while (clock() < until) {
+        }
+    }
+    errno = EINVAL;
+    return system_is == REFUSING ? -1 : system_is == LYING ? 0 : __real_madvise(from, len, hint);
+}
+
+static unsigned blocks_held(void)
+{
+    unsigned count = 0;
+
+    for (unsigned at = 0; at < MOST; at++) {
+        count += held[at].block != NULL;
+    }
+    return count;
+}
+
+/* A pattern that differs from byte to byte, and is nowhere zero. */
+static void fill(char *block, size_t len)
+{
+    for (size_t at = 0; at < len; at++) {
+        block[at] = (char) (1 + at * 31 % 251);
+    }
+}
+
+static int is_filled(const char *block, size_t len)
+{
+    for (size_t at = 0; at < len; at++) {
+        if (block[at] != (char) (1 + at * 31 % 251)) {
+            return 0;
+        }
+    }
+    return 1;
+}
+
+/* One block that is used whole, and grows and shrinks to another length. */
+static void check_block(size_t len, size_t alignment, size_t other)
+{
+    struct grant one, two;
+    size_t kept = len < other ? len : other;
+
+    hints = 0;
+    errno = 77;
+    one = rattle_alloc(len, alignment);
+    check(one.is_granted == 1 && (uintptr_t) one.block % alignment == 0, "a block", len, alignment);
+    check(errno == 77, "errno was changed", len, alignment);
+    check(hints == (len >= LARGE_BYTES ? 2 : 0), "how often the system was asked", len, alignment);
+    for (unsigned at = 0; at < hints; at++) {
+        check(hinted[at].hint == (at == 0 ? MADV_HUGEPAGE : MADV_POPULATE_WRITE) && hinted[at].from == one.block
+                  && hinted[at].len <= len && hinted[at].len + 65536 > len, "what the system was asked", len, alignment);
+    }
+    fill(one.block, len);
+    two = rattle_realloc(one.block, len, other, alignment);
+    check(two.is_granted == 1 && (uintptr_t) two.block % alignment == 0 && is_filled(two.block, kept), "growing", other, alignment);
+    check(blocks_held() == 1 && uncleared == 0, "the older block", len, alignment);
+    fill(two.block, other);
+    is_refusing = 1;
+    one = rattle_realloc(two.block, other, other + 1, alignment);
+    check(one.is_granted == 0 && one.block != NULL, "growing that is refused", other, alignment);
+    one = rattle_alloc(len, alignment);
+    check(one.is_granted == 0 && one.block != NULL, "a block that is refused", len, alignment);
+    is_refusing = 0;
+    check(blocks_held() == 1 && is_filled(two.block, other), "the block that could not grow", other, alignment);
+    errno = 77;
+    rattle_dealloc(two.block);
+    check(blocks_held() == 0 && uncleared == 0, "a block that was given back", other, alignment);
+    check(errno == 77, "errno was changed by giving back", other, alignment);
+}
+
+/* A block of several parts: all is brought in, from its begin to its end, and the part behind a slow one in other pages. */
+static void check_parts(void)
+{
+    size_t len = 3 * PART_BYTES + 12345, at = 0;
+    struct grant grant;
+
+    hints = 0;
+    grant = rattle_alloc(len, 1);
+    check(grant.is_granted == 1 && hints == 8, "a block of several parts", len, 1);
+    for (unsigned part = 0; part < hints; part += 2) {
+        check(hinted[part].from == (char *) grant.block + at && hinted[part + 1].from == hinted[part].from
+                  && hinted[part].len == hinted[part + 1].len && hinted[part + 1].hint == MADV_POPULATE_WRITE, "a part", len, 1);
+        check(system_is != SLOW || hinted[part].hint == (part == 2 ? MADV_HUGEPAGE : MADV_NOHUGEPAGE), "a slow part", len, 1);
+        check(part > 2 || hinted[part].hint == (part == 2 ? MADV_HUGEPAGE : MADV_NOHUGEPAGE), "the first parts", len, 1);
+        at += hinted[part].len;
+    }
+    check(at <= len && at + 65536 > len, "all of a block", len, 1);
+    fill(grant.block, len);
+    rattle_dealloc(grant.block);
+    check(blocks_held() == 0 && uncleared == 0, "a block of several parts that was given back", len, 1);
+}
+
+static void check_blocks(void)
+{
+    static const size_t lens[] = { 0, 1, 15, 16, 17, 1000, LARGE_BYTES - 1, LARGE_BYTES, LARGE_BYTES + 123457 };
+
+    for (size_t one = 0; one < sizeof lens / sizeof *lens; one++) {
+        for (size_t alignment = 1; alignment <= 4096; alignment *= 4) {
+            check_block(lens[one], alignment, lens[one] + 100);
+            check_block(lens[one], alignment, lens[one] / 2);
+        }
+    }
+    system_is = REFUSING;
+    check_block(LARGE_BYTES, 8, 2 * LARGE_BYTES + 12345);
+    system_is = LYING;
+    check_block(LARGE_BYTES, 8, 2 * LARGE_BYTES + 12345);
+    system_is = SLOW;
+    check_parts();
+    system_is = WILLING;
+    check_parts();
+}
+
+/* Lengths that no block can have are refused, and malloc is not asked. */
+static void check_lengths(void)
+{
+    static const size_t lens[] = { SIZE_MAX, SIZE_MAX - 15, SIZE_MAX / 2 + 1, SIZE_MAX / 2, SIZE_MAX / 2 - 16 };
+
+    for (size_t one = 0; one < sizeof lens / sizeof *lens; one++) {
+        unsigned before = requests;
+        struct grant grant = rattle_alloc(lens[one], 1);
+
+        check(grant.is_granted == 0 && requests == before, "a length that cannot be", lens[one], 1);
+    }
+}
+
+/* The library's calls, with a key sealed in so many bytes of rows. */
+static void check_library(size_t memory)
+{
+    static const uint8_t key_id[8] = { 1 }, password[] = "a long password", comment[] = "c";
+    static uint8_t secret_key[64], text[4096], signed_text[4096], digit[64];
+    minisign_sealing sealing = { .operations_limit = memory / 32, .memory_limit = memory };
+    minisign_signing signing;
+    minisign_state state;
+    size_t len = 0;
+    enum minisign_error error;
+
+    memset(secret_key, 0x5a, sizeof secret_key);
+    given_back = uncleared = 0;
+    error = minisign_make_secret_key(key_id, secret_key, 1, password, sizeof password - 1, &sealing, MINISIGN_KEEP_EVERY_ROW,
+                                     comment, 1, text, sizeof text, &len);
+    check(error == MINISIGN_OK && given_back > 0 && uncleared == 0 && blocks_held() == 0, "making a key", memory, 1);
+    minisign_init(&state);
+    given_back = 0;
+    error = minisign_ask_signing(&state, text, len, 1, password, sizeof password - 1, MINISIGN_KEEP_EVERY_ROW,
+                                 MINISIGN_USUAL_WORK, &signing);
+    check(error == MINISIGN_OK && given_back > 0 && uncleared == 0 && blocks_held() == 0, "opening it", memory, 1);
+    check(memcmp(signing.secret_key, secret_key, 64) == 0, "another key was opened", memory, 1);
+    given_back = 0;
+    error = minisign_signed_text(&state, digit, digit, comment, 1, comment, 1, signed_text, sizeof signed_text, &len);
+    check(error == MINISIGN_OK && given_back > 0 && uncleared == 0 && blocks_held() == 0, "signing", memory, 1);
+}
+
+int main(void)
+{
+    check_blocks();
+    check_lengths();
+    check_library(1 << 20);
+    check_library(16 << 20);
+    printf("%u passed, %u failed\n", passed, failed);
+    return failed != 0;
+}

@@ -1,0 +1,82 @@
+#!/usr/bin/env python3
+"""Which copy of the proved calls runs on which x86-64 processor: as qemu shows them, of which none has to be here.
+
+    tests/c/processors.py
+
+On those without AVX2, and on one that has it and lacks another part of x86-64-v3, the copy for x86-64-v2 runs, and on the others
+the one for x86-64-v3: each copy in turn has a wrong constant, so that it is seen which one ran. It prints a line for each
+failure; the last line is `N passed, M failed`.
+
+Needs Python 3.9 or later, make, binutils, a C compiler, libsodium with its header, and of Debian qemu-user-static, and installs
+what is not there where it may.
+"""
+
+import os
+import subprocess
+import sys
+import tempfile
+
+HERE = os.path.dirname(os.path.realpath(__file__))
+sys.path.append(os.path.join(HERE, "..", "shared"))
+
+import needs
+import static_library
+from at_hand import Checks
+
+CORPUS = os.path.join(HERE, "..", "corpus")
+SECONDS = 300
+# Processors by the names of qemu, with the copy that has to run.
+RUNS = {
+    "Nehalem": "v2",
+    "SandyBridge": "v2",
+    "Haswell": "v3",
+    "max": "v3",
+    **{f"Haswell,-{part}": "v2" for part in ("avx2", "bmi1", "bmi2", "f16c", "fma", "abm", "movbe", "xsave")},
+}
+# The first initial value of Blake2b, as both copies have it.
+VALUE = bytes.fromhex("08c9bcf367e6096a")
+
+
+def archive_of(copy):
+    return os.path.join(static_library.DIST, f"calls-x86-64-{copy}.a")
+
+
+def build(room, wrong):
+    """The program that verifies, over the copies of dist/, of which one has another initial value."""
+    with open(archive_of(wrong), "rb") as file:
+        data = file.read()
+    changed = os.path.join(room, f"wrong-{wrong}.a")
+    with open(changed, "wb") as file:
+        file.write(data.replace(VALUE, bytes([VALUE[0] ^ 1]) + VALUE[1:]))
+    archives = {"v2": archive_of("v2"), "v3": archive_of("v3"), wrong: changed}
+    out = os.path.join(room, wrong)
+    static_library.run_make(f"OUT={out}", *(f"{name.upper()}={path}" for name, path in archives.items()), f"{out}/minisign-verify")
+    return f"{out}/minisign-verify"
+
+
+def verify(emulator, processor, program):
+    """The exit status of the program that verifies a published signature."""
+    command = [emulator, "-cpu", processor, program, "-Vm", "test", "-p", "published.pub", "-x", "published.minisig"]
+    return subprocess.run(command, cwd=CORPUS, stdin=subprocess.DEVNULL, stdout=subprocess.DEVNULL, stderr=subprocess.DEVNULL,
+                          timeout=SECONDS).returncode
+
+
+def main():
+    checks = Checks()
+    with tempfile.TemporaryDirectory(prefix="processors-") as room:
+        try:
+            needs.libsodium()
+            emulator = needs.program("qemu-x86_64-static", "qemu-user-static")
+            programs = {wrong: build(room, wrong) for wrong in ("v2", "v3")}
+            for processor, copy in RUNS.items():
+                for wrong, program in programs.items():
+                    status = verify(emulator, processor, program)
+                    checks.check(status == (1 if wrong == copy else 0), f"{processor}, {wrong} with a wrong value: status {status}")
+        except (needs.Missing, static_library.NotBuilt, OSError, subprocess.SubprocessError) as why:
+            checks.check(False, str(why))
+    print(f"{checks.passed} passed, {checks.failed} failed")
+    return 1 if checks.failed else 0
+
+
+if __name__ == "__main__":
+    sys.exit(main())

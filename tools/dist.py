@@ -1,0 +1,319 @@
+#!/usr/bin/env python3
+"""Makes `dist/`: the proved calls of the crate minisign_c as archives, the page that verifies a download, `PROVED`, which says by
+what and from which sources they were proved, and `SHA256SUMS`.
+
+    tools/dist.py [PART ..]            proves, builds and writes them
+    tools/dist.py --check [PART ..]    proves and builds them, and compares them byte for byte with what stands there
+
+PART is `calls` or `page`, both where none is named. Libraries that `rt lib` proved are taken as they stand, and the others proved
+first. `--after SAID` takes those that a finished `rt ci` left here: SAID is a file of what that said. In the gate `--check` runs
+beside `rt ci`, and builds over what that proves (`tests/shared/proved.py`).
+
+With another kit of the same logic the bytes may differ. `--check` then says so, and compares what both archives do with all keys
+and signatures of `tests/corpus`; of the page, also where another wasm-opt lowered it, it compares all but the module. `--check` prints a line for each failure; the last
+line is `N passed, M failed`.
+
+Needs Python 3.9 or later, the kit, what `page/build.py` needs, and for archives that differ make, a C compiler, libsodium, and for
+the one of AArch64 what `tests/c/aarch64.py` needs.
+"""
+
+import argparse
+import hashlib
+import json
+import os
+import re
+import shutil
+import subprocess
+import sys
+import tempfile
+from dataclasses import dataclass
+
+HERE = os.path.dirname(os.path.realpath(__file__))
+ROOT = os.path.dirname(HERE)
+sys.path += [os.path.join(ROOT, *it) for it in (("tests", "shared"), ("tests", "c"), ("page",))]
+
+import aarch64
+import build
+import needs
+import proved
+import static_library
+
+DIST = os.path.join(ROOT, "dist")
+CORPUS = os.path.join(ROOT, "tests", "corpus")
+PROVED, SUMS = "PROVED", "SHA256SUMS"
+CALLS, PAGE = "minisign_c", "minisign_page"
+PAGE_FILE, LOWERED = "minisign.html", "its module was lowered to 32 bits by"
+# The archives, with the flags that they are built by.
+ARCHIVES = {"calls-x86-64-v2.a": [], "calls-x86-64-v3.a": ["--cpu=x86-64-v3"],
+            "calls-aarch64.a": ["--target", "aarch64-unknown-linux-gnu"]}
+# The parts, with the crate of each.
+PARTS = {"calls": CALLS, "page": PAGE}
+
+HEAD = """\
+The files beside this one were proved and built by the Rattle kit from the sources of this repository, by tools/dist.py.
+`python3 tools/dist.py --check` proves and builds them again, and compares. The sums over the sources are those of
+tools/sources.sh; the line of a file is the verdict of its proof.
+"""
+
+
+class NoKit(Exception):
+    """There is no kit, which only those need who prove."""
+
+
+@dataclass
+class Built:
+    """A file of dist/ as it was built now, with the lines that PROVED has of it."""
+
+    name: str
+    data: bytes
+    lines: dict
+
+
+def kit_line():
+    """What `rt version` says."""
+    if shutil.which("rt") is None:
+        raise NoKit("there is no rt: proving needs the Rattle kit, which README.md tells of; `make -C c` builds over dist/ without it")
+    ran = subprocess.run(["rt", "version"], stdout=subprocess.PIPE, check=True, timeout=60)
+    return ran.stdout.decode().strip()
+
+
+def logic_of(kit):
+    return re.search(r"logic \S+", kit)[0]
+
+
+def sources_sum(part):
+    """The sum over the sources of a part."""
+    ran = subprocess.run(["sh", os.path.join(HERE, "sources.sh"), part], stdout=subprocess.PIPE, check=True)
+    return ran.stdout.decode().strip()
+
+
+def read(name):
+    with open(os.path.join(DIST, name), "rb") as file:
+        return file.read()
+
+
+def lines_of_proved():
+    """What PROVED says, by what it says it of."""
+    if not os.path.exists(os.path.join(DIST, PROVED)):
+        return {}
+    text = read(PROVED).decode().removeprefix(HEAD)
+    return dict(line.split(": ", 1) for line in text.splitlines() if ": " in line)
+
+
+# ---------------------------------------------------------------------------------------------------------------
+# Building.
+
+
+def built_calls(room):
+    """The archives of the proved calls."""
+    sources = sources_sum("calls")
+    for name, flags in ARCHIVES.items():
+        archive = os.path.join(room, name)
+        print(f"dist: {name}, and proving first what is not proved", flush=True)
+        verdict = proved.build_archive(CALLS, archive, *flags)
+        with open(archive, "rb") as file:
+            yield Built(name, file.read(), {name: verdict, "sources of the calls": sources})
+
+
+def built_page(room):
+    """The page."""
+    sources, page = sources_sum("page"), os.path.join(room, PAGE_FILE)
+    if build.main([page]) != 0:
+        raise proved.NotBuilt("page/build.py wrote no page")
+    with open(page, "rb") as file:
+        data = file.read()
+    yield Built(PAGE_FILE, data, {PAGE_FILE: proved.verdicts[PAGE], "sources of the page": sources, LOWERED: lowered_by(data)})
+
+
+def lowered_by(page):
+    """What made a page's module one for 32 bits."""
+    found = re.search(rb'^const LOWERED_BY = "(.*)";$', page, re.M)
+    return found[1].decode() if found else "nothing"
+
+
+BUILDERS = {"calls": built_calls, "page": built_page}
+
+
+def built(parts):
+    """All files of these parts, and what has to be the same of all."""
+    with tempfile.TemporaryDirectory(prefix="dist-") as room:
+        return [it for part in parts for it in BUILDERS[part](room)]
+
+
+def write(name, data):
+    """Replaces a file of dist/ in one step."""
+    path = os.path.join(DIST, name)
+    with open(f"{path}.new", "wb") as file:
+        file.write(data)
+    os.rename(f"{path}.new", path)
+
+
+def names():
+    """The files that SHA256SUMS lists."""
+    return [*ARCHIVES, PAGE_FILE, PROVED]
+
+
+def make(parts):
+    """Proves, builds and writes these parts."""
+    kit, lines = kit_line(), lines_of_proved()
+    if lines.get("kit", kit) != kit and {*parts} != {*PARTS}:
+        raise NoKit(f"dist/ was made by {lines['kit']}, and here is {kit}: name no part, so that all is made by one kit")
+    files = built(parts)
+    os.makedirs(DIST, exist_ok=True)
+    for it in files:
+        write(it.name, it.data)
+        lines.update(it.lines)
+    lines["kit"] = kit
+    wanted = ["kit", "sources of the calls", *ARCHIVES, "sources of the page", PAGE_FILE, LOWERED]
+    write(PROVED, (HEAD + "\n" + "".join(f"{it}: {lines[it]}\n" for it in wanted if it in lines)).encode())
+    there = [it for it in names() if os.path.exists(os.path.join(DIST, it))]
+    write(SUMS, "".join(f"{hashlib.sha256(read(it)).hexdigest()}  {it}\n" for it in there).encode())
+    for it in files:
+        print(f"dist: {it.name}, {len(it.data)} bytes")
+
+
+# ---------------------------------------------------------------------------------------------------------------
+# Comparing.
+
+
+class Report:
+    """The count of what holds; a line for each failure."""
+
+    def __init__(self):
+        self.passed, self.failed = 0, 0
+
+    def check(self, holds, words):
+        if holds:
+            self.passed += 1
+        else:
+            self.failed += 1
+            print(f"FAILED: {words}", flush=True)
+
+
+def check_files(report):
+    """The files are those of SHA256SUMS, and nothing else stands there."""
+    listed = dict(reversed(line.split("  ", 1)) for line in read(SUMS).decode().splitlines())
+    found = {it for it in os.listdir(DIST) if it not in (SUMS, "README.md")}
+    report.check(found == {*listed} == {*names()}, f"dist/ has {sorted(found)}, and {SUMS} lists {sorted(listed)}")
+    for name in sorted(found & {*listed}):
+        report.check(hashlib.sha256(read(name)).hexdigest() == listed[name], f"dist/{name} is not what {SUMS} says")
+
+
+def check_sources(report, parts, lines):
+    """The sums are over the sources as they are, and over those of all crates."""
+    with open(os.path.join(HERE, "sources.sh"), encoding="utf-8") as file:
+        script = file.read()
+    below = re.search(r"^below='(.*)'$", script, re.M)[1].split()
+    for part in parts:
+        more = re.search(rf'^{part}\) crates="\$below (.*?)"', script, re.M)[1].split()
+        crate = PARTS[part]
+        report.check({*below, *more} == {*proved.crates()[crate].below, crate},
+                     f"tools/sources.sh does not name the crates that {crate} stands on")
+        key = f"sources of the {part}"
+        report.check(lines.get(key) == sources_sum(part), f"the {key} have changed since dist/ was made: run tools/dist.py")
+
+
+def verifier(room, name, archive):
+    """The words that run the program that verifies over this archive alone, built by make."""
+    out, is_own = os.path.join(room, name), "aarch64" not in os.path.basename(archive)
+    flags = [f"V2={archive}", f"V3={archive}", f"CC={needs.libsodium()}"] if is_own else [f"AARCH64={archive}", *aarch64.make_flags()]
+    static_library.run_make(f"OUT={out}", *flags, f"{out}/minisign-verify")
+    return [*([] if is_own else aarch64.emulator()), f"{out}/minisign-verify"]
+
+
+def check_doing(report, name, data):
+    """Another archive does the same with the kept keys and signatures, and what Minisign does."""
+    with open(os.path.join(CORPUS, "cases.json"), encoding="utf-8") as file:
+        cases = json.load(file)
+    with tempfile.TemporaryDirectory(prefix="dist-") as room:
+        archive = os.path.join(room, name)
+        with open(archive, "wb") as file:
+            file.write(data)
+        programs = [verifier(room, "kept", os.path.join(DIST, name)), verifier(room, "now", archive)]
+        for case in cases:
+            answers = []
+            for program in programs:
+                ran = subprocess.run([*program, "-Vm", case["data"], "-p", case["key"], "-x", case["signature"]], cwd=CORPUS,
+                                     stdin=subprocess.DEVNULL, stdout=subprocess.PIPE, stderr=subprocess.PIPE)
+                answers.append((ran.returncode, ran.stdout, ran.stderr))
+            what = f"{name}, {case['signature']} of {case['data']} with {case['key']}"
+            report.check(answers[0] == answers[1], f"{what}: {answers[0]}, and by this kit {answers[1]}")
+
+
+def without_module(page):
+    """A page but for its module, what its policy says of the script with that, and what lowered it."""
+    return re.sub(rb'const MODULE = "[^"]*"|\'sha256-[^\']*\'', b"", page).replace(lowered_by(page).encode(), b"")
+
+
+def check_built(report, it, lines, kit):
+    """A file is what was built now."""
+    kept, own = ([made, *((by[LOWERED],) if it.name == PAGE_FILE else ())] for made, by in ((lines["kit"], lines), (kit, it.lines)))
+    is_same = read(it.name) == it.data
+    if is_same or kept == own:
+        report.check(is_same, f"dist/{it.name} is not what was proved and built now from these sources, {len(it.data)} bytes")
+        return
+    print(f"dist: {it.name} has other bytes by {' and '.join(own)} than by {' and '.join(kept)}, which made dist/", flush=True)
+    if it.name == PAGE_FILE:
+        report.check(without_module(read(it.name)) == without_module(it.data), f"dist/{it.name} differs in more than its module")
+    else:
+        check_doing(report, it.name, it.data)
+
+
+def check(parts):
+    """Compares these parts with what is proved and built now."""
+    report, lines, kit = Report(), lines_of_proved(), kit_line()
+    if "kit" not in lines:
+        raise proved.NotBuilt("there is no dist/PROVED: run tools/dist.py")
+    check_files(report)
+    check_sources(report, parts, lines)
+    report.check(logic_of(lines["kit"]) == logic_of(kit), f"dist/ was proved by {lines['kit']}, and here is {kit}: another logic")
+    for it in built(parts):
+        check_built(report, it, lines, kit)
+        verdict = lines.get(it.name, "")
+        report.check(verdict.startswith("logic=proved ") and it.lines[it.name].startswith("logic=proved "),
+                     f"{it.name}: the verdicts are {verdict!r} and {it.lines[it.name]!r}")
+    print(f"{report.passed} passed, {report.failed} failed")
+    return 1 if report.failed else 0
+
+
+def arguments_of(words):
+    parser = argparse.ArgumentParser(usage="tools/dist.py [--check] [--after SAID] [calls] [page]")
+    parser.add_argument("--check", action="store_true")
+    parser.add_argument("--after")
+    parser.add_argument("parts", nargs="*")
+    given = parser.parse_args(words)
+    unknown = {*given.parts} - {*PARTS}
+    if unknown:
+        parser.error(f"there is no part {' '.join(sorted(unknown))}")
+    return given
+
+
+def take_over(said):
+    """Has what a finished `rt ci` left be taken for proved, as it said."""
+    room = tempfile.NamedTemporaryFile("w", prefix="dist-said-", encoding="utf-8")
+    with open(said, encoding="utf-8", errors="replace") as file:
+        room.write(file.read() + f"\n{proved.ENDED}\n")
+    room.flush()
+    os.environ[proved.SAID] = room.name
+    return room
+
+
+def main(words):
+    given = arguments_of(words)
+    parts = given.parts or [*PARTS]
+    kept = take_over(given.after) if given.after else None
+    try:
+        if given.check:
+            return check(parts)
+        make(parts)
+    except (needs.Missing, proved.NotBuilt, NoKit) as why:
+        print(f"FAILED: {why}" + ("\n0 passed, 1 failed" if given.check else ""))
+        return 1
+    finally:
+        if kept:
+            kept.close()
+    return 0
+
+
+if __name__ == "__main__":
+    sys.exit(main(sys.argv[1:]))
