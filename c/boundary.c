@@ -179,11 +179,12 @@ enum minisign_error minisign_make_public_key(const uint8_t key_id[8], const uint
                                                                 comment_len, WRITTEN(text, room), room, text_len);
 }
 
-PROVED(uint32_t, minisign_install_init, (minisign_installation *, uint32_t));
+PROVED(uint32_t, minisign_install_init, (minisign_installation *, uint32_t, uint32_t));
 
-enum minisign_error minisign_install_init(minisign_installation *installation, uint32_t is_first)
+enum minisign_error minisign_install_init(minisign_installation *installation, uint32_t is_first,
+                                          uint32_t numbering)
 {
-    return (enum minisign_error) CALL(minisign_install_init)(installation, is_first);
+    return (enum minisign_error) CALL(minisign_install_init)(installation, is_first, numbering);
 }
 
 PROVED(uint32_t, minisign_install_due, (const minisign_installation *));
@@ -238,17 +239,16 @@ enum minisign_error minisign_install_piece(minisign_installation *installation, 
 }
 
 PROVED(uint32_t, minisign_install_ask, (minisign_installation *, const uint8_t *, size_t, const uint8_t *, size_t,
-                                        const uint8_t *, size_t, uint32_t, minisign_external *, uint8_t *,
-                                        size_t));
+                                        const uint8_t *, size_t, minisign_external *, uint8_t *, size_t));
 
 enum minisign_error minisign_install_ask(minisign_installation *installation, const uint8_t *pk_text,
                                          size_t pk_text_len, const uint8_t *sig_text, size_t sig_text_len,
-                                         const uint8_t *file, size_t file_len, uint32_t numbering,
-                                         minisign_external *questions, uint8_t *message, size_t room)
+                                         const uint8_t *file, size_t file_len, minisign_external *questions,
+                                         uint8_t *message, size_t room)
 {
     return (enum minisign_error) CALL(minisign_install_ask)(installation, READ(pk_text, pk_text_len), pk_text_len,
                                                             READ(sig_text, sig_text_len), sig_text_len,
-                                                            READ(file, file_len), file_len, numbering, questions,
+                                                            READ(file, file_len), file_len, questions,
                                                             WRITTEN(message, room), room);
 }
 
