@@ -92,8 +92,8 @@ abbrev pub HasPlaced : Verifier → Terms → ℕ → Run → Run → Type 0
 HasPlaced accepts terms kept old new = (bytes : List ℕ) × (n : ℕ) × IsUpdate accepts terms kept bytes n × HasNamed Place bytes old new
 
 -- Why the data ahead is not installed where the lock is held and the kept number is known, and what is brought then.
--- A device failed, or memory ran out, or the data is refused: nothing. The number could not be kept: at most the record. The renaming
--- failed: at most what a whole installation brings. The folder could not be brought to the disk: the update stands
+-- A device failed, or memory ran out, or the data is refused: nothing. The number could not be kept: at most the record. The
+-- renaming failed: at most what a whole installation brings. The folder could not be brought to the disk: the update stands
 -- at the place, and a crash may still bring back what stood there.
 abbrev pub IsDataRefusal : Verifier → Terms → ℕ → Option (List ℕ) → Counts → Counts → Run → Run → InstallFault → Type 0
 IsDataRefusal accepts terms kept ahead before after old new e =
@@ -103,9 +103,9 @@ IsDataRefusal accepts terms kept ahead before after old new e =
     ⊎ (BringsOnly (IsBrought accepts terms kept) old new × (e ≡ Library (Named WritingFailed)) × Rose before.folder after.folder)
     ⊎ (BringsOnly (IsBrought accepts terms kept) old new × HasPlaced accepts terms kept old new × (e ≡ FolderNotOnDisk) × Rose before.folder after.folder)
 
--- Why an installation is refused where the lock is held, and what it brings then. A device failed: nothing. Otherwise
--- what killed runs had left was removed, and the record is refused, as it was found when the lock was got: nothing. Or
--- it was found to hold a number, and the data is refused.
+-- Why an installation is refused where the lock is held, and what it brings then. A device failed, or memory ran out:
+-- nothing. Otherwise what killed runs had left was removed, and the record is refused, as it was found when the lock was
+-- got: nothing. Or it was found to hold a number, and the data is refused.
 abbrev pub IsLockedRefusal : Verifier → Terms → Bool → Option (List ℕ) → Counts → Counts → Run → Run → InstallFault → Type 0
 IsLockedRefusal accepts terms first ahead before after old new e =
     (BringsNothing old new × IsLibraryFault (IsCallFault before after) e)
