@@ -17,8 +17,8 @@
     "Installs DATA at PLACE if the texts of the public key PK and of the signature\n" \
     "SIG vouch for it as the update that is wanted.\n" \
     "\n" \
-    "  --first            take the update also where no number of FIELD is kept beside\n" \
-    "                     PLACE\n" \
+    "  --first            take the update also where no number of FIELD is kept\n" \
+    "                     beside PLACE\n" \
     "  --numbering FIELD  the update's number is the field `timestamp` of the signed\n" \
     "                     comment, as without this option, or `version`\n" \
     "  --name NAME        the name that the signed comment has to have for the file;\n" \

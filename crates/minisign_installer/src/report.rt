@@ -27,8 +27,8 @@ const HELP: &str = "\
 Installs DATA at PLACE if the texts of the public key PK and of the signature
 SIG vouch for it as the update that is wanted. The toy scheme protects nothing.
 
-  --first            take the update also where no number of FIELD is kept beside
-                     PLACE
+  --first            take the update also where no number of FIELD is kept
+                     beside PLACE
   --numbering FIELD  the update's number is the field `timestamp` of the signed
                      comment, as without this option, or `version`
   --name NAME        the name that the signed comment has to have for the file;
