@@ -247,6 +247,9 @@ def check_signatures(before, folder, line):
     if "-x" in line.arguments or "-m" not in line.arguments:
         return
     data = line.arguments[line.arguments.index("-m") + 1]
+    if data in line.outputs:
+        # (a signature that was signed, and then replaced by another)
+        return
     command = [before.whole.theirs, "-Vm", data, "-P", before.inline]
     ran = subprocess.run(command, cwd=folder, stdin=subprocess.DEVNULL, stdout=subprocess.DEVNULL, stderr=subprocess.PIPE, timeout=SECONDS_OF_LINE)
     if ran.returncode != 0:
