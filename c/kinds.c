@@ -13,6 +13,8 @@
 /* How many bytes the second lines hold. */
 enum { PUBLIC_KEY_RECORD = 42, SIGNATURE_RECORD = 74, SIGNIFY_SECRET_KEY_RECORD = 104, SECRET_KEY_RECORD = 158 };
 #define RECORD_ROOM 192
+/* How many the fourth line of a signature has. */
+#define COMMENT_SIGNATURE_BYTES 64
 
 /* The letters of a public key's base64. */
 #define BARE_KEY_LETTERS 56
@@ -304,5 +306,15 @@ void say_kind(const char *name, const uint8_t *text, size_t len, enum text_kind 
         fprintf(stderr, is_meant ? "%s: this %s is damaged: %s\n" : "%s: this is no %s: %s\n", name, kind, why);
     } else {
         fprintf(stderr, "%s: this is no %s\n", name, kind);
+    }
+}
+
+void say_if_cut(const char *name, const uint8_t *text, size_t len)
+{
+    static uint8_t record[RECORD_ROOM];
+    struct lines lines = lines_of(text, len);
+
+    if (lines.count == MOST_LINES && decode(record, &lines.line[MOST_LINES - 1]) < COMMENT_SIGNATURE_BYTES) {
+        fprintf(stderr, "%s: this signature is cut: its fourth line is too short\n", visible(name));
     }
 }

@@ -99,6 +99,20 @@ class Words(Safety):
         if theirs.returncode == 2 and first != lines[0] and lines[0] not in ROWS_OF_FIRST_LINES.get(first, (NOT_UTF8,)):
             raise Failure(f"Minisign says {theirs.stderr!r}, ours {ours}")
 
+    def cut_at_its_end(self):
+        """A signature that ends in its last line, where the line is base64 still, is told as cut; whole ones of other data are not."""
+        folder = self.signed()
+        text = read_file(folder, "data.minisig")
+        for end in (-41, -5):
+            with open(os.path.join(folder, "cut"), "wb") as file:
+                file.write(text[:end])
+            ran = self.ours(folder, "-Vm", "data", "-p", PUBLIC, "-x", "cut")
+            if ran.status not in (1, 2) or not ran.said.startswith((b"Comment signature", b"base64")) or b"\ncut: this signature is " not in ran.said:
+                raise Failure(f"{end}: {ran}")
+        ran = self.ours(folder, "-Vm", "more", "-p", PUBLIC, "-x", "data.minisig")
+        if (ran.status, ran.said) != (1, b"Signature verification failed\n"):
+            raise Failure(f"{ran}")
+
     def damaged_key(self):
         """A key of which one half is another's is told as damaged, and a wrong public key is told as that."""
         record = bytearray(record_of(self.keys[OPEN]))
@@ -305,9 +319,10 @@ def wrong_texts(keys, signature):
 
 def cases(words):
     """The names of all cases, and what runs each."""
-    signature = read_signature(words)
+    signature = read_file(words.signed(), "data.minisig")
     for number, (flag, text, said) in enumerate(wrong_texts(words.keys, signature)):
         yield f"a wrong text {number} for {flag}: {said.decode()}", lambda f=flag, t=text, s=said: words.wrong_text(f, t, s)
+    yield "a signature that is cut at its end", words.cut_at_its_end
     yield "a key whose halves do not belong together", words.damaged_key
     yield "names that are no comments", words.names_of_comments
     yield "a key of little work", words.cheap_key_opens
@@ -322,8 +337,8 @@ def cases(words):
     yield "a name with control characters while it is read", words.name_while_reading
 
 
-def read_signature(words):
-    with open(os.path.join(words.signed(), "data.minisig"), "rb") as file:
+def read_file(folder, name):
+    with open(os.path.join(folder, name), "rb") as file:
         return file.read()
 
 
