@@ -116,7 +116,8 @@ static struct work work_of_text(void)
     end = memchr(line, '\n', len);
     len = end == NULL ? len : (size_t) (end - line);
     len -= len > 0 && line[len - 1] == '\r';
-    if (sodium_base642bin(record, sizeof secrets->record, (const char *) line, len, NULL, &len, NULL, sodium_base64_VARIANT_ORIGINAL)
+    if (sodium_base642bin(record, sizeof secrets->record, (const char *) line, len, NULL, &len, NULL,
+                          sodium_base64_VARIANT_ORIGINAL)
             != 0
         || len < RECORD_BYTES) {
         return work;
@@ -323,8 +324,8 @@ void refuse_over_key(const struct options *options, const char *file)
 {
     struct stat key, found;
 
-    if (stat(options->secret_file, &key) == 0 && stat(file, &found) == 0 && S_ISREG(key.st_mode) && key.st_dev == found.st_dev
-        && key.st_ino == found.st_ino) {
+    if (stat(options->secret_file, &key) == 0 && stat(file, &found) == 0 && S_ISREG(key.st_mode)
+        && key.st_dev == found.st_dev && key.st_ino == found.st_ino) {
         fprintf(stderr, "%s: this is the secret key itself, which would be lost\n", visible(file));
         exit(TROUBLE);
     }

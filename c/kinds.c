@@ -11,7 +11,10 @@
 #include "words.h"
 
 /* How many bytes the second lines hold. */
-enum { PUBLIC_KEY_RECORD = 42, SIGNATURE_RECORD = 74, SIGNIFY_SECRET_KEY_RECORD = 104, SECRET_KEY_RECORD = 158, RECORD_ROOM = 192 };
+enum { PUBLIC_KEY_RECORD = 42, SIGNATURE_RECORD = 74, SIGNIFY_SECRET_KEY_RECORD = 104, SECRET_KEY_RECORD = 158 };
+#define RECORD_ROOM 192
+/* How many the fourth line of a signature has. */
+#define COMMENT_SIGNATURE_BYTES 64
 
 /* The letters of a public key's base64. */
 #define BARE_KEY_LETTERS 56
@@ -58,8 +61,8 @@ static const struct front fronts[] = {
     FRONT("-----BEGIN ", "this is a text of PEM, as OpenSSL writes them"),
 };
 
-/* What binary OpenPGP is, by its first packet (RFC 9580, section 4.2): its header, of the old format or the new one, then its
- * length, and behind that the version. */
+/* What binary OpenPGP is, by its first packet (RFC 9580, section 4.2): its header, of the old format or the new one, then
+ * its length, and behind that the version. */
 static const char *what_of_openpgp(const uint8_t *text, size_t len)
 {
     bool is_new = len > 1 && (text[0] & 0xc0) == 0xc0, is_old = len > 1 && (text[0] & 0xc0) == 0x80 && (text[0] & 3) != 3;
@@ -189,7 +192,8 @@ static enum found kind_of(const struct lines *lines)
     static uint8_t record[RECORD_ROOM];
     enum found found = UNKNOWN;
 
-    if (lines->count == 1 && lines->line[0].len == BARE_KEY_LETTERS && decode(record, &lines->line[0]) == PUBLIC_KEY_RECORD) {
+    if (lines->count == 1 && lines->line[0].len == BARE_KEY_LETTERS
+        && decode(record, &lines->line[0]) == PUBLIC_KEY_RECORD) {
         return IS_BARE_KEY;
     }
     if (lines->count < 2) {
@@ -243,7 +247,8 @@ static const char *name_of_kind(enum text_kind wanted)
 /* Whether the text says of itself that it is what was wanted, so that it is damaged. */
 static bool says_so(const struct lines *lines, enum text_kind wanted)
 {
-    static const char *const words[] = { "minisign public key", "minisign encrypted secret key", "signature from minisign secret key" };
+    static const char *const words[] = { "minisign public key", "minisign encrypted secret key",
+                                         "signature from minisign secret key" };
 
     return lines->count > 0
            && (has_words(&lines->line[0], words[wanted])
@@ -301,5 +306,15 @@ void say_kind(const char *name, const uint8_t *text, size_t len, enum text_kind 
         fprintf(stderr, is_meant ? "%s: this %s is damaged: %s\n" : "%s: this is no %s: %s\n", name, kind, why);
     } else {
         fprintf(stderr, "%s: this is no %s\n", name, kind);
+    }
+}
+
+void say_if_cut(const char *name, const uint8_t *text, size_t len)
+{
+    static uint8_t record[RECORD_ROOM];
+    struct lines lines = lines_of(text, len);
+
+    if (lines.count == MOST_LINES && decode(record, &lines.line[MOST_LINES - 1]) < COMMENT_SIGNATURE_BYTES) {
+        fprintf(stderr, "%s: this signature is cut: its fourth line is too short\n", visible(name));
     }
 }

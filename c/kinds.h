@@ -17,4 +17,8 @@ enum text_kind { PUBLIC_KEY_TEXT, SECRET_KEY_TEXT, SIGNATURE_TEXT };
  */
 void say_kind(const char *name, const uint8_t *text, size_t len, enum text_kind wanted, enum minisign_error error);
 
+/* Says so of the text of a signature of which the fourth line ends too soon, which the library refuses as a wrong signature of
+ * the comment; of others it says nothing. */
+void say_if_cut(const char *name, const uint8_t *text, size_t len);
+
 #endif

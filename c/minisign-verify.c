@@ -56,7 +56,8 @@ static _Noreturn void refuse(const struct options *options, enum minisign_error 
     case MINISIGN_DIFFERENT_KEY_IDS:
         fprintf(stderr,
                 "Signature key id in %s is %" PRIX64 "\nbut the key id in the public key is %" PRIX64 "\n",
-                visible(options->signature_file), number_of_id(questions.signature_key_id), number_of_id(questions.public_key_id));
+                visible(options->signature_file), number_of_id(questions.signature_key_id),
+                number_of_id(questions.public_key_id));
         exit(BAD);
     case MINISIGN_LEGACY_NOT_ACCEPTED:
     case MINISIGN_SIGNATURE_REFUSED:

@@ -71,7 +71,7 @@ static bool may_follow(int folder, const struct stat *link)
     return true;
 }
 
-/* What the name of a folder is: a link, of which the text is copied to the target, or none; or errno says why it is not known. */
+/* What a name in the folder is: a link, of which the text is copied to the target, or none; or errno says why it is not known. */
 enum step { IS_LINK, IS_NO_LINK, IS_UNKNOWN };
 
 static enum step read_link(const struct place *place, const char *name, char target[TARGET_BYTES])

@@ -163,7 +163,7 @@ static struct stage *free_stage(void)
 static void forget(struct stage *stage)
 {
     stage->partner = NULL;
-    if (stage->is_named && unlinkat(stage->place.folder, stage->name, 0) != 0) {
+    if (stage->is_named && unlinkat(stage->place.folder, stage->name, 0) != 0 && errno != ENOENT) {
         return;
     }
     if (stage->fd >= 0) {
@@ -346,7 +346,8 @@ static enum put rename_stage(struct stage *stage, bool over_older)
             return PUT;
         }
         if (errno == EEXIST
-            || ((errno == EINVAL || errno == ENOSYS) && fstatat(place->folder, place->name, &older, AT_SYMLINK_NOFOLLOW) == 0)) {
+            || ((errno == EINVAL || errno == ENOSYS)
+                && fstatat(place->folder, place->name, &older, AT_SYMLINK_NOFOLLOW) == 0)) {
             return TAKEN;
         }
         if (errno != EINVAL && errno != ENOSYS) {

@@ -37,8 +37,9 @@ bool is_one_place(const struct stage *one, const struct stage *other);
 bool put_in_place(struct stage *stage, bool over_older);
 
 /*
- * Puts two files in their places that belong together: both, or, where that fails or a signal ends the program, neither.
- * A kill or a loss of power in between leaves the first one alone in its place. Answers the name of the file that stays where
+ * Puts two files in their places that belong together: both, or, where that fails or a signal ends the program, neither. A kill or
+ * a loss of power in between leaves the first one alone in its place, and so does a failure where it took an older one's place and
+ * the file system does not exchange names (renameat2). Answers the name of the file that stays where
  * older ones are to stay and there is one now, and else NULL.
  */
 const char *put_both_in_place(struct stage *first, struct stage *last, bool over_older);

@@ -247,6 +247,9 @@ def check_signatures(before, folder, line):
     if "-x" in line.arguments or "-m" not in line.arguments:
         return
     data = line.arguments[line.arguments.index("-m") + 1]
+    if data in line.outputs:
+        # (a signature that was signed, and then replaced by another)
+        return
     command = [before.whole.theirs, "-Vm", data, "-P", before.inline]
     ran = subprocess.run(command, cwd=folder, stdin=subprocess.DEVNULL, stdout=subprocess.DEVNULL, stderr=subprocess.PIPE, timeout=SECONDS_OF_LINE)
     if ran.returncode != 0:
@@ -298,7 +301,8 @@ def run_all(seed, numbers, room):
     workers = os.cpu_count() or 1
     end = time.time() + SECONDS
     with concurrent.futures.ProcessPoolExecutor(workers) as pool:
-        results = list(pool.map(check_lines, [before] * workers, [seed] * workers, [numbers[start::workers] for start in range(workers)], [end] * workers))
+        jobs = [pool.submit(check_lines, before, seed, numbers[start::workers], end) for start in range(workers)]
+        results = [job.result() for job in jobs]
     failures, count = [failure for some, _ in results for failure in some], sum(tried for _, tried in results)
     if count < min(FEWEST, len(numbers)):
         failures.append(f"only {count} lines were tried in {SECONDS} seconds")

@@ -6,12 +6,13 @@ import os
 import signal
 import subprocess
 import sys
+import threading
 import time
 
 from running import Failure
-from whole_cases import CLOSED, OPEN, OTHER, PASSWORD, PUBLIC
+from whole_cases import CLOSED, DATA, OPEN, OTHER, PASSWORD, PUBLIC
 from whole_running import FEW_ROWS, HOME, SECONDS, AtTerminal, record_of, sealed_for, text_of
-from whole_safety import QUESTION, Safety, wait_until
+from whole_safety import QUESTION, Safety, wait_until, write_slowly
 
 # The first line and the rest of texts of others: as their programs write them.
 SSH = b"ssh-ed25519 AAAAC3NzaC1lZDI1NTE5AAAAIK0wmN/Cr3JXqmLW7u+g9pTh+wyqDHpSQEIQczXkVx9q me@home\n"
@@ -34,6 +35,8 @@ ROWS_OF_FIRST_LINES = {b"Signature too long": (b"Trusted comment not present",),
 
 # A key of more than so much work, N times p of scrypt, is refused.
 MOST_WORK = 16 << 20
+# A refusal comes within so many seconds, where such work takes twenty and more.
+AT_ONCE = 10
 
 # What a shell does with a program in the background of its terminal: looks whether it is stopped and whether the terminal shows what is
 # typed, and takes it to the foreground.
@@ -96,6 +99,20 @@ class Words(Safety):
         if theirs.returncode == 2 and first != lines[0] and lines[0] not in ROWS_OF_FIRST_LINES.get(first, (NOT_UTF8,)):
             raise Failure(f"Minisign says {theirs.stderr!r}, ours {ours}")
 
+    def cut_at_its_end(self):
+        """A signature that ends in its last line, where the line is base64 still, is told as cut; whole ones of other data are not."""
+        folder = self.signed()
+        text = read_file(folder, "data.minisig")
+        for end in (-41, -5):
+            with open(os.path.join(folder, "cut"), "wb") as file:
+                file.write(text[:end])
+            ran = self.ours(folder, "-Vm", "data", "-p", PUBLIC, "-x", "cut")
+            if ran.status not in (1, 2) or not ran.said.startswith((b"Comment signature", b"base64")) or b"\ncut: this signature is " not in ran.said:
+                raise Failure(f"{end}: {ran}")
+        ran = self.ours(folder, "-Vm", "more", "-p", PUBLIC, "-x", "data.minisig")
+        if (ran.status, ran.said) != (1, b"Signature verification failed\n"):
+            raise Failure(f"{ran}")
+
     def damaged_key(self):
         """A key of which one half is another's is told as damaged, and a wrong public key is told as that."""
         record = bytearray(record_of(self.keys[OPEN]))
@@ -112,8 +129,10 @@ class Words(Safety):
     def names_of_comments(self):
         """A name of a file that cannot stand in the trusted comment by default is not told as a comment that was given; with one that
         is given it signs."""
-        for name, flags, words in ((b"caf\xe9", (), b"caf\\xe9: a name that is not UTF-8"), (b"end ", ("-l",), b"end : a name that ends with white space"),
-                                   (b"end\xe3\x80\x80", ("-l",), b"a name that ends with white space"), (b"two\nlines", (), b"two\\u{a}lines: a name that has a line end")):
+        for name, flags, words in (
+            (b"caf\xe9", (), b"caf\\xe9: a name that is not UTF-8"), (b"end ", ("-l",), b"end : a name that ends with white space"),
+            (b"end\xe3\x80\x80", ("-l",), b"a name that ends with white space"), (b"two\nlines", (), b"two\\u{a}lines: a name that has a line end"),
+        ):
             folder = self.folder(**{})
             with open(os.path.join(os.fsencode(folder), name), "wb") as file:
                 file.write(b"data")
@@ -144,7 +163,8 @@ class Words(Safety):
             folder = self.folder(**{"dear.key": sealed_for(self.keys[OPEN], PASSWORD, times, rows)})
             start = time.monotonic()
             ran = self.ours(folder, "-Sm", "data", "-s", "dear.key", typed=PASSWORD + b"\n")
-            if ran.status != 2 or b"\ndear.key: opening this key takes 17 times" not in ran.said or b"-K 17" not in ran.said or time.monotonic() - start > 2:
+            says = b"\ndear.key: opening this key takes 17 times" in ran.said and b"-K 17" in ran.said
+            if ran.status != 2 or not says or time.monotonic() - start > AT_ONCE:
                 raise Failure(f"{rows} rows, {times} times: {ran}")
 
     def flag_allows_work(self):
@@ -203,11 +223,10 @@ class Words(Safety):
         if at.end() != 2 or b"secret key... done" not in at.shown:
             raise Failure(f"it showed {at.shown!r}")
         os.mkfifo(os.path.join(folder, "slow"))
-        writer = subprocess.Popen([sys.executable, "-c", "import sys, whole_safety; whole_safety.write_slowly(sys.argv[1], b'some data\\n')", os.path.join(folder, "slow")],
-                                  env=dict(os.environ, PYTHONPATH=os.pathsep.join(sys.path)))
+        writer = slow_writer(os.path.join(folder, "slow"))
         at = AtTerminal(["minisign", "-Vm", "slow", "-x", "data.minisig", "-p", PUBLIC, flag], self.whole.ours, folder, {})
         at.read_until(None)
-        writer.wait(SECONDS)
+        writer.join(SECONDS)
         if at.end() != 0 or b"MB" in at.shown or b"\x1b" in at.shown:
             raise Failure(f"it showed {at.shown!r}")
 
@@ -219,8 +238,9 @@ class Words(Safety):
         runs = [
             (("-Sm", "data", "-s", odd), {}), (("-Sm", odd, "-s", OPEN), {}), (("-Sm", "data", "-s", OPEN, "-x", f"none/{odd}"), {}),
             (("-Vm", "data", "-p", odd), {}), (("-Vm", odd, "-x", "data.minisig", "-p", PUBLIC), {}), (("-Vm", "data", "-x", odd, "-p", PUBLIC), {}),
-            (("-GW", "-p", odd, "-s", "b.key"), {odd: b"older"}), (("-GW", "-p", "a.pub", "-s", odd), {}), (("-CW", "-s", odd), {odd: self.keys[OPEN]}),
-            (("-Vm", "data", "-p", odd), {odd: b"no key"}), (("-Vm", "data", "-x", odd, "-p", OTHER), {odd: None}), (("-GW", "-p", odd, "-s", odd), {}),
+            (("-GW", "-p", odd, "-s", "b.key"), {odd: b"older"}), (("-GW", "-p", "a.pub", "-s", odd), {}),
+            (("-CW", "-s", odd), {odd: self.keys[OPEN]}), (("-Vm", "data", "-p", odd), {odd: b"no key"}),
+            (("-Vm", "data", "-x", odd, "-p", OTHER), {odd: None}), (("-GW", "-p", odd, "-s", odd), {}),
         ]
         for arguments, files in runs:
             folder = self.signed(**{name: data for name, data in files.items() if data is not None})
@@ -243,13 +263,19 @@ class Words(Safety):
         folder = self.signed()
         odd = "s\x1blow"
         os.mkfifo(os.path.join(folder, odd))
-        writer = subprocess.Popen([sys.executable, "-c", "import sys, whole_safety; whole_safety.write_slowly(sys.argv[1], b'some data\\n')", os.path.join(folder, odd)],
-                                  env=dict(os.environ, PYTHONPATH=os.pathsep.join(sys.path)))
+        writer = slow_writer(os.path.join(folder, odd))
         at = AtTerminal(["minisign", "-Vm", odd, "-x", "data.minisig", "-p", PUBLIC], self.whole.ours, folder, {})
         at.read_until(None)
-        writer.wait(SECONDS)
+        writer.join(SECONDS)
         if at.end() != 0 or rb"s\u{1b}low: 0 MB" not in at.shown:
             raise Failure(f"it showed {at.shown!r}")
+
+
+def slow_writer(path):
+    """Writes the data into a pipe, slowly, beside what follows."""
+    writer = threading.Thread(target=write_slowly, args=(path, DATA["data"]))
+    writer.start()
+    return writer
 
 
 def wrong_texts(keys, signature):
@@ -257,30 +283,46 @@ def wrong_texts(keys, signature):
     public, secret = keys[PUBLIC], keys[OPEN]
     utf16 = public.decode().encode("utf-16")
     return [
-        ("-p", signature, b"this is a signature, not a public key"), ("-x", public, b"this is a public key, not a signature"),
-        ("-p", secret, b"this is a secret key, not a public key"), ("-x", secret, b"this is a secret key, not a signature"),
-        ("-s", public, b"this is a public key, not a secret key"), ("-s", signature, b"this is a signature, not a secret key"),
-        ("-p", SSH, b"this is a public key of ssh"), ("-s", SSH_SECRET, b"this is a secret key of ssh"),
-        ("-p", GPG, b"this is a public key of gpg"), ("-x", GPG_SIGNATURE, b"this is a signature of gpg"), ("-p", GPG_BINARY, b"this is a public key of gpg"),
-        ("-x", SIGNIFY, b"this is a signature of signify, which has no trusted comment"), ("-s", SIGNIFY_SECRET, b"this is a secret key of signify"),
-        ("-x", HTML, b"this is a page of the web: save the file itself"), ("-p", HTML, b"this is a page of the web: save the file itself"),
-        ("-x", GZIP, b"this is compressed by gzip"), ("-p", utf16, b"this is UTF-16: save it as UTF-8"), ("-x", signature.decode().encode("utf-16-le"), b"this is UTF-16: save it as UTF-8"),
+        ("-p", signature, b"this is a signature, not a public key"),
+        ("-x", public, b"this is a public key, not a signature"),
+        ("-p", secret, b"this is a secret key, not a public key"),
+        ("-x", secret, b"this is a secret key, not a signature"),
+        ("-s", public, b"this is a public key, not a secret key"),
+        ("-s", signature, b"this is a signature, not a secret key"),
+        ("-p", SSH, b"this is a public key of ssh"),
+        ("-s", SSH_SECRET, b"this is a secret key of ssh"),
+        ("-p", GPG, b"this is a public key of gpg"),
+        ("-x", GPG_SIGNATURE, b"this is a signature of gpg"),
+        ("-p", GPG_BINARY, b"this is a public key of gpg"),
+        ("-x", SIGNIFY, b"this is a signature of signify, which has no trusted comment"),
+        ("-s", SIGNIFY_SECRET, b"this is a secret key of signify"),
+        ("-x", HTML, b"this is a page of the web: save the file itself"),
+        ("-p", HTML, b"this is a page of the web: save the file itself"),
+        ("-x", GZIP, b"this is compressed by gzip"),
+        ("-p", utf16, b"this is UTF-16: save it as UTF-8"),
+        ("-x", signature.decode().encode("utf-16-le"), b"this is UTF-16: save it as UTF-8"),
         ("-s", secret.decode().encode("utf-16-be"), b"this is UTF-16: save it as UTF-8"),
         ("-x", b"\xef\xbb\xbf" + signature, b"this begins with a byte order mark: save it without one"),
-        ("-x", b"", b"this is empty"), ("-p", b"", b"this is empty"), ("-s", b"", b"this is empty"),
-        ("-p", public.split(b"\n")[0] + b"\n", b"this public key is cut: it has 1 of 2 lines"), ("-x", b"\n".join(signature.split(b"\n")[:2]) + b"\n", b"this signature is cut: it has 2 of 4 lines"),
+        ("-x", b"", b"this is empty"),
+        ("-p", b"", b"this is empty"),
+        ("-s", b"", b"this is empty"),
+        ("-p", public.split(b"\n")[0] + b"\n", b"this public key is cut: it has 1 of 2 lines"),
+        ("-x", b"\n".join(signature.split(b"\n")[:2]) + b"\n", b"this signature is cut: it has 2 of 4 lines"),
         ("-x", b"\n".join(signature.split(b"\n")[:3]) + b"\n", b"this signature is cut: it has 3 of 4 lines"),
         ("-p", public[:-8] + b"\n", b"this public key is damaged: its second line is too short or too long"),
-        ("-s", text_of(record_of(secret))[:-20], b"this secret key is damaged: its second line is no base64"), ("-p", public.split(b"\n")[1] + b"\n", b"this is the line of a public key alone, as -P takes it"),
-        ("-p", b"\xff\xff not a text", b"this is no public key: it is not UTF-8"), ("-x", b"some\nother\ntext\nof lines\n", b"this is no signature: its first line begins otherwise"),
+        ("-s", text_of(record_of(secret))[:-20], b"this secret key is damaged: its second line is no base64"),
+        ("-p", public.split(b"\n")[1] + b"\n", b"this is the line of a public key alone, as -P takes it"),
+        ("-p", b"\xff\xff not a text", b"this is no public key: it is not UTF-8"),
+        ("-x", b"some\nother\ntext\nof lines\n", b"this is no signature: its first line begins otherwise"),
     ]
 
 
 def cases(words):
     """The names of all cases, and what runs each."""
-    signature = read_signature(words)
+    signature = read_file(words.signed(), "data.minisig")
     for number, (flag, text, said) in enumerate(wrong_texts(words.keys, signature)):
         yield f"a wrong text {number} for {flag}: {said.decode()}", lambda f=flag, t=text, s=said: words.wrong_text(f, t, s)
+    yield "a signature that is cut at its end", words.cut_at_its_end
     yield "a key whose halves do not belong together", words.damaged_key
     yield "names that are no comments", words.names_of_comments
     yield "a key of little work", words.cheap_key_opens
@@ -295,8 +337,8 @@ def cases(words):
     yield "a name with control characters while it is read", words.name_while_reading
 
 
-def read_signature(words):
-    with open(os.path.join(words.signed(), "data.minisig"), "rb") as file:
+def read_file(folder, name):
+    with open(os.path.join(folder, name), "rb") as file:
         return file.read()
 
 
