@@ -375,10 +375,10 @@ pub extern "C" fn minisign_install_init(
     if is_first > 1 {
         return Misuse::BadFirstFlag.number();
     }
-    let Some(numbering) = Numbering::of_number(numbering) else {
+    let Some(field) = Numbering::of_number(numbering) else {
         return Misuse::BadNumbering.number();
     };
-    *installation = Installation::new(is_first == 1, numbering);
+    *installation = Installation::new(is_first == 1, field);
     0
 }
 
@@ -487,7 +487,7 @@ pub extern "C" fn minisign_install_ask(
     message: &mut [u8],
 ) -> u32
     // The questions are those of what the texts read as, as `Installation::ask` says; they are then asked, and the
-    // comment of the second text is judged, against the number that was kept; with a `numbering` of 0 or 1 alone.
+    // comment of the second text is judged, against the number that was kept.
     ensures asked { result ≡ 0 → (pk : PublicKeyRecord) × (x : SignatureBoxRecord) × (c : CommentsRecord)
         × AreOpen pk_text.now sig_text.now false pk x c
         × AreQuestions questions.new message.new pk x c }

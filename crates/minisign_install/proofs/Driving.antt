@@ -71,7 +71,9 @@ locking_wants P R e (inr (is, rest)) memory = cc
 
 record_wants : (first : Bool) (P R : Type 0) (e : InstallFault) → (IsRecordFault first e × P) ⊎ ((e ≡ Library (Named ReadingFailed)) × R) → e ≢ Library (Named OutOfMemory)
 record_wants first P R e (inl ((later, (inl is)), rest)) memory = cc
-record_wants first P R e (inl ((later, (inr is)), rest)) memory = cc
+record_wants first P R e (inl ((later, (inr (inl is))), rest)) memory = cc
+record_wants first P R e (inl ((later, (inr (inr (inl is)))), rest)) memory = cc
+record_wants first P R e (inl ((later, (inr (inr (inr is)))), rest)) memory = cc
 record_wants first P R e (inr (is, rest)) memory = cc
 
 creating_wants : (P R : Type 0) (e : InstallFault) → ((e ≡ Library (Named WritingFailed)) × P) ⊎ ((e ≡ Library (Named RandomSourceFailed)) × R) → e ≢ Library (Named OutOfMemory)

@@ -6,7 +6,7 @@ ghost use Rattle.minisign_external.specs.Numbers.{misuse_number};
 ghost use Rattle.minisign_external.specs.States.{IsFedState};
 ghost use Rattle.minisign_external.specs.declared.state.Misuse.TheVariants.{NotDue};
 ghost use Rattle.minisign_install.specs.HostNumbers.{install_number};
-ghost use Rattle.minisign_install.specs.Hosted.{CannotBeFed, CannotFail, CannotGo, CallHasFailed, HasGone, HasReadRecord, HasReadBack, IsNotDue, IsUnused, KeepsRest, IsDue, begun_mark, due_fault, due_from, due_number, due_of, due_update, failure, host_number, is_device_fault, is_failure, is_read_back, record_text, numbering_of};
+ghost use Rattle.minisign_install.specs.Hosted.{CannotBeFed, CannotFail, CannotGo, CallHasFailed, HasGone, HasReadRecord, HasReadBack, IsNotDue, IsUnused, KeepsRest, IsDue, begun_mark, due_fault, due_from, due_number, due_of, due_update, failure, host_number, is_device_fault, is_failure, is_read_back, numbering_of};
 ghost use Rattle.minisign_install.specs.Order.{fits};
 ghost use Rattle.minisign_install.specs.RecordTexts.{record_of};
 ghost use Rattle.minisign_install.specs.declared.order.Due.TheVariants.{Answer, Lock, ReadBack, ReadRecord, SettleName, WriteRecord};
