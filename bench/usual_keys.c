@@ -1,0 +1,82 @@
+/*
+ * One derivation with the limits of `minisign -G`, for bench/usual_keys.py: by the library, which makes a key (`make`) or opens
+ * one (`open`), or by libsodium alone (`sodium`). Prints the seconds of the call by the clock and of the processor.
+ */
+#define _DEFAULT_SOURCE
+
+#include <stdio.h>
+#include <string.h>
+#include <time.h>
+
+#include <sodium.h>
+
+#include "minisign.h"
+
+static const uint8_t PASSWORD[] = "a password", COMMENT[] = "c", KEY_ID[8] = { 1, 2, 3, 4, 5, 6, 7, 8 };
+static uint8_t secret_key[64], text[4096];
+static size_t text_len;
+
+static double now(clockid_t clock)
+{
+    struct timespec time;
+
+    clock_gettime(clock, &time);
+    return (double) time.tv_sec + (double) time.tv_nsec / 1e9;
+}
+
+/* Makes a key of so much work and memory. */
+static int make(uint64_t operations_limit, uint64_t memory_limit)
+{
+    minisign_sealing sealing;
+
+    memset(&sealing, 0, sizeof sealing);
+    sealing.operations_limit = operations_limit;
+    sealing.memory_limit = memory_limit;
+    return minisign_make_secret_key(KEY_ID, secret_key, 1, PASSWORD, sizeof PASSWORD - 1, &sealing, MINISIGN_KEEP_EVERY_ROW,
+                                    COMMENT, 1, text, sizeof text, &text_len) == MINISIGN_OK;
+}
+
+static int open_key(void)
+{
+    minisign_state state;
+    minisign_signing signing;
+
+    minisign_init(&state);
+    return minisign_ask_signing(&state, text, text_len, 1, PASSWORD, sizeof PASSWORD - 1, MINISIGN_KEEP_EVERY_ROW,
+                                MINISIGN_USUAL_WORK, &signing) == MINISIGN_OK;
+}
+
+static int derive(void)
+{
+    uint8_t stream[104], salt[crypto_pwhash_scryptsalsa208sha256_SALTBYTES] = { 0 };
+
+    return crypto_pwhash_scryptsalsa208sha256(stream, sizeof stream, (const char *) PASSWORD, sizeof PASSWORD - 1, salt,
+                                              crypto_pwhash_scryptsalsa208sha256_OPSLIMIT_SENSITIVE,
+                                              crypto_pwhash_scryptsalsa208sha256_MEMLIMIT_SENSITIVE) == 0;
+}
+
+int main(int argc, char **argv)
+{
+    double clock, used;
+    int good, is_opening = argc == 3 && strcmp(argv[1], "open") == 0;
+    FILE *key = is_opening ? fopen(argv[2], "rb") : NULL;
+
+    if (sodium_init() < 0 || argc < 2) {
+        return 1;
+    }
+    if (key != NULL) {
+        text_len = fread(text, 1, sizeof text, key);
+        fclose(key);
+    }
+    clock = now(CLOCK_MONOTONIC);
+    used = now(CLOCK_PROCESS_CPUTIME_ID);
+    if (is_opening) {
+        good = open_key();
+    } else if (strcmp(argv[1], "make") == 0) {
+        good = make(MINISIGN_OPERATIONS_LIMIT, MINISIGN_MEMORY_LIMIT);
+    } else {
+        good = derive();
+    }
+    printf("%f %f\n", now(CLOCK_MONOTONIC) - clock, now(CLOCK_PROCESS_CPUTIME_ID) - used);
+    return !good;
+}
