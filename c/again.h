@@ -1,3 +1,4 @@
+/* SPDX-License-Identifier: MIT */
 /* Calls of the system that a signal interrupts. */
 #ifndef AGAIN_H
 #define AGAIN_H

@@ -1,3 +1,4 @@
+/* SPDX-License-Identifier: MIT */
 /* What a text is that was taken for that of a key or a signature. */
 #include "kinds.h"
 

@@ -1,3 +1,4 @@
+/* SPDX-License-Identifier: MIT */
 /* The names of stages, and what killed runs have left of them. */
 #define _GNU_SOURCE
 

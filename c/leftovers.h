@@ -1,3 +1,4 @@
+/* SPDX-License-Identifier: MIT */
 /*
  * The names of stages, which are files beside their places, and what killed runs have left of them.
  */

@@ -1,3 +1,4 @@
+/* SPDX-License-Identifier: MIT */
 /* The permissions of a file that takes the place of an older one. */
 #define _GNU_SOURCE
 

@@ -1,3 +1,4 @@
+/* SPDX-License-Identifier: MIT */
 /*
  * The permissions of a file that takes the place of an older one: owner, group, the nine bits of the mode, and the access
  * control list. A call that a signal interrupts is made again. What is answered is whether it was done, or else why not

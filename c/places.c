@@ -1,3 +1,4 @@
+/* SPDX-License-Identifier: MIT */
 /* Where a file goes. */
 #define _GNU_SOURCE
 

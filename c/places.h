@@ -1,3 +1,4 @@
+/* SPDX-License-Identifier: MIT */
 /*
  * Where a file goes: a folder, which is opened once, and a name in it. All that is made, renamed or removed there is named
  * in the folder that is open, so that nobody can put another one in its way.

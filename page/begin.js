@@ -1,3 +1,4 @@
+// SPDX-License-Identifier: MIT
 // The begin: what the browser lacks is said; otherwise the library is loaded, and the page takes what it is given. The same
 // script is begun once more in the thread that verifies, which has no document.
 

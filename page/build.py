@@ -1,4 +1,5 @@
 #!/usr/bin/env python3
+# SPDX-License-Identifier: MIT
 """Proves the crate minisign_page for 64-bit WebAssembly, builds it, has wasm-opt make a module with a memory of 32 bits of
 it, which each browser of the last years runs, and writes the page that verifies a download: one file, with the module in
 it, that loads nothing.

@@ -1,3 +1,4 @@
+// SPDX-License-Identifier: MIT
 // The browser's own Ed25519 (WebCrypto), which answers the two questions. Browsers differ in what they accept besides the
 // signatures that a signer makes; what the page refuses before it asks makes their answers those of libsodium.
 

@@ -1,3 +1,4 @@
+// SPDX-License-Identifier: MIT
 // Where the library verifies: in a thread of its own, to which the page's script is given once more, so that reading a file
 // and hashing it go on side by side and the page answers meanwhile. Where the browser, or whoever serves the page, allows no
 // such thread, it verifies in the page's own.

@@ -1,3 +1,4 @@
+// SPDX-License-Identifier: MIT
 // The proved library, built from the crate minisign_page: its calls, and where in its memory they find what they are passed.
 // They are proved and built for 64-bit WebAssembly; the page carries the module that wasm-opt made of that for a memory of
 // 32 bits, whose calls still take each address and length as a number of 64 bits. Both modules can be loaded here. What a

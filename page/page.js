@@ -1,3 +1,4 @@
+// SPDX-License-Identifier: MIT
 // The page: it takes a public key, files and signatures, has each file verified by the proved library and the browser's
 // Ed25519, one after another, and shows the verdicts.
 

@@ -1,3 +1,4 @@
+// SPDX-License-Identifier: MIT
 // The rows of the list: one for each download, whose heading begins with its verdict.
 
 function button(words, call) {

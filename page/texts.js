@@ -1,3 +1,4 @@
+// SPDX-License-Identifier: MIT
 // What a text is: a key, a secret key, a signature, a command line; which key an address has; what a signed comment tells.
 
 const KEY_LETTERS = /^[A-Za-z0-9+/]{56}$/;

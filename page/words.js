@@ -1,3 +1,4 @@
+// SPDX-License-Identifier: MIT
 // What is said to a person: why a file is not verified, by the numbers of include/minisign.h, what helps where something
 // else was given than was asked for, and how a text of a stranger's is shown.
 

@@ -4,13 +4,13 @@ as a shared library, from C++, from Rust and from Python. The examples of the he
 
     tests/c/installed.py
 
-Also: exactly these files are installed, with a page for each call that leads to the manual page; the shared library has its soname, and like the static one the names of the header and no
-other; a result that is dropped is a warning in C and in C++; the manual pages are read without a word.
-It prints a line for each failure; the last line is `N passed, M failed`.
+Also: exactly these files are installed, with a page for each call that leads to the manual page; the shared library has its
+soname, and like the static one the names of the header and no other; a result that is dropped is a warning in C and in C++;
+the manual pages are read without a word. It prints a line for each failure; the last line is `N passed, M failed`.
 
 Needs Python 3.9 or later, make, binutils, pkg-config, groff, a C and a C++ compiler, rustc, libsodium with its header and
-minisign, and installs what is not there where it may. The library is built over `dist/`
-(`static_library.py`).
+minisign, and installs what is not there where it may. The library is built over `dist/` (`static_library.py`);
+`packaging.py` uses what a release installs in the same way.
 """
 
 import base64
@@ -279,7 +279,16 @@ def run_programs(checks, root, room, minisign):
     for words, wanted in (([], 7), (["--first"], 0), ([], 0)):
         status, said, why = run([install, *words, "--numbering", "version", key, data, sig, place])
         checks.check(status == wanted and not said and bool(why) == bool(wanted), f"minisign-install {words}: status {status}, {why!r}")
-    checks.check(read(place) == read(data) and read(os.path.join(room, ".place.number")) == b"7", "minisign-install: what was installed")
+    checks.check(read(place) == read(data) and read(os.path.join(room, ".place.number")) == b"version:7", "minisign-install: what was installed")
+
+
+def use(checks, root, room, minisign):
+    """Looks at what was installed there, and uses it from each language; what is made meanwhile stands in the other folder."""
+    installed_files(checks, root)
+    programs = build_all(checks, root, room)
+    run_verifiers(checks, programs, root, room, minisign)
+    run_signer(checks, programs["sign"], room, minisign)
+    run_programs(checks, root, room, minisign)
 
 
 def main():
@@ -290,11 +299,7 @@ def main():
             needs.libsodium()
             minisign = needs.minisign()
             static_library.run_make(f"OUT={room}/out", f"PREFIX={PREFIX}", f"DESTDIR={room}/dest", "install")
-            installed_files(checks, root)
-            programs = build_all(checks, root, room)
-            run_verifiers(checks, programs, root, room, minisign)
-            run_signer(checks, programs["sign"], room, minisign)
-            run_programs(checks, root, room, minisign)
+            use(checks, root, room, minisign)
         except (needs.Missing, static_library.NotBuilt) as why:
             checks.check(False, str(why))
     for failure in checks.failures:

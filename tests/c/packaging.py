@@ -7,10 +7,10 @@ Flags of theirs are heeded in each command; without any, programs and the shared
 linked as its archive or as the shared library; `check` passes, and fails for a program that verifies nothing; what was installed
 under another name, or without `minisign`, is taken away again, and nothing else; `minisign.pc` can be moved; where the loader does
 not find the library a sentence says so. A release has the same bytes twice; where it is unpacked there is no kit, no Python and
-no repository, and it is built by gcc and by clang, checked, installed, and used from what was installed; over musl its library
-verifies in a static program. It prints a line for each failure; the last line is `N passed, M failed`.
+no repository, and it is built by gcc and by clang, checked, installed, and used from what was installed: by gcc also from C++,
+Rust and Python (`installed.py`), and to sign the sums of the release; over musl its library verifies in a static program. It prints a line for each failure; the last line is `N passed, M failed`.
 
-Needs Python 3.9 or later, make, binutils, pkg-config, gcc, clang, musl-gcc and libsodium with its header, and installs what is not
+Needs Python 3.9 or later, make, binutils, pkg-config, clang, musl-gcc, and what `installed.py` needs, and installs what is not
 there where it may.
 """
 
@@ -26,6 +26,7 @@ import tempfile
 HERE = os.path.dirname(os.path.realpath(__file__))
 sys.path.append(os.path.join(HERE, "..", "shared"))
 
+import installed
 import needs
 import static_library
 from at_hand import Checks, Tree
@@ -189,6 +190,16 @@ def check_compiler(checks, room, top, compiler):
     checks.check(status != 0 and "a release has no sources to prove" in said, f"prove in a release: {said}")
 
 
+def check_signed(checks, room, root, minisign):
+    """The sums of a release, signed by the program that it installs, verify by Minisign's own."""
+    program, key, sums = f"{root}/bin/minisign", f"{room}/release", f"{room}/one/SHA256SUMS"
+    for command in ([program, "-G", "-W", "-p", f"{key}.pub", "-s", f"{key}.key"],
+                    [program, "-S", "-s", f"{key}.key", "-m", sums, "-t", "a release"],
+                    [minisign, "-V", "-p", f"{key}.pub", "-m", sums]):
+        status, said = run(command)
+        checks.check(status == 0, f"signing a release, {shlex.join(command)}: status {status}: {said}")
+
+
 def check_musl(checks, room, top):
     """The library over musl, in a static program that asks about texts."""
     compiler = needs.program("musl-gcc", "musl-tools")
@@ -216,6 +227,9 @@ def run_all(checks, room):
     top = check_release(checks, room)
     for name, package in (("gcc", "gcc"), ("clang", "clang")):
         check_compiler(checks, room, top, needs.program(name, package))
+    place, minisign = f"{room}/by-gcc", needs.minisign()
+    installed.use(checks, f"{place}/dest/usr", place, minisign)
+    check_signed(checks, room, f"{place}/dest/usr", minisign)
     check_musl(checks, room, top)
 
 
