@@ -244,12 +244,13 @@ def answers_text(numbers):
 
 
 def example_text(name):
-    """An example in the comment at the head of the header."""
+    """An example in the comment at the head of the header, without the line that names the licence, which the header has."""
     with open(os.path.join(ROOT, EXAMPLES, name), encoding="utf-8") as opened:
         text = opened.read()
     if "/*" in text or "*/" in text:
         raise Unreadable(f"{name} has a comment that would end that of the header")
-    return "".join(" *" + (f"     {line}" if line else "") + "\n" for line in ["", *text.rstrip("\n").split("\n"), ""])
+    lines = [line for line in text.rstrip("\n").split("\n") if not line.startswith("// SPDX-License-Identifier:")]
+    return "".join(" *" + (f"     {line}" if line else "") + "\n" for line in ["", *lines, ""])
 
 
 def table_text(numbers):

@@ -1,3 +1,4 @@
+// SPDX-License-Identifier: MIT
 // sign SECRET_KEY DATA SIGNATURE COMMENT [PASSWORD_FILE]: signs the data with a key that `minisign -G` made, with -W where there is
 // no file of its password, and writes the text of the signature once it was verified.
 #include <stdio.h>

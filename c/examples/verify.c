@@ -1,3 +1,4 @@
+// SPDX-License-Identifier: MIT
 // verify PUBLIC_KEY DATA SIGNATURE: ends with 0, and prints the trusted comment, exactly where the texts vouch for the data.
 #include <stdio.h>
 
