@@ -6,11 +6,19 @@
 // How long the thread may take to say that it is there, in milliseconds.
 const MOST_MILLISECONDS = 10000;
 
+// Whether this is Firefox, which alone has such errors. Its ports copy what is posted, which takes a fifth of the time of
+// hashing it; but it gives back at once what a buffer leaves behind that is cut to nothing, which Chromium keeps.
+const IS_FIREFOX = typeof InternalError === "function";
+
 // ---- In the thread ----
 
 // Gives the memory of bytes back at once, by posting it to where nobody is: it would lie there until the browser collects
 // what is left behind, which takes long enough for hundreds of megabytes.
 function giveBack(bytes) {
+  if (IS_FIREFOX && bytes.buffer.transfer) {
+    bytes.buffer.transfer(0);
+    return;
+  }
   const {port1, port2} = new MessageChannel();
   port2.close();
   port1.postMessage(null, [bytes.buffer]);

@@ -6,8 +6,8 @@ const SIGNATURE_ENDING = ".minisig";
 const KEY_ENDING = ".pub";
 // The data of a signature of the older kind is held in memory as a whole, up to this many bytes.
 const MOST_LEGACY_BYTES = 64 * 1048576;
-// How many bytes of a file are read at a time: two such pieces are in memory.
-const READ_BYTES = 4 * 1048576;
+// How many bytes of a file are read at a time: three such pieces are in memory.
+const READ_BYTES = 2 * 1048576;
 // How many milliseconds a progress that is shown stays at least: showing it takes longer than one may think.
 const SHOWN_MILLISECONDS = 100;
 
@@ -350,22 +350,23 @@ async function isOfOtherEnds(signatureText, questions) {
   return false;
 }
 
-// Feeds a file, of which two pieces are in memory: one is read while the other is hashed. Answers whether all of it was
-// read.
+// Feeds a file, of which three pieces are in memory: one is read, one waits, and one is hashed. Answers whether all of it
+// was read.
 async function feedFile(engine, download, run) {
   const file = download.data;
-  let next = bytesOfFile(file, 0, READ_BYTES), fed = Promise.resolve(0), shownAt = 0;
+  const fed = [0, 0];
+  let next = bytesOfFile(file, 0, READ_BYTES), shownAt = 0;
   for (let begin = 0; begin < file.size; begin += READ_BYTES) {
     const piece = await next;
-    if (await fed !== 0 || run.isStopped || piece === null) {
+    if (await fed.shift() !== 0 || run.isStopped || piece === null) {
       return false;
     }
     next = bytesOfFile(file, begin + READ_BYTES, begin + 2 * READ_BYTES);
-    fed = engine.call("feed", piece);
+    fed.push(engine.call("feed", piece));
     if (performance.now() >= shownAt + SHOWN_MILLISECONDS) {
       showProgress(download, begin);
       shownAt = performance.now();
     }
   }
-  return await fed === 0;
+  return (await Promise.all(fed)).every(number => number === 0);
 }
