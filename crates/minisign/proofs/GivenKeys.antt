@@ -1,5 +1,5 @@
 -- Which key a text gives for signing.
-use Rattle.std.proofs.Common.{◌≡◌, ◌≢◌, List, ℕ, Option, None, Some, Result, Ok, Err, IfSome, [], inl, inr}
+use Rattle.std.proofs.Common.{◌≡◌, ◌≢◌, List, ℕ, Option, None, Some, Result, Ok, IfSome, [], inl, inr}
 use Rattle.std.specs.Option.{option_map}
 use Rattle.minisign_base.specs.Fault.{Fault}
 use Rattle.minisign_base.specs.DeviceCalls.{PromptCall}

@@ -11,7 +11,7 @@ use Rattle.minisign.specs.Generation.{AllDrawn}
 use Rattle.minisign.specs.Headline.{TextsRefuse, TextsVouchFor}
 use Rattle.minisign.specs.Sealing.{is_encrypted, no_kdf, opening_refusal, unencrypted_refusal}
 use Rattle.minisign.specs.SecretKeyText.{SecretKeyText, secret_key_refusal}
-use Rattle.minisign.specs.SignatureText.{SignatureText, read_signature_box}
+use Rattle.minisign.specs.SignatureText.{read_signature_box}
 use Rattle.minisign.specs.Signing.{DrawFails, KeyIsSealed, OpenedSigningFails, RunsOutDrawing}
 use Rattle.minisign.specs.TextFiles.{IsTextFileFault}
 use Rattle.minisign.specs.Texts.{IsRefused}

@@ -1,5 +1,5 @@
 -- A host that does what the header says makes a run of the law: each of its calls is one that was due.
-use Rattle.std.proofs.Common.{◌≡◌, ◌==◌, inl, inr, ◌∙◌, ◌++◌, ℕ, Bool, true, false, List, [], ◌∷◌, Some, Option, ap, sym, subst, refl, append-nil, arith, length, if◌then◌else◌}
+use Rattle.std.proofs.Common.{◌≡◌, ◌==◌, inl, inr, ◌∙◌, ◌++◌, ℕ, Bool, true, false, List, [], ◌∷◌, Some, ap, sym, subst, refl, append-nil, arith, length, if◌then◌else◌}
 use Rattle.std.proofs.lemmas.Bool.{ne_eqb, true≢false}
 use Rattle.minisign_external.specs.States.{IsFedState}
 use Rattle.minisign_external.specs.declared.state.State.{State}

@@ -1,5 +1,5 @@
 -- What a signature text reads as has comments, and a view of it tells them.
-use Rattle.std.proofs.Common.{◌≡◌, ◌∙◌, List, ℕ, Result, Ok, Err, Some, ap, sym}
+use Rattle.std.proofs.Common.{◌≡◌, ◌∙◌, List, ℕ, Result, Ok, Err, Some, ap, refl, sym}
 use Rattle.minisign_base.specs.Fault.{Fault}
 use Rattle.minisign.specs.InPlace.{SignatureViewRecord, view_of}
 use Rattle.minisign.specs.Records.{CommentsRecord, SignatureBoxRecord}

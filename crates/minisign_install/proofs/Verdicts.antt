@@ -20,7 +20,7 @@ use Rattle.minisign_install.specs.declared.faults.InstallFault.TheVariants.{Libr
 use Rattle.minisign_install.specs.declared.folders.Name.TheVariants.{Record}
 use Rattle.minisign_install.proofs.Counts.{not_failed, run_fault}
 use Rattle.minisign_install.proofs.Installs.{some_list}
-use Rattle.minisign_install.proofs.RecordTexts.{same_behind, same_number}
+use Rattle.minisign_install.proofs.RecordTexts.{same_number}
 
 no_text : (text : List ℕ) → None ≡ Some text → ⊥
 no_text text e = cc

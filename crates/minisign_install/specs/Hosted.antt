@@ -1,5 +1,5 @@
 -- What an installation that a host in another language holds stands for, and what its calls do.
-use Rattle.std.specs.Prelude.{◌≡◌, ◌⊎◌, ◌==◌, ◌||◌, ◌<◌, ◌≤◌, ℕ, Bool, true, false, if◌then◌else◌, List, [], length, Option, Some, None, MatchResult, Ok, nat_le}
+use Rattle.std.specs.Prelude.{◌≡◌, ◌⊎◌, ◌==◌, ◌||◌, ◌<◌, ◌≤◌, ℕ, Bool, true, false, if◌then◌else◌, List, [], length, Option, Some, None, MatchResult, Ok}
 use Rattle.std.specs.declared.result.Result.{Result}
 use Rattle.std.specs.Str.{IsUtf8}
 use Rattle.minisign_base.specs.Fault.{Fault, Named}
