@@ -1051,7 +1051,8 @@ def cases(it):
     yield "a plus before a number", lambda: it.refuses(no_number, number="+6")
     yield "a minus before a number", lambda: it.refuses(no_number, number="-6")
     yield "a blank before a number", lambda: it.refuses(no_number, number=" 6")
-    yield "a version with a plus", lambda: it.refuses(no_number, number="+6", label="version", words=("--numbering", "version"))
+    yield "a version with a plus", lambda: it.refuses(no_number.replace(b"timestamp", b"version"), number="+6", label="version",
+                                                      words=("--numbering", "version"))
     yield "a legacy signature", it.refuses_legacy
     yield "a signed comment that was changed", it.refuses_changed_comment
     yield "names that are drawn", it.draws_names
