@@ -94,7 +94,8 @@ enum minisign_error read_stage(struct folder *folder, struct stage *stage, uint8
 /* Gives the stage of the update the rights of the file at the place, or those that are given. */
 enum minisign_error take_rights(struct folder *folder);
 
-/* Brings to the disk what the stage holds. That of the number becomes whoever's the lock is. */
+/* Brings to the disk what the stage holds. That of the number becomes that of whoever may go on after this run, as far
+ * as that is allowed. */
 enum minisign_error settle_stage(struct folder *folder, struct stage *stage);
 
 /* Gives the stage the name of the record or of the place. */

@@ -21,7 +21,7 @@ enum status {
     IN_USE = 5,
     /* The update stands at the place, and a crash may bring back what stood there before. */
     NOT_ON_DISK = 6,
-    /* No number is kept beside the place. */
+    /* No number of the field is kept beside the place. */
     UNRECORDED = 7
 };
 

@@ -1,9 +1,10 @@
 #!/usr/bin/env python3
 """Runs the built program `minisign_installer` on real files: updates that are good, bad and older, with each option and with
 words that ask for nothing, over what cannot be used, while it is killed at each of its calls of the system and with each of
-them failing, four at once with a reader beside them, while data, stage, place and lock file are changed by others, on links,
-on files with access control lists, in a folder that may not be written, on a full disk, and on a disk that crashes. What
-stands at the place is always the old or a new update, whole. `real_installing.py` runs the other program through these cases.
+them failing or interrupted, four at once with a reader beside them, while data, stage, place and lock file are changed by
+others, with data from a pipe that stands still, by root over files of others, on links, on files with access control lists,
+in a folder that may not be written, on a full disk, and on a disk that crashes. What stands at the place is always the old
+or a new update, whole. `real_installing.py` runs the other program through these cases.
 
     tests/installer/installing.py [PROGRAM ..]
 
