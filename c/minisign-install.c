@@ -259,10 +259,10 @@ static void answer(minisign_installation *machine, const struct request *request
 
 static void write_number(minisign_installation *machine, struct folder *folder)
 {
-    uint8_t digits[MINISIGN_NUMBER_TEXT_BYTES];
-    size_t len = minisign_install_number_text(machine, digits, sizeof digits);
+    uint8_t text[MINISIGN_NUMBER_TEXT_BYTES];
+    size_t len = minisign_install_number_text(machine, text, sizeof text);
 
-    tell(machine, write_stage(folder, &folder->number, digits, len));
+    tell(machine, write_stage(folder, &folder->number, text, len));
 }
 
 /* Makes each call that is due. */

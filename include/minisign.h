@@ -607,7 +607,7 @@ typedef struct minisign_signing {
  * After an error the state and the questions stay as they were, and you may ask again. The errors, in this order:
  * MINISIGN_BAD_PASSWORD_FLAG; MINISIGN_NOT_BEGUN, MINISIGN_ALREADY_ASKED, before anything is read; MINISIGN_NOT_UTF8; those of
  * the text of the secret key; and those of a key without a password, or with one. MINISIGN_OUT_OF_MEMORY may come at
- * any time once the state was looked at.
+ * any time where MINISIGN_NOT_UTF8 does not.
  */
 #define MINISIGN_KEEP_EVERY_ROW 1
 #define MINISIGN_KEEP_FEW_ROWS 16
@@ -643,7 +643,7 @@ MINISIGN_MUST_USE enum minisign_error minisign_comment_message(
  * line feed, the trusted one white space at either end, or the untrusted one a carriage return at its end;
  * MINISIGN_UNREADABLE_COMMENT, where minisign -V (of version 0.11) would not read a comment back: an untrusted one of
  * 1,004 bytes or more, a trusted one of 8,174 bytes or more, one with a zero byte or a carriage return; MINISIGN_NO_ROOM.
- * MINISIGN_OUT_OF_MEMORY may come at any time once the state was looked at.
+ * MINISIGN_OUT_OF_MEMORY may come where none of those of the comments does.
  */
 MINISIGN_MUST_USE enum minisign_error minisign_signed_text(
     const minisign_state *state, const uint8_t first[64], const uint8_t second[64], const uint8_t *trusted,
@@ -833,9 +833,10 @@ MINISIGN_MUST_USE enum minisign_error minisign_install_failed(minisign_installat
 /*
  * MINISIGN_DUE_READ_RECORD: the bytes of the record, as minisign_install_number_text writes them: "timestamp:" or "version:"
  * and a number; or a number alone, as earlier versions wrote it, which counts for either field. One line feed at the end is
- * left out; more than 64 bytes are no number, so there is no need to read more than 65. Or there is no record. Where there
- * is no number of the field and this is not the first installation, the run is refused, with MINISIGN_NO_RECORD,
- * MINISIGN_DAMAGED_RECORD, MINISIGN_KEPT_BY_TIMESTAMP or MINISIGN_KEPT_BY_VERSION; the call is MINISIGN_OK then too.
+ * left out; more than 64 bytes are no number. Hand over all of it, or say by minisign_install_failed that reading failed
+ * where it is longer. Or there is no record. Where there is no number of the field and this is not the first installation,
+ * the run is refused, with MINISIGN_NO_RECORD, MINISIGN_DAMAGED_RECORD, MINISIGN_KEPT_BY_TIMESTAMP or
+ * MINISIGN_KEPT_BY_VERSION; the call is MINISIGN_OK then too.
  *
  * MINISIGN_NOT_DUE: nothing changes.
  */

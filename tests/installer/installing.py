@@ -396,6 +396,15 @@ class Installing:
                     raise Failure(f"it ended with status {ran.returncode} in place of {status}, and said {ran.stderr}")
                 folder.expect(*((OLD, b"5") if status else (NEW, b"6")))
 
+    def misses_folder_for_pipe(self):
+        """Data through a pipe for a folder that is not there is told as that."""
+        with self.folder() as path:
+            self.installed(path)
+            ran = subprocess.run([self.program, PK, "/dev/stdin", "new.sig", "none/place"], cwd=path, env={}, input=NEW,
+                                 stdout=subprocess.DEVNULL, stderr=subprocess.PIPE, timeout=SECONDS)
+            if ran.returncode != FAILED or not ran.stderr.endswith(b"error: none: there is no such folder\n"):
+                raise Failure(f"it ended with status {ran.returncode}, and said {ran.stderr}")
+
     def loses_lock(self):
         """A run whose lock file is removed changes nothing once another one went past it."""
         with self.folder() as path:
@@ -1112,6 +1121,7 @@ def cases(it):
     yield "a lock that the system cannot give", it.without_lock
     yield "a pipe that stands still", it.stalled_pipe
     yield "data through a pipe", it.through_pipe
+    yield "a pipe and no folder", it.misses_folder_for_pipe
     yield "write fails for want of room", lambda: it.failing("write", errno.ENOSPC)
     yield "a full disk", it.on_full_disk
     yield "a folder that may not be written", it.in_locked_folder

@@ -26,7 +26,7 @@ pub enum Ending {
     InUse,
     /// The update stands at the place, and a crash may bring back what stood there before.
     NotOnDisk,
-    /// No number is kept beside the place.
+    /// No number of the field is kept beside the place.
     Unrecorded,
 }
 

@@ -407,11 +407,16 @@ impl<'a> FileFolder<'a> {
     // The same, whoever holds the lock.
     fn make_file(&self, name: &StageName) -> Result<StageFile, DeviceFault> {
         let path = self.stage_path(name)?;
-        let file = self.known(Part::Stage, open_own(self.rt, path.as_str(), true))?;
-        Ok(StageFile {
-            file,
-            has_rights: Cell::new(false),
-        })
+        match open_own(self.rt, path.as_str(), true) {
+            Ok(file) => Ok(StageFile {
+                file,
+                has_rights: Cell::new(false),
+            }),
+            Err(error) if error.kind() == ErrorKind::NotFound => {
+                Err(self.remember(Part::Folder, Cause::NoFolder))
+            }
+            Err(error) => Err(self.remember(Part::Stage, Cause::System(error))),
+        }
     }
 
     /// Receives data that may stand still, as that of a pipe, into a file of its own, which has no name
