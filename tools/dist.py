@@ -10,8 +10,8 @@ first. `--after SAID` takes those that a finished `rt ci` left here: SAID is a f
 beside `rt ci`, and builds over what that proves (`tests/shared/proved.py`).
 
 With another kit of the same logic the bytes may differ. `--check` then says so, and compares what both archives do with all keys
-and signatures of `tests/corpus`; of the page, also where another wasm-opt lowered it, it compares all but the module. `--check` prints a line for each failure; the last
-line is `N passed, M failed`.
+and signatures of `tests/corpus`; of the page, also where another wasm-opt lowered it, it compares all but the module. `--check`
+says of which files the bytes are the same, and prints a line for each failure; the last line is `N passed, M failed`.
 
 Needs Python 3.9 or later, the kit, what `page/build.py` needs, and for archives that differ make, a C compiler, libsodium, and for
 the one of AArch64 what `tests/c/aarch64.py` needs.
@@ -249,6 +249,8 @@ def check_built(report, it, lines, kit):
     """A file is what was built now."""
     kept, own = ([made, *((by[LOWERED],) if it.name == PAGE_FILE else ())] for made, by in ((lines["kit"], lines), (kit, it.lines)))
     is_same = read(it.name) == it.data
+    if is_same:
+        print(f"dist: {it.name} has the same bytes as what was proved and built now", flush=True)
     if is_same or kept == own:
         report.check(is_same, f"dist/{it.name} is not what was proved and built now from these sources, {len(it.data)} bytes")
         return

@@ -29,7 +29,7 @@ END = """\
 """
 
 PIECE = re.compile(r"/\*.*?\*/", re.S)
-MAKERS_NOTE = re.compile(r"(?:[\w ]+, made by tools/header\.py(?: from [\w/.]+)?|The end of the [a-z]+)\.")
+MAKERS_NOTE = re.compile(r"(?:[\w ]+, made by tools/header\.py(?: from [\w/.]+)?|The end of the [a-z]+)\.|SPDX-License-Identifier: .*")
 
 
 def escaped(line):
