@@ -50,7 +50,7 @@ struct folder {
     /* The stage of the update, and that of its number. */
     struct stage update;
     struct stage number;
-    /* The rights of the update, if they are given. */
+    /* The permissions of the update, if they are given. */
     bool has_mode;
     mode_t mode;
     int fd;
@@ -91,7 +91,7 @@ enum minisign_error write_stage(struct folder *folder, const struct stage *stage
 /* Reads back the next bytes of what the stage holds, none at its end. */
 enum minisign_error read_stage(struct folder *folder, struct stage *stage, uint8_t *bytes, size_t room, size_t *len);
 
-/* Gives the stage of the update the rights of the file at the place, or those that are given. */
+/* Gives the stage of the update the permissions of the file at the place, or those that are given. */
 enum minisign_error take_rights(struct folder *folder);
 
 /* Brings to the disk what the stage holds. That of the number becomes that of whoever may go on after this run, as far

@@ -141,7 +141,7 @@ static enum minisign_numbering numbering_of(const char *text)
     return MINISIGN_NUMBERING_VERSION;
 }
 
-/* The rights that three octal digits write, before which a 0 may stand. */
+/* The permissions that three octal digits write, before which a 0 may stand. */
 static mode_t mode_of(const char *text)
 {
     size_t len = strlen(text);

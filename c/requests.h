@@ -19,7 +19,7 @@ struct request {
     enum minisign_numbering numbering;
     /* The name that the signed comment has to have, or NULL: the place's. */
     const char *name;
-    /* The rights of the file, if they are given. */
+    /* The permissions of the file, if they are given. */
     bool has_mode;
     mode_t mode;
     /* How many bytes the data may have. */
