@@ -93,6 +93,18 @@ static enum minisign_error ask(minisign_state *state, uint32_t with_password, si
                                 &secret.signing);
 }
 
+/* Whether the two halves of the secret key belong together: else no signature of it verifies, and one gives the key away. */
+static bool has_own_halves(void)
+{
+    uint8_t again[crypto_sign_SECRETKEYBYTES], public_key[crypto_sign_PUBLICKEYBYTES];
+    bool is_same;
+
+    crypto_sign_seed_keypair(public_key, again, secret.signing.secret_key);
+    is_same = sodium_memcmp(again, secret.signing.secret_key, sizeof again) == 0;
+    sodium_memzero(again, sizeof again);
+    return is_same;
+}
+
 /* Hashes the data, opens the key, and asks what has to be signed: the state then knows the key. */
 static void hash_and_ask(minisign_state *state, const struct options *options)
 {
@@ -113,6 +125,9 @@ static void hash_and_ask(minisign_state *state, const struct options *options)
     }
     if (error != MINISIGN_OK) {
         refuse(error);
+    }
+    if (!has_own_halves()) {
+        fail("The secret key is damaged: its two halves do not belong together");
     }
 }
 

@@ -105,6 +105,8 @@ class Signing:
         self.case(name, "" if all(signs.values()) else said)
 
 
+# Where the two halves of a secret key stand in its record.
+SEED_AT, PUBLIC_HALF_AT = 62, 94
 # The least limits that libsodium takes: N is 1024, r 8 and p 1.
 OPERATIONS, MEMORY = 32768, 2**24
 
@@ -134,6 +136,9 @@ def differing_keys(text, checked):
     yield "a secret key's comment that is not UTF-8", joined([head + b"\xff", encoded]), None
     yield "carriage returns behind a secret key", text.replace(b"\n", b"\r\r\n"), None
     yield "carriage returns behind a secret key", joined([head, encoded + b"\rHIDDEN"]), None
+    for at in SEED_AT, PUBLIC_HALF_AT, PUBLIC_HALF_AT + 31:
+        changed = record[:at] + bytes([record[at] ^ 1]) + record[at + 1:]
+        yield "signing with a key whose halves do not belong together", joined([head, base64.b64encode(changed)]), None
     for memory in (2**30 + 1, 2**31, 2**40):
         yield "a memory limit over 1 GiB", sealed_key(text, b"pw", memory), b"pw"
     yield "a password of 1,024 bytes", sealed_key(text, b"p" * 1024, MEMORY), b"p" * 1024
