@@ -8,20 +8,21 @@
 #include <string.h>
 
 #include "minisign.h"
+#include "words.h"
 
 void say(const char *file, const char *what)
 {
-    fprintf(stderr, "error: %s: %s\n", file, what);
+    fprintf(stderr, "error: %s: %s\n", visible(file), what);
 }
 
 void say_more(const char *file, const char *what, const char *more, const char *rest)
 {
-    fprintf(stderr, "error: %s: %s (%s%s)\n", file, what, more, rest);
+    fprintf(stderr, "error: %s: %s (%s%s)\n", visible(file), what, visible(more), rest);
 }
 
 void say_answer(const char *file, int number)
 {
-    fprintf(stderr, "error: %s: %s (os error %d)\n", file, strerror(number), number);
+    fprintf(stderr, "error: %s: %s (os error %d)\n", visible(file), strerror(number), number);
 }
 
 /* This is the first thing that the library says of any text. */

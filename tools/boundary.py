@@ -233,5 +233,5 @@ def boundary_text(header, crate):
 
 
 def names_text(header, crate):
-    """The names of the proved calls, one in each line."""
-    return "".join(f"{it.name}\n" for it in functions_of(header, crate))
+    """The names of the proved calls, one in each line, behind one that names the licence."""
+    return "# SPDX-License-Identifier: MIT\n" + "".join(f"{it.name}\n" for it in functions_of(header, crate))

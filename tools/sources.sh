@@ -26,7 +26,7 @@ print_sums() {
         folders="$folders crates/$crate/src crates/$crate/specs crates/$crate/proofs"
     done
     for folder in $folders; do
-        test ! -e "$folder" || find "$folder" -type f -name '[!.]*[!~]' ! -name minisign.html ! -name '*.pyc' -print
+        test ! -e "$folder" || find "$folder" -type f -name '[!.]*[!~]' ! -name minisign.html ! -name '*.pyc' ! -name '*.md' -print
     done | sort | xargs sha256sum
 }
 

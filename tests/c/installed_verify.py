@@ -35,16 +35,23 @@ def read(name):
         return file.read()
 
 
+def opened_sodium():
+    """libsodium, which is started; nothing where it could not be."""
+    sodium = ctypes.CDLL(ctypes.util.find_library("sodium") or "libsodium.so.23")
+    return None if sodium.sodium_init() < 0 else sodium
+
+
+def answer(sodium, signature, message, length, key):
+    """What libsodium answers to a question."""
+    accepted = sodium.crypto_sign_verify_detached(signature, message, ctypes.c_ulonglong(length), key) == 0
+    return YES if accepted else NO
+
+
 def main():
     path, *names = sys.argv[1:]
-    library, sodium = opened(path), ctypes.CDLL(ctypes.util.find_library("sodium") or "libsodium.so.23")
-    if sodium.sodium_init() < 0:
+    library, sodium = opened(path), opened_sodium()
+    if sodium is None:
         return "libsodium could not be started"
-
-    def answer(signature, message, length, key):
-        accepted = sodium.crypto_sign_verify_detached(signature, message, ctypes.c_ulonglong(length), key) == 0
-        return YES if accepted else NO
-
     try:
         key, data, signature = map(read, names)
     except OSError as why:
@@ -58,8 +65,8 @@ def main():
                                      ctypes.byref(questions), message, len(signature))
     if error == 0:
         error = library.minisign_verdict(
-            state, answer(questions.signature, questions.digest, 64, questions.public_key),
-            answer(questions.comment_signature, message, questions.message_len, questions.public_key))
+            state, answer(sodium, questions.signature, questions.digest, 64, questions.public_key),
+            answer(sodium, questions.comment_signature, message, questions.message_len, questions.public_key))
     if error != 0:
         why = ctypes.create_string_buffer(128)
         library.minisign_error_text(error, why, 128)

@@ -1177,7 +1177,9 @@ def word_cases(it):
     ]
     for what, words, said in misuses:
         yield what, lambda words=words, said=said: it.says(words, MISUSED, said)
+    shown = b"none\\u{1b}[31m" if it.kind.is_in_c else b"none\x1b[31m"
     failures = [
+        ("a name with a control character", ["none\x1b[31m", *paths[1:]], FAILED, b"error: " + shown + b": No such file or directory (os error 2)\n"),
         ("no key", ["none.pub", *paths[1:]], FAILED, b"error: none.pub: No such file or directory (os error 2)\n"),
         ("no data", [PK, "none", *paths[2:]], FAILED, b"error: none: No such file or directory (os error 2)\n"),
         ("no signature", [PK, "new", "none.sig", PLACE], FAILED, b"error: none.sig: No such file or directory (os error 2)\n"),

@@ -1,11 +1,11 @@
 #!/usr/bin/env python3
-"""Has the programs of c/ and examples/rust answer the vectors of Ed25519 that implementations differ in
+"""Has the programs of c/ and examples/rust, and the one in Python of tests/c, answer the vectors of Ed25519 that implementations differ in
 (`tests/shared/edges.py`).
 
 Each vector becomes a public key, a signature of the older kind and its data. A program that accepts the vector goes on to
 the comment's signature, which no vector has, and refuses that one; one that refuses it says so: the words tell which. The
-Rust example refuses that kind, so its function that asks libsodium is called for each vector. Then a key and a
-signature of small order that would fit every file have to be refused by each. libsodium itself has to answer as the file
+programs in Rust and Python refuse that kind, so their function that asks libsodium is called for each vector. Then a key and
+a signature of small order that would fit every file have to be refused by each. libsodium itself has to answer as the file
 of vectors says. It prints a line for each failure; the last line is `N passed, M failed`.
 
 Needs Python 3.9 or later, make, a C compiler, rustc and libsodium with its header, and installs what is not there where
@@ -20,9 +20,10 @@ import tempfile
 
 HERE = os.path.dirname(os.path.realpath(__file__))
 TOP = os.path.join(HERE, "..", "..")
-sys.path.append(os.path.join(HERE, "..", "shared"))
+sys.path += [os.path.join(HERE, "..", "shared"), os.path.join(HERE, "..", "c")]
 
 import edges
+import installed_verify
 import needs
 import static_library
 
@@ -109,6 +110,17 @@ def rust_failures(room, library):
             if (answer == "true") != it["sodium"]]
 
 
+def python_failures():
+    """What is wrong with the answers of the program in Python."""
+    sodium, failures = installed_verify.opened_sodium(), []
+    for it in edges.vectors():
+        key, signature, message = (bytes.fromhex(it[part]) for part in ("A", "sig", "msg"))
+        answer = installed_verify.answer(sodium, signature, message, len(message), key)
+        if answer != (installed_verify.YES if it["sodium"] else installed_verify.NO):
+            failures.append(f"the program in Python answers {answer:#x} to the vector {it['name']}")
+    return failures
+
+
 def every_file_failures(room, commands):
     """What is wrong where a signature of small order would fit every file: each program has to refuse it."""
     key, signature = edges.texts_for_every_file()
@@ -136,13 +148,15 @@ def run_all(room):
     verifying = ["-V", "-p", "{key}", "-m", "{data}", "-x", "{signature}"]
     commands = {"c/minisign": [f"{room}/c/minisign", *verifying], "c/minisign-verify": [f"{room}/c/minisign-verify",
                                                                                         *verifying],
-                "examples/rust": [f"{room}/rust/minisign-verify", "{key}", "{data}", "{signature}"]}
+                "examples/rust": [f"{room}/rust/minisign-verify", "{key}", "{data}", "{signature}"],
+                "Python": [sys.executable, installed_verify.__file__, f"{room}/c/libminisign.so", "{key}", "{data}",
+                           "{signature}"]}
     failures = sodium_failures(room, compiler)
     for name in ("minisign", "minisign-verify"):
         failures += program_failures(room, f"{room}/c/{name}")
-    failures += rust_failures(room, library)
+    failures += rust_failures(room, library) + python_failures()
     failures += every_file_failures(room, commands)
-    return failures, 4 * len(edges.vectors()) + 3 * len(commands)
+    return failures, 5 * len(edges.vectors()) + 3 * len(commands)
 
 
 def main():
