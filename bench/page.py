@@ -1,5 +1,5 @@
 #!/usr/bin/env python3
-"""Times the page of page/ in Chromium and in Firefox over a file of 1 GB, by the clock, beside `c/minisign -V` and
+"""Times the page in Chromium and in Firefox over a file of 1 GB, by the clock, beside `c/minisign -V` and
 Minisign's own `minisign -V` of the same file and the same signature, in turns of a minute at the most. Of each it prints
 the least time, the least and the median of the ratios to `c/minisign -V` within a turn, the least processor time, of all
 processes and of the busiest thread (which other programs on the machine disturb less), and the greatest memory of a
@@ -7,7 +7,7 @@ process that shows the page, beside that of an empty page.
 
     bench/page.py [ROUNDS]
 
-Needs what tests/page/page.py needs, the page that page/build.py leaves, and 1 GB of room on the disk.
+The page is the one of dist/. Needs what tests/page/page.py needs, and 1 GB of room on the disk.
 """
 
 import os
@@ -36,7 +36,7 @@ from commands import write_input
 from firefox import Firefox
 from timing import measured, processor_timed
 
-PAGE = os.path.realpath(os.path.join(HERE, "..", "page", "minisign.html"))
+PAGE = os.path.join(static_library.DIST, "minisign.html")
 ROUNDS = 5
 # The verdict, once it is there.
 VERDICT = """const done = arguments[0], timer = setInterval(() => {
