@@ -1,13 +1,14 @@
 #!/usr/bin/env python3
 """Times the page in Chromium and in Firefox over a file of 1 GB, by the clock, beside `c/minisign -V` and
 Minisign's own `minisign -V` of the same file and the same signature, in turns of a minute at the most. Of each it prints
-the least time, the least and the median of the ratios to `c/minisign -V` within a turn, the least processor time, of all
-processes and of the busiest thread (which other programs on the machine disturb less), and the greatest memory of a
-process that shows the page, beside that of an empty page.
+the least time, the least, the median and the greatest of the ratios to `c/minisign -V` within a turn, the least processor
+time, of all processes and of the busiest thread (which other programs on the machine disturb less), and the greatest memory
+of a process that shows the page, beside that of an empty page in the same process. The memory is that of a first turn, which
+is not timed: in later ones a browser may still hold what earlier pages left behind.
 
-    bench/page.py [ROUNDS]
+    bench/page.py [ROUNDS [PAGE]]
 
-The page is the one of dist/. Needs what tests/page/page.py needs, and 1 GB of room on the disk.
+The page is the one of dist/ where none is named. Needs what tests/page/page.py needs, and 1 GB of room on the disk.
 """
 
 import os
@@ -22,7 +23,7 @@ import needs
 
 PYTHON = needs.python_with_selenium()
 if PYTHON != sys.executable:
-    os.execv(PYTHON, [PYTHON, os.path.realpath(__file__)])
+    os.execv(PYTHON, [PYTHON, os.path.realpath(__file__), *sys.argv[1:]])
 
 import contextlib
 import functools
@@ -36,7 +37,7 @@ from commands import write_input
 from firefox import Firefox
 from timing import measured, processor_timed
 
-PAGE = os.path.join(static_library.DIST, "minisign.html")
+PAGE = os.path.realpath(sys.argv[2]) if len(sys.argv) > 2 else os.path.join(static_library.DIST, "minisign.html")
 ROUNDS = 5
 # The verdict, once it is there.
 VERDICT = """const done = arguments[0], timer = setInterval(() => {
@@ -110,35 +111,38 @@ def page_run(browser, pk, data, sig):
 
 
 def empty_memory(browser, folder):
-    """The memory of an empty page."""
+    """The memory of an empty page, once it does not change for a second."""
     path = os.path.join(folder, "empty.html")
     with open(path, "w", encoding="ascii") as file:
         file.write("<!doctype html>\n")
     browser.go(f"file://{path}")
-    return browser.memory()
+    found = [browser.memory()]
+    while len(found) < 3 or max(found[-3:]) - min(found[-3:]) > 0.5:
+        time.sleep(0.5)
+        found.append(browser.memory())
+    return found[-1]
 
 
 def in_turns(runs):
-    """The turns of each run, by its name."""
+    """The turns of each run, by its name, behind a first one."""
     found = {name: [] for name in runs}
-    for _ in range(int(sys.argv[1]) if len(sys.argv) > 1 else ROUNDS):
+    for _ in range(1 + (int(sys.argv[1]) if len(sys.argv) > 1 else ROUNDS)):
         for name, run in runs.items():
             found[name].append(run())
     return found
 
 
 def show(found, empty, size):
-    """Prints a line for each program."""
-    beside = [turn.seconds for turn in found["c/minisign -V"]]
-    for name, turns in found.items():
+    """Prints what there is to say of each program."""
+    beside = [turn.seconds for turn in found["c/minisign -V"][1:]]
+    for name, (first, *turns) in found.items():
         ratios = [turn.seconds / other for turn, other in zip(turns, beside)]
         least = min(turn.seconds for turn in turns)
         more = f", of which an empty page has {empty[name]:.1f}" if name in empty else ""
         processor, busiest = min(turn.processor for turn in turns), min(turn.busiest for turn in turns)
-        memory = max(turn.memory for turn in turns)
         print(f"{name:22} {least:6.2f} s  {size / 1e6 / least:5.0f} MB/s  "
-              f"{min(ratios):5.2f} to {statistics.median(ratios):.2f} times c/minisign -V")
-        print(f"{'':22} {processor:6.2f} s of the processor, {busiest:.2f} s of them in one thread, {memory:.1f} MiB{more}")
+              f"{min(ratios):5.2f} to {max(ratios):.2f} times c/minisign -V, {statistics.median(ratios):.2f} in the median")
+        print(f"{'':22} {processor:6.2f} s of the processor, {busiest:.2f} s of them in one thread, {first.memory:.1f} MiB{more}")
     print(f"load {os.getloadavg()[0]:.1f}, {os.cpu_count()} processors")
 
 

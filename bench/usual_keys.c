@@ -13,7 +13,8 @@
 #include "minisign.h"
 
 static const uint8_t PASSWORD[] = "a password", COMMENT[] = "c", KEY_ID[8] = { 1, 2, 3, 4, 5, 6, 7, 8 };
-static uint8_t secret_key[64], text[4096];
+static const uint8_t SECRET[64];
+static uint8_t text[4096];
 static size_t text_len;
 
 static double now(clockid_t clock)
@@ -28,22 +29,22 @@ static double now(clockid_t clock)
 static int make(uint64_t operations_limit, uint64_t memory_limit)
 {
     minisign_sealing sealing;
+    minisign_secret_key key;
 
+    minisign_take_secret_key(KEY_ID, SECRET, &key);
     memset(&sealing, 0, sizeof sealing);
     sealing.operations_limit = operations_limit;
     sealing.memory_limit = memory_limit;
-    return minisign_make_secret_key(KEY_ID, secret_key, 1, PASSWORD, sizeof PASSWORD - 1, &sealing, MINISIGN_KEEP_EVERY_ROW,
-                                    COMMENT, 1, text, sizeof text, &text_len) == MINISIGN_OK;
+    return minisign_secret_key_text(&key, 1, PASSWORD, sizeof PASSWORD - 1, &sealing, MINISIGN_KEEP_EVERY_ROW, COMMENT, 1, text,
+                                    sizeof text, &text_len) == MINISIGN_OK;
 }
 
 static int open_key(void)
 {
-    minisign_state state;
-    minisign_signing signing;
+    minisign_secret_key key = { 0 };
 
-    minisign_init(&state);
-    return minisign_ask_signing(&state, text, text_len, 1, PASSWORD, sizeof PASSWORD - 1, MINISIGN_KEEP_EVERY_ROW,
-                                MINISIGN_USUAL_WORK, &signing) == MINISIGN_OK;
+    return minisign_open_secret_key(text, text_len, 1, PASSWORD, sizeof PASSWORD - 1, MINISIGN_KEEP_EVERY_ROW,
+                                    MINISIGN_USUAL_WORK, &key) == MINISIGN_OK;
 }
 
 static int derive(void)

@@ -1,5 +1,5 @@
 #!/usr/bin/env python3
-"""Times `c/minisign-verify` over a file of 1 GB, in processor time, beside `minisign -V` of the same file and
+"""Times `c/minisign -V` over a file of 1 GB, in processor time, beside `minisign -V` of the same file and
 the same signature, and prints the size of the archive and of the program.
 
     bench/verifying.py
@@ -27,7 +27,7 @@ def build(name, v2, v3, folder):
     """Builds the program over these two archives, and answers its path."""
     made = os.path.join(folder, name)
     static_library.run_make(f"OUT={made}", f"V2={v2}", f"V3={v3}", f"CC={needs.libsodium()}")
-    program = os.path.join(made, "minisign-verify")
+    program = os.path.join(made, "minisign")
     library = os.path.join(made, "libminisign.a")
     print(f"{name}: the library {os.path.getsize(library)} bytes, and the program {os.path.getsize(program)} bytes")
     return program

@@ -1,9 +1,10 @@
 /*
  * The boundary between minisign.h and the proved calls of the crate minisign_c. Made by tools/header.py.
  *
- * It decides two things. A pointer that is NULL where its length is 0 is replaced by one that is not, which the
- * proved calls need. And where there are two copies of these calls, one built for x86-64-v2 and one for x86-64-v3,
- * it takes the second if the processor has what that needs.
+ * It decides three things. A pointer that is NULL where its length is 0 is replaced by one that is not, which the
+ * proved calls need. Where there are two copies of these calls, one built for x86-64-v2 and one for x86-64-v3,
+ * it takes the second if the processor has what that needs. And behind a call that was given a secret, what it has
+ * left on the stack and in registers is cleared.
  *
  * SPDX-License-Identifier: MIT
  */
@@ -14,6 +15,7 @@
 #include <stddef.h>
 #include <stdint.h>
 
+#include "clearing.h"
 #include "minisign.h"
 
 #ifdef __x86_64__
@@ -80,34 +82,44 @@ enum minisign_error minisign_update(minisign_state *state, const uint8_t *data, 
     return (enum minisign_error) CALL(minisign_update)(state, READ(data, len), len);
 }
 
-PROVED(uint32_t, minisign_ask, (minisign_state *, const uint8_t *, size_t, const uint8_t *, size_t, uint32_t,
-                                minisign_external *, uint8_t *, size_t));
+PROVED(uint32_t, minisign_digest, (minisign_state *, uint8_t *));
 
-enum minisign_error minisign_ask(minisign_state *state, const uint8_t *pk_text, size_t pk_text_len,
-                                 const uint8_t *sig_text, size_t sig_text_len, uint32_t allow_legacy,
-                                 minisign_external *questions, uint8_t *message, size_t room)
+enum minisign_error minisign_digest(minisign_state *state, uint8_t digest[64])
 {
-    return (enum minisign_error) CALL(minisign_ask)(state, READ(pk_text, pk_text_len), pk_text_len,
-                                                    READ(sig_text, sig_text_len), sig_text_len, allow_legacy,
-                                                    questions, WRITTEN(message, room), room);
+    return (enum minisign_error) CALL(minisign_digest)(state, digest);
 }
 
-PROVED(uint32_t, minisign_read_public_key, (const uint8_t *, size_t, uint8_t *, uint8_t *));
+PROVED(uint32_t, minisign_read_public_key, (const uint8_t *, size_t, minisign_public_key *));
 
-enum minisign_error minisign_read_public_key(const uint8_t *pk_text, size_t pk_text_len, uint8_t public_key[32],
-                                             uint8_t key_id[8])
+enum minisign_error minisign_read_public_key(const uint8_t *pk_text, size_t pk_text_len, minisign_public_key *key)
 {
-    return (enum minisign_error) CALL(minisign_read_public_key)(READ(pk_text, pk_text_len), pk_text_len,
-                                                                public_key, key_id);
+    return (enum minisign_error) CALL(minisign_read_public_key)(READ(pk_text, pk_text_len), pk_text_len, key);
 }
 
-PROVED(uint32_t, minisign_read_bare_public_key, (const uint8_t *, size_t, uint8_t *, uint8_t *));
+PROVED(uint32_t, minisign_read_bare_public_key, (const uint8_t *, size_t, minisign_public_key *));
 
-enum minisign_error minisign_read_bare_public_key(const uint8_t *base64, size_t base64_len, uint8_t public_key[32],
-                                                  uint8_t key_id[8])
+enum minisign_error minisign_read_bare_public_key(const uint8_t *base64, size_t base64_len,
+                                                  minisign_public_key *key)
 {
-    return (enum minisign_error) CALL(minisign_read_bare_public_key)(READ(base64, base64_len), base64_len,
-                                                                     public_key, key_id);
+    return (enum minisign_error) CALL(minisign_read_bare_public_key)(READ(base64, base64_len), base64_len, key);
+}
+
+PROVED(uint32_t, minisign_ask, (minisign_state *, const minisign_public_key *, const uint8_t *, size_t, uint32_t,
+                                minisign_questions *, uint8_t *, size_t));
+
+enum minisign_error minisign_ask(minisign_state *state, const minisign_public_key *key, const uint8_t *sig_text,
+                                 size_t sig_text_len, uint32_t allow_legacy, minisign_questions *questions,
+                                 uint8_t *message, size_t room)
+{
+    return (enum minisign_error) CALL(minisign_ask)(state, key, READ(sig_text, sig_text_len), sig_text_len,
+                                                    allow_legacy, questions, WRITTEN(message, room), room);
+}
+
+PROVED(uint32_t, minisign_comment_verdict, (const minisign_state *, uint32_t));
+
+enum minisign_error minisign_comment_verdict(const minisign_state *state, enum minisign_answer second)
+{
+    return (enum minisign_error) CALL(minisign_comment_verdict)(state, second);
 }
 
 PROVED(uint32_t, minisign_verdict, (minisign_state *, uint32_t, uint32_t));
@@ -118,16 +130,39 @@ enum minisign_error minisign_verdict(minisign_state *state, enum minisign_answer
     return (enum minisign_error) CALL(minisign_verdict)(state, first, second);
 }
 
-PROVED(uint32_t, minisign_ask_signing, (minisign_state *, const uint8_t *, size_t, uint32_t, const uint8_t *,
-                                        size_t, uint64_t, uint32_t, minisign_signing *));
+PROVED(uint32_t, minisign_open_secret_key, (const uint8_t *, size_t, uint32_t, const uint8_t *, size_t, uint64_t,
+                                            uint32_t, minisign_secret_key *));
 
-enum minisign_error minisign_ask_signing(minisign_state *state, const uint8_t *sk_text, size_t sk_text_len,
-                                         uint32_t with_password, const uint8_t *password, size_t password_len,
-                                         uint64_t keep_every, uint32_t greatest_work, minisign_signing *signing)
+enum minisign_error minisign_open_secret_key(const uint8_t *sk_text, size_t sk_text_len, uint32_t with_password,
+                                             const uint8_t *password, size_t password_len, uint64_t keep_every,
+                                             uint32_t greatest_work, minisign_secret_key *key)
 {
-    return (enum minisign_error) CALL(minisign_ask_signing)(state, READ(sk_text, sk_text_len), sk_text_len,
-                                                            with_password, READ(password, password_len),
-                                                            password_len, keep_every, greatest_work, signing);
+    enum minisign_error result;
+
+    result = (enum minisign_error) CALL(minisign_open_secret_key)(READ(sk_text, sk_text_len), sk_text_len,
+                                                                  with_password, READ(password, password_len),
+                                                                  password_len, keep_every, greatest_work, key);
+    minisign_clear_used();
+    return result;
+}
+
+PROVED(void, minisign_take_secret_key, (const uint8_t *, const uint8_t *, minisign_secret_key *));
+
+void minisign_take_secret_key(const uint8_t key_id[8], const uint8_t secret[64], minisign_secret_key *key)
+{
+    CALL(minisign_take_secret_key)(key_id, secret, key);
+    minisign_clear_used();
+}
+
+PROVED(uint32_t, minisign_public_key_of, (const minisign_secret_key *, minisign_public_key *));
+
+enum minisign_error minisign_public_key_of(const minisign_secret_key *key, minisign_public_key *public_key)
+{
+    enum minisign_error result;
+
+    result = (enum minisign_error) CALL(minisign_public_key_of)(key, public_key);
+    minisign_clear_used();
+    return result;
 }
 
 PROVED(uint32_t, minisign_comment_message, (const uint8_t *, const uint8_t *, size_t, uint8_t *, size_t));
@@ -139,44 +174,56 @@ enum minisign_error minisign_comment_message(const uint8_t first[64], const uint
                                                                 WRITTEN(message, room), room);
 }
 
-PROVED(uint32_t, minisign_signed_text, (const minisign_state *, const uint8_t *, const uint8_t *, const uint8_t *,
-                                        size_t, const uint8_t *, size_t, uint8_t *, size_t, size_t *));
+PROVED(uint32_t, minisign_signed_text, (const minisign_secret_key *, const uint8_t *, const uint8_t *,
+                                        const uint8_t *, size_t, const uint8_t *, size_t, uint8_t *, size_t,
+                                        size_t *));
 
-enum minisign_error minisign_signed_text(const minisign_state *state, const uint8_t first[64],
+enum minisign_error minisign_signed_text(const minisign_secret_key *key, const uint8_t first[64],
                                          const uint8_t second[64], const uint8_t *trusted, size_t trusted_len,
                                          const uint8_t *untrusted, size_t untrusted_len, uint8_t *text,
                                          size_t room, size_t *text_len)
 {
-    return (enum minisign_error) CALL(minisign_signed_text)(state, first, second, READ(trusted, trusted_len),
-                                                            trusted_len, READ(untrusted, untrusted_len),
-                                                            untrusted_len, WRITTEN(text, room), room, text_len);
+    enum minisign_error result;
+
+    result = (enum minisign_error) CALL(minisign_signed_text)(key, first, second, READ(trusted, trusted_len),
+                                                              trusted_len, READ(untrusted, untrusted_len),
+                                                              untrusted_len, WRITTEN(text, room), room, text_len);
+    minisign_clear_used();
+    return result;
 }
 
-PROVED(uint32_t, minisign_make_secret_key, (const uint8_t *, const uint8_t *, uint32_t, const uint8_t *, size_t,
+PROVED(uint32_t, minisign_secret_key_text, (const minisign_secret_key *, uint32_t, const uint8_t *, size_t,
                                             const minisign_sealing *, uint64_t, const uint8_t *, size_t, uint8_t *,
                                             size_t, size_t *));
 
-enum minisign_error minisign_make_secret_key(const uint8_t key_id[8], const uint8_t secret_key[64],
-                                             uint32_t with_password, const uint8_t *password, size_t password_len,
+enum minisign_error minisign_secret_key_text(const minisign_secret_key *key, uint32_t with_password,
+                                             const uint8_t *password, size_t password_len,
                                              const minisign_sealing *sealing, uint64_t keep_every,
                                              const uint8_t *comment, size_t comment_len, uint8_t *text,
                                              size_t room, size_t *text_len)
 {
-    return (enum minisign_error) CALL(minisign_make_secret_key)(key_id, secret_key, with_password,
-                                                                READ(password, password_len), password_len,
-                                                                sealing, keep_every, READ(comment, comment_len),
-                                                                comment_len, WRITTEN(text, room), room, text_len);
+    enum minisign_error result;
+
+    result = (enum minisign_error) CALL(minisign_secret_key_text)(key, with_password, READ(password, password_len),
+                                                                  password_len, sealing, keep_every,
+                                                                  READ(comment, comment_len), comment_len,
+                                                                  WRITTEN(text, room), room, text_len);
+    minisign_clear_used();
+    return result;
 }
 
-PROVED(uint32_t, minisign_make_public_key, (const uint8_t *, const uint8_t *, const uint8_t *, size_t, uint8_t *,
+PROVED(uint32_t, minisign_public_key_text, (const minisign_secret_key *, const uint8_t *, size_t, uint8_t *,
                                             size_t, size_t *));
 
-enum minisign_error minisign_make_public_key(const uint8_t key_id[8], const uint8_t secret_key[64],
-                                             const uint8_t *comment, size_t comment_len, uint8_t *text,
-                                             size_t room, size_t *text_len)
+enum minisign_error minisign_public_key_text(const minisign_secret_key *key, const uint8_t *comment,
+                                             size_t comment_len, uint8_t *text, size_t room, size_t *text_len)
 {
-    return (enum minisign_error) CALL(minisign_make_public_key)(key_id, secret_key, READ(comment, comment_len),
-                                                                comment_len, WRITTEN(text, room), room, text_len);
+    enum minisign_error result;
+
+    result = (enum minisign_error) CALL(minisign_public_key_text)(key, READ(comment, comment_len), comment_len,
+                                                                  WRITTEN(text, room), room, text_len);
+    minisign_clear_used();
+    return result;
 }
 
 PROVED(uint32_t, minisign_install_init, (minisign_installation *, uint32_t, uint32_t));
@@ -238,18 +285,17 @@ enum minisign_error minisign_install_piece(minisign_installation *installation, 
     return (enum minisign_error) CALL(minisign_install_piece)(installation, READ(piece, piece_len), piece_len);
 }
 
-PROVED(uint32_t, minisign_install_ask, (minisign_installation *, const uint8_t *, size_t, const uint8_t *, size_t,
-                                        const uint8_t *, size_t, minisign_external *, uint8_t *, size_t));
+PROVED(uint32_t, minisign_install_ask, (minisign_installation *, const minisign_public_key *, const uint8_t *,
+                                        size_t, const uint8_t *, size_t, minisign_questions *, uint8_t *, size_t));
 
-enum minisign_error minisign_install_ask(minisign_installation *installation, const uint8_t *pk_text,
-                                         size_t pk_text_len, const uint8_t *sig_text, size_t sig_text_len,
-                                         const uint8_t *file, size_t file_len, minisign_external *questions,
-                                         uint8_t *message, size_t room)
+enum minisign_error minisign_install_ask(minisign_installation *installation, const minisign_public_key *key,
+                                         const uint8_t *sig_text, size_t sig_text_len, const uint8_t *file,
+                                         size_t file_len, minisign_questions *questions, uint8_t *message,
+                                         size_t room)
 {
-    return (enum minisign_error) CALL(minisign_install_ask)(installation, READ(pk_text, pk_text_len), pk_text_len,
-                                                            READ(sig_text, sig_text_len), sig_text_len,
-                                                            READ(file, file_len), file_len, questions,
-                                                            WRITTEN(message, room), room);
+    return (enum minisign_error) CALL(minisign_install_ask)(installation, key, READ(sig_text, sig_text_len),
+                                                            sig_text_len, READ(file, file_len), file_len,
+                                                            questions, WRITTEN(message, room), room);
 }
 
 PROVED(uint32_t, minisign_install_answer, (minisign_installation *, uint32_t, uint32_t));

@@ -57,7 +57,8 @@ bool is_crash(int number)
     return is_among(number, crashes, sizeof crashes / sizeof crashes[0]);
 }
 
-/* The signals that end a program; those that it was started to ignore stay ignored. The C library keeps two for itself. */
+/* The signals that end a program; those that it was started to ignore stay ignored. The C library keeps two for
+ * itself. */
 static void watch_signals(void)
 {
     struct sigaction action = { 0 }, before;

@@ -86,19 +86,6 @@ void feed(minisign_state *state, const uint8_t *bytes, size_t len)
     }
 }
 
-void feed_file(minisign_state *state, int fd, const char *file, FILE *copy)
-{
-    static uint8_t piece[PIECE_BYTES];
-    size_t len;
-
-    while ((len = read_full(fd, file, piece, sizeof piece)) > 0) {
-        feed(state, piece, len);
-        if (copy != NULL && fwrite(piece, 1, len, copy) != len) {
-            fail_at("standard output");
-        }
-    }
-}
-
 struct held hold_file(int fd, const char *file)
 {
     struct held held = { NULL, 0 };

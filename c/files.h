@@ -29,8 +29,8 @@ struct held {
     size_t len;
 };
 
-/* Has to be called before anything is opened: no file may get the number of a standard stream that is closed, into which what
- * is said would go. Such a stream can be neither read nor written still. */
+/* Has to be called before anything is opened: no file may get the number of a standard stream that is closed, into
+ * which what is said would go. Such a stream can be neither read nor written still. */
 void hold_streams(void);
 
 _Noreturn void fail(const char *line);
@@ -48,9 +48,6 @@ void read_text(struct text *text, const char *file);
 
 /* Feeds the bytes to the state, which was begun and has not asked. */
 void feed(minisign_state *state, const uint8_t *bytes, size_t len);
-
-/* Feeds the file to the state, from where it stands to its end, and copies it where a copy is wanted. */
-void feed_file(minisign_state *state, int fd, const char *file, FILE *copy);
 
 /* Reads the file from where it stands to its end. */
 struct held hold_file(int fd, const char *file);

@@ -30,8 +30,8 @@
 /* How many random bytes the name of a stage has, as hexadecimal digits. */
 #define DRAWN_BYTES 16
 
-/* After so many bytes that were read back the system is asked to begin to bring them to the disk, so that less is left to
- * wait for. */
+/* After so many bytes that were read back the system is asked to begin to bring them to the disk, so that less is left
+ * to wait for. */
 #define BEGUN_BYTES (8 << 20)
 
 /* Neither a link nor a pipe at the end of a name is followed or waited for. */
@@ -200,8 +200,8 @@ static enum found leads_to(struct folder *folder, const struct part *part, int f
     return found;
 }
 
-/* Whose the lock file and the record have to be: the owner and the group of the file at the place, or where that is root's
- * or there is none, of the folder. So a run by root locks nobody out who may go on. */
+/* Whose the lock file and the record have to be: the owner and the group of the file at the place, or where that is
+ * root's or there is none, of the folder. So a run by root locks nobody out who may go on. */
 static bool find_keeper(struct folder *folder, struct stat *keeper)
 {
     enum found found = find(folder, &folder->place, keeper);
@@ -212,8 +212,8 @@ static bool find_keeper(struct folder *folder, struct stat *keeper)
     return found != UNUSABLE && look_at(folder, &folder->itself, folder->fd, keeper);
 }
 
-/* Gives a file the owner and the group of the keeper, as far as that is allowed. It has to be one that this run has made:
- * whoever may write the folder could have given the name of another to a file of somebody else. */
+/* Gives a file the owner and the group of the keeper, as far as that is allowed. It has to be one that this run has
+ * made: whoever may write the folder could have given the name of another to a file of somebody else. */
 static bool give_to_keeper(struct folder *folder, const struct part *part, int fd)
 {
     struct stat keeper, own;
@@ -346,9 +346,9 @@ static bool put_new_lock(struct folder *folder, const struct stage *fresh, const
     return answer == 0;
 }
 
-/* Where the lock is another's than the keeper's, as after a run by root or where the place was given away, and root runs
- * this, the lock becomes a new file of the keeper's. One that was found is never given away, and stays where it holds
- * anything: such a file is no lock that a run has made. */
+/* Where the lock is another's than the keeper's, as after a run by root or where the place was given away, and root
+ * runs this, the lock becomes a new file of the keeper's. One that was found is never given away, and stays where it
+ * holds anything: such a file is no lock that a run has made. */
 static enum minisign_error renew_lock(struct folder *folder)
 {
     struct stage fresh = folder->number;

@@ -69,8 +69,8 @@ bool say_trouble(const struct folder *folder);
  * Each answers MINISIGN_OK where it was done, and else why it failed.
  */
 
-/* Locks the place by the lock file: MINISIGN_PLACE_IN_USE where another run holds the lock. The lock file becomes that of
- * whoever may go on after this run, as far as that is allowed, but none that was found is given away. */
+/* Locks the place by the lock file: MINISIGN_PLACE_IN_USE where another run holds the lock. The lock file becomes that
+ * of whoever may go on after this run, as far as that is allowed, but none that was found is given away. */
 enum minisign_error lock_place(struct folder *folder);
 
 /* Removes the stages that killed runs have left, as far as they can be removed. */

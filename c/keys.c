@@ -19,6 +19,7 @@
 
 #include <sodium.h>
 
+#include "clearing.h"
 #include "ending.h"
 #include "files.h"
 #include "kinds.h"
@@ -156,18 +157,22 @@ static void say_work(const struct options *options)
 
 /* ---- Opening ---- */
 
-/* Asks the library for the key of the text: without its password, or with it. */
-static enum minisign_error ask(const struct options *options, uint32_t with_password)
+/* What was typed is needed no more. */
+static void clear_passwords(void)
+{
+    sodium_memzero(&secrets->password, sizeof secrets->password);
+    sodium_memzero(&secrets->again, sizeof secrets->again);
+}
+
+/* Opens the key of the text: without its password, or with it. */
+static enum minisign_error open_text(const struct options *options, uint32_t with_password)
 {
     uint32_t rows = options->rows, times = greatest_times(options);
     enum minisign_error error;
 
     do {
-        minisign_state state;
-
-        minisign_init(&state);
-        error = minisign_ask_signing(&state, secrets->text, secrets->text_len, with_password, secrets->password.bytes,
-                                     secrets->password.len, rows, times, &secrets->open);
+        error = minisign_open_secret_key(secrets->text, secrets->text_len, with_password, secrets->password.bytes,
+                                         secrets->password.len, rows, times, &secrets->open);
     } while (keep_fewer(error, &rows));
     return error;
 }
@@ -180,7 +185,7 @@ static enum minisign_error open_sealed(const struct options *options)
     fputs("Deriving a key from the password and decrypting the secret key... ", stdout);
     flush_file(stdout);
     begin_dots();
-    error = ask(options, 1);
+    error = open_text(options, 1);
     end_dots();
     fputs("done\n\n", stdout);
     flush_file(stdout);
@@ -190,26 +195,15 @@ static enum minisign_error open_sealed(const struct options *options)
     return error;
 }
 
-void keep_open_text(void)
-{
-    static const minisign_sealing unsealed;
-    enum minisign_error error =
-        minisign_make_secret_key(secrets->open.key_id, secrets->open.secret_key, 0, NULL, 0, &unsealed,
-                                 MINISIGN_KEEP_EVERY_ROW, NULL, 0, secrets->text, sizeof secrets->text,
-                                 &secrets->text_len);
-    if (error != MINISIGN_OK) {
-        fail(words_of(error));
-    }
-}
-
 void open_key(const struct options *options)
 {
     enum minisign_error error;
 
     read_secret_text(options->secret_file);
-    error = ask(options, 0);
+    error = open_text(options, 0);
     if (error == MINISIGN_KEY_SEALED) {
         error = open_sealed(options);
+        clear_passwords();
     }
     if (error == MINISIGN_OK) {
         return;
@@ -227,8 +221,9 @@ bool has_own_halves(void)
 {
     uint8_t *again = secrets->record, public_key[crypto_sign_PUBLICKEYBYTES];
 
-    crypto_sign_seed_keypair(public_key, again, secrets->open.secret_key);
-    return sodium_memcmp(again, secrets->open.secret_key, sizeof secrets->open.secret_key) == 0;
+    crypto_sign_seed_keypair(public_key, again, secrets->open.secret);
+    minisign_clear_used();
+    return sodium_memcmp(again, secrets->open.secret, sizeof secrets->open.secret) == 0;
 }
 
 /* ---- Texts of keys ---- */
@@ -259,10 +254,11 @@ static void make_text(const struct options *options, const uint8_t *comment, siz
         begin_dots();
     }
     do {
-        error = minisign_make_secret_key(secrets->open.key_id, secrets->open.secret_key, options->unsealed ? 0 : 1,
-                                         secrets->password.bytes, secrets->password.len, &sealing, rows, comment,
-                                         comment_len, secrets->text, sizeof secrets->text, &secrets->text_len);
+        error = minisign_secret_key_text(&secrets->open, options->unsealed ? 0 : 1, secrets->password.bytes,
+                                         secrets->password.len, &sealing, rows, comment, comment_len, secrets->text,
+                                         sizeof secrets->text, &secrets->text_len);
     } while (keep_fewer(error, &rows));
+    clear_passwords();
     if (!options->unsealed) {
         end_dots();
         fputs("done\n\n", stdout);
@@ -286,8 +282,8 @@ static void make_public_text(struct public_text *text)
     char comment[PUBLIC_COMMENT_BYTES];
     int len = snprintf(comment, sizeof comment, MINISIGN_PUBLIC_KEY_COMMENT "%" PRIX64, number_of_id(secrets->open.key_id));
     enum minisign_error error =
-        minisign_make_public_key(secrets->open.key_id, secrets->open.secret_key, (const uint8_t *) comment,
-                                 (size_t) len, text->bytes, sizeof text->bytes, &text->len);
+        minisign_public_key_text(&secrets->open, (const uint8_t *) comment, (size_t) len, text->bytes, sizeof text->bytes,
+                                 &text->len);
     if (error != MINISIGN_OK) {
         fail(words_of(error));
     }
@@ -365,11 +361,21 @@ static void put_pair(const struct options *options, const struct public_text *pu
 
 /* ---- Commands ---- */
 
+/* Draws a new key, which is open then. */
+static void draw_key(void)
+{
+    uint8_t *pair = secrets->record, public_key[crypto_sign_PUBLICKEYBYTES], key_id[sizeof secrets->open.key_id];
+
+    randombytes_buf(key_id, sizeof key_id);
+    crypto_sign_keypair(public_key, pair);
+    minisign_clear_used();
+    minisign_take_secret_key(key_id, pair, &secrets->open);
+}
+
 int generate_keys(const struct options *options)
 {
     const char *comment = options->comment != NULL ? options->comment : MINISIGN_SECRET_KEY_COMMENT;
     struct public_text public;
-    uint8_t public_key[crypto_sign_PUBLICKEYBYTES];
 
     if (strcmp(options->secret_file, options->public_file) == 0) {
         refuse_one_file(options->secret_file, options->public_file);
@@ -379,8 +385,7 @@ int generate_keys(const struct options *options)
     if (strpbrk(comment, "\r\n") != NULL) {
         fail("A comment is one line");
     }
-    randombytes_buf(secrets->open.key_id, sizeof secrets->open.key_id);
-    crypto_sign_keypair(public_key, secrets->open.secret_key);
+    draw_key();
     if (!options->unsealed) {
         ask_new_password();
     }

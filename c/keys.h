@@ -23,11 +23,11 @@
  * that are cleared when the program ends, also by a signal.
  */
 struct secrets {
-    /* The text of the file, and then that of the open key, or of what is written in the file's place. */
+    /* The text of the file, or of what is written in its place. */
     uint8_t text[SECRET_TEXT_BYTES];
     size_t text_len;
-    /* The secret key and its identifier, once it is open. */
-    minisign_signing open;
+    /* The secret key, once it is open. */
+    minisign_secret_key open;
     struct password password, again;
     /* What is decoded or made of it for a moment. */
     uint8_t record[SECRET_RECORD_BYTES];
@@ -44,9 +44,6 @@ void open_key(const struct options *options);
 
 /* Whether the two halves of the open key belong together: else each signature gives the secret one away. */
 bool has_own_halves(void);
-
-/* Makes the text in `secrets` that of the open key, so that one derivation is enough for many files. */
-void keep_open_text(void);
 
 /* Ends the program where this file, which is to be written, is that of the secret key: it would be lost. */
 void refuse_over_key(const struct options *options, const char *file);

@@ -62,8 +62,8 @@ static const struct front fronts[] = {
     FRONT("-----BEGIN ", "this is a text of PEM, as OpenSSL writes them"),
 };
 
-/* What binary OpenPGP is, by its first packet (RFC 9580, section 4.2): its header, of the old format or the new one, then
- * its length, and behind that the version. */
+/* What binary OpenPGP is, by its first packet (RFC 9580, section 4.2): its header, of the old format or the new one,
+ * then its length, and behind that the version. */
 static const char *what_of_openpgp(const uint8_t *text, size_t len)
 {
     bool is_new = len > 1 && (text[0] & 0xc0) == 0xc0, is_old = len > 1 && (text[0] & 0xc0) == 0x80 && (text[0] & 3) != 3;
@@ -159,7 +159,7 @@ static struct lines lines_of(const uint8_t *text, size_t len)
     return lines;
 }
 
-/* The bytes of a line of base64, and how many there are: 0 where it is no base64. */
+/* The bytes of a line of base64, and how many there are: 0 where it is not base64. */
 static size_t decode(uint8_t record[RECORD_ROOM], const struct line *line)
 {
     size_t made = 0;
@@ -262,15 +262,29 @@ static size_t lines_wanted(enum text_kind wanted)
     return wanted == SIGNATURE_TEXT ? 4 : 2;
 }
 
-/* Why a text is not the one that was wanted, in words that say where to look; NULL where the error says no more of it. */
+/* Why the base64 of a public key alone is none. */
+static void say_bare(const char *name, size_t len, enum minisign_error error)
+{
+    if (error == MINISIGN_BARE_PUBLIC_KEY_LENGTH) {
+        fprintf(stderr, "%s: a public key is %d characters long, and this is %zu\n", name, BARE_KEY_LETTERS, len);
+    } else {
+        fprintf(stderr, "%s: this is no public key: %s\n", name,
+                error == MINISIGN_NOT_UTF8                     ? "it is not UTF-8"
+                : error == MINISIGN_BARE_PUBLIC_KEY_NOT_BASE64 ? "it is not base64"
+                                                               : "it is too short");
+    }
+}
+
+/* Why a text is not the one that was wanted, in words that say where to look; NULL where the error says no more of
+ * it. */
 static const char *why_of(enum minisign_error error)
 {
     switch (error) {
     case MINISIGN_NOT_UTF8: return "it is not UTF-8";
     case MINISIGN_PUBLIC_KEY_LENGTH: return "its second line is too short or too long";
     case MINISIGN_PUBLIC_KEY_NOT_BASE64:
-    case MINISIGN_SECRET_KEY_NOT_BASE64: return "its second line is no base64";
-    case MINISIGN_SIGNATURE_NOT_BASE64: return "its second or its fourth line is no base64";
+    case MINISIGN_SECRET_KEY_NOT_BASE64: return "its second line is not base64";
+    case MINISIGN_SIGNATURE_NOT_BASE64: return "its second or its fourth line is not base64";
     case MINISIGN_RECORD_TOO_SHORT: return "its second line is too short";
     case MINISIGN_KEY_CORRUPTED: return "its checksum is wrong";
     case MINISIGN_UNTRUSTED_COMMENT_PREFIX: return "its first line begins otherwise";
@@ -287,9 +301,14 @@ void say_kind(const char *name, const uint8_t *text, size_t len, enum text_kind 
 {
     struct lines lines = lines_of(text, len);
     const char *kind = name_of_kind(wanted), *what = what_of_others(text, len), *why = why_of(error);
-    bool is_meant = says_so(&lines, wanted) || error == MINISIGN_KEY_CORRUPTED;
+    bool is_meant;
 
     name = visible(name);
+    if (wanted == BARE_KEY_TEXT) {
+        say_bare(name, len, error);
+        return;
+    }
+    is_meant = says_so(&lines, wanted) || error == MINISIGN_KEY_CORRUPTED;
     if (what == NULL) {
         what = what_of_ours(&lines, wanted);
     }

@@ -15,11 +15,12 @@
 /* Draws the name of a stage. */
 void draw_stage_name(char name[STAGE_NAME_BYTES]);
 
-/* Locks a stage that was made, for as long as it is open: false where another run has locked it, which is about to remove it.
- * Where the file system has no locks it stays without one, and then no run removes it. */
+/* Locks a stage that was made, for as long as it is open: false where another run has locked it, which is about to
+ * remove it. Where the file system has no locks it stays without one, and then no run removes it. */
 bool lock_stage(int fd);
 
-/* Removes the stages in a folder that no run has locked, as far as they can be removed; of each folder once in a run. */
+/* Removes the stages in a folder that no run has locked, as far as they can be removed; of each folder once in a
+ * run. */
 void remove_leftovers(int folder);
 
 #endif

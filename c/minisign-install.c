@@ -4,8 +4,8 @@
  *
  * The machine of minisign.h says which call is due, and judges: the texts, the data as it was staged, and the comment
  * that was signed with it. This program makes the call that is due (folder.h) and tells how it went; libsodium says
- * what Ed25519 accepts. Nothing here decides what comes next, what is refused or what is removed. Before the first call,
- * which locks the place, it receives data that may stand still, as that of a pipe.
+ * what Ed25519 accepts. Nothing here decides what comes next, what is refused or what is removed. Before the first
+ * call, which locks the place, it receives data that may stand still, as that of a pipe.
  */
 #define _POSIX_C_SOURCE 200809L
 
@@ -53,7 +53,8 @@ struct data {
     struct steps verified;
 };
 
-static struct text key, signature;
+static minisign_public_key key;
+static struct text signature;
 static uint8_t piece[PIECE_BYTES];
 
 /* ---- Files that are read ---- */
@@ -104,6 +105,15 @@ static void read_text(struct text *text, const char *file)
     if (!is_text(text->bytes, text->len)) {
         refuse_file(file, "it is no text in UTF-8");
     }
+}
+
+/* Reads the public key of a file; a text that is none is the library's to name. */
+static enum minisign_error read_key(const char *file)
+{
+    static struct text text;
+
+    read_text(&text, file);
+    return minisign_read_public_key(text.bytes, text.len, &key);
 }
 
 static struct data open_data(const struct request *request)
@@ -173,8 +183,8 @@ static ssize_t read_data(struct data *data)
     return n;
 }
 
-/* Receives data that may stand still into a file of its own, from which it is copied then: so the lock is held for no longer
- * than the work takes, whoever feeds a pipe. */
+/* Receives data that may stand still into a file of its own, from which it is copied then: so the lock is held for no
+ * longer than the work takes, whoever feeds a pipe. */
 static enum minisign_error receive_data(struct data *data, const struct request *request, struct folder *folder)
 {
     struct stage held;
@@ -243,10 +253,10 @@ static void answer(minisign_installation *machine, const struct request *request
 {
     static uint8_t message[TEXT_BYTES];
     const char *name = wanted_name(request, folder);
-    minisign_external q;
+    minisign_questions q;
 
-    if (minisign_install_ask(machine, key.bytes, key.len, signature.bytes, signature.len, (const uint8_t *) name,
-                             strlen(name), &q, message, sizeof message)
+    if (minisign_install_ask(machine, &key, signature.bytes, signature.len, (const uint8_t *) name, strlen(name), &q, message,
+                             sizeof message)
         == MINISIGN_OK) {
         enum minisign_answer first = answer_of(q.signature, q.digest, sizeof q.digest, q.public_key);
         enum minisign_answer second = answer_of(q.comment_signature, message, q.message_len, q.public_key);
@@ -318,8 +328,6 @@ static enum status status_of(enum minisign_error error)
 /* The path of the file that an error is about. */
 static const char *blamed(const struct request *request, enum minisign_error error)
 {
-    uint8_t public_key[32], key_id[8];
-
     switch (error) {
     case MINISIGN_SIGNATURE_REFUSED:
     case MINISIGN_OLDER_UPDATE: return request->data;
@@ -333,10 +341,17 @@ static const char *blamed(const struct request *request, enum minisign_error err
     case MINISIGN_KEPT_BY_TIMESTAMP:
     case MINISIGN_KEPT_BY_VERSION:
     case MINISIGN_FOLDER_NOT_ON_DISK: return request->place;
-    default:
-        return minisign_read_public_key(key.bytes, key.len, public_key, key_id) == MINISIGN_OK ? request->signature
-                                                                                              : request->key;
+    default: return request->signature;
     }
+}
+
+/* Says of a file what an error of the library means. */
+static void say_error(const char *file, enum minisign_error error)
+{
+    char text[MINISIGN_ERROR_TEXT_BYTES];
+
+    minisign_error_text(error, text, sizeof text);
+    say(file, text);
 }
 
 /* Says of a file why the update is refused, and what may be done about it. */
@@ -356,7 +371,7 @@ static void say_refused(const struct request *request, const struct folder *fold
     case MINISIGN_OTHER_FILE:
         say_more(file, text, wanted_name(request, folder), " is wanted, by the place or `--name`");
         break;
-    default: say(file, text);
+    default: say_error(file, error);
     }
 }
 
@@ -416,7 +431,11 @@ int main(int argc, char *argv[])
         say(request.place, "libsodium could not be started");
         return FAILED;
     }
-    read_text(&key, request.key);
+    error = read_key(request.key);
+    if (error != MINISIGN_OK) {
+        say_error(request.key, error);
+        return status_of(error);
+    }
     read_text(&signature, request.signature);
     data = open_data(&request);
     error = data.is_regular ? MINISIGN_OK : receive_data(&data, &request, &folder);

@@ -3,10 +3,10 @@
  * minisign: what Minisign 0.11 does, with its flags, questions, messages, files and exit statuses.
  *
  * The library behind minisign.h reads and writes the texts of keys and signatures, hashes the data, derives keys from
- * passwords and gives the verdict. libsodium has Ed25519, random bytes and memory for secrets. The files beside this one
- * read the command line (options), ask for passwords (terminal), open, make and change keys (keys), sign (signing),
- * verify (verifying), read data (reading), say what a text is where it is a wrong one (kinds), find the places of
- * files (places) and replace files in one step (replacing).
+ * passwords and gives the verdict. libsodium has Ed25519, random bytes and memory for secrets. The files beside this
+ * one read the command line (options), ask for passwords (terminal), open, make and change keys (keys), sign (signing),
+ * verify (verifying), read data (reading), say what a text is where it is a wrong one (kinds), find the places of files
+ * (places) and replace files in one step (replacing).
  */
 #include <sodium.h>
 

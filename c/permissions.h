@@ -1,8 +1,8 @@
 /* SPDX-License-Identifier: MIT */
 /*
- * The permissions of a file that takes the place of an older one: owner, group, the nine bits of the mode, and the access
- * control list. A call that a signal interrupts is made again. What is answered is whether it was done, or else why not
- * by errno.
+ * The permissions of a file that takes the place of an older one: owner, group, the nine bits of the mode, and the
+ * access control list. A call that a signal interrupts is made again. What is answered is whether it was done, or else
+ * why not by errno.
  */
 #ifndef PERMISSIONS_H
 #define PERMISSIONS_H
@@ -37,12 +37,12 @@ bool read_permissions_of(struct permissions *older, int fd);
 void replace_mode(struct permissions *older, mode_t mode);
 
 /*
- * Gives a new file, which is open, those of an older one. A list that it has inherited from its folder is taken off. Owner
- * and group are given as far as the system allows that.
+ * Gives a new file, which is open, those of an older one. A list that it has inherited from its folder is taken off.
+ * Owner and group are given as far as the system allows that.
  *
  * Where it does not allow the group, or the list could not be read or be copied, the new file's group gets nothing. All
- * others then get at most what each had whom the older file did not hold for its owner: the group, and each user and group
- * in the list.
+ * others then get at most what each had whom the older file did not hold for its owner: the group, and each user and
+ * group in the list.
  */
 bool give_permissions(int fd, const struct permissions *older);
 

@@ -50,8 +50,8 @@ void leave_place(struct place *place)
 
 /* ---- Links ---- */
 
-/* Whether the system would follow this link of the folder. As with its setting protected_symlinks, that of a stranger is
- * not followed in a folder where all may write and only owners may remove. errno says why not. */
+/* Whether the system would follow this link of the folder. As with its setting protected_symlinks, that of a stranger
+ * is not followed in a folder where all may write and only owners may remove. errno says why not. */
 static bool may_follow(int folder, const struct stat *link)
 {
     struct statvfs mount;
@@ -72,7 +72,8 @@ static bool may_follow(int folder, const struct stat *link)
     return true;
 }
 
-/* What a name in the folder is: a link, of which the text is copied to the target, or none; or errno says why it is not known. */
+/* What a name in the folder is: a link, of which the text is copied to the target, or none; or errno says why it is not
+ * known. */
 enum step { IS_LINK, IS_NO_LINK, IS_UNKNOWN };
 
 static enum step read_link(const struct place *place, const char *name, char target[TARGET_BYTES])

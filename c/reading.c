@@ -18,9 +18,7 @@ static uint8_t piece[TAGGED_BYTES];
 
 struct data open_data(const char *file)
 {
-    struct data data = { .file = file, .fd = open_file(file) };
-    minisign_init(&data.state);
-    return data;
+    return (struct data) { .file = file, .fd = open_file(file) };
 }
 
 /* Remembers the piece that was read. The room for tags doubles whenever their number is a power of two. */
@@ -43,20 +41,20 @@ static bool can_be_read_again(const struct data *data)
     return lseek(data->fd, 0, SEEK_CUR) == 0 && lseek(data->fd, 0, SEEK_END) > 0 && lseek(data->fd, 0, SEEK_SET) == 0;
 }
 
-void read_data(struct data *data, enum wanted wanted)
+void read_data(struct data *data, minisign_state *state, enum wanted wanted)
 {
     struct progress progress = begin_progress(data->fd, visible(data->file));
     size_t room = wanted == A_COPY_LATER ? TAGGED_BYTES : PIECE_BYTES, len;
 
     if (wanted == ALL_BYTES || (wanted == A_COPY_LATER && !can_be_read_again(data))) {
         data->held = hold_file(data->fd, data->file);
-        feed(&data->state, data->held.bytes, data->held.len);
+        feed(state, data->held.bytes, data->held.len);
     } else {
         if (wanted == A_COPY_LATER) {
             draw_tag_key();
         }
         while ((len = read_full(data->fd, data->file, piece, room)) > 0) {
-            feed(&data->state, piece, len);
+            feed(state, piece, len);
             if (wanted == A_COPY_LATER) {
                 remember(data, len);
             }

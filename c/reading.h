@@ -14,13 +14,12 @@
 #include "tags.h"
 
 /*
- * A file of data: a state that was fed all of it, and either all of its bytes, or, where it is to be read a second
- * time, how many there were and a tag of each piece.
+ * A file of data: all of its bytes where they are held, or, where it is to be read a second time, how many there were
+ * and a tag of each piece.
  */
 struct data {
     const char *file;
     int fd;
-    minisign_state state;
     struct held held;
     uint64_t size;
     struct tag *tags;
@@ -32,8 +31,8 @@ enum wanted { DIGEST_ALONE, ALL_BYTES, A_COPY_LATER };
 
 struct data open_data(const char *file);
 
-/* Reads the data from where its file stands to the end. */
-void read_data(struct data *data, enum wanted wanted);
+/* Feeds the data to the state, from where its file stands to the end. */
+void read_data(struct data *data, minisign_state *state, enum wanted wanted);
 
 /* Writes to the standard output what was read, and nothing else: each piece of a file that was not held is read once
  * more, and is written only where its tag is what it was. False where the file has changed. */

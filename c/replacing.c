@@ -159,7 +159,8 @@ static struct stage *free_stage(void)
     fail("too many files at once");
 }
 
-/* Closes what a stage has open; where it has a name beside its place still, it loses that, or else when the program ends. */
+/* Closes what a stage has open; where it has a name beside its place still, it loses that, or else when the program
+ * ends. */
 static void forget(struct stage *stage)
 {
     stage->partner = NULL;
@@ -197,7 +198,8 @@ static bool open_unnamed(struct stage *stage, mode_t mode)
     return fd >= 0;
 }
 
-/* Opens and locks a new file beside the place, of a name that nothing has. Another run may remove it before it is locked. */
+/* Opens and locks a new file beside the place, of a name that nothing has. Another run may remove it before it is
+ * locked. */
 static bool open_named(struct stage *stage, mode_t mode)
 {
     for (int i = 0; i < MOST_NAMES; i++) {
@@ -331,7 +333,8 @@ static void settle_stages(void)
 
 /* ---- Putting in place ---- */
 
-/* A stage was put in its place, or an older file is there that is to stay, or it cannot be put there: errno says why. */
+/* A stage was put in its place, or an older file is there that is to stay, or it cannot be put there: errno says
+ * why. */
 enum put { PUT, TAKEN, NOT_PUT };
 
 /* Renames a stage that has a name. */
@@ -431,8 +434,8 @@ void replace_file(const char *file, enum kind kind, const uint8_t *bytes, size_t
 
 /* ---- Two that belong together ---- */
 
-/* Puts a stage in the place of an older file, which gets the stage's name until its partner is in its own place. It is locked
- * as stages are. False where the file system does not exchange names. */
+/* Puts a stage in the place of an older file, which gets the stage's name until its partner is in its own place. It is
+ * locked as stages are. False where the file system does not exchange names. */
 static bool exchange_stage(struct stage *stage)
 {
     if (!stage->is_named && !name_stage(stage)) {
@@ -447,7 +450,8 @@ static bool exchange_stage(struct stage *stage)
     return false;
 }
 
-/* Puts a stage in its place in such a way that it loses that again where the program ends before its partner has its own. */
+/* Puts a stage in its place in such a way that it loses that again where the program ends before its partner has its
+ * own. */
 static enum put put_with_partner(struct stage *stage, struct stage *partner, bool over_older)
 {
     if (stage->fd < 0) {

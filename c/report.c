@@ -28,7 +28,7 @@ void say_answer(const char *file, int number)
 /* This is the first thing that the library says of any text. */
 bool is_text(const uint8_t *bytes, size_t len)
 {
-    uint8_t public_key[32], key_id[8];
+    minisign_public_key key;
 
-    return minisign_read_public_key(bytes, len, public_key, key_id) != MINISIGN_NOT_UTF8;
+    return minisign_read_public_key(bytes, len, &key) != MINISIGN_NOT_UTF8;
 }

@@ -16,6 +16,7 @@
 
 #include <sodium.h>
 
+#include "clearing.h"
 #include "files.h"
 #include "keys.h"
 #include "reading.h"
@@ -43,8 +44,8 @@ static const char *default_comment(const char *data_file, bool legacy)
     return comment;
 }
 
-/* Ends the program where the last part of the file's name cannot stand in the trusted comment by default: it is no comment that
- * the user has given. */
+/* Ends the program where the last part of the file's name cannot stand in the trusted comment by default: it is no
+ * comment that the user has given. */
 static void expect_comment(const char *data_file, bool legacy)
 {
     const char *slash = strrchr(data_file, '/'), *name = slash == NULL ? data_file : slash + 1, *why = NULL;
@@ -84,7 +85,8 @@ static void stop_at(enum minisign_error error)
 /* The signature of Ed25519 on bytes that the library asked about. */
 static void sign(uint8_t signature[64], const uint8_t *bytes, size_t len)
 {
-    crypto_sign_detached(signature, NULL, bytes, len, secrets->open.secret_key);
+    crypto_sign_detached(signature, NULL, bytes, len, secrets->open.secret);
+    minisign_clear_used();
 }
 
 /*
@@ -97,23 +99,22 @@ static void turn_legacy(struct text *made)
     end[2] = 'W';
 }
 
-/* Signs what the library asks about the data, and makes the text of the signature. */
-static void make_signature(struct text *made, struct data *data, const struct options *options,
+/* Signs the data that the state was fed, and makes the text of the signature. */
+static void make_signature(struct text *made, minisign_state *state, const struct data *data, const struct options *options,
                            const struct comments *comments)
 {
     static uint8_t message[64 + TEXT_BYTES];
-    uint8_t first[64], second[64];
+    uint8_t digest[64], first[64], second[64];
 
-    stop_at(minisign_ask_signing(&data->state, secrets->text, secrets->text_len, 0, NULL, 0,
-                                 MINISIGN_KEEP_EVERY_ROW, MINISIGN_USUAL_WORK, &secrets->open));
+    stop_at(minisign_digest(state, digest));
     if (options->legacy) {
         sign(first, data->held.bytes, data->held.len);
     } else {
-        sign(first, secrets->open.digest, sizeof secrets->open.digest);
+        sign(first, digest, sizeof digest);
     }
     stop_at(minisign_comment_message(first, comments->trusted, comments->trusted_len, message, sizeof message));
     sign(second, message, 64 + comments->trusted_len);
-    stop_at(minisign_signed_text(&data->state, first, second, comments->trusted, comments->trusted_len,
+    stop_at(minisign_signed_text(&secrets->open, first, second, comments->trusted, comments->trusted_len,
                                  comments->untrusted, comments->untrusted_len, made->bytes, sizeof made->bytes,
                                  &made->len));
     if (options->legacy) {
@@ -121,14 +122,17 @@ static void make_signature(struct text *made, struct data *data, const struct op
     }
 }
 
-/* Ends the program where the text does not vouch for the data under the public key, and says which key is to blame. */
+/* Ends the program where the text does not vouch under the public key for the data that the state was fed, and says
+ * which key is to blame. */
 static void verify_signature(const struct options *options, const minisign_state *fed, const struct text *made,
-                             const struct data *data, const struct text *public)
+                             const struct data *data, const minisign_public_key *public)
 {
-    static const struct options any = { 0 };
     minisign_state state = *fed;
-    enum minisign_error error = judge(&state, public, made, &any, &data->held);
+    enum minisign_error error = ask(&state, public, made, true);
 
+    if (error == MINISIGN_OK) {
+        error = judge(&state, &data->held);
+    }
     if (error == MINISIGN_OK) {
         return;
     }
@@ -143,12 +147,12 @@ static void verify_signature(const struct options *options, const minisign_state
 
 /* Signs a file, and verifies the signature with a public key where there is one. */
 static void sign_file(const struct options *options, const char *data_file, const char *signature_file,
-                      const struct text *public)
+                      const minisign_public_key *public)
 {
     static struct text made;
     struct comments comments = comments_of(options, data_file);
     struct data data;
-    minisign_state fed;
+    minisign_state state, fed;
 
     refuse_over_key(options, signature_file);
     replace_before_reading(data_file);
@@ -156,9 +160,10 @@ static void sign_file(const struct options *options, const char *data_file, cons
     if (options->trusted_comment == NULL) {
         expect_comment(data_file, options->legacy);
     }
-    read_data(&data, options->legacy ? ALL_BYTES : DIGEST_ALONE);
-    fed = data.state;
-    make_signature(&made, &data, options, &comments);
+    minisign_init(&state);
+    read_data(&data, &state, options->legacy ? ALL_BYTES : DIGEST_ALONE);
+    fed = state;
+    make_signature(&made, &state, &data, options, &comments);
     if (public != NULL) {
         verify_signature(options, &fed, &made, &data, public);
     }
@@ -166,39 +171,30 @@ static void sign_file(const struct options *options, const char *data_file, cons
     close_data(&data);
 }
 
-/* The public key with which the first signature is verified: the one among the options, or else the secret key's own. */
-static void load_public(struct text *public, const struct options *options)
+/* The public key with which the first signature is verified: the one among the options, or else the secret key's
+ * own. */
+static minisign_public_key public_key_for(const struct options *options)
 {
-    uint8_t key[32], key_id[8];
+    minisign_public_key public;
 
     if (options->public_key != NULL || options->public_file != NULL) {
-        enum minisign_error error;
-
-        load_public_key(public, options);
-        error = minisign_read_public_key(public->bytes, public->len, key, key_id);
-        if (error != MINISIGN_OK) {
-            fprintf(stderr, "%s\n", words_of(error));
-            say_which(options, public, NULL, NULL, error);
-            exit(TROUBLE);
-        }
-    } else {
-        stop_at(minisign_make_public_key(secrets->open.key_id, secrets->open.secret_key, NULL, 0, public->bytes,
-                                         sizeof public->bytes, &public->len));
+        return load_public_key(options);
     }
+    stop_at(minisign_public_key_of(&secrets->open, &public));
+    return public;
 }
 
 int sign_files(const struct options *options)
 {
-    static struct text public;
     const char *first = options->signature_file;
+    minisign_public_key public;
 
     if ((options->trusted_comment != NULL && strpbrk(options->trusted_comment, "\r\n") != NULL)
         || (options->comment != NULL && strpbrk(options->comment, "\r\n") != NULL)) {
         fail("A comment is one line");
     }
     open_key(options);
-    keep_open_text();
-    load_public(&public, options);
+    public = public_key_for(options);
     sign_file(options, options->data_file, first != NULL ? first : name_beside(options->data_file, ".minisig"), &public);
     for (char *const *file = options->further_files; *file != NULL; file++) {
         sign_file(options, *file, name_beside(*file, ".minisig"), NULL);

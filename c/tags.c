@@ -1,12 +1,12 @@
 /* SPDX-License-Identifier: MIT */
 /*
- * Tags of the pieces of data that is read twice. Blake2b of the first reading says that the data is what was signed; that
- * the second reading gave the same needs less. A tag takes less than a tenth of its time.
+ * Tags of the pieces of data that is read twice. Blake2b of the first reading says that the data is what was signed;
+ * that the second reading gave the same needs less. A tag takes less than a tenth of its time.
  *
- * NH is the hash of the same name inside UMAC (Black, Halevi, Krawczyk, Krovetz and Rogaway, "UMAC: Fast and Secure Message
- * Authentication", 1999), with words of 64 bits: under a random key two messages of one length that differ have the same
- * sum with a probability of at most 2 to the -64. Here it is taken of each block of a piece, and then, under a key of its
- * own, of these sums, so that the key stays short.
+ * NH is the hash of the same name inside UMAC (Black, Halevi, Krawczyk, Krovetz and Rogaway, "UMAC: Fast and Secure
+ * Message Authentication", 1999), with words of 64 bits: under a random key two messages of one length that differ have
+ * the same sum with a probability of at most 2 to the -64. Here it is taken of each block of a piece, and then, under a
+ * key of its own, of these sums, so that the key stays short.
  */
 #include "tags.h"
 
@@ -29,7 +29,8 @@ void draw_tag_key(void)
     randombytes_buf(&keys, sizeof keys);
 }
 
-/* The sum over pairs of words, to each of which its word of the key is added; a last part of a pair is filled with zeros. */
+/* The sum over pairs of words, to each of which its word of the key is added; a last part of a pair is filled with
+ * zeros. */
 static sum nh(const uint64_t *key, const uint8_t *bytes, size_t len)
 {
     sum made = 0;

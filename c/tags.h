@@ -1,8 +1,8 @@
 /* SPDX-License-Identifier: MIT */
 /*
  * Tags of the pieces of data that is read twice. Two readings of a piece have the same tag where they are the same, and
- * else with a probability of at most 2 to the -63, whoever chose them: the key of the tags is drawn at random, and neither
- * it nor a tag leaves the process.
+ * else with a probability of at most 2 to the -63, whoever chose them: the key of the tags is drawn at random, and
+ * neither it nor a tag leaves the process.
  */
 #ifndef TAGS_H
 #define TAGS_H

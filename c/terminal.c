@@ -45,8 +45,8 @@ static bool is_awaited(int number)
     return is_stop(number) || (ends_program(number) && !is_crash(number));
 }
 
-/* In the background the system stops the program here (SIGTTOU), until it is in the foreground: the terminal is another's
- * until then, and so are its modes. */
+/* In the background the system stops the program here (SIGTTOU), until it is in the foreground: the terminal is
+ * another's until then, and so are its modes. */
 static void wait_for_foreground(void)
 {
     tcflush(STDIN_FILENO, TCIFLUSH);

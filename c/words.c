@@ -16,6 +16,8 @@ const char *words_of(enum minisign_error error)
         return "Error while loading the public key file";
     case MINISIGN_PUBLIC_KEY_LENGTH:
     case MINISIGN_PUBLIC_KEY_NOT_BASE64:
+    case MINISIGN_BARE_PUBLIC_KEY_LENGTH:
+    case MINISIGN_BARE_PUBLIC_KEY_NOT_BASE64:
         return "base64 conversion failed - was an actual public key given?";
     case MINISIGN_MISSING_UNTRUSTED_COMMENT:
     case MINISIGN_MISSING_SIGNATURE:
@@ -147,7 +149,8 @@ size_t show_character(char shown[SHOWN_BYTES], const uint8_t *text, size_t len, 
     return *bytes;
 }
 
-/* Writes a name as it is shown where there is room, and answers how many bytes it takes; `same` says whether as it stands. */
+/* Writes a name as it is shown where there is room, and answers how many bytes it takes; `same` says whether as it
+ * stands. */
 static size_t show_name(char *room, const char *name, bool *same)
 {
     const uint8_t *text = (const uint8_t *) name;

@@ -1,6 +1,7 @@
 /* SPDX-License-Identifier: MIT */
 /*
- * What Minisign says, for the errors of the library and for identifiers, and texts of others as they are shown to a person.
+ * What Minisign says, for the errors of the library and for identifiers, and texts of others as they are shown to a
+ * person.
  */
 #ifndef WORDS_H
 #define WORDS_H
@@ -23,8 +24,8 @@ uint64_t number_of_id(const uint8_t id[8]);
 
 /*
  * Writes the first character of a text as it is shown: control characters other than a tab, and those that turn the
- * direction of writing, as \u{1b}, and a byte that is no UTF-8 as \xff. Answers how many bytes that takes, and how many of the
- * text were shown.
+ * direction of writing, as \u{1b}, and a byte that is no UTF-8 as \xff. Answers how many bytes that takes, and how many
+ * of the text were shown.
  */
 size_t show_character(char shown[SHOWN_BYTES], const uint8_t *text, size_t len, size_t *bytes);
 
@@ -32,7 +33,8 @@ size_t show_character(char shown[SHOWN_BYTES], const uint8_t *text, size_t len, 
 bool is_utf8(const uint8_t *text, size_t len);
 bool ends_with_space(const uint8_t *text, size_t len);
 
-/* The name of a file as it is shown so, a tab too: itself where there is nothing to be made visible, or in memory of malloc. */
+/* The name of a file as it is shown so, a tab too: itself where there is nothing to be made visible, or in memory of
+ * malloc. */
 const char *visible(const char *name);
 
 #endif

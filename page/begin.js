@@ -1,6 +1,6 @@
 // SPDX-License-Identifier: MIT
 // The begin: what the browser lacks is said; otherwise the library is loaded, and the page takes what it is given. The same
-// script is begun once more in the thread that verifies, which has no document.
+// script is begun once more in the threads that hash, which have no document.
 
 // The shortest module with a memory of 32-bit addresses and a function that takes a number of 64 bits.
 const SHORTEST = Uint8Array.of(0, 97, 115, 109, 1, 0, 0, 0, 1, 5, 1, 96, 1, 126, 0, 5, 3, 1, 0, 1);
@@ -38,7 +38,7 @@ async function begin(script) {
     refuse("This browser does not run the proved library, so this page verifies nothing in it. A newer browser may run it.");
     return;
   }
-  engineBegun = beginEngine(script, library);
+  engineBegun = beginEngine(script);
   showBuiltIn();
   listen();
   at("lacking").hidden = true;

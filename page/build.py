@@ -6,6 +6,7 @@ it, that loads nothing.
 
     page/build.py [--key LETTERS] [--title TITLE] [--from PAGE] [OUT]
     page/build.py --sources
+    page/build.py --package [OUT]
 
 OUT is the page, `page/minisign.html` where none is named. It has the script, the style and the module in it, and a policy
 that allows exactly these. With --key it has this public key, a line of 56 letters, and takes no other; --title is its
@@ -40,9 +41,12 @@ import needs
 import proved
 
 CRATE = "minisign_page"
-# A stack of 1 MiB, and 2 MiB for what the page copies in and out.
-MEMORY = 3 * 1048576
-SCRIPTS = ("library.js", "engine.js", "ed25519.js", "texts.js", "words.js", "page.js", "rows.js", "begin.js")
+# A stack of 1 MiB, and 5 MiB for what is copied in and out: a piece of the data of 4 MiB, and texts.
+MEMORY = 6 * 1048576
+PACKAGE = "bindings/javascript"
+# The scripts, in their order: the modules of the package for JavaScript but for its own calls, and the page around them.
+SCRIPTS = (*(f"{PACKAGE}/{name}" for name in ("calls.js", "ed25519.js", "verification.js")),
+           *(f"page/{name}" for name in ("engine.js", "texts.js", "words.js", "page.js", "rows.js", "begin.js")))
 TITLE = "Verify a download"
 KEY_LETTERS = 56
 KEY_BYTES = 42
@@ -59,17 +63,22 @@ class NotPossible(Exception):
 # ---- The sources ----
 
 
-def read(name):
-    """The text of one of the page's sources."""
-    with open(os.path.join(HERE, name), encoding="utf-8") as file:
+def read(path):
+    """The text of one of the sources, by its path in the repository."""
+    with open(os.path.join(TOP, path), encoding="utf-8") as file:
         return file.read()
+
+
+def script_of(path):
+    """A script as it stands in the page, where all are one: a module without what it takes in, and without `export`."""
+    return re.sub(r"(?m)^export ", "", re.sub(r"(?m)^import .*;\n", "", read(path)))
 
 
 def sources():
     """The paths of all that the page is made from, in their order: page/, and the crates of its library."""
     crates = [*proved.crates()[CRATE].below, CRATE]
     found = ["LICENSE", "crates.txt", "include/minisign.h", "page/build.py", "page/page.css", "page/page.html"]
-    found += [f"page/{name}" for name in SCRIPTS]
+    found += SCRIPTS
     for crate in crates:
         for part in ("src", "specs"):
             for folder, _, names in os.walk(os.path.join(TOP, "crates", crate, part)):
@@ -175,21 +184,29 @@ def checked_key(letters):
 
 def page(module, by, key="", title=TITLE):
     """The page around a module for 32 bits that was made by this program, with this key built in, if there is one."""
-    scripts = "\n".join(read(name) for name in SCRIPTS)
+    scripts = "\n".join(map(script_of, SCRIPTS))
     constants = [f'const MODULE = "{base64.b64encode(module).decode()}";', f"const LOWERED_BY = {json.dumps(by)};",
                  f'const BUILT_IN_KEY = "{key and checked_key(key)}";']
     script = "\n".join(['"use strict";', *constants, scripts])
-    style = read("page.css")
+    style = read("page/page.css")
     with open(os.path.join(TOP, "LICENSE"), encoding="utf-8") as file:
         licence = file.read().strip()
     parts = {"policy": policy(script, style), "style": style, "script": script, "title": html.escape(title),
              "licence": licence, "version": version(), "sources": hashlib.sha256(source_lines().encode()).hexdigest(),
              "lowering": html.escape(by)}
-    return re.sub(r"\{\{(\w+)\}\}", lambda found: parts[found[1]], read("page.html"))
+    return re.sub(r"\{\{(\w+)\}\}", lambda found: parts[found[1]], read("page/page.html"))
+
+
+def package_module(module, by):
+    """The module as one of the package for JavaScript."""
+    return f"""// SPDX-License-Identifier: MIT
+// Made by page/build.py: the proved module, of which {by} made one for a memory of 32 bits, in base64.
+export const MODULE = "{base64.b64encode(module).decode()}";
+"""
 
 
 def write(out, text):
-    """Writes a page, and says its length and its sum."""
+    """Writes a page or a module, and says its length and its sum."""
     data = text.encode()
     with open(out, "wb") as file:
         file.write(data)
@@ -203,8 +220,8 @@ def options(words):
     parser.add_argument("--title", default=TITLE, metavar="TITLE", help="the page's heading")
     parser.add_argument("--from", dest="built", metavar="PAGE", help="a page that was built before, whose module is taken")
     parser.add_argument("--sources", action="store_true", help="print the sums of the sources, and write no page")
-    parser.add_argument("out", nargs="?", default=os.path.join(HERE, "minisign.html"), metavar="OUT",
-                        help="the page that is written")
+    parser.add_argument("--package", action="store_true", help="write the module of the package for JavaScript, and no page")
+    parser.add_argument("out", nargs="?", metavar="OUT", help="the page that is written, or the module")
     return parser.parse_args(words)
 
 
@@ -214,9 +231,13 @@ def main(words):
         sys.stdout.write(source_lines())
         return 0
     try:
+        if asked.package:
+            module, by = taken_from(asked.built or os.path.join(TOP, "dist", "minisign.html"))
+            write(os.path.abspath(asked.out or os.path.join(TOP, PACKAGE, "module.js")), package_module(module, by))
+            return 0
         key = asked.key and checked_key(asked.key)
         module, by = taken_from(asked.built) if asked.built else (lowered(proved_module()), lowering())
-        write(os.path.abspath(asked.out), page(module, by, key, asked.title))
+        write(os.path.abspath(asked.out or os.path.join(HERE, "minisign.html")), page(module, by, key, asked.title))
     except (NotPossible, needs.Missing, proved.NotBuilt, OSError) as why:
         print(f"page/build.py: {why}", file=sys.stderr)
         return 1

@@ -1,13 +1,17 @@
 // SPDX-License-Identifier: MIT
-// Where the library verifies: in a thread of its own, to which the page's script is given once more, so that reading a file
-// and hashing it go on side by side and the page answers meanwhile. Where the browser, or whoever serves the page, allows no
-// such thread, it verifies in the page's own.
+// Where data is hashed: in two threads, to which the page's script is given once more. They take turns: while one hashes a
+// slice of the file, the other reads the next one to where the module takes it from, and the state goes from one to the other.
+// Where the browser, or whoever serves the page, allows no such threads, all is done in the page's own.
 
-// How long the thread may take to say that it is there, in milliseconds.
+// How long a thread may take to say that it is there, in milliseconds.
 const MOST_MILLISECONDS = 10000;
+const THREADS = 2;
+// What a thread hashes before there is a file, and how often, so that the browser makes its better code of the module meanwhile.
+const WARMING_BYTES = 262144;
+const WARMING_TIMES = 8;
 
-// Whether this is Firefox, which alone has such errors. Its ports copy what is posted, which takes a fifth of the time of
-// hashing it; but it gives back at once what a buffer leaves behind that is cut to nothing, which Chromium keeps.
+// Whether this is Firefox, which alone has such errors. It gives back at once what a buffer leaves behind that is cut to
+// nothing, which Chromium keeps.
 const IS_FIREFOX = typeof InternalError === "function";
 
 // ---- In the thread ----
@@ -25,17 +29,45 @@ function giveBack(bytes) {
   port1.close();
 }
 
-// Answers the page's calls, one after another.
+// Puts a slice of a file where the library takes it from: whether all of it was read.
+function placeSlice(own, file, begin, end) {
+  try {
+    const bytes = new Uint8Array(new FileReaderSync().readAsArrayBuffer(file.slice(begin, end)));
+    const isWhole = bytes.length === Math.min(end, file.size) - begin;
+    if (isWhole) {
+      own.place(bytes);
+    }
+    giveBack(bytes);
+    return isWhole;
+  } catch {
+    return false;
+  }
+}
+
+// Answers the page: a file and where its slice begins is read; a state is fed that slice and goes back, or nothing where the
+// slice was not read, and then the thread's next slice is read.
 async function serve() {
   const own = await Library.load(moduleBytes());
-  onmessage = ({data: {name, passed}}) => {
-    const result = own[name](...passed);
-    if (name === "feed") {
-      giveBack(passed[0]);
-    }
-    postMessage({result});
+  const slice = own.pieceBytes;
+  for (let times = 0; times < WARMING_TIMES; times += 1) {
+    own.feed(own.begin(), new Uint8Array(WARMING_BYTES));
+  }
+  let file = null, begin = 0, isPlaced = false;
+  const place = at => {
+    begin = at;
+    isPlaced = begin < file.size && placeSlice(own, file, begin, begin + slice);
   };
-  postMessage({});
+  onmessage = ({data}) => {
+    if (data.file) {
+      file = data.file;
+      place(data.begin);
+      return;
+    }
+    const isFed = isPlaced && own.feedPlaced(data.state) === 0;
+    postMessage(isFed ? data.state : null);
+    place(begin + THREADS * slice);
+  };
+  postMessage(slice);
 }
 
 // ---- In the page ----
@@ -44,73 +76,86 @@ function moduleBytes() {
   return Uint8Array.from(atob(MODULE), letter => letter.charCodeAt(0));
 }
 
-// The library in the page's own thread, which lets the browser do between two calls what waits, as a click on "Stop".
-class NearEngine {
-  constructor(own) {
-    this.own = own;
-  }
-
-  async call(name, ...passed) {
-    const result = this.own[name](...passed);
-    await new Promise(resolve => {
-      // (a timer would be slow while the page is not in front)
-      const {port1, port2} = new MessageChannel();
-      port1.onmessage = resolve;
-      port2.postMessage(null);
-    });
-    return result;
+// The bytes of a part of a file, or null where it cannot be read.
+async function bytesOfFile(file, begin, end) {
+  try {
+    const bytes = new Uint8Array(await file.slice(begin, end).arrayBuffer());
+    return bytes.length === Math.min(end, file.size) - begin ? bytes : null;
+  } catch {
+    return null;
   }
 }
 
-// The library in a thread of its own. It answers in the order in which it is asked.
-class FarEngine {
-  constructor(thread) {
-    this.thread = thread;
-    this.waiting = [];
-    thread.onmessage = ({data}) => this.waiting.shift().resolve(data.result);
-    thread.onerror = thread.onmessageerror = () => this.fail();
-  }
-
-  // What was asked is not answered.
-  fail() {
-    for (const {reject} of this.waiting.splice(0)) {
-      reject(new Error("the thread failed"));
+// Hashing in the page's own thread.
+class NearEngine {
+  // Feeds a file to a verification, and tells how far it is, unless that answers no: whether all of it was fed.
+  async feedFile(file, verification, goesOn) {
+    const slice = verification.library.pieceBytes;
+    let next = bytesOfFile(file, 0, slice);
+    for (let begin = 0; begin < file.size; begin += slice) {
+      const bytes = await next;
+      if (bytes === null || !goesOn(begin)) {
+        return false;
+      }
+      next = bytesOfFile(file, begin + slice, begin + 2 * slice);
+      verification.feed(bytes);
     }
+    return true;
+  }
+}
+
+// Hashing in threads.
+class FarEngine {
+  constructor(threads, slice) {
+    this.threads = threads;
+    this.slice = slice;
   }
 
-  // Calls a method of the library. The bytes that are fed go over to the thread, and are here no more.
-  call(name, ...passed) {
-    return new Promise((resolve, reject) => {
-      this.waiting.push({resolve, reject});
-      this.thread.postMessage({name, passed}, name === "feed" ? [passed[0].buffer] : []);
-    });
+  async feedFile(file, verification, goesOn) {
+    this.threads.forEach((thread, index) => thread.postMessage({file, begin: index * this.slice}));
+    for (let begin = 0, turn = 0; begin < file.size; begin += this.slice, turn = (turn + 1) % THREADS) {
+      const state = await answerOf(this.threads[turn], {state: verification.state});
+      if (state === null || !goesOn(begin)) {
+        return false;
+      }
+      verification.state = state;
+    }
+    return true;
   }
 
   static async begin(script) {
     const address = URL.createObjectURL(new Blob([script], {type: "text/javascript"}));
     // (this script's address and no other: the policy can be made once, and the page's policy allows no second one)
     const trusted = globalThis.trustedTypes?.createPolicy("minisign-thread", {createScriptURL: () => address});
-    const thread = new Worker(trusted ? trusted.createScriptURL("") : address);
+    const threads = Array.from({length: THREADS}, () => new Worker(trusted ? trusted.createScriptURL("") : address));
     try {
-      await new Promise((resolve, reject) => {
-        thread.onmessage = resolve;
-        thread.onerror = reject;
-        setTimeout(reject, MOST_MILLISECONDS);
-      });
+      const late = new Promise((_, reject) => setTimeout(reject, MOST_MILLISECONDS));
+      const [slice] = await Promise.race([Promise.all(threads.map(thread => answerOf(thread))), late]);
+      return new FarEngine(threads, slice);
     } catch (why) {
-      thread.terminate();
+      threads.forEach(thread => thread.terminate());
       throw why;
     } finally {
       URL.revokeObjectURL(address);
     }
-    return new FarEngine(thread);
   }
 }
 
-async function beginEngine(script, own) {
+// What a thread answers next, once it is told this, if anything.
+function answerOf(thread, told) {
+  return new Promise((resolve, reject) => {
+    thread.onmessage = ({data}) => resolve(data);
+    thread.onerror = thread.onmessageerror = () => reject(new Error("the thread failed"));
+    if (told) {
+      thread.postMessage(told);
+    }
+  });
+}
+
+async function beginEngine(script) {
   try {
     return await FarEngine.begin(script);
   } catch {
-    return new NearEngine(own);
+    return new NearEngine();
   }
 }

@@ -6,19 +6,16 @@ const SIGNATURE_ENDING = ".minisig";
 const KEY_ENDING = ".pub";
 // The data of a signature of the older kind is held in memory as a whole, up to this many bytes.
 const MOST_LEGACY_BYTES = 64 * 1048576;
-// How many bytes of a file are read at a time: three such pieces are in memory.
-const READ_BYTES = 2 * 1048576;
 // How many milliseconds a progress that is shown stays at least: showing it takes longer than one may think.
 const SHOWN_MILLISECONDS = 100;
 
 const at = id => document.getElementById(id);
 
-// The library in the page's own thread reads keys and has the words of numbers; the engine that has begun is where it
-// verifies.
+// The library in the page's own thread reads texts and gives the verdict; the engine that has begun is where data is hashed.
 let library;
 let engineBegun;
-// The public key: its text of two lines, its identifier, its 56 letters, and its source, which is a kind of SOURCES and the
-// name of a file; or nothing while there is none.
+// The public key: its bytes as the library has read them, its identifier, its 56 letters, and its source, which is a kind of
+// SOURCES and the name of a file; or nothing while there is none.
 let key = null;
 // A file, its signature and its row, by the file's name and in the order in which they came.
 const downloads = new Map();
@@ -44,15 +41,14 @@ function inTurn(act) {
 
 function setKey(text, isBare, source) {
   dropKey();
-  const bytes = isBare ? joined("untrusted comment: \n", text, "\n") : text;
-  if (bytes.length >= TEXT_BYTES) {
+  if (text.length >= TEXT_BYTES) {
     sayOfKey("bad", TOO_LONG_A_KEY, ...beside(source));
     return;
   }
-  const {number, keyId, record} = library.readKey(text, isBare);
+  const {number, keyId, key: bytes} = library.readKey(text, isBare);
   const words = new TextDecoder().decode(text);
   if (number === 0) {
-    key = {text: bytes, keyId, letters: lettersOf(words, isBare, record), source};
+    key = {bytes, keyId, letters: lettersOf(words, isBare, bytes), source};
     sayOfKey("good", `Key ${keyId}, `, ...sourceOf(source), ".");
     at("key-whole").replaceChildren("In full: ", element("code", "letters", key.letters));
     at("key-whole").hidden = false;
@@ -88,17 +84,6 @@ function dropKey() {
 function sayOfKey(verdict, ...words) {
   at("key-said").dataset.verdict = verdict;
   at("key-said").replaceChildren(...words);
-}
-
-function joined(front, bytes, end) {
-  const encoded = [new TextEncoder().encode(front), bytes, new TextEncoder().encode(end)];
-  const all = new Uint8Array(encoded.reduce((sum, part) => sum + part.length, 0));
-  let begin = 0;
-  for (const part of encoded) {
-    all.set(part, begin);
-    begin += part.length;
-  }
-  return all;
 }
 
 // A text that was typed or pasted: two lines, or the base64 alone.
@@ -140,16 +125,6 @@ function takeFirstKey() {
 }
 
 // ---- The files ----
-
-// The bytes of a part of a file, or null where it cannot be read.
-async function bytesOfFile(file, begin, end) {
-  try {
-    const bytes = new Uint8Array(await file.slice(begin, end).arrayBuffer());
-    return bytes.length === Math.min(end, file.size) - begin ? bytes : null;
-  } catch {
-    return null;
-  }
-}
 
 // The bytes of a text, which is not long.
 async function textOfFile(file) {
@@ -302,71 +277,48 @@ async function verdictOn(download, run) {
   if (text === null) {
     return {kind: "bad", why: "The signature cannot be read, or is longer than a signature."};
   }
-  const engine = await engineBegun;
   // What is wrong with the texts is known before any data is read.
-  const allowsLegacy = data.size <= MOST_LEGACY_BYTES;
-  await engine.call("begin");
-  const asked = await engine.call("ask", run.key.text, text, allowsLegacy);
-  if (asked.number !== 0) {
-    return refused(asked.number, asked);
+  const verification = new Verification(library, run.key.bytes, text, data.size <= MOST_LEGACY_BYTES);
+  const {questions} = verification;
+  if (verification.number !== 0) {
+    return refused(verification.number, questions);
   }
-  await engine.call("begin");
-  const whole = asked.isLegacy ? await bytesOfFile(data, 0, data.size) : null;
-  const isRead = asked.isLegacy ? whole !== null && await engine.call("feed", whole.slice()) === 0
-    : await feedFile(engine, download, run);
+  const engine = questions.isLegacy ? new NearEngine() : await engineBegun;
+  const isRead = await engine.feedFile(data, verification, progressOf(download, run));
   if (run.isStopped) {
     return null;
   }
   if (!isRead) {
     return {kind: "bad", why: "The file cannot be read, or it was changed meanwhile."};
   }
-  const questions = await engine.call("ask", run.key.text, text, allowsLegacy);
-  if (questions.number !== 0) {
-    return refused(questions.number, questions);
-  }
-  const first = await accepts(questions.publicKey, questions.signature, questions.isLegacy ? whole : questions.digest);
-  const second = await accepts(questions.publicKey, questions.commentSignature, questions.message);
-  const number = await engine.call("verdict", first, second);
+  const {number, first} = await verification.end();
   if (number === 0) {
-    return {kind: "good", number, questions, comment: commentOf(questions)};
+    return {kind: "good", number, questions, comment: verification.comment()};
   }
   const verdict = refused(number, questions);
-  return first && await isOfOtherEnds(new TextDecoder().decode(text), questions) ? {...verdict, why: WHY_NOT_ENDS} : verdict;
+  return first && await isOfOtherEnds(new TextDecoder().decode(text), verification) ? {...verdict, why: WHY_NOT_ENDS} : verdict;
 }
 
-// The trusted comment: the message of the second question without the first signature. (The library has read it as UTF-8.)
-function commentOf(questions) {
-  return new TextDecoder("utf-8", {fatal: true, ignoreBOM: true}).decode(questions.message.subarray(64));
+// Shows how many bytes were read, now and then, and answers whether the run goes on.
+function progressOf(download, run) {
+  let shownAt = 0;
+  return done => {
+    if (!run.isStopped && performance.now() >= shownAt + SHOWN_MILLISECONDS) {
+      showProgress(download, done);
+      shownAt = performance.now();
+    }
+    return !run.isStopped;
+  };
 }
 
 // Whether the trusted comment, which is not the one that was signed, differs from that by white space at its ends alone.
-async function isOfOtherEnds(signatureText, questions) {
-  for (const comment of commentsWithEnds(signatureText, commentOf(questions))) {
+async function isOfOtherEnds(signatureText, verification) {
+  const {questions} = verification;
+  for (const comment of commentsWithEnds(signatureText, verification.comment())) {
     const message = Uint8Array.of(...questions.signature, ...new TextEncoder().encode(comment));
     if (await accepts(questions.publicKey, questions.commentSignature, message)) {
       return true;
     }
   }
   return false;
-}
-
-// Feeds a file, of which three pieces are in memory: one is read, one waits, and one is hashed. Answers whether all of it
-// was read.
-async function feedFile(engine, download, run) {
-  const file = download.data;
-  const fed = [0, 0];
-  let next = bytesOfFile(file, 0, READ_BYTES), shownAt = 0;
-  for (let begin = 0; begin < file.size; begin += READ_BYTES) {
-    const piece = await next;
-    if (await fed.shift() !== 0 || run.isStopped || piece === null) {
-      return false;
-    }
-    next = bytesOfFile(file, begin + READ_BYTES, begin + 2 * READ_BYTES);
-    fed.push(engine.call("feed", piece));
-    if (performance.now() >= shownAt + SHOWN_MILLISECONDS) {
-      showProgress(download, begin);
-      shownAt = performance.now();
-    }
-  }
-  return (await Promise.all(fed)).every(number => number === 0);
 }

@@ -42,12 +42,13 @@ function hintOf(text) {
   return !hasLine && text.split(/[\s"'`<>:;,.=()]+/).some(word => KEY_LINE.test(word)) ? "words" : "";
 }
 
-// The 56 letters of a public key that the library has read, whose record has the bytes that it told.
-function lettersOf(text, isBare, record) {
+// The 56 letters of a public key that the library has read, in which the bytes stand that it told: the key's 32, and the 8 of
+// its identifier.
+function lettersOf(text, isBare, key) {
   const lines = linesOf(text);
   const letters = isBare ? lines[0] : lines[1];
   const bytes = Uint8Array.from(atob(letters), letter => letter.charCodeAt(0));
-  if (!KEY_LETTERS.test(letters) || record.some((byte, at) => byte !== bytes[at + 2])) {
+  if (!KEY_LETTERS.test(letters) || key.some((byte, at) => byte !== bytes[2 + (at + 8) % 40])) {
     throw new Error("these are not the letters of the key");
   }
   return letters;

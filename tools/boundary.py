@@ -18,8 +18,9 @@ class Unfit(Exception):
 OWN = {"minisign_version"}
 
 # The structs by their names in Rattle.
-STRUCTS = {"State": "minisign_state", "Questions": "minisign_external", "SigningQuestions": "minisign_signing",
-           "Sealing": "minisign_sealing", "Installation": "minisign_installation"}
+STRUCTS = {"State": "minisign_state", "PublicKeyValue": "minisign_public_key", "Questions": "minisign_questions",
+           "SecretKeyValue": "minisign_secret_key", "Sealing": "minisign_sealing",
+           "Installation": "minisign_installation"}
 
 # The numbers by their names in Rattle.
 NUMBERS = {"u32": "uint32_t", "u64": "uint64_t", "usize": "size_t"}
@@ -27,6 +28,10 @@ NUMBERS = {"u32": "uint32_t", "u64": "uint64_t", "usize": "size_t"}
 # Types of the header that the proved calls know as numbers or bytes.
 PLAIN = {"enum minisign_error": "uint32_t", "enum minisign_answer": "uint32_t", "char *": "uint8_t *",
          "const char *": "const uint8_t *"}
+
+# What is secret that a call is given or gives back: parameters by their names, and structs.
+SECRET_NAMES = {"secret", "sk_text", "password"}
+SECRET_STRUCTS = {"minisign_secret_key"}
 
 DECLARATION = re.compile(r"^(?:MINISIGN_MUST_USE )?((?:const )?(?:enum )?\w+ \*?)(minisign_\w+)\(([^)]*)\);$", re.M)
 EXPORT = re.compile(r'^pub extern "C" fn (minisign_\w+)\((.*?)\)(?: -> (\w+))?\s*$', re.M | re.S)
@@ -61,6 +66,10 @@ class Function:
     @property
     def plain_kind(self):
         return PLAIN.get(self.kind, self.kind)
+
+    @property
+    def sees_secrets(self):
+        return any(it.name in SECRET_NAMES or SECRET_STRUCTS & {*it.kind.split()} for it in self.parameters)
 
 
 def without_comments(text):
@@ -158,9 +167,10 @@ HEAD = """\
 /*
  * The boundary between minisign.h and the proved calls of the crate minisign_c. Made by tools/header.py.
  *
- * It decides two things. A pointer that is NULL where its length is 0 is replaced by one that is not, which the
- * proved calls need. And where there are two copies of these calls, one built for x86-64-v2 and one for x86-64-v3,
- * it takes the second if the processor has what that needs.
+ * It decides three things. A pointer that is NULL where its length is 0 is replaced by one that is not, which the
+ * proved calls need. Where there are two copies of these calls, one built for x86-64-v2 and one for x86-64-v3,
+ * it takes the second if the processor has what that needs. And behind a call that was given a secret, what it has
+ * left on the stack and in registers is cleared.
  *
  * SPDX-License-Identifier: MIT
  */
@@ -171,6 +181,7 @@ HEAD = """\
 #include <stddef.h>
 #include <stdint.h>
 
+#include "clearing.h"
 #include "minisign.h"
 
 #ifdef __x86_64__
@@ -227,8 +238,15 @@ def boundary_text(header, crate):
         arguments = [argument(parameter) for parameter in it.parameters]
         parts += [in_lines(f"PROVED({it.plain_kind}, {it.name}, (", kinds, "));"), ""]
         parts += [in_lines(f"{spaced(it.kind)}{it.name}(", names, ")"), "{"]
-        result = "" if it.kind == "void" else "return " if it.kind == it.plain_kind else f"return ({it.kind}) "
-        parts += [in_lines(f"    {result}CALL({it.name})(", arguments, ");"), "}", ""]
+        cast = "" if it.kind == it.plain_kind else f"({it.kind}) "
+        result = "" if it.kind == "void" else "result = " if it.sees_secrets else "return "
+        call = in_lines(f"    {result}{cast}CALL({it.name})(", arguments, ");")
+        if it.sees_secrets:
+            before, behind = ([f"    {spaced(it.kind)}result;", ""], ["    return result;"]) if result else ([], [])
+            parts += [*before, call, "    minisign_clear_used();", *behind]
+        else:
+            parts += [call]
+        parts += ["}", ""]
     return "\n".join(parts)
 
 

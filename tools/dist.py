@@ -217,8 +217,8 @@ def verifier(room, name, archive):
     """The words that run the program that verifies over this archive alone, built by make."""
     out, is_own = os.path.join(room, name), "aarch64" not in os.path.basename(archive)
     flags = [f"V2={archive}", f"V3={archive}", f"CC={needs.libsodium()}"] if is_own else [f"AARCH64={archive}", *aarch64.make_flags()]
-    static_library.run_make(f"OUT={out}", *flags, f"{out}/minisign-verify")
-    return [*([] if is_own else aarch64.emulator()), f"{out}/minisign-verify"]
+    static_library.run_make(f"OUT={out}", *flags, f"{out}/minisign")
+    return [*([] if is_own else aarch64.emulator()), f"{out}/minisign"]
 
 
 def check_doing(report, name, data):

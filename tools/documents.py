@@ -1,6 +1,6 @@
 #!/usr/bin/env python3
-"""Compares what the documents name with what is there: functions and clauses, the faults of docs/INSTALLING.md,
-blocks of code, links, paths, names, and the old texts of the must-fail edits. It also looks for
+"""Compares what the documents name with what is there: functions and clauses, the calls that a CALLING.md quotes, the
+faults of docs/INSTALLING.md, blocks of code, links, paths, names, and the old texts of the must-fail edits. It also looks for
 crates that name the proofs of another one.
 
 It prints a line for each name that is not there; the last line is `N passed, M failed`. Needs Python 3.9 or later.
@@ -20,7 +20,7 @@ ARCHITECTURE = "docs/ARCHITECTURE.md"
 EDITS_LISTED = "tests/proofs/wrong_bodies.txt"
 # What scripts make from the sources, and check themselves: a whole document, and the blocks of others.
 MADE = re.compile(r"docs/TRUSTED\.md")
-CALLS = re.compile(r"crates/[^/]+/CALLING\.md")
+CALLS = re.compile(r"crates/([^/]+)/CALLING\.md")
 FOLDERS = ("tests/", "crates/", "bench/", ".ci/", "docs/", "tools/", "examples/", "c/")
 PATH_NAME = re.compile(r"[A-Za-z_]\w*(?:::(?:[A-Za-z_]\w*|\.\.))*$")
 
@@ -63,6 +63,38 @@ def check_blocks(report, document, text, index):
         elif language == "sh":
             for name in re.findall(r"(?<![\w./-])(?:\.ci|tests|bench|tools|docs|crates)/[\w./-]+", block):
                 report.check("/out/" in name or os.path.exists(os.path.join(ROOT, name)), where, f"no file {name}")
+
+
+def shortened(text):
+    """A contract as it is quoted: `S` is what `self` points to at the call, and `S'` at the return."""
+    return re.sub(r"\bself\.(?:now|old)\b", "S", re.sub(r"\bself\.new\b", "S'", sources.in_one_line(text)))
+
+
+def check_calls(report, index, document, text):
+    """Each call that a page quotes stands so in its file, and has each clause that is quoted, word for word."""
+    crate = CALLS.match(document)[1]
+    by_path = {}
+    for item in (item for source in index.sources[crate] for item in source.items if item.what == "fn"):
+        file = os.path.relpath(item.file, index.library.crates[crate])
+        by_path.setdefault((file, item.path), []).append(item)
+    for block in re.finditer(r"(?ms)^```text\n(.*?)^```$", text):
+        file, calls, number = "", [], text.count("\n", 0, block.start(1))
+        for line in block[1].split("\n"):
+            number += 1
+            where = f"{document}:{number}"
+            if line.startswith("src/"):
+                file = line.partition(",")[0]
+            elif line.startswith("fn "):
+                path = re.match(r"fn ([\w:]+)", line)[1]
+                calls = by_path.get((file, path), [])
+                wanted = line.replace(f"fn {path}", "fn " + path.rpartition("::")[2])
+                headers = [re.sub(r"^(?:pub(?:\(crate\))? )?", "", sources.in_one_line(it.header)) for it in calls]
+                report.check(wanted in headers, where, f"{file} has no such call, but {headers}")
+            elif line.strip():
+                found = re.fullmatch(r"  (requires|ensures)(?: (\w+))?: (.*)", line)
+                quoted = [shortened(clause.text) for it in calls for clause in index.clauses_of(it)
+                          if found and (clause.kind, clause.name) == (found[1], found[2] or "")]
+                report.check(found and found[3] in quoted, where, f"no such clause, but {quoted}")
 
 
 def anchors_of(text):
@@ -233,13 +265,14 @@ def check_architecture(report, index):
 
 
 def check_layers(report, index):
-    """No crate names the proofs of another one: what it knows of it is its contracts and its definitions."""
+    """No crate names the proofs of another one, but for those that it has for its callers: what it knows of it is its
+    contracts, its definitions and its laws."""
     crates = index.library.crates
     for crate, folder in crates.items():
         for file in sources.files_below(folder, ".antt") + sources.files_below(folder, ".rt"):
             shown = os.path.relpath(file, ROOT)
             for number, line in enumerate(read(shown).split("\n"), 1):
-                for other in re.findall(r"\b(\w+)(?:\.|::)proofs\b", line):
+                for other in re.findall(r"\b(\w+)(?:\.|::)proofs\b(?!(?:\.|::)Laws\b)", line):
                     report.check(other == crate or other not in crates, f"{shown}:{number}", f"it names proofs of {other}")
 
 
@@ -315,9 +348,14 @@ def main():
         report.check(place is None, document, f"it names a folder of one machine: {place and place[0]}")
         if MADE.match(document):
             continue
-        if not CALLS.match(document):
-            check_blocks(report, document, text, index)
         check_paths(report, document, text, paths)
+        # (the packages, and what is a repository of its own, have names of their own, and their tests run their examples)
+        if document.startswith(("bindings/", "examples/rattle/")):
+            continue
+        if CALLS.match(document):
+            check_calls(report, index, document, text)
+        else:
+            check_blocks(report, document, text, index)
         check_names(report, document, text, index)
         check_clauses(report, index, document, text)
     check_installing(report, index)

@@ -15,6 +15,7 @@ Needs Python 3.9 or later.
 import os
 import re
 import sys
+import textwrap
 
 import boundary
 import manual
@@ -32,6 +33,7 @@ EXAMPLES = os.path.join("c", "examples")
 FAULTS = "crates/minisign_base/src/faults.rt"
 STATE = "crates/minisign_external/src/state.rt"
 NUMBERS = "crates/minisign_external/src/numbers.rt"
+PUBLIC_KEYS = "crates/minisign_external/src/public_keys.rt"
 SECRETS = "crates/minisign_external/src/secrets.rt"
 STORED = "crates/minisign_hash/src/blake2b/stored.rt"
 EXPORTS = "crates/minisign_c/src/lib.rt"
@@ -60,10 +62,13 @@ NAMES = {
     "UnsupportedEncryptionAlgorithm": "UNSUPPORTED_KEY_DERIVATION",
 }
 
+# How long a line of the header may be.
+COLUMNS = 116
+
 # The structs of C, with those of the crate; the fields of the first are the library's.
-STRUCTS = (("minisign_state", "State", False), ("minisign_external", "Questions", True),
-           ("minisign_signing", "SigningQuestions", True), ("minisign_sealing", "Sealing", True),
-           ("minisign_installation", "Installation", False))
+STRUCTS = (("minisign_state", "State", False), ("minisign_public_key", "PublicKeyValue", True),
+           ("minisign_questions", "Questions", True), ("minisign_secret_key", "SecretKeyValue", True),
+           ("minisign_sealing", "Sealing", True), ("minisign_installation", "Installation", False))
 
 SIZES = {"u8": 1, "u32": 4, "u64": 8}
 
@@ -186,18 +191,24 @@ def variants_text(enum, prefix, numbers):
     lines = [f"enum {enum} {{"]
     for it in numbers:
         comma = "" if it is numbers[-1] else ","
-        lines += [f"    /* {it.comment} */", f"    {it.name.replace('MINISIGN_', 'MINISIGN_' + prefix, 1)} = {it.number}{comma}"]
+        lines += [wrapped(it.comment), f"    {it.name.replace('MINISIGN_', 'MINISIGN_' + prefix, 1)} = {it.number}{comma}"]
     return "\n".join([*lines, "};", ""])
 
 
-ROW = re.compile(r'^fault_row \(?(\w+).*? = record \{ number = (\d+); kind = (?:kind\.)?(\w+); summary = codes "([^"]*)" \}', re.M)
+def wrapped(comment):
+    """The comment of a variant, in lines that fit."""
+    return "\n".join(textwrap.wrap(f"/* {comment}\u00a0*/", COLUMNS, initial_indent="    ", subsequent_indent="     * ",
+                                   break_long_words=False, break_on_hyphens=False)).replace("\u00a0", " ")
+
+
+ROW = re.compile(r'^fault_row \(?fault\.(\w+)[^=]*=\s+row (\d+) kind\.(\w+) \(codes "([^"]*)"\)', re.M)
 
 
 def faults_of_specs(library):
     """The named faults in their order: their names, numbers, kinds and texts, with A and B for identifiers."""
     file = os.path.join(library.crates["minisign_base"], "specs", "Faults.antt")
     longer = {}
-    for name, body in re.findall(r"^named_text \(?(\w+)[^=]*=\s*(.*(?:\n    .*)*)", read_text(file), re.M):
+    for name, body in re.findall(r"^named_text \(?fault\.(\w+)[^=]*=\s*(.*(?:\n    .*)*)", read_text(file), re.M):
         letters = iter("AB")
         longer[name] = "".join(piece or next(letters) for piece, _ in re.findall(r'codes "([^"]*)"|(identifier_text)', body))
     for name, number, kind, summary in ROW.findall(read_text(file)):
@@ -228,7 +239,7 @@ def enum_text(numbers):
     lines = ["enum minisign_error {", "    MINISIGN_OK = 0,"]
     for it in numbers:
         comma = "" if it is numbers[-1] else ","
-        lines += [f"    /* {it.comment} */", f"    {it.name} = {it.number}{comma}"]
+        lines += [wrapped(it.comment), f"    {it.name} = {it.number}{comma}"]
     return "\n".join([*lines, "};", ""])
 
 
@@ -265,7 +276,7 @@ def table_text(numbers):
 
 def fields_of(struct):
     """The fields of a struct of the crates with the layout of C, with their types."""
-    for file in (STATE, SECRETS, STORED, MAKING, HOSTED):
+    for file in (STATE, PUBLIC_KEYS, SECRETS, STORED, MAKING, HOSTED):
         if f"struct {struct} " in source_text(file):
             text = item_text(file, "struct", struct)
             if "#[repr(C)]" not in text:
@@ -343,9 +354,8 @@ def between(file, begin, end, made, text=None):
     return before + found + made + closed + after
 
 
-def documents():
-    """The files that are made, in whole or in part, with their texts."""
-    numbers = all_numbers()
+def header_text(numbers):
+    """The header."""
     header = between(HEADER, "/* Numbers, made by tools/header.py. */", "/* The end of the numbers. */", enum_text(numbers))
     header = between(HEADER, "/* Answers, made by tools/header.py. */", "/* The end of the answers. */",
                      answers_text(numbers), header)
@@ -355,6 +365,13 @@ def documents():
     for name in ("verify.c", "sign.c"):
         header = between(HEADER, f" * The example, made by tools/header.py from {EXAMPLES}/{name}.",
                          " * The end of the example.", example_text(name), header)
+    return header
+
+
+def documents():
+    """The files that are made, in whole or in part, with their texts."""
+    numbers = all_numbers()
+    header = header_text(numbers)
     yield HEADER, header
     yield BOUNDARY, boundary.boundary_text(header, source_text(EXPORTS))
     yield MANUAL, manual.manual_text(header)

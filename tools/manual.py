@@ -22,8 +22,6 @@ pkg-config --cflags --libs minisign
 
 END = """\
 .SH SEE ALSO
-.BR minisign-verify (1),
-.BR minisign-sign (1),
 .BR minisign-install (1),
 .BR minisign (1)
 """

@@ -15,7 +15,8 @@ cd "$(dirname "$0")/.."
 below='minisign_hash minisign_kdf minisign_base minisign minisign_external'
 case ${1-} in
 calls) crates="$below minisign_install minisign_c" folders= ;;
-page) crates="$below minisign_page" folders='page LICENSE crates.txt include/minisign.h' ;;
+page) crates="$below minisign_page" folders="page LICENSE crates.txt include/minisign.h
+    bindings/javascript/calls.js bindings/javascript/ed25519.js bindings/javascript/verification.js" ;;
 *) echo 'usage: tools/sources.sh calls|page' >&2; exit 2 ;;
 esac
 

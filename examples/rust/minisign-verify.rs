@@ -1,8 +1,8 @@
 //! How a Rust updater verifies a file: `minisign-verify PUBLIC_KEY DATA SIGNATURE`, over the proved library and
 //! libsodium's Ed25519.
 //!
-//! It ends with 0 where the texts vouch for the data, and prints the trusted comment; else with 1, or with 2
-//! where a file could not be read. Legacy signatures, which are over the data itself, are refused.
+//! Its exit status is 0 where the texts vouch for the data, and it prints the trusted comment; else 1, or 2 where
+//! a file could not be read. Legacy signatures, which are over the data itself, are refused.
 
 use std::fs::{self, File};
 use std::io::{self, Read, Write};
@@ -43,6 +43,13 @@ mod minisign {
         }
     }
 
+    #[derive(Default)]
+    #[repr(C)]
+    pub struct PublicKey {
+        key: [u8; 32],
+        key_id: [u8; 8],
+    }
+
     #[repr(C)]
     pub struct Questions {
         pub public_key: [u8; 32],
@@ -59,8 +66,10 @@ mod minisign {
     extern "C" {
         pub fn minisign_init(state: *mut State);
         pub fn minisign_update(state: *mut State, data: *const u8, len: usize) -> u32;
+        pub fn minisign_digest(state: *mut State, digest: *mut u8) -> u32;
+        pub fn minisign_read_public_key(pk_text: *const u8, pk_text_len: usize, key: *mut PublicKey) -> u32;
         #[rustfmt::skip]
-        pub fn minisign_ask(state: *mut State, pk_text: *const u8, pk_text_len: usize,
+        pub fn minisign_ask(state: *mut State, key: *const PublicKey,
             sig_text: *const u8, sig_text_len: usize, allow_legacy: u32,
             questions: *mut Questions, message: *mut u8, room: usize) -> u32;
         pub fn minisign_verdict(state: *mut State, first: u32, second: u32) -> u32;
@@ -80,29 +89,41 @@ fn accepts(signature: &[u8; 64], message: &[u8], public_key: &[u8; 32]) -> u32 {
     if refused == 0 { minisign::ANSWER_YES } else { minisign::ANSWER_NO }
 }
 
-/// The trusted comment where the texts vouch for all of the data, otherwise the number of the first error.
-fn verify(pk_text: &[u8], sig_text: &[u8], data: &mut impl Read) -> io::Result<Result<Vec<u8>, u32>> {
+/// Why the texts do not vouch for the data: the number of the first error, or that the data could not be read.
+enum Refusal {
+    Number(u32),
+    Unread(io::Error),
+}
+
+/// What a call answered.
+fn expect(error: u32) -> Result<(), Refusal> {
+    if error == minisign::OK { Ok(()) } else { Err(Refusal::Number(error)) }
+}
+
+/// The trusted comment where the texts vouch for all of the data. What the texts are refused for is known before any data is read.
+fn verify(pk_text: &[u8], sig_text: &[u8], data: &mut impl Read) -> Result<Vec<u8>, Refusal> {
+    let mut key = minisign::PublicKey::default();
     let mut state = minisign::State::new();
-    io::copy(data, &mut state)?;
     let mut questions = unsafe { std::mem::zeroed::<minisign::Questions>() };
     let mut message = vec![0; sig_text.len()];
-    let mut error = unsafe {
+    expect(unsafe { minisign::minisign_read_public_key(pk_text.as_ptr(), pk_text.len(), &mut key) })?;
+    expect(unsafe {
         minisign::minisign_ask(
             &mut state,
-            pk_text.as_ptr(), pk_text.len(),
+            &key,
             sig_text.as_ptr(), sig_text.len(),
             0,
             &mut questions,
             message.as_mut_ptr(), message.len(),
         )
-    };
-    if error == minisign::OK {
-        message.truncate(questions.message_len as usize);
-        let first = accepts(&questions.signature, &questions.digest, &questions.public_key);
-        let second = accepts(&questions.comment_signature, &message, &questions.public_key);
-        error = unsafe { minisign::minisign_verdict(&mut state, first, second) };
-    }
-    Ok(if error == minisign::OK { Ok(message.split_off(64)) } else { Err(error) })
+    })?;
+    io::copy(data, &mut state).map_err(Refusal::Unread)?;
+    expect(unsafe { minisign::minisign_digest(&mut state, questions.digest.as_mut_ptr()) })?;
+    message.truncate(questions.message_len as usize);
+    let first = accepts(&questions.signature, &questions.digest, &questions.public_key);
+    let second = accepts(&questions.comment_signature, &message, &questions.public_key);
+    expect(unsafe { minisign::minisign_verdict(&mut state, first, second) })?;
+    Ok(message.split_off(64))
 }
 
 /// What an error means.
@@ -118,15 +139,16 @@ fn run(arguments: &[String]) -> io::Result<ExitCode> {
         eprintln!("usage: minisign-verify PUBLIC_KEY DATA SIGNATURE");
         return Ok(ExitCode::from(2));
     };
-    match verify(&fs::read(pk)?, &fs::read(sig)?, &mut File::open(data)?)? {
+    match verify(&fs::read(pk)?, &fs::read(sig)?, &mut File::open(data)?) {
         Ok(trusted_comment) => {
             io::stdout().write_all(&[&trusted_comment[..], b"\n"].concat())?;
             Ok(ExitCode::SUCCESS)
         }
-        Err(error) => {
+        Err(Refusal::Number(error)) => {
             eprintln!("{}", error_text(error));
             Ok(ExitCode::from(1))
         }
+        Err(Refusal::Unread(error)) => Err(error),
     }
 }
 

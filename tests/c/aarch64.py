@@ -3,14 +3,15 @@
 
     tests/c/aarch64.py
 
-The layout of the header's structs as it is asserted; `make check` over the kept corpus; the programs of tests/c that need no
-tracing; a key that is made, sealed, opened and signed with, whose texts are those of the library for x86-64, and Minisign's own
-program verifies what it signed; an update that is installed, and an older one that is not. For other kinds of processors the
-compiler refuses the library with a sentence. It prints a line for each failure; the last line is `N passed, M failed`.
+The layout of the header's structs as it is asserted; `make check` over the kept corpus; the programs of tests/c that
+need no tracing; a key that is made, sealed, opened and signed with, whose texts are those of the library for x86-64,
+and Minisign's own program verifies what it signed; an update that is installed, and an older one that is not. For other
+kinds of processors the compiler refuses the library with a sentence. It prints a line for each failure; the last line
+is `N passed, M failed`.
 
 Needs Python 3.9 or later, make, a C compiler, libsodium with its header, minisign, and of Debian gcc-aarch64-linux-gnu,
-libc6-dev-arm64-cross and qemu-user-static, and installs what is not there where it may. Debian's libsodium for this processor is
-fetched by apt-get, once, and unpacked beside what is built here: the system stays as it is.
+libc6-dev-arm64-cross and qemu-user-static, and installs what is not there where it may. Debian's libsodium for this
+processor is fetched by apt-get, once, and unpacked beside what is built here: the system stays as it is.
 """
 
 import glob
@@ -63,6 +64,9 @@ def fetch_sodium():
                 raise needs.Missing(f"libsodium for AArch64 was not fetched: {said[-300:]}")
         for package in glob.glob(f"{room}/*.deb"):
             subprocess.run(["dpkg", "-x", package, f"{room}/unpacked"], check=True)
+        # (`rt ci`, beside which this may run, takes no link in the repository)
+        for link in (path for path in glob.glob(f"{room}/unpacked/**", recursive=True) if os.path.islink(path)):
+            os.remove(link)
         shutil.rmtree(SODIUM, ignore_errors=True)
         os.makedirs(os.path.dirname(SODIUM), exist_ok=True)
         shutil.move(f"{room}/unpacked", SODIUM)

@@ -1,11 +1,11 @@
 /*
- * The calls for memory of c/allocation.c, which the proved calls make: each block is whole and aligned, and cleared when it is given
- * back, also where it was moved because it grew; what is refused leaves the older block; only large blocks are brought in at
- * once, and it does no harm where the system refuses that. Then the same of the library's own: a key that is made, opened and
- * signed with gives everything back, and cleared.
+ * The calls for memory of c/allocation.c, which the proved calls make: each block is whole and aligned, and cleared
+ * when it is given back, also where it was moved because it grew; what is refused leaves the older block; only large
+ * blocks are brought in at once, and it does no harm where the system refuses that. Then the same of the library's own:
+ * a key that is made, opened and signed with gives everything back, and cleared.
  *
- * Linked with -Wl,--wrap=malloc -Wl,--wrap=realloc -Wl,--wrap=free -Wl,--wrap=madvise. Prints a line for each check that failed; the
- * last line is `N passed, M failed`.
+ * Linked with -Wl,--wrap=malloc -Wl,--wrap=realloc -Wl,--wrap=free -Wl,--wrap=madvise. Prints a line for each check
+ * that failed; the last line is `N passed, M failed`.
  */
 #include "../../c/allocation.c"
 
@@ -17,13 +17,14 @@ enum { MOST = 256 };
 
 static unsigned passed, failed;
 /*
- * What the calls that are wrapped here note is volatile: the compiler knows malloc, free and madvise as functions that change nothing
- * of this file's own.
+ * What the calls that are wrapped here note is volatile: the compiler knows malloc, free and madvise as functions that
+ * change nothing of this file's own.
  *
  * What malloc gave and was not given back, with the lengths.
  */
 static volatile struct { char *block; size_t len; } held[MOST];
-/* Requests so far, whether they are refused, blocks that were given back with more in them than a front, and blocks in all. */
+/* Requests so far, whether they are refused, blocks that were given back with more in them than a front, and blocks in
+ * all. */
 static volatile unsigned requests, is_refusing, uncleared, given_back;
 /* What the system was asked for: how often, and each time the range. */
 static volatile struct { char *from; size_t len; int hint; } hinted[64];
@@ -82,13 +83,13 @@ void *__wrap_realloc(void *old, size_t size)
 /* All of it is zero but for one front. */
 static int is_cleared(const char *block, size_t len)
 {
-    size_t first = 0;
+    size_t first = 0, front = len >= LARGE_BYTES ? LARGE_FRONT_BYTES : sizeof(struct front);
 
     while (first < len && block[first] == 0) {
         first++;
     }
     first = first / sizeof(struct front) * sizeof(struct front);
-    for (size_t at = first + sizeof(struct front); at < len; at++) {
+    for (size_t at = first + front; at < len; at++) {
         if (block[at] != 0) {
             return 0;
         }
@@ -189,7 +190,19 @@ static void check_block(size_t len, size_t alignment, size_t other)
     check(errno == 77, "errno was changed by giving back", other, alignment);
 }
 
-/* A block of several parts: all is brought in, from its begin to its end, and the part behind a slow one in other pages. */
+/* Waits until a thread has brought in all of a block. */
+static void wait_for_pages(void *block)
+{
+    struct pages *pages = pages_of(block);
+
+    if (pages->is_begun) {
+        pthread_join(pages->thread, NULL);
+        pages->is_begun = 0;
+    }
+}
+
+/* A block of several parts: all is brought in, from its begin to its end, and the part behind a slow one in other
+ * pages. */
 static void check_parts(void)
 {
     size_t len = 3 * PART_BYTES + 12345, at = 0;
@@ -197,6 +210,7 @@ static void check_parts(void)
 
     hints = 0;
     grant = rattle_alloc(len, 1);
+    wait_for_pages(grant.block);
     check(grant.is_granted == 1 && hints == 8, "a block of several parts", len, 1);
     for (unsigned part = 0; part < hints; part += 2) {
         check(hinted[part].from == (char *) grant.block + at && hinted[part + 1].from == hinted[part].from
@@ -209,6 +223,14 @@ static void check_parts(void)
     fill(grant.block, len);
     rattle_dealloc(grant.block);
     check(blocks_held() == 0 && uncleared == 0, "a block of several parts that was given back", len, 1);
+    /* One that is given back while its pages are still brought in. */
+    grant = rattle_alloc(len, 1);
+    fill(grant.block, PART_BYTES);
+    rattle_dealloc(grant.block);
+    check(blocks_held() == 0 && uncleared == 0, "a block that was given back early", len, 1);
+    at = hints;
+    usleep(20000);
+    check(hints == at, "a thread that has not ended with its block", len, 1);
 }
 
 static void check_blocks(void)
@@ -250,24 +272,23 @@ static void check_library(size_t memory)
     static const uint8_t key_id[8] = { 1 }, password[] = "a long password", comment[] = "c";
     static uint8_t secret_key[64], text[4096], signed_text[4096], digit[64];
     minisign_sealing sealing = { .operations_limit = memory / 32, .memory_limit = memory };
-    minisign_signing signing;
-    minisign_state state;
+    minisign_secret_key key, opened;
     size_t len = 0;
     enum minisign_error error;
 
     memset(secret_key, 0x5a, sizeof secret_key);
     given_back = uncleared = 0;
-    error = minisign_make_secret_key(key_id, secret_key, 1, password, sizeof password - 1, &sealing, MINISIGN_KEEP_EVERY_ROW,
+    minisign_take_secret_key(key_id, secret_key, &key);
+    error = minisign_secret_key_text(&key, 1, password, sizeof password - 1, &sealing, MINISIGN_KEEP_EVERY_ROW,
                                      comment, 1, text, sizeof text, &len);
     check(error == MINISIGN_OK && given_back > 0 && uncleared == 0 && blocks_held() == 0, "making a key", memory, 1);
-    minisign_init(&state);
     given_back = 0;
-    error = minisign_ask_signing(&state, text, len, 1, password, sizeof password - 1, MINISIGN_KEEP_EVERY_ROW,
-                                 MINISIGN_USUAL_WORK, &signing);
+    error = minisign_open_secret_key(text, len, 1, password, sizeof password - 1, MINISIGN_KEEP_EVERY_ROW,
+                                 MINISIGN_USUAL_WORK, &opened);
     check(error == MINISIGN_OK && given_back > 0 && uncleared == 0 && blocks_held() == 0, "opening it", memory, 1);
-    check(memcmp(signing.secret_key, secret_key, 64) == 0, "another key was opened", memory, 1);
+    check(memcmp(&opened, &key, sizeof key) == 0, "another key was opened", memory, 1);
     given_back = 0;
-    error = minisign_signed_text(&state, digit, digit, comment, 1, comment, 1, signed_text, sizeof signed_text, &len);
+    error = minisign_signed_text(&opened, digit, digit, comment, 1, comment, 1, signed_text, sizeof signed_text, &len);
     check(error == MINISIGN_OK && given_back > 0 && uncleared == 0 && blocks_held() == 0, "signing", memory, 1);
 }
 

@@ -1,7 +1,7 @@
 /*
- * What asking about texts tells, of keys and signatures that Minisign 0.11 made of the bytes `hello` and a line feed, and
- * the number for each text that is refused. The bytes were read from the texts by Python's base64; the digest is that of
- * its hashlib.
+ * What asking about texts tells, of keys and signatures that Minisign 0.11 made of the bytes `hello` and a line feed,
+ * and the number for each text that is refused. The bytes were read from the texts by Python's base64; the digest is
+ * that of its hashlib.
  *
  * Prints a line for each check that failed; the last line is `N passed, M failed`.
  */
@@ -77,48 +77,54 @@ static const char OTHER_KEY[] =
     "RWRYWEIyAAAAAAAAAAAAAAAAAAAAAAAAAAAAAAAAAAAAAAAAAAAAAAAAAAAAAAAAAAAAAAAAu82Aeu/lPqv5tw414tB2l3S0AV4BthpW"
     "rWHyA+ItsehisjsR8AROg+V8Ng82TAEWPpchqblhFFay7/kQioiXfnOLD1OmyTi9AAAAAAAAAAAAAAAAAAAAAAAAAAAAAAAAAAAAAAAAAAA=\n";
 
-static minisign_external questions;
-static minisign_signing signing;
+static minisign_questions questions;
+static minisign_secret_key signing;
 static uint8_t message[64 + sizeof COMMENT - 1];
 
-/* A state that was fed the data in two pieces. */
-static minisign_state fed(void)
+/* Feeds the data in two pieces, and tells its digest. */
+static void feed(minisign_state *state)
 {
-    minisign_state state;
-
-    minisign_init(&state);
-    CHECK(minisign_update(&state, (const uint8_t *) "hel", 3) == MINISIGN_OK);
-    CHECK(minisign_update(&state, (const uint8_t *) "lo\n", 3) == MINISIGN_OK);
-    return state;
+    CHECK(minisign_update(state, (const uint8_t *) "hel", 3) == MINISIGN_OK);
+    CHECK(minisign_update(state, (const uint8_t *) "lo\n", 3) == MINISIGN_OK);
+    CHECK(minisign_digest(state, questions.digest) == MINISIGN_OK && memcmp(questions.digest, DIGEST, 64) == 0);
 }
 
+/* Reads the key and asks: the number of the first that refuses. */
 static enum minisign_error ask(minisign_state *state, const char *key, const char *signature, uint32_t allow_legacy)
 {
-    return minisign_ask(state, (const uint8_t *) key, strlen(key), (const uint8_t *) signature, strlen(signature),
-                        allow_legacy, &questions, message, sizeof message);
+    minisign_public_key pk;
+    enum minisign_error error = minisign_read_public_key((const uint8_t *) key, strlen(key), &pk);
+
+    return error != MINISIGN_OK ? error
+                                : minisign_ask(state, &pk, (const uint8_t *) signature, strlen(signature), allow_legacy, &questions,
+                                               message, sizeof message);
 }
 
-static enum minisign_error ask_signing(minisign_state *state, const char *key, const char *password)
+static enum minisign_error open_key(const char *key, const char *password)
 {
-    return minisign_ask_signing(state, (const uint8_t *) key, strlen(key), password != NULL, (const uint8_t *) password,
-                                password == NULL ? 0 : strlen(password), MINISIGN_KEEP_EVERY_ROW, MINISIGN_USUAL_WORK,
-                                &signing);
+    return minisign_open_secret_key((const uint8_t *) key, strlen(key), password != NULL, (const uint8_t *) password,
+                                    password == NULL ? 0 : strlen(password), MINISIGN_KEEP_EVERY_ROW, MINISIGN_USUAL_WORK,
+                                    &signing);
 }
 
 /* The questions are those of the texts, and both answers decide. */
 static void told(void)
 {
-    minisign_state state = fed();
+    static const uint8_t zeros[64];
+    minisign_state state;
 
+    minisign_init(&state);
     CHECK(ask(&state, HELLO_KEY, PREHASHED, 0) == MINISIGN_OK);
-    CHECK(memcmp(questions.public_key, PUBLIC_KEY, 32) == 0 && memcmp(questions.digest, DIGEST, 64) == 0);
+    CHECK(memcmp(questions.public_key, PUBLIC_KEY, 32) == 0 && memcmp(questions.digest, zeros, 64) == 0);
     CHECK(memcmp(questions.signature, SIGNATURE_BYTES, 64) == 0);
     CHECK(memcmp(questions.comment_signature, COMMENT_SIGNATURE, 64) == 0);
     CHECK(memcmp(questions.public_key_id, KEY_ID, 8) == 0 && memcmp(questions.signature_key_id, KEY_ID, 8) == 0);
     CHECK(questions.message_len == sizeof message && questions.legacy == 0);
     CHECK(memcmp(message, SIGNATURE_BYTES, 64) == 0 && memcmp(message + 64, COMMENT, sizeof COMMENT - 1) == 0);
+    CHECK(minisign_comment_verdict(&state, MINISIGN_ANSWER_YES) == MINISIGN_OK);
+    feed(&state);
     CHECK(minisign_verdict(&state, MINISIGN_ANSWER_YES, MINISIGN_ANSWER_YES) == MINISIGN_OK);
-    state = fed();
+    minisign_init(&state);
     CHECK(ask(&state, HELLO_KEY, LEGACY, 1) == MINISIGN_OK && questions.legacy == 1);
 }
 
@@ -143,8 +149,9 @@ static void refused(void)
         { HELLO_KEY, "untrusted comment: x\nRUS!\ntrusted comment: y\nRUS4\n", MINISIGN_SIGNATURE_NOT_BASE64 },
         { HELLO_KEY, "untrusted comment: x\nRUS4\ntrusted comment: y\nRUS4\n", MINISIGN_RECORD_TOO_SHORT },
     };
-    const minisign_state begun = fed();
+    minisign_state begun;
 
+    minisign_init(&begun);
     for (size_t row = 0; row < sizeof rows / sizeof rows[0]; row++) {
         minisign_state state = begun;
 
@@ -153,18 +160,19 @@ static void refused(void)
     }
 }
 
-/* The secret, the digest and the identifier of a key. */
-static void told_to_sign(void)
+/* The secret and the key ID of a key, and its public half. */
+static void opened(void)
 {
-    minisign_state state = fed();
+    minisign_public_key half;
 
-    CHECK(ask_signing(&state, SECRET_KEY, NULL) == MINISIGN_OK);
-    CHECK(memcmp(signing.secret_key, SECRET, 64) == 0 && memcmp(signing.digest, DIGEST, 64) == 0);
-    CHECK(memcmp(signing.key_id, SECRET_KEY_ID, 8) == 0);
+    CHECK(open_key(SECRET_KEY, NULL) == MINISIGN_OK);
+    CHECK(memcmp(signing.secret, SECRET, 64) == 0 && memcmp(signing.key_id, SECRET_KEY_ID, 8) == 0);
+    CHECK(minisign_public_key_of(&signing, &half) == MINISIGN_OK);
+    CHECK(memcmp(half.key, SECRET + 32, 32) == 0 && memcmp(half.key_id, SECRET_KEY_ID, 8) == 0);
 }
 
 /* The number for each text of a secret key, of which nothing is told. */
-static void refused_to_sign(void)
+static void not_opened(void)
 {
     static const struct {
         const char *key, *password;
@@ -180,15 +188,12 @@ static void refused_to_sign(void)
         { OTHER_KEY, "x", MINISIGN_UNSUPPORTED_KEY_DERIVATION },
         { SEALED_KEY, "\xff", MINISIGN_NOT_UTF8 },
     };
-    static const minisign_signing nothing;
-    const minisign_state begun = fed();
+    static const minisign_secret_key nothing;
 
     for (size_t row = 0; row < sizeof rows / sizeof rows[0]; row++) {
-        minisign_state state = begun;
-
         signing = nothing;
-        check(ask_signing(&state, rows[row].key, rows[row].password) == rows[row].number, rows[row].key, __LINE__);
-        CHECK(memcmp(&signing, &nothing, sizeof signing) == 0 && memcmp(&state, &begun, sizeof state) == 0);
+        check(open_key(rows[row].key, rows[row].password) == rows[row].number, rows[row].key, __LINE__);
+        CHECK(memcmp(&signing, &nothing, sizeof signing) == 0);
     }
 }
 
@@ -196,12 +201,11 @@ static void refused_to_sign(void)
 static void written(void)
 {
     static const char untrusted[] = "signature from minisign secret key";
-    minisign_state state = fed();
     uint8_t text[sizeof PREHASHED];
     size_t len = 0;
 
-    CHECK(ask_signing(&state, KEY_OF_SIGNATURE, NULL) == MINISIGN_OK);
-    CHECK(minisign_signed_text(&state, SIGNATURE_BYTES, COMMENT_SIGNATURE, (const uint8_t *) COMMENT, sizeof COMMENT - 1,
+    CHECK(open_key(KEY_OF_SIGNATURE, NULL) == MINISIGN_OK);
+    CHECK(minisign_signed_text(&signing, SIGNATURE_BYTES, COMMENT_SIGNATURE, (const uint8_t *) COMMENT, sizeof COMMENT - 1,
                                (const uint8_t *) untrusted, sizeof untrusted - 1, text, sizeof text, &len)
           == MINISIGN_OK);
     CHECK(len == sizeof PREHASHED - 1 && memcmp(text, PREHASHED, len) == 0);
@@ -214,8 +218,8 @@ int main(void)
 {
     told();
     refused();
-    told_to_sign();
-    refused_to_sign();
+    opened();
+    not_opened();
     written();
     printf("%u passed, %u failed\n", passed, failed);
     return failed != 0;

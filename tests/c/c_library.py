@@ -4,12 +4,14 @@
     tests/c/c_library.py [LIBRARY]
 
 The layout of its structs as C and as C++ (`layout.c`), wrong use (`wrong_use.c`), what texts are asked about and the
-number of each refusal (`asked_texts.c`), the text of each number (`error_texts.c`), an installation at each of its calls
-(`installations.c`), the texts of public keys (`public_keys.c`), what is taken from malloc and cleared before it is given back
-(`allocations.c`), and each request for memory refused, of which verifying makes none (`out_of_memory.c`); each program also
-with what finds wrong use of memory, where the compiler has it. LIBRARY is a `libminisign.a`; where none is named it is built
-over `dist/` (`static_library.py`), and once more with the copy of the calls that is for processors without AVX2 alone. It
-prints a line for each failure; the last line is `N passed, M failed`.
+number of each refusal (`asked_texts.c`), the text of each number (`error_texts.c`), an installation at each of its
+calls (`installations.c`), the texts of public keys (`public_keys.c`), what is taken from malloc and cleared before it
+is given back (`allocations.c`), each request for memory refused, of which verifying makes none (`out_of_memory.c`),
+buffers beside pages without access (`guard_pages.c`), NULL (`null.c`), threads (`threads.c`), and calls at random
+beside a model (`random_calls.c`); each program also with what finds wrong use of memory, where the compiler has it.
+LIBRARY is a `libminisign.a`; where none is named it is built over `dist/` (`static_library.py`), and once more with the
+copy of the calls that is for processors without AVX2 alone. It prints a line for each failure; the last line is
+`N passed, M failed`.
 
 Needs Python 3.9 or later, a C compiler and a C++ compiler, and installs what is not there where it may.
 """
@@ -33,7 +35,8 @@ WRAPPED = ["-Wl,--wrap=malloc", "-Wl,--wrap=realloc", "-Wl,--wrap=free"]
 
 # The programs, with what each is linked with.
 PROGRAMS = {"wrong_use": [], "asked_texts": [], "error_texts": [], "public_keys": WRAPPED, "out_of_memory": WRAPPED,
-            "allocations": [*WRAPPED, "-Wl,--wrap=madvise"], "installations": WRAPPED, "null": [], "guard_pages": [], "threads": ["-pthread"]}
+            "allocations": [*WRAPPED, "-Wl,--wrap=madvise"], "installations": WRAPPED, "null": [], "guard_pages": [], "threads": ["-pthread"],
+            "random_calls": []}
 
 
 def run(command):
@@ -94,7 +97,8 @@ def run_all(library, room):
 
 
 def run_older(room):
-    """Runs the programs over the copy of the calls that is for processors without AVX2: the failures, and how many checks hold."""
+    """Runs the programs over the copy of the calls that is for processors without AVX2: the failures, and how many checks
+    hold."""
     library = static_library.library(os.path.join(room, "older"), f"V3={static_library.DIST}/calls-x86-64-v2.a")
     failures, count = [], 0
     for name in PROGRAMS:

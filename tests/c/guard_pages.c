@@ -1,6 +1,6 @@
 /*
- * Each buffer that a call is given ends where a page without access begins, and then begins where one ends: no call reads or
- * writes a byte beside what it was given. A wild access ends the program.
+ * Each buffer that a call is given ends where a page without access begins, and then begins where one ends: no call
+ * reads or writes a byte beside what it was given. A wild access ends the program.
  *
  * The last line is `N passed, M failed`.
  */
@@ -14,7 +14,7 @@
 #include "minisign.h"
 #include "texts_for_tests.h"
 
-enum { PAGE = 4096, BYTES = 32 * PAGE, REGIONS = 8 };
+enum { PAGE = 4096, BYTES = 32 * PAGE, REGIONS = 16 };
 
 static uint8_t *regions[REGIONS];
 static int used, at_end;
@@ -68,39 +68,46 @@ static void feeding(void)
     }
 }
 
+/* A public key, alone in its bytes. */
+static minisign_public_key *public_key(void)
+{
+    minisign_public_key *key = (minisign_public_key *) (void *) buffer(sizeof *key);
+
+    CHECK(minisign_read_public_key((const uint8_t *) KEY, sizeof KEY - 1, key) == MINISIGN_OK);
+    return key;
+}
+
 /* The texts cut at each length, and room of each length for the message. */
 static void asking(void)
 {
     for (size_t len = 0; len < sizeof SIGNATURE; len++) {
         minisign_state *state;
-        minisign_external *q;
+        minisign_questions *q;
 
         used = 0;
         state = begun();
-        q = (minisign_external *) (void *) buffer(sizeof *q);
-        CHECK(minisign_ask(state, copied(KEY, sizeof KEY - 1), sizeof KEY - 1, copied(SIGNATURE, len), len, 0, q, buffer(len), len)
-              == MINISIGN_OK || len < sizeof SIGNATURE - 1);
+        q = (minisign_questions *) (void *) buffer(sizeof *q);
+        CHECK(minisign_ask(state, public_key(), copied(SIGNATURE, len), len, 0, q, buffer(len), len) == MINISIGN_OK
+              || len < sizeof SIGNATURE - 1);
     }
     for (size_t len = 0; len < sizeof KEY; len++) {
-        minisign_state *state;
-        minisign_external *q;
-
         used = 0;
-        state = begun();
-        q = (minisign_external *) (void *) buffer(sizeof *q);
-        CHECK(minisign_ask(state, copied(KEY, len), len, copied(SIGNATURE, sizeof SIGNATURE - 1), sizeof SIGNATURE - 1, 0, q,
-                           buffer(MESSAGE_LEN), MESSAGE_LEN) == MINISIGN_OK || len < sizeof KEY - 2);
+        CHECK(minisign_read_public_key(copied(KEY, len), len, public_key()) == MINISIGN_OK || len < sizeof KEY - 2);
+        used = 0;
+        CHECK(len > 57 || (minisign_read_bare_public_key(copied(KEY + sizeof KEY - 58, len), len, public_key()) == MINISIGN_OK) == (len == 56));
     }
     for (size_t room = 0; room <= MESSAGE_LEN; room++) {
         minisign_state *state;
-        minisign_external *q;
+        minisign_questions *q;
         enum minisign_error wanted = room < MESSAGE_LEN ? MINISIGN_NO_ROOM : MINISIGN_OK;
 
         used = 0;
         state = begun();
-        q = (minisign_external *) (void *) buffer(sizeof *q);
-        CHECK(minisign_ask(state, copied(KEY, sizeof KEY - 1), sizeof KEY - 1, copied(SIGNATURE, sizeof SIGNATURE - 1),
-                           sizeof SIGNATURE - 1, 0, q, buffer(room), room) == wanted);
+        q = (minisign_questions *) (void *) buffer(sizeof *q);
+        CHECK(minisign_ask(state, public_key(), copied(SIGNATURE, sizeof SIGNATURE - 1), sizeof SIGNATURE - 1, 0, q,
+                           buffer(room), room) == wanted);
+        CHECK(minisign_comment_verdict(state, MINISIGN_ANSWER_YES) == (wanted == MINISIGN_OK ? MINISIGN_OK : MINISIGN_NOT_ASKED));
+        CHECK(minisign_digest(state, buffer(64)) == MINISIGN_OK);
         CHECK(minisign_verdict(state, MINISIGN_ANSWER_YES, MINISIGN_ANSWER_YES)
               == (wanted == MINISIGN_OK ? MINISIGN_OK : MINISIGN_NOT_ASKED));
     }
@@ -109,26 +116,23 @@ static void asking(void)
 static void signing(void)
 {
     for (size_t len = 0; len < sizeof SECRET_KEY; len++) {
-        minisign_state *state;
-        minisign_signing *s;
+        minisign_secret_key *key;
 
         used = 0;
-        state = begun();
-        s = (minisign_signing *) (void *) buffer(sizeof *s);
-        CHECK(minisign_ask_signing(state, copied(SECRET_KEY, len), len, 0, buffer(0), 0, 1, 1, s) == MINISIGN_OK
+        key = (minisign_secret_key *) (void *) buffer(sizeof *key);
+        CHECK(minisign_open_secret_key(copied(SECRET_KEY, len), len, 0, buffer(0), 0, 1, 1, key) == MINISIGN_OK
               || len < sizeof SECRET_KEY - 2);
     }
     for (size_t len = 0; len < 200; len++) {
         static const char letters[200] = "a";
         uint8_t *first, *second, *trusted, *untrusted;
         size_t *text_len, need = 0;
-        minisign_state *state;
-        minisign_signing s;
+        minisign_secret_key *key;
         enum minisign_error error;
 
         used = 0;
-        state = begun();
-        CHECK(minisign_ask_signing(state, (const uint8_t *) SECRET_KEY, sizeof SECRET_KEY - 1, 0, NULL, 0, 1, 1, &s)
+        key = (minisign_secret_key *) (void *) buffer(sizeof *key);
+        CHECK(minisign_open_secret_key((const uint8_t *) SECRET_KEY, sizeof SECRET_KEY - 1, 0, NULL, 0, 1, 1, key)
               == MINISIGN_OK);
         first = buffer(64);
         second = buffer(64);
@@ -140,13 +144,37 @@ static void signing(void)
         CHECK(minisign_comment_message(first, trusted, len, buffer(64 + len), 64 + len) == MINISIGN_OK);
         for (size_t room = 0;; room = room < 190 ? room + 95 : room + 1) {
             used = 6;
-            error = minisign_signed_text(state, first, second, trusted, len, untrusted, len / 2, buffer(room), room, text_len);
+            error = minisign_signed_text(key, first, second, trusted, len, untrusted, len / 2, buffer(room), room, text_len);
             if (error != MINISIGN_NO_ROOM) {
                 need = room;
                 break;
             }
         }
         CHECK(error == MINISIGN_OK && need <= MINISIGN_TEXT_BYTES(len, len / 2) && *text_len <= need);
+    }
+}
+
+/* Keys that are taken in, their public halves, and room of each length for their texts. */
+static void making(void)
+{
+    static const uint8_t secret[64] = { 1 };
+    static const minisign_sealing none;
+
+    for (size_t room = 0; room <= MINISIGN_SECRET_KEY_BYTES(1); room++) {
+        minisign_secret_key *key;
+        size_t *text_len;
+
+        used = 0;
+        key = (minisign_secret_key *) (void *) buffer(sizeof *key);
+        text_len = (size_t *) (void *) buffer(sizeof *text_len);
+        minisign_take_secret_key(copied("12345678", 8), copied((const char *) secret, 64), key);
+        CHECK(minisign_public_key_of(key, public_key()) == MINISIGN_OK);
+        used = 2;
+        CHECK(minisign_secret_key_text(key, 0, NULL, 0, &none, 1, copied("c", 1), 1, buffer(room), room, text_len)
+              == (room < MINISIGN_SECRET_KEY_BYTES(1) ? MINISIGN_NO_ROOM : MINISIGN_OK));
+        used = 2;
+        CHECK(minisign_public_key_text(key, copied("c", 1), 1, buffer(room), room, text_len)
+              == (room < MINISIGN_PUBLIC_KEY_BYTES(1) ? MINISIGN_NO_ROOM : MINISIGN_OK));
     }
 }
 
@@ -161,10 +189,10 @@ static minisign_installation *installing(uint32_t due)
         case MINISIGN_DUE_READ_RECORD: error = minisign_install_record(i, copied("5", 1), 1); break;
         case MINISIGN_DUE_READ_BACK: error = minisign_install_piece(i, buffer(0), 0); break;
         case MINISIGN_DUE_ANSWER: {
-            minisign_external *q = (minisign_external *) (void *) buffer(sizeof *q);
+            minisign_questions *q = (minisign_questions *) (void *) buffer(sizeof *q);
 
-            error = minisign_install_ask(i, (const uint8_t *) KEY, sizeof KEY - 1, (const uint8_t *) SIGNATURE, sizeof SIGNATURE - 1,
-                                         copied("test", 4), 4, q, buffer(MESSAGE_LEN), MESSAGE_LEN);
+            error = minisign_install_ask(i, public_key(), (const uint8_t *) SIGNATURE, sizeof SIGNATURE - 1, copied("test", 4), 4, q,
+                                         buffer(MESSAGE_LEN), MESSAGE_LEN);
             if (error == MINISIGN_OK) {
                 error = minisign_install_answer(i, MINISIGN_ANSWER_YES, MINISIGN_ANSWER_YES);
             }
@@ -196,14 +224,14 @@ static void installations(void)
     }
     for (size_t room = 0; room <= MESSAGE_LEN; room++) {
         minisign_installation *i;
-        minisign_external *q;
+        minisign_questions *q;
 
         used = 0;
         i = installing(MINISIGN_DUE_ANSWER);
         used = 1;
-        q = (minisign_external *) (void *) buffer(sizeof *q);
-        CHECK(minisign_install_ask(i, copied(KEY, sizeof KEY - 1), sizeof KEY - 1, copied(SIGNATURE, sizeof SIGNATURE - 1),
-                                   sizeof SIGNATURE - 1, copied("test", 4), 4, q, buffer(room), room)
+        q = (minisign_questions *) (void *) buffer(sizeof *q);
+        CHECK(minisign_install_ask(i, public_key(), copied(SIGNATURE, sizeof SIGNATURE - 1), sizeof SIGNATURE - 1, copied("test", 4),
+                                   4, q, buffer(room), room)
               == (room < MESSAGE_LEN ? MINISIGN_NO_ROOM : MINISIGN_OK));
     }
     for (size_t room = 0; room <= MINISIGN_NUMBER_TEXT_BYTES; room++) {
@@ -249,6 +277,7 @@ int main(void)
         feeding();
         asking();
         signing();
+        making();
         installations();
         texts();
     }

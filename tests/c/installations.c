@@ -1,7 +1,8 @@
 /*
- * An installation through minisign.h: at each call that may be due each call of the header is made, and what is due then
- * is compared with a table of its own here; where a call is refused as a wrong use, no byte of the struct changes. Also the
- * records and the signed comments that are taken and refused, what is asked of Ed25519, and that no memory is taken.
+ * An installation through minisign.h: at each call that may be due each call of the header is made, and what is due
+ * then is compared with a table of its own here; where a call is refused as a wrong use, no byte of the struct changes.
+ * Also the records and the signed comments that are taken and refused, what is asked of Ed25519, and that no memory is
+ * taken.
  *
  * Linked with -Wl,--wrap=malloc -Wl,--wrap=realloc -Wl,--wrap=free. Prints a line for each check that failed; the last
  * line is `N passed, M failed`.
@@ -100,19 +101,22 @@ static const struct row {
 
 #define ROWS (sizeof table / sizeof table[0])
 
-static minisign_external questions;
+static minisign_questions questions;
 static uint8_t message[4096];
 
-static enum minisign_error ask_of(minisign_installation *i, const char *key, const char *signature, const char *file,
-                                  size_t room)
+static enum minisign_error ask_of(minisign_installation *i, const char *signature, const char *file, size_t room)
 {
-    return minisign_install_ask(i, (const uint8_t *) key, strlen(key), (const uint8_t *) signature, strlen(signature),
-                                (const uint8_t *) file, strlen(file), &questions, message, room);
+    minisign_public_key key;
+    enum minisign_error error = minisign_read_public_key((const uint8_t *) KEY, sizeof KEY - 1, &key);
+
+    return error != MINISIGN_OK ? error
+                                : minisign_install_ask(i, &key, (const uint8_t *) signature, strlen(signature), (const uint8_t *) file,
+                                                       strlen(file), &questions, message, room);
 }
 
 static enum minisign_error ask(minisign_installation *i)
 {
-    return ask_of(i, KEY, SIGNATURE, "test", sizeof message);
+    return ask_of(i, SIGNATURE, "test", sizeof message);
 }
 
 static enum minisign_error record(minisign_installation *i, const char *text)
@@ -373,8 +377,8 @@ static void records(void)
     }
 }
 
-/* What a record of these bytes holds back at the first installation: a number of the other field does not, one of the same
- * field and one alone do. */
+/* What a record of these bytes holds back at the first installation: a number of the other field does not, one of the
+ * same field and one alone do. */
 static void first_gives(const char *kept, enum minisign_error answered)
 {
     minisign_installation i;
@@ -396,7 +400,7 @@ static void gives(const char *kept, const char *signature, const char *file, uin
     minisign_installation i = at_after(MINISIGN_DUE_ANSWER, kept, numbering);
     enum minisign_error refused = asked == MINISIGN_OK ? answered : asked;
 
-    CHECK(ask_of(&i, KEY, signature, file, sizeof message) == asked);
+    CHECK(ask_of(&i, signature, file, sizeof message) == asked);
     if (asked == MINISIGN_OK) {
         CHECK(minisign_install_error(&i) == MINISIGN_OK && minisign_install_due(&i) == MINISIGN_DUE_ANSWER);
         CHECK(minisign_install_answer(&i, first, second) == answered);
@@ -434,8 +438,8 @@ static void answers(void)
 
     /* Wrong use changes nothing. */
     i = before = at(MINISIGN_DUE_ANSWER);
-    CHECK(ask_of(&i, KEY, SIGNATURE, "test", 64 + sizeof COMMENT - 2) == MINISIGN_NO_ROOM && same(&i, &before));
-    CHECK(ask_of(&i, KEY, SIGNATURE, "test", 64 + sizeof COMMENT - 1) == MINISIGN_OK);
+    CHECK(ask_of(&i, SIGNATURE, "test", 64 + sizeof COMMENT - 2) == MINISIGN_NO_ROOM && same(&i, &before));
+    CHECK(ask_of(&i, SIGNATURE, "test", 64 + sizeof COMMENT - 1) == MINISIGN_OK);
     before = i;
     CHECK(ask(&i) == MINISIGN_ALREADY_ASKED && same(&i, &before));
     CHECK(minisign_install_answer(&i, (enum minisign_answer) 1, YES) == MINISIGN_BAD_ANSWER && same(&i, &before));
@@ -492,16 +496,16 @@ static void comments(void)
 static void nulls(void)
 {
     minisign_installation i = at(MINISIGN_DUE_READ_RECORD);
+    minisign_public_key key;
     uint64_t number;
 
     CHECK(minisign_install_record(&i, NULL, 0) == MINISIGN_OK && minisign_install_error(&i) == MINISIGN_DAMAGED_RECORD);
     i = at(MINISIGN_DUE_READ_BACK);
     CHECK(minisign_install_piece(&i, NULL, 0) == MINISIGN_OK && minisign_install_due(&i) == MINISIGN_DUE_ANSWER);
-    CHECK(minisign_install_ask(&i, (const uint8_t *) KEY, sizeof KEY - 1, (const uint8_t *) SIGNATURE, sizeof SIGNATURE - 1, NULL, 0,
-                               &questions, NULL, 0)
+    CHECK(minisign_read_public_key((const uint8_t *) KEY, sizeof KEY - 1, &key) == MINISIGN_OK);
+    CHECK(minisign_install_ask(&i, &key, (const uint8_t *) SIGNATURE, sizeof SIGNATURE - 1, NULL, 0, &questions, NULL, 0)
           == MINISIGN_NO_ROOM);
-    CHECK(minisign_install_ask(&i, NULL, 0, NULL, 0, NULL, 0, &questions, NULL, 0)
-          == MINISIGN_MISSING_PUBLIC_KEY_COMMENT);
+    CHECK(minisign_install_ask(&i, &key, NULL, 0, NULL, 0, &questions, NULL, 0) == MINISIGN_MISSING_UNTRUSTED_COMMENT);
     i = at(MINISIGN_DUE_WRITE_RECORD);
     CHECK(minisign_install_number_text(&i, NULL, 0) == 0);
     CHECK(minisign_judge_comment(NULL, 0, NULL, 0, MINISIGN_NUMBERING_TIMESTAMP, 0, &number) == MINISIGN_OTHER_FILE);

@@ -1,15 +1,17 @@
 #!/usr/bin/env python3
-"""Installs the library of `c/` into a folder of its own, and uses it from what was installed alone: from C, linked as a static and
-as a shared library, from C++, from Rust and from Python. The examples of the header verify and sign good and bad input.
+"""Installs the library of `c/` into a folder of its own, and uses it from what was installed alone: from C, linked as a
+static and as a shared library, from C++, from Rust and from Python. The examples of the header verify and sign good and
+bad input.
 
     tests/c/installed.py
 
-Also: exactly these files are installed, with a page for each call that leads to the manual page; the shared library has its
-soname, and like the static one the names of the header and no other; a result that is dropped is a warning in C and in C++;
-the manual pages are read without a word. It prints a line for each failure; the last line is `N passed, M failed`.
+Also: exactly these files are installed, with a page for each call that leads to the manual page; the shared library has
+its soname, and like the static one the names of the header and no other; a result that is dropped is a warning in C and
+in C++; the manual pages are read without a word. It prints a line for each failure; the last line is
+`N passed, M failed`.
 
-Needs Python 3.9 or later, make, binutils, pkg-config, groff, a C and a C++ compiler, rustc, libsodium with its header and
-minisign, and installs what is not there where it may. The library is built over `dist/` (`static_library.py`);
+Needs Python 3.9 or later, make, binutils, pkg-config, groff, a C and a C++ compiler, rustc, libsodium with its header
+and minisign, and installs what is not there where it may. The library is built over `dist/` (`static_library.py`);
 `packaging.py` uses what a release installs in the same way.
 """
 
@@ -22,10 +24,11 @@ import sys
 import tempfile
 
 HERE = os.path.dirname(os.path.realpath(__file__))
-sys.path.append(os.path.join(HERE, "..", "shared"))
+sys.path += [os.path.join(HERE, "..", it) for it in ("shared", "minisign")]
 
 import needs
 import static_library
+from minisign_signing import MEMORY, sealed_key
 
 TOP = os.path.join(HERE, "..", "..")
 EXAMPLES = os.path.join(TOP, "c", "examples")
@@ -35,9 +38,8 @@ SECONDS = 300
 STRICT = ["-Wall", "-Wextra", "-Wpedantic", "-Werror"]
 
 # What is installed beside the shared library, whose name has its version.
-FILES = ["bin/minisign", "bin/minisign-install", "bin/minisign-sign", "bin/minisign-verify", "include/minisign.h", "lib/libminisign.a",
-         "lib/libminisign.so", "lib/pkgconfig/minisign.pc", "share/man/man1/minisign.1", "share/man/man1/minisign-install.1",
-         "share/man/man1/minisign-sign.1", "share/man/man1/minisign-verify.1", "share/man/man3/minisign.3"]
+FILES = ["bin/minisign", "bin/minisign-install", "include/minisign.h", "lib/libminisign.a", "lib/libminisign.so",
+         "lib/pkgconfig/minisign.pc", "share/man/man1/minisign.1", "share/man/man1/minisign-install.1", "share/man/man3/minisign.3"]
 
 # A result that is dropped.
 DROPPED = "#include <minisign.h>\nint main(void) { minisign_state s; minisign_init(&s); minisign_update(&s, 0, 0); return 0; }\n"
@@ -158,7 +160,8 @@ def changed(text, at):
 
 
 def with_half_changed(text, at):
-    """The text of a key that is not sealed with a byte of its record changed, whose checksum Minisign leaves at zeros."""
+    """The text of a key that is not sealed with a byte of its record changed, whose checksum Minisign leaves at
+    zeros."""
     first, second = text.split(b"\n")[:2]
     return first + b"\n" + base64.b64encode(changed(base64.b64decode(second), at)) + b"\n"
 
@@ -225,6 +228,9 @@ def run_signer(checks, program, room, minisign):
     data, sealed = os.path.join(room, "data"), write(room, "sealed.key", SEALED.encode())
     good, wrong, endless = (write(room, name, text) for name, text in (("pw", b"pw\n"), ("wrong", b"pv\n"), ("endless", b"pw")))
     key, nothing = os.path.join(room, "key.key"), os.path.join(room, "nothing")
+    # (Minisign cuts a longer password than of 1,023 bytes)
+    long_sealed = write(room, "long.key", sealed_key(read(key), b"p" * 1024, MEMORY))
+    long, shorter = (write(room, f"{count}.password", b"p" * count + b"\n") for count in (1024, 1023))
     halves = [write(room, f"half{at}.key", with_half_changed(read(key), at)) for at in (SEED_AT, PUBLIC_HALF_AT, PUBLIC_HALF_AT + 31)]
     # The key, the data, the comment and the password, and what is said where no text is made.
     cases = [
@@ -233,6 +239,8 @@ def run_signer(checks, program, room, minisign):
         ("a sealed key", (sealed, data, COMMENT, good), None),
         ("a sealed key without a password", (sealed, data, COMMENT), "Key might be encrypted"),
         ("a wrong password", (sealed, data, COMMENT, wrong), "Wrong password for that key"),
+        ("a password of 1,024 bytes", (long_sealed, data, COMMENT, long), None),
+        ("its first 1,023 bytes", (long_sealed, data, COMMENT, shorter), "Wrong password for that key"),
         ("a password without an end", (sealed, data, COMMENT, endless), "the password cannot be read"),
         ("a password for a key without one", (key, data, COMMENT, good), "Key is not encrypted"),
         ("a public key", (os.path.join(room, "key.pub"), data, COMMENT), "failed to fill whole buffer"),
@@ -240,9 +248,9 @@ def run_signer(checks, program, room, minisign):
         ("a carriage return", (key, data, "a\rb"), "a comment is too long for minisign, or has a zero byte or a carriage return"),
         ("too long a comment", (key, data, "a" * 8174), "a comment is too long for minisign, or has a zero byte or a carriage return"),
         ("the longest comment", (key, data, "a" * 8173), None),
-        *((f"a key of which a half was changed, {number}", (half, data, COMMENT), "Signature verification failed") for number, half in enumerate(halves)),
-        ("no data", (key, nothing, COMMENT), "the data cannot be read"),
-        ("no key", (nothing, data, COMMENT), "the key cannot be read"),
+        *((f"a key of which a half was changed, {number}", (half, data, COMMENT), "the key does not sign: its halves do not belong together") for number, half in enumerate(halves)),
+        ("no data", (key, nothing, COMMENT), "a file cannot be opened"),
+        ("no key", (nothing, data, COMMENT), "a file cannot be opened"),
     ]
     # The public key of the sealed one, which its signature is verified under, is read from that signature's maker.
     for what, (secret, of, comment, *password), refused in cases:
@@ -259,18 +267,18 @@ def run_signer(checks, program, room, minisign):
             checks.check(status == 1 and why == f"sign: {refused}\n", f"sign, {what}: status {status}, {why!r}")
             checks.check(not os.path.exists(made), f"sign, {what}: a signature was written")
     status, _, why = run([*program, key, data, os.path.join(room, "nothing", "made"), COMMENT])
-    checks.check(status == 1 and why == "sign: the signature cannot be written\n", f"sign, no folder: {why!r}")
+    checks.check(status == 1 and why == "sign: a file cannot be opened\n", f"sign, no folder: {why!r}")
     status, _, why = run([*program, key, data, "/dev/full", COMMENT])
     checks.check(status == 1 and why == "sign: the signature cannot be written\n", f"sign, a full disk: {why!r}")
 
 
 def run_programs(checks, root, room, minisign):
-    """The programs that were installed, once each; `tests/minisign/real_minisign.py` has all about them."""
+    """The programs that were installed, once each; `tests/whole/whole_minisign.py` has all about the first."""
     key, data, sig = (os.path.join(room, name) for name in ("key.pub", "data", "installed.sig"))
-    status, _, why = run([os.path.join(root, "bin", "minisign-sign"), "-s", os.path.join(room, "key.key"), "-m", data, "-x", sig,
-                          "-t", COMMENT])
-    checks.check(status == 0, f"minisign-sign: {why}")
-    for program in (os.path.join(root, "bin", "minisign-verify"), minisign):
+    ours = os.path.join(root, "bin", "minisign")
+    status, _, why = run([ours, "-S", "-s", os.path.join(room, "key.key"), "-m", data, "-x", sig, "-t", COMMENT])
+    checks.check(status == 0, f"minisign -S: {why}")
+    for program in (ours, minisign):
         status, said, why = run([program, "-V", "-Q", "-p", key, "-m", data, "-x", sig])
         checks.check(status == 0 and said == COMMENT + "\n", f"{program}: {said!r}, {why!r}")
     place = os.path.join(room, "place")
@@ -283,7 +291,8 @@ def run_programs(checks, root, room, minisign):
 
 
 def use(checks, root, room, minisign):
-    """Looks at what was installed there, and uses it from each language; what is made meanwhile stands in the other folder."""
+    """Looks at what was installed there, and uses it from each language; what is made meanwhile stands in the other
+    folder."""
     installed_files(checks, root)
     programs = build_all(checks, root, room)
     run_verifiers(checks, programs, root, room, minisign)

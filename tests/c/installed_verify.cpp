@@ -33,8 +33,9 @@ minisign_answer answer(const std::uint8_t *signature, const std::uint8_t *messag
 int main(int argc, char **argv)
 {
     std::string key, data, signature, message;
+    minisign_public_key pk;
     minisign_state state;
-    minisign_external q;
+    minisign_questions q;
 
     if (argc != 4 || sodium_init() < 0 || !read(argv[1], key) || !read(argv[2], data) || !read(argv[3], signature)) {
         std::fputs("a file cannot be read\n", stderr);
@@ -42,10 +43,16 @@ int main(int argc, char **argv)
     }
     message.resize(signature.size());
     minisign_init(&state);
-    minisign_error error = minisign_update(&state, bytes(data), data.size());
+    minisign_error error = minisign_read_public_key(bytes(key), key.size(), &pk);
     if (error == MINISIGN_OK) {
-        error = minisign_ask(&state, bytes(key), key.size(), bytes(signature), signature.size(), 0, &q,
+        error = minisign_ask(&state, &pk, bytes(signature), signature.size(), 0, &q,
                              reinterpret_cast<std::uint8_t *>(&message[0]), message.size());
+    }
+    if (error == MINISIGN_OK) {
+        error = minisign_update(&state, bytes(data), data.size());
+    }
+    if (error == MINISIGN_OK) {
+        error = minisign_digest(&state, q.digest);
     }
     if (error == MINISIGN_OK) {
         error = minisign_verdict(&state, answer(q.signature, q.digest, sizeof q.digest, q.public_key),

@@ -1,5 +1,5 @@
-"""Verifying from Python by ctypes, over the shared library alone: `installed_verify.py LIBRARY PUBLIC_KEY DATA SIGNATURE` ends as
-the example in C does. libsodium answers for Ed25519."""
+"""Verifying from Python by ctypes, over the shared library alone:
+`installed_verify.py LIBRARY PUBLIC_KEY DATA SIGNATURE` ends as the example in C does. libsodium answers for Ed25519."""
 
 import ctypes
 import ctypes.util
@@ -22,8 +22,10 @@ def opened(path):
     library.minisign_init.argtypes = [ctypes.c_void_p]
     library.minisign_init.restype = None
     library.minisign_update.argtypes = [ctypes.c_void_p, text, size]
-    library.minisign_ask.argtypes = [ctypes.c_void_p, text, size, text, size, ctypes.c_uint32, ctypes.c_void_p,
+    library.minisign_read_public_key.argtypes = [text, size, ctypes.c_void_p]
+    library.minisign_ask.argtypes = [ctypes.c_void_p, ctypes.c_void_p, text, size, ctypes.c_uint32, ctypes.c_void_p,
                                      ctypes.c_void_p, size]
+    library.minisign_digest.argtypes = [ctypes.c_void_p, ctypes.c_void_p]
     library.minisign_verdict.argtypes = [ctypes.c_void_p, ctypes.c_uint32, ctypes.c_uint32]
     library.minisign_error_text.argtypes = [ctypes.c_uint32, ctypes.c_void_p, size]
     library.minisign_error_text.restype = size
@@ -59,10 +61,15 @@ def main():
     state, questions, message = (ctypes.c_uint64 * 64)(), Questions(), ctypes.create_string_buffer(max(len(signature), 1))
     library.minisign_init(state)
     # NULL where there are no bytes, as other languages hand it over.
-    error = library.minisign_update(state, data or None, len(data))
+    pk = ctypes.create_string_buffer(40)
+    error = library.minisign_read_public_key(key or None, len(key), pk)
     if error == 0:
-        error = library.minisign_ask(state, key or None, len(key), signature or None, len(signature), 0,
-                                     ctypes.byref(questions), message, len(signature))
+        error = library.minisign_ask(state, pk, signature or None, len(signature), 0, ctypes.byref(questions), message,
+                                     len(signature))
+    if error == 0:
+        error = library.minisign_update(state, data or None, len(data))
+    if error == 0:
+        error = library.minisign_digest(state, ctypes.byref(questions, Questions.digest.offset))
     if error == 0:
         error = library.minisign_verdict(
             state, answer(sodium, questions.signature, questions.digest, 64, questions.public_key),

@@ -5,8 +5,8 @@
  *     keys public KEY_ID SECRET ROOM COMMENT
  *     keys open KEEP_EVERY GREATEST_WORK FILE [PASSWORD]
  *
- * The first three are in hexadecimal. It writes the text, or the identifier and the secret in hexadecimal; or the number
- * of the error, and ends with 1.
+ * The first three are in hexadecimal. It writes the text, or the identifier and the secret in hexadecimal; or the
+ * number of the error, with the exit status 1.
  */
 #include <inttypes.h>
 #include <stdio.h>
@@ -75,18 +75,20 @@ static int made(uint32_t error, size_t text_len)
 
 static int make_secret(int argc, char **argv)
 {
-    uint8_t key_id[8], secret_key[64];
+    uint8_t key_id[8], secret[64];
+    minisign_secret_key key;
     minisign_sealing sealing;
     size_t text_len = BYTES + 1;
     const char *password = argc > 10 ? argv[10] : "";
     uint32_t error;
 
     read_hexadecimal(key_id, sizeof key_id, argv[2]);
-    read_hexadecimal(secret_key, sizeof secret_key, argv[3]);
+    read_hexadecimal(secret, sizeof secret, argv[3]);
+    minisign_take_secret_key(key_id, secret, &key);
     read_hexadecimal(sealing.salt, sizeof sealing.salt, argv[4]);
     sealing.operations_limit = strtoull(argv[5], NULL, 10);
     sealing.memory_limit = strtoull(argv[6], NULL, 10);
-    error = minisign_make_secret_key(key_id, secret_key, argc > 10, bytes(password), strlen(password), &sealing,
+    error = minisign_secret_key_text(&key, argc > 10, bytes(password), strlen(password), &sealing,
                                      strtoull(argv[7], NULL, 10), bytes(argv[9]), strlen(argv[9]), text,
                                      strtoull(argv[8], NULL, 10), &text_len);
     return made(error, text_len);
@@ -94,21 +96,22 @@ static int make_secret(int argc, char **argv)
 
 static int make_public(char **argv)
 {
-    uint8_t key_id[8], secret_key[64];
+    uint8_t key_id[8], secret[64];
+    minisign_secret_key key;
     size_t text_len = BYTES + 1;
     uint32_t error;
 
     read_hexadecimal(key_id, sizeof key_id, argv[2]);
-    read_hexadecimal(secret_key, sizeof secret_key, argv[3]);
-    error = minisign_make_public_key(key_id, secret_key, bytes(argv[5]), strlen(argv[5]), text,
+    read_hexadecimal(secret, sizeof secret, argv[3]);
+    minisign_take_secret_key(key_id, secret, &key);
+    error = minisign_public_key_text(&key, bytes(argv[5]), strlen(argv[5]), text,
                                      strtoull(argv[4], NULL, 10), &text_len);
     return made(error, text_len);
 }
 
 static int open_key(int argc, char **argv)
 {
-    minisign_state state;
-    minisign_signing signing;
+    minisign_secret_key key;
     const char *password = argc > 5 ? argv[5] : "";
     FILE *file = fopen(argv[4], "rb");
     size_t len;
@@ -119,13 +122,12 @@ static int open_key(int argc, char **argv)
     }
     len = fread(text, 1, sizeof text, file);
     fclose(file);
-    minisign_init(&state);
-    error = minisign_ask_signing(&state, text, len, argc > 5, bytes(password), strlen(password), strtoull(argv[2], NULL, 10),
-                                 (uint32_t) strtoul(argv[3], NULL, 10), &signing);
+    error = minisign_open_secret_key(text, len, argc > 5, bytes(password), strlen(password), strtoull(argv[2], NULL, 10),
+                                 (uint32_t) strtoul(argv[3], NULL, 10), &key);
     if (error == MINISIGN_OK) {
-        write_hexadecimal(signing.key_id, sizeof signing.key_id);
+        write_hexadecimal(key.key_id, sizeof key.key_id);
         putchar(' ');
-        write_hexadecimal(signing.secret_key, sizeof signing.secret_key);
+        write_hexadecimal(key.secret, sizeof key.secret);
         putchar('\n');
     }
     return ended(error);

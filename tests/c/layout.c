@@ -18,21 +18,25 @@
 
 IS_LAID_OUT(minisign_state, 512, 8);
 
-IS_LAID_OUT(minisign_external, 256, 8);
-IS_AT(minisign_external, public_key, 0, 32);
-IS_AT(minisign_external, digest, 32, 64);
-IS_AT(minisign_external, signature, 96, 64);
-IS_AT(minisign_external, comment_signature, 160, 64);
-IS_AT(minisign_external, message_len, 224, 8);
-IS_AT(minisign_external, public_key_id, 232, 8);
-IS_AT(minisign_external, signature_key_id, 240, 8);
-IS_AT(minisign_external, legacy, 248, 4);
-IS_AT(minisign_external, reserved, 252, 4);
+IS_LAID_OUT(minisign_public_key, 40, 1);
+IS_AT(minisign_public_key, key, 0, 32);
+IS_AT(minisign_public_key, key_id, 32, 8);
 
-IS_LAID_OUT(minisign_signing, 136, 1);
-IS_AT(minisign_signing, secret_key, 0, 64);
-IS_AT(minisign_signing, digest, 64, 64);
-IS_AT(minisign_signing, key_id, 128, 8);
+IS_LAID_OUT(minisign_questions, 256, 8);
+IS_AT(minisign_questions, public_key, 0, 32);
+IS_AT(minisign_questions, digest, 32, 64);
+IS_AT(minisign_questions, signature, 96, 64);
+IS_AT(minisign_questions, comment_signature, 160, 64);
+IS_AT(minisign_questions, message_len, 224, 8);
+IS_AT(minisign_questions, public_key_id, 232, 8);
+IS_AT(minisign_questions, signature_key_id, 240, 8);
+IS_AT(minisign_questions, legacy, 248, 4);
+IS_AT(minisign_questions, reserved, 252, 4);
+
+IS_LAID_OUT(minisign_secret_key, 80, 8);
+IS_AT(minisign_secret_key, mark, 0, 8);
+IS_AT(minisign_secret_key, key_id, 8, 8);
+IS_AT(minisign_secret_key, secret, 16, 64);
 
 IS_LAID_OUT(minisign_sealing, 48, 8);
 IS_AT(minisign_sealing, salt, 0, 32);

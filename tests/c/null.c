@@ -41,33 +41,34 @@ static void feeding(void)
 static void asking(void)
 {
     minisign_state state = begun();
-    minisign_external q;
+    minisign_public_key key = key_of(KEY);
+    minisign_questions q;
 
-    CHECK(minisign_ask(&state, NULL, 0, NULL, 0, 0, &q, NULL, 0) == MINISIGN_MISSING_PUBLIC_KEY_COMMENT);
-    CHECK(minisign_ask(&state, bytes(KEY), sizeof KEY - 1, NULL, 0, 0, &q, NULL, 0) == MINISIGN_MISSING_UNTRUSTED_COMMENT);
-    CHECK(minisign_ask(&state, NULL, 0, bytes(SIGNATURE), sizeof SIGNATURE - 1, 0, &q, NULL, 0)
-          == MINISIGN_MISSING_PUBLIC_KEY_COMMENT);
-    CHECK(minisign_ask(&state, bytes(KEY), sizeof KEY - 1, bytes(SIGNATURE), sizeof SIGNATURE - 1, 0, &q, NULL, 0)
-          == MINISIGN_NO_ROOM);
+    CHECK(minisign_read_public_key(NULL, 0, &key) == MINISIGN_MISSING_PUBLIC_KEY_COMMENT);
+    CHECK(minisign_read_bare_public_key(NULL, 0, &key) == MINISIGN_BARE_PUBLIC_KEY_LENGTH);
+    CHECK(minisign_ask(&state, &key, NULL, 0, 0, &q, NULL, 0) == MINISIGN_MISSING_UNTRUSTED_COMMENT);
+    CHECK(minisign_ask(&state, &key, bytes(SIGNATURE), sizeof SIGNATURE - 1, 0, &q, NULL, 0) == MINISIGN_NO_ROOM);
 }
 
 static void signing(void)
 {
     static const uint8_t first[64], second[64];
     static uint8_t text[1024], empty[1024], message[64];
-    minisign_state state = begun();
-    minisign_signing s;
+    static const minisign_sealing none;
+    minisign_secret_key key;
     size_t text_len = 0, empty_len = 0;
 
-    CHECK(minisign_ask_signing(&state, NULL, 0, 0, NULL, 0, 1, 1, &s) == MINISIGN_MISSING_SECRET_KEY_COMMENT);
-    CHECK(minisign_ask_signing(&state, bytes(SECRET_KEY), sizeof SECRET_KEY - 1, 1, NULL, 0, 1, 1, &s)
+    CHECK(minisign_open_secret_key(NULL, 0, 0, NULL, 0, 1, 1, &key) == MINISIGN_MISSING_SECRET_KEY_COMMENT);
+    CHECK(minisign_open_secret_key(bytes(SECRET_KEY), sizeof SECRET_KEY - 1, 1, NULL, 0, 1, 1, &key)
           == MINISIGN_KEY_NOT_SEALED);
-    CHECK(minisign_ask_signing(&state, bytes(SECRET_KEY), sizeof SECRET_KEY - 1, 0, NULL, 0, 1, 1, &s) == MINISIGN_OK);
+    CHECK(minisign_open_secret_key(bytes(SECRET_KEY), sizeof SECRET_KEY - 1, 0, NULL, 0, 1, 1, &key) == MINISIGN_OK);
+    CHECK(minisign_public_key_text(&key, NULL, 0, NULL, 0, &text_len) == MINISIGN_NO_ROOM);
+    CHECK(minisign_secret_key_text(&key, 0, NULL, 0, &none, 1, NULL, 0, NULL, 0, &text_len) == MINISIGN_NO_ROOM);
     CHECK(minisign_comment_message(first, NULL, 0, message, sizeof message) == MINISIGN_OK);
     CHECK(minisign_comment_message(first, NULL, 0, NULL, 0) == MINISIGN_NO_ROOM);
-    CHECK(minisign_signed_text(&state, first, second, NULL, 0, NULL, 0, NULL, 0, &text_len) == MINISIGN_NO_ROOM);
-    CHECK(minisign_signed_text(&state, first, second, NULL, 0, NULL, 0, text, sizeof text, &text_len) == MINISIGN_OK);
-    CHECK(minisign_signed_text(&state, first, second, bytes(""), 0, bytes(""), 0, empty, sizeof empty, &empty_len)
+    CHECK(minisign_signed_text(&key, first, second, NULL, 0, NULL, 0, NULL, 0, &text_len) == MINISIGN_NO_ROOM);
+    CHECK(minisign_signed_text(&key, first, second, NULL, 0, NULL, 0, text, sizeof text, &text_len) == MINISIGN_OK);
+    CHECK(minisign_signed_text(&key, first, second, bytes(""), 0, bytes(""), 0, empty, sizeof empty, &empty_len)
           == MINISIGN_OK);
     CHECK(text_len == empty_len && text_len <= MINISIGN_TEXT_BYTES(0, 0) && memcmp(text, empty, text_len) == 0);
 }

@@ -1,7 +1,7 @@
 /*
- * Verifying makes no request for memory. Of the other calls each request is refused in turn: the answer is MINISIGN_OUT_OF_MEMORY, nothing else, the
- * state stays as it was, and what was taken is given back. Also with each request behind it refused, and the whole
- * memory of scrypt refused for a key sealed as `minisign -G` seals.
+ * Verifying makes no request for memory. Of the other calls each request is refused in turn: the answer is
+ * MINISIGN_OUT_OF_MEMORY, nothing else, the state stays as it was, and what was taken is given back. Also with each
+ * request behind it refused, and the whole memory of scrypt refused for a key sealed as `minisign -G` seals.
  *
  * Linked with -Wl,--wrap=malloc -Wl,--wrap=realloc -Wl,--wrap=free. Prints a line for each check that failed; the last
  * line is `N passed, M failed`.
@@ -83,8 +83,9 @@ static const char SEALED[] =
     "9WgTVn+cBdAVDfAnDcoms9nFfblMjk9dV4D6llvod023qwmFQVYufitrKbc=\n";
 
 static minisign_state state;
-static minisign_external questions;
-static minisign_signing signing;
+static minisign_public_key public_key;
+static minisign_questions questions;
+static minisign_secret_key key;
 static uint8_t message[1024];
 static size_t text_len;
 
@@ -95,60 +96,56 @@ static const uint8_t *bytes(const char *text)
 
 static enum minisign_error ask(void)
 {
-    return minisign_ask(&state, bytes(KEY), sizeof KEY - 1, bytes(SIGNATURE), sizeof SIGNATURE - 1, 0, &questions, message,
-                        sizeof message);
+    return minisign_ask(&state, &public_key, bytes(SIGNATURE), sizeof SIGNATURE - 1, 0, &questions, message, sizeof message);
 }
 
-static enum minisign_error ask_signing(void)
+static enum minisign_error open_key(void)
 {
-    return minisign_ask_signing(&state, bytes(UNSEALED), sizeof UNSEALED - 1, 0, bytes(""), 0, MINISIGN_KEEP_EVERY_ROW,
-                                MINISIGN_USUAL_WORK, &signing);
+    return minisign_open_secret_key(bytes(UNSEALED), sizeof UNSEALED - 1, 0, bytes(""), 0, MINISIGN_KEEP_EVERY_ROW,
+                                    MINISIGN_USUAL_WORK, &key);
 }
 
-static enum minisign_error ask_signing_sealed(void)
+static enum minisign_error open_sealed(void)
 {
-    return minisign_ask_signing(&state, bytes(SEALED), sizeof SEALED - 1, 1, bytes("pw"), 2, MINISIGN_KEEP_EVERY_ROW,
-                                MINISIGN_USUAL_WORK, &signing);
+    return minisign_open_secret_key(bytes(SEALED), sizeof SEALED - 1, 1, bytes("pw"), 2, MINISIGN_KEEP_EVERY_ROW,
+                                    MINISIGN_USUAL_WORK, &key);
 }
 
-static uint32_t make_secret_key(void)
+static enum minisign_error write_secret_key(void)
 {
-    static const uint8_t key_id[8], secret_key[64];
     static const minisign_sealing none;
-    return minisign_make_secret_key(key_id, secret_key, 0, bytes(""), 0, &none, MINISIGN_KEEP_EVERY_ROW, bytes("c"), 1, message,
+    return minisign_secret_key_text(&key, 0, bytes(""), 0, &none, MINISIGN_KEEP_EVERY_ROW, bytes("c"), 1, message,
                                     sizeof message, &text_len);
 }
 
-static uint32_t make_sealed_key(void)
+static enum minisign_error write_sealed_key(void)
 {
-    static const uint8_t key_id[8], secret_key[64];
     static const minisign_sealing sealing = {
         .operations_limit = MINISIGN_OPERATIONS_LIMIT, .memory_limit = MINISIGN_MEMORY_LIMIT
     };
-    return minisign_make_secret_key(key_id, secret_key, 1, bytes("pw"), 2, &sealing, MINISIGN_KEEP_EVERY_ROW, bytes("c"), 1,
-                                    message, sizeof message, &text_len);
+    return minisign_secret_key_text(&key, 1, bytes("pw"), 2, &sealing, MINISIGN_KEEP_EVERY_ROW, bytes("c"), 1, message,
+                                    sizeof message, &text_len);
 }
 
-static uint32_t make_public_key(void)
+static enum minisign_error write_public_key(void)
 {
-    static const uint8_t key_id[8], secret_key[64];
-    return minisign_make_public_key(key_id, secret_key, bytes("c"), 1, message, sizeof message, &text_len);
+    return minisign_public_key_text(&key, bytes("c"), 1, message, sizeof message, &text_len);
 }
 
 static enum minisign_error write_text(void)
 {
     static const uint8_t first[64], second[64];
-    return minisign_signed_text(&state, first, second, bytes("t"), 1, bytes("u"), 1, message, sizeof message, &text_len);
+    return minisign_signed_text(&key, first, second, bytes("t"), 1, bytes("u"), 1, message, sizeof message, &text_len);
 }
 
-/* One call on this state, with one request refused or with this one and all behind it: whether the call came to it. */
-static int refuse(const char *name, enum minisign_error (*call)(void), const minisign_state *before, long request,
+/* One call with this key, with one request refused or with this one and all behind it: whether the call came to it. */
+static int refuse(const char *name, enum minisign_error (*call)(void), const minisign_secret_key *before, long request,
                   long last)
 {
     enum minisign_error error;
     int came;
 
-    state = *before;
+    key = *before;
     requests = held = 0;
     refused_from = request;
     refused_to = last;
@@ -157,11 +154,11 @@ static int refuse(const char *name, enum minisign_error (*call)(void), const min
     came = requests >= request;
     check(held == 0, name, "memory is not given back", request);
     check(error == (came ? MINISIGN_OUT_OF_MEMORY : MINISIGN_OK), name, "another number", request);
-    check(!came || memcmp(before, &state, sizeof state) == 0, name, "the state has changed", request);
+    check(!came || memcmp(before, &key, sizeof key) == 0, name, "the key has changed", request);
     return came;
 }
 
-static void refuse_each(const char *name, enum minisign_error (*call)(void), const minisign_state *before)
+static void refuse_each(const char *name, enum minisign_error (*call)(void), const minisign_secret_key *before)
 {
     long request = 1;
 
@@ -176,38 +173,41 @@ static void refuse_each(const char *name, enum minisign_error (*call)(void), con
 static void verify_without_memory(void)
 {
     requests = held = 0;
+    check(minisign_read_public_key(bytes(KEY), sizeof KEY - 1, &public_key) == MINISIGN_OK, "minisign_read_public_key",
+          "another number", 0);
     minisign_init(&state);
-    check(minisign_update(&state, bytes("test"), 4) == MINISIGN_OK, "minisign_update", "another number", 0);
     check(ask() == MINISIGN_OK, "minisign_ask", "another number", 0);
+    check(minisign_comment_verdict(&state, MINISIGN_ANSWER_YES) == MINISIGN_OK, "minisign_comment_verdict", "another number", 0);
+    check(minisign_update(&state, bytes("test"), 4) == MINISIGN_OK, "minisign_update", "another number", 0);
+    check(minisign_digest(&state, questions.digest) == MINISIGN_OK, "minisign_digest", "another number", 0);
     check(minisign_verdict(&state, MINISIGN_ANSWER_YES, MINISIGN_ANSWER_YES) == MINISIGN_OK, "minisign_verdict", "another number", 0);
     minisign_init(&state);
-    check(minisign_ask(&state, bytes(SIGNATURE), sizeof SIGNATURE - 1, bytes(KEY), sizeof KEY - 1, 0, &questions, message,
-                       sizeof message) == MINISIGN_PUBLIC_KEY_LENGTH, "minisign_ask", "another number", 0);
-    check(minisign_ask(&state, bytes(KEY), sizeof KEY - 1, bytes(KEY), sizeof KEY - 1, 0, &questions, message,
-                       sizeof message) == MINISIGN_MISSING_TRUSTED_COMMENT, "minisign_ask", "another number", 0);
+    check(minisign_read_public_key(bytes(SIGNATURE), sizeof SIGNATURE - 1, &public_key) == MINISIGN_PUBLIC_KEY_LENGTH,
+          "minisign_read_public_key", "another number", 0);
+    check(minisign_ask(&state, &public_key, bytes(KEY), sizeof KEY - 1, 0, &questions, message, sizeof message)
+              == MINISIGN_MISSING_TRUSTED_COMMENT, "minisign_ask", "another number", 0);
     check(requests == 0 && held == 0, "minisign_ask", "memory is asked for", requests);
 }
 
 int main(void)
 {
-    minisign_state begun;
+    minisign_secret_key none = { 0 }, opened;
 
     verify_without_memory();
-    minisign_init(&begun);
-    refuse_each("minisign_ask_signing", ask_signing, &begun);
-    state = begun;
-    check(ask_signing() == MINISIGN_OK, "minisign_ask_signing", "another number", 0);
-    begun = state;
-    refuse_each("minisign_signed_text", write_text, &begun);
-    refuse_each("minisign_make_secret_key", make_secret_key, &begun);
-    refuse_each("minisign_make_public_key", make_public_key, &begun);
+    refuse_each("minisign_open_secret_key", open_key, &none);
+    key = none;
+    check(open_key() == MINISIGN_OK, "minisign_open_secret_key", "another number", 0);
+    opened = key;
+    refuse_each("minisign_signed_text", write_text, &opened);
+    refuse_each("minisign_secret_key_text", write_secret_key, &opened);
+    refuse_each("minisign_public_key_text", write_public_key, &opened);
     greatest = 100000;
-    minisign_init(&state);
     held = 0;
-    check(ask_signing_sealed() == MINISIGN_OUT_OF_MEMORY, "minisign_ask_signing, sealed", "another number", requests);
-    check(held == 0, "minisign_ask_signing, sealed", "memory is not given back", requests);
-    check(make_sealed_key() == MINISIGN_OUT_OF_MEMORY, "minisign_make_secret_key, sealed", "another number", requests);
-    check(held == 0, "minisign_make_secret_key, sealed", "memory is not given back", requests);
+    check(open_sealed() == MINISIGN_OUT_OF_MEMORY, "minisign_open_secret_key, sealed", "another number", requests);
+    check(held == 0, "minisign_open_secret_key, sealed", "memory is not given back", requests);
+    key = opened;
+    check(write_sealed_key() == MINISIGN_OUT_OF_MEMORY, "minisign_secret_key_text, sealed", "another number", requests);
+    check(held == 0, "minisign_secret_key_text, sealed", "memory is not given back", requests);
     printf("%u passed, %u failed\n", passed, failed);
     return failed != 0;
 }

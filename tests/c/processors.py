@@ -3,12 +3,12 @@
 
     tests/c/processors.py
 
-On those without AVX2, and on one that has it and lacks another part of x86-64-v3, the copy for x86-64-v2 runs, and on the others
-the one for x86-64-v3: each copy in turn has a wrong constant, so that it is seen which one ran. It prints a line for each
-failure; the last line is `N passed, M failed`.
+On those without AVX2, and on one that has it and lacks another part of x86-64-v3, the copy for x86-64-v2 runs, and on
+the others the one for x86-64-v3: each copy in turn has a wrong constant, so that it is seen which one ran. It prints a
+line for each failure; the last line is `N passed, M failed`.
 
-Needs Python 3.9 or later, make, binutils, a C compiler, libsodium with its header, and of Debian qemu-user-static, and installs
-what is not there where it may.
+Needs Python 3.9 or later, make, binutils, a C compiler, libsodium with its header, and of Debian qemu-user-static, and
+installs what is not there where it may.
 """
 
 import os
@@ -50,8 +50,8 @@ def build(room, wrong):
         file.write(data.replace(VALUE, bytes([VALUE[0] ^ 1]) + VALUE[1:]))
     archives = {"v2": archive_of("v2"), "v3": archive_of("v3"), wrong: changed}
     out = os.path.join(room, wrong)
-    static_library.run_make(f"OUT={out}", *(f"{name.upper()}={path}" for name, path in archives.items()), f"{out}/minisign-verify")
-    return f"{out}/minisign-verify"
+    static_library.run_make(f"OUT={out}", *(f"{name.upper()}={path}" for name, path in archives.items()), f"{out}/minisign")
+    return f"{out}/minisign"
 
 
 def verify(emulator, processor, program):

@@ -53,26 +53,26 @@ static const uint8_t OTHER_KEY[32] = {
 };
 static const uint8_t OTHER_KEY_ID[8] = { 0x20, 0x20, 0xbf, 0x8f, 0xf4, 0x89, 0xf3, 0x1d };
 
-typedef enum minisign_error (*reader)(const uint8_t *text, size_t len, uint8_t key[32], uint8_t key_id[8]);
+typedef enum minisign_error (*reader)(const uint8_t *text, size_t len, minisign_public_key *key);
 
 /* Checks one text: its number, and the key and the identifier, or nothing written where there is none. */
 static void check(reader read, const char *name, const char *text, size_t len, enum minisign_error wanted,
                   const uint8_t *key, const uint8_t *key_id)
 {
-    uint8_t told_key[32], told_id[8], untouched[32];
+    minisign_public_key told;
+    uint8_t untouched[sizeof told];
     enum minisign_error error;
     int holds;
 
-    memset(told_key, 0xa5, sizeof told_key);
-    memset(told_id, 0xa5, sizeof told_id);
+    memset(&told, 0xa5, sizeof told);
     memset(untouched, 0xa5, sizeof untouched);
     requests = 0;
-    error = read((const uint8_t *) text, len, told_key, told_id);
+    error = read((const uint8_t *) text, len, &told);
     holds = error == wanted && requests == 0;
     if (wanted == MINISIGN_OK)
-        holds = holds && memcmp(told_key, key, 32) == 0 && memcmp(told_id, key_id, 8) == 0;
+        holds = holds && memcmp(told.key, key, 32) == 0 && memcmp(told.key_id, key_id, 8) == 0;
     else
-        holds = holds && memcmp(told_key, untouched, 32) == 0 && memcmp(told_id, untouched, 8) == 0;
+        holds = holds && memcmp(&told, untouched, sizeof told) == 0;
     if (holds) {
         passed++;
     } else {

@@ -1,9 +1,12 @@
-/* Texts and a count of checks for the programs of these tests, each of which is one file. What Ed25519 would answer is made up
- * in them: no check depends on it. */
+/* Texts and a count of checks for the programs of these tests, each of which is one file. What Ed25519 would answer is
+ * made up in them: no check depends on it. */
 #ifndef TEXTS_FOR_TESTS_H
 #define TEXTS_FOR_TESTS_H
 
 #include <stdio.h>
+#include <string.h>
+
+#include "minisign.h"
 
 static unsigned passed, failed;
 
@@ -28,6 +31,16 @@ static const char SIGNATURE[] =
     "trusted comment: timestamp:1556193335\tfile:test\n"
     "y/rUw2y8/hOUYjZU71eHp/Wo1KZ40fGy2VJEDl34XMJM+TX48Ss/17u3IvIfbVR1FkZZSNCisQbuQY+bHwhEBg==";
 #define MESSAGE_LEN (64 + sizeof "timestamp:1556193335\tfile:test" - 1)
+
+/* What the text of a public key reads as. */
+static inline minisign_public_key key_of(const char *text)
+{
+    minisign_public_key key;
+
+    memset(&key, 0, sizeof key);
+    CHECK(minisign_read_public_key((const uint8_t *) text, strlen(text), &key) == MINISIGN_OK);
+    return key;
+}
 
 /* A secret key that Minisign made with -G -W, for these checks alone. */
 static const char SECRET_KEY[] =

@@ -1,6 +1,6 @@
 /*
- * Several threads at once, each with states of its own: each verifies and signs what no other does, again and again, and what it
- * is told is what one thread alone is told.
+ * Several threads at once, each with states of its own: each verifies and signs what no other does, again and again,
+ * and what it is told is what one thread alone is told.
  *
  * The last line is `N passed, M failed`.
  */
@@ -17,8 +17,8 @@ enum { THREADS = 8, ROUNDS = 40, BYTES = 30011 };
 
 /* What one run tells. */
 struct told {
-    minisign_external questions;
-    minisign_signing signing;
+    minisign_questions questions;
+    minisign_secret_key key;
     uint8_t message[sizeof SIGNATURE], text[1024];
     size_t text_len;
     int good;
@@ -33,22 +33,24 @@ static void run(struct told *told, int number, int rounds)
     memset(data, number, sizeof data);
     told->good = 1;
     for (int round = 0; round < rounds; round++) {
-        minisign_state state, copy;
-        enum minisign_error error;
+        minisign_state state;
+        minisign_public_key key;
+        enum minisign_error error = minisign_read_public_key((const uint8_t *) KEY, sizeof KEY - 1, &key);
 
-        minisign_init(&state);
-        error = minisign_update(&state, data, sizeof data);
-        copy = state;
         told->good &= error == MINISIGN_OK;
-        error = minisign_ask(&state, (const uint8_t *) KEY, sizeof KEY - 1, (const uint8_t *) SIGNATURE, sizeof SIGNATURE - 1, 0,
-                             &told->questions, told->message, sizeof told->message);
+        minisign_init(&state);
+        error = minisign_ask(&state, &key, (const uint8_t *) SIGNATURE, sizeof SIGNATURE - 1, 0, &told->questions,
+                             told->message, sizeof told->message);
+        told->good &= error == MINISIGN_OK;
+        error = minisign_update(&state, data, sizeof data);
+        told->good &= error == MINISIGN_OK;
+        error = minisign_digest(&state, told->questions.digest);
         told->good &= error == MINISIGN_OK;
         error = minisign_verdict(&state, MINISIGN_ANSWER_YES, number % 2 ? MINISIGN_ANSWER_YES : MINISIGN_ANSWER_NO);
         told->good &= error == (number % 2 ? MINISIGN_OK : MINISIGN_COMMENT_SIGNATURE_REFUSED);
-        error = minisign_ask_signing(&copy, (const uint8_t *) SECRET_KEY, sizeof SECRET_KEY - 1, 0, NULL, 0, 1, 1,
-                                     &told->signing);
+        error = minisign_open_secret_key((const uint8_t *) SECRET_KEY, sizeof SECRET_KEY - 1, 0, NULL, 0, 1, 1, &told->key);
         told->good &= error == MINISIGN_OK;
-        error = minisign_signed_text(&copy, told->questions.signature, told->questions.comment_signature,
+        error = minisign_signed_text(&told->key, told->questions.signature, told->questions.comment_signature,
                                      (const uint8_t *) "12345678", (size_t) number, NULL, 0, told->text, sizeof told->text,
                                      &told->text_len);
         told->good &= error == MINISIGN_OK;

@@ -61,13 +61,23 @@ static const uint8_t DIGEST_OF_ABC[64] = {
     0x18, 0xd3, 0x8a, 0xa8, 0xdb, 0xf1, 0x92, 0x5a, 0xb9, 0x23, 0x86, 0xed, 0xd4, 0x00, 0x99, 0x23,
 };
 
-static minisign_external questions;
-static uint8_t message[1024];
+static minisign_questions questions;
+static uint8_t message[1024], digest[64];
+
+static minisign_public_key key_of(const char *text)
+{
+    minisign_public_key key;
+
+    memset(&key, 0, sizeof key);
+    CHECK(minisign_read_public_key((const uint8_t *) text, strlen(text), &key) == MINISIGN_OK);
+    return key;
+}
 
 static enum minisign_error ask_for(minisign_state *state, const char *sig_text, uint32_t allow_legacy, size_t room)
 {
-    return minisign_ask(state, (const uint8_t *) KEY, sizeof KEY - 1, (const uint8_t *) sig_text, strlen(sig_text),
-                        allow_legacy, &questions, message, room);
+    const minisign_public_key key = key_of(KEY);
+
+    return minisign_ask(state, &key, (const uint8_t *) sig_text, strlen(sig_text), allow_legacy, &questions, message, room);
 }
 
 static enum minisign_error ask(minisign_state *state)
@@ -75,22 +85,14 @@ static enum minisign_error ask(minisign_state *state)
     return ask_for(state, PREHASHED, 0, sizeof message);
 }
 
-static minisign_signing signing;
-
-static enum minisign_error ask_signing_for(minisign_state *state, const char *sk_text, uint32_t with_password)
-{
-    return minisign_ask_signing(state, (const uint8_t *) sk_text, strlen(sk_text), with_password, ABC, sizeof ABC,
-                                MINISIGN_KEEP_EVERY_ROW, MINISIGN_USUAL_WORK, &signing);
-}
-
-static enum minisign_error ask_signing(minisign_state *state)
-{
-    return ask_signing_for(state, SECRET_KEY, 0);
-}
-
 static enum minisign_error feed(minisign_state *state)
 {
     return minisign_update(state, ABC, sizeof ABC);
+}
+
+static enum minisign_error tell(minisign_state *state)
+{
+    return minisign_digest(state, questions.digest);
 }
 
 /* All calls but the beginning, on a state that was never begun or was ended: each says so and leaves it. */
@@ -98,16 +100,17 @@ static void refused_all(minisign_state *state)
 {
     minisign_state before = *state;
 
+    memset(digest, 0xaa, sizeof digest);
     CHECK(feed(state) == MINISIGN_NOT_BEGUN);
+    CHECK(minisign_digest(state, digest) == MINISIGN_NOT_BEGUN && digest[0] == 0xaa);
     CHECK(ask(state) == MINISIGN_NOT_BEGUN);
     CHECK(ask_for(state, "", 1, 0) == MINISIGN_NOT_BEGUN);
     CHECK(ask_for(state, "", 2, 0) == MINISIGN_BAD_LEGACY_FLAG);
+    CHECK(minisign_comment_verdict(state, YES) == MINISIGN_NOT_BEGUN);
+    CHECK(minisign_comment_verdict(state, 1) == MINISIGN_BAD_ANSWER);
     CHECK(minisign_verdict(state, YES, YES) == MINISIGN_NOT_BEGUN);
     CHECK(minisign_verdict(state, NO, NO) == MINISIGN_NOT_BEGUN);
     CHECK(minisign_verdict(state, NO, 1) == MINISIGN_BAD_ANSWER);
-    CHECK(ask_signing(state) == MINISIGN_NOT_BEGUN);
-    CHECK(ask_signing_for(state, "", 1) == MINISIGN_NOT_BEGUN);
-    CHECK(ask_signing_for(state, "", 2) == MINISIGN_BAD_PASSWORD_FLAG);
     CHECK(memcmp(&before, state, sizeof before) == 0);
 }
 
@@ -120,31 +123,55 @@ static void never_begun(void)
     }
     minisign_init(&state);
     CHECK(ask(&state) == MINISIGN_OK);
+    CHECK(tell(&state) == MINISIGN_OK);
     CHECK(minisign_verdict(&state, YES, YES) == MINISIGN_OK);
     refused_all(&state);
     minisign_init(&state);
     CHECK(feed(&state) == MINISIGN_OK);
 }
 
+/* The questions are asked once, the digest is told once, and then no data is taken. */
 static void after_asking(void)
 {
     minisign_state state, before;
-    minisign_external asked;
+    minisign_questions asked;
 
     minisign_init(&state);
-    CHECK(feed(&state) == MINISIGN_OK);
     CHECK(ask(&state) == MINISIGN_OK);
     before = state;
     asked = questions;
-    CHECK(feed(&state) == MINISIGN_ALREADY_ASKED);
-    CHECK(minisign_update(&state, ABC, 0) == MINISIGN_ALREADY_ASKED);
     CHECK(ask(&state) == MINISIGN_ALREADY_ASKED);
     CHECK(ask_for(&state, "", 0, 0) == MINISIGN_ALREADY_ASKED);
     CHECK(ask_for(&state, "", 2, 0) == MINISIGN_BAD_LEGACY_FLAG);
-    CHECK(ask_signing(&state) == MINISIGN_ALREADY_ASKED);
+    CHECK(minisign_verdict(&state, YES, YES) == MINISIGN_NOT_ASKED);
     CHECK(memcmp(&before, &state, sizeof before) == 0);
     CHECK(memcmp(&asked, &questions, sizeof asked) == 0);
+    CHECK(feed(&state) == MINISIGN_OK);
+    CHECK(tell(&state) == MINISIGN_OK && memcmp(questions.digest, DIGEST_OF_ABC, 64) == 0);
+    before = state;
+    memset(digest, 0xaa, sizeof digest);
+    CHECK(feed(&state) == MINISIGN_ALREADY_ASKED);
+    CHECK(minisign_update(&state, ABC, 0) == MINISIGN_ALREADY_ASKED);
+    CHECK(minisign_digest(&state, digest) == MINISIGN_ALREADY_ASKED && digest[0] == 0xaa);
+    CHECK(ask(&state) == MINISIGN_ALREADY_ASKED);
+    CHECK(ask_for(&state, "", 0, 0) == MINISIGN_ALREADY_ASKED);
+    CHECK(memcmp(&before, &state, sizeof before) == 0);
     CHECK(minisign_verdict(&state, YES, YES) == MINISIGN_OK);
+}
+
+/* A digest that was told without questions gives no verdict. */
+static void told_unasked(void)
+{
+    minisign_state state, before;
+
+    minisign_init(&state);
+    CHECK(feed(&state) == MINISIGN_OK);
+    CHECK(minisign_digest(&state, digest) == MINISIGN_OK && memcmp(digest, DIGEST_OF_ABC, 64) == 0);
+    before = state;
+    CHECK(minisign_verdict(&state, YES, YES) == MINISIGN_NOT_ASKED);
+    CHECK(minisign_comment_verdict(&state, YES) == MINISIGN_NOT_ASKED);
+    CHECK(ask(&state) == MINISIGN_ALREADY_ASKED);
+    CHECK(memcmp(&before, &state, sizeof before) == 0);
 }
 
 static void before_asking(void)
@@ -157,6 +184,7 @@ static void before_asking(void)
     CHECK(minisign_verdict(&state, YES, YES) == MINISIGN_NOT_ASKED);
     CHECK(minisign_verdict(&state, NO, NO) == MINISIGN_NOT_ASKED);
     CHECK(minisign_verdict(&state, 2, 2) == MINISIGN_BAD_ANSWER);
+    CHECK(minisign_comment_verdict(&state, YES) == MINISIGN_NOT_ASKED);
     CHECK(ask_for(&state, PREHASHED, 2, sizeof message) == MINISIGN_BAD_LEGACY_FLAG);
     CHECK(ask_for(&state, PREHASHED, UINT32_MAX, sizeof message) == MINISIGN_BAD_LEGACY_FLAG);
     CHECK(ask_for(&state, "", 0, sizeof message) == MINISIGN_MISSING_UNTRUSTED_COMMENT);
@@ -170,7 +198,7 @@ static void before_asking(void)
     CHECK(questions.message_len == MESSAGE_LEN);
     CHECK(memcmp(message, questions.signature, 64) == 0);
     CHECK(memcmp(message + 64, COMMENT, sizeof COMMENT - 1) == 0);
-    CHECK(memcmp(questions.digest, DIGEST_OF_ABC, 64) == 0);
+    CHECK(tell(&state) == MINISIGN_OK && memcmp(questions.digest, DIGEST_OF_ABC, 64) == 0);
     CHECK(questions.legacy == 0);
 }
 
@@ -187,12 +215,19 @@ static void answers(void)
 
     minisign_init(&asked);
     CHECK(ask(&asked) == MINISIGN_OK);
+    /* The second question alone, before any data. */
+    state = asked;
+    CHECK(minisign_comment_verdict(&state, YES) == MINISIGN_OK);
+    CHECK(minisign_comment_verdict(&state, NO) == MINISIGN_COMMENT_SIGNATURE_REFUSED);
+    CHECK(memcmp(&asked, &state, sizeof asked) == 0);
+    CHECK(tell(&asked) == MINISIGN_OK);
     for (size_t i = 0; i < sizeof none / sizeof none[0]; i++) {
         state = asked;
         CHECK(minisign_verdict(&state, none[i], YES) == MINISIGN_BAD_ANSWER);
         CHECK(minisign_verdict(&state, YES, none[i]) == MINISIGN_BAD_ANSWER);
         CHECK(minisign_verdict(&state, NO, none[i]) == MINISIGN_BAD_ANSWER);
         CHECK(minisign_verdict(&state, none[i], none[i]) == MINISIGN_BAD_ANSWER);
+        CHECK(minisign_comment_verdict(&state, none[i]) == MINISIGN_BAD_ANSWER);
         CHECK(memcmp(&asked, &state, sizeof asked) == 0);
     }
     for (uint32_t first = 0; first < 2; first++) {
@@ -200,11 +235,13 @@ static void answers(void)
             state = asked;
             CHECK(minisign_verdict(&state, given[first], given[second]) == verdicts[first][second]);
             CHECK(minisign_verdict(&state, YES, YES) == MINISIGN_NOT_BEGUN);
+            CHECK(minisign_comment_verdict(&state, YES) == MINISIGN_NOT_BEGUN);
         }
     }
 }
 
-/* A copied state goes on by itself; data in pieces is data in one piece. */
+/* A copied state goes on by itself; data in pieces is data in one piece, whether asked about before, between or
+ * behind. */
 static void copies(void)
 {
     minisign_state one, two;
@@ -213,89 +250,114 @@ static void copies(void)
     CHECK(minisign_update(&one, ABC, 0) == MINISIGN_OK);
     CHECK(minisign_update(&one, ABC, 1) == MINISIGN_OK);
     two = one;
+    CHECK(ask(&one) == MINISIGN_OK);
     CHECK(minisign_update(&one, ABC + 1, 1) == MINISIGN_OK);
     CHECK(minisign_update(&one, ABC + 2, 1) == MINISIGN_OK);
     CHECK(minisign_update(&two, ABC + 1, 2) == MINISIGN_OK);
-    CHECK(ask(&one) == MINISIGN_OK);
-    CHECK(memcmp(questions.digest, DIGEST_OF_ABC, 64) == 0);
+    CHECK(tell(&one) == MINISIGN_OK && memcmp(questions.digest, DIGEST_OF_ABC, 64) == 0);
     CHECK(ask_for(&two, LEGACY, 1, sizeof message) == MINISIGN_OK);
-    CHECK(memcmp(questions.digest, DIGEST_OF_ABC, 64) == 0);
+    CHECK(tell(&two) == MINISIGN_OK && memcmp(questions.digest, DIGEST_OF_ABC, 64) == 0);
     CHECK(questions.legacy == 1);
+}
+
+static minisign_secret_key key;
+
+static enum minisign_error open_for(const char *sk_text, uint32_t with_password)
+{
+    return minisign_open_secret_key((const uint8_t *) sk_text, strlen(sk_text), with_password, ABC, sizeof ABC,
+                                    MINISIGN_KEEP_EVERY_ROW, MINISIGN_USUAL_WORK, &key);
 }
 
 static uint8_t text[16384];
 static size_t text_len;
 
-static enum minisign_error make_text(const minisign_state *state, const char *trusted, size_t trusted_len,
+static enum minisign_error make_text(const minisign_secret_key *by, const char *trusted, size_t trusted_len,
                                      const char *untrusted, size_t untrusted_len, size_t room)
 {
-    return minisign_signed_text(state, questions.signature, questions.comment_signature, (const uint8_t *) trusted,
+    return minisign_signed_text(by, questions.signature, questions.comment_signature, (const uint8_t *) trusted,
                                 trusted_len, (const uint8_t *) untrusted, untrusted_len, text, room, &text_len);
 }
 
-static enum minisign_error make_short_text(const minisign_state *state, const char *trusted, const char *untrusted, size_t room)
+static enum minisign_error make_short_text(const minisign_secret_key *by, const char *trusted, const char *untrusted, size_t room)
 {
-    return make_text(state, trusted, strlen(trusted), untrusted, strlen(untrusted), room);
+    return make_text(by, trusted, strlen(trusted), untrusted, strlen(untrusted), room);
 }
 
-/* A state that has told a key is fed and asked no more, and stays as it is. */
-static void after_telling(minisign_state *state)
+static void before_opening(void)
 {
-    minisign_state before = *state;
+    static const minisign_secret_key nothing;
 
-    CHECK(feed(state) == MINISIGN_ALREADY_ASKED);
-    CHECK(ask(state) == MINISIGN_ALREADY_ASKED);
-    CHECK(ask_signing(state) == MINISIGN_ALREADY_ASKED);
-    CHECK(minisign_verdict(state, YES, YES) == MINISIGN_NOT_ASKED);
-    CHECK(memcmp(&before, state, sizeof before) == 0);
+    CHECK(open_for(SECRET_KEY, 2) == MINISIGN_BAD_PASSWORD_FLAG);
+    CHECK(open_for(SECRET_KEY, UINT32_MAX) == MINISIGN_BAD_PASSWORD_FLAG);
+    CHECK(open_for("\xff", 2) == MINISIGN_BAD_PASSWORD_FLAG);
+    CHECK(open_for(SECRET_KEY, 1) == MINISIGN_KEY_NOT_SEALED);
+    CHECK(open_for("", 0) == MINISIGN_MISSING_SECRET_KEY_COMMENT);
+    CHECK(open_for("\xff", 0) == MINISIGN_NOT_UTF8);
+    CHECK(open_for(PREHASHED, 0) == MINISIGN_RECORD_TOO_SHORT);
+    CHECK(memcmp(&nothing, &key, sizeof nothing) == 0);
+    CHECK(make_short_text(&key, "t", "u", sizeof text) == MINISIGN_KEY_NOT_OPENED);
+    CHECK(open_for(SECRET_KEY, 0) == MINISIGN_OK);
+    CHECK(make_short_text(&key, "t", "u", sizeof text) == MINISIGN_OK);
+    memset(text, 0, sizeof text);
+    text_len = 0;
 }
 
-static void before_signing(void)
-{
-    static const minisign_signing nothing;
-    minisign_state state, before;
-
-    minisign_init(&state);
-    CHECK(feed(&state) == MINISIGN_OK);
-    before = state;
-    CHECK(ask_signing_for(&state, SECRET_KEY, 2) == MINISIGN_BAD_PASSWORD_FLAG);
-    CHECK(ask_signing_for(&state, SECRET_KEY, UINT32_MAX) == MINISIGN_BAD_PASSWORD_FLAG);
-    CHECK(ask_signing_for(&state, SECRET_KEY, 1) == MINISIGN_KEY_NOT_SEALED);
-    CHECK(ask_signing_for(&state, "", 0) == MINISIGN_MISSING_SECRET_KEY_COMMENT);
-    CHECK(ask_signing_for(&state, "\xff", 0) == MINISIGN_NOT_UTF8);
-    CHECK(ask_signing_for(&state, PREHASHED, 0) == MINISIGN_RECORD_TOO_SHORT);
-    CHECK(make_short_text(&state, "t", "u", sizeof text) == MINISIGN_NOT_ASKED);
-    CHECK(memcmp(&before, &state, sizeof before) == 0);
-    CHECK(memcmp(&nothing, &signing, sizeof nothing) == 0);
-    CHECK(ask_signing(&state) == MINISIGN_OK);
-    CHECK(memcmp(signing.digest, DIGEST_OF_ABC, 64) == 0);
-    after_telling(&state);
-}
-
-/* No text is made from a state that has told no key. */
+/* No text is made of a key that was not opened, whatever it holds. */
 static void texts_of_no_key(void)
 {
-    minisign_state state;
+    static const minisign_sealing none;
+    minisign_secret_key other;
+    minisign_public_key public_key, untouched;
 
-    memset(&state, 0, sizeof state);
-    CHECK(make_short_text(&state, "t", "u", sizeof text) == MINISIGN_NOT_BEGUN);
-    minisign_init(&state);
-    CHECK(make_short_text(&state, "t", "u", sizeof text) == MINISIGN_NOT_ASKED);
-    CHECK(make_short_text(&state, "\xff", "u", 0) == MINISIGN_NOT_ASKED);
-    CHECK(ask(&state) == MINISIGN_OK);
-    CHECK(make_short_text(&state, "t", "u", sizeof text) == MINISIGN_NOT_ASKED);
-    CHECK(minisign_verdict(&state, YES, YES) == MINISIGN_OK);
-    CHECK(make_short_text(&state, "t", "u", sizeof text) == MINISIGN_NOT_BEGUN);
+    memset(&untouched, 0xaa, sizeof untouched);
+    for (int byte = 0; byte < 256; byte++) {
+        memset(&other, byte, sizeof other);
+        public_key = untouched;
+        CHECK(make_short_text(&other, "t", "u", sizeof text) == MINISIGN_KEY_NOT_OPENED);
+        CHECK(make_short_text(&other, "\xff", "u", 0) == MINISIGN_KEY_NOT_OPENED);
+        CHECK(minisign_secret_key_text(&other, 0, NULL, 0, &none, 1, NULL, 0, text, sizeof text, &text_len) == MINISIGN_KEY_NOT_OPENED);
+        CHECK(minisign_secret_key_text(&other, 2, NULL, 0, &none, 1, NULL, 0, text, sizeof text, &text_len) == MINISIGN_BAD_PASSWORD_FLAG);
+        CHECK(minisign_public_key_text(&other, (const uint8_t *) "\xff", 1, text, 0, &text_len) == MINISIGN_KEY_NOT_OPENED);
+        CHECK(minisign_public_key_of(&other, &public_key) == MINISIGN_KEY_NOT_OPENED);
+        CHECK(memcmp(&public_key, &untouched, sizeof untouched) == 0);
+    }
+    /* Nor where a bit of its mark is another. */
+    for (int bit = 0; bit < 64; bit++) {
+        other = key;
+        other.mark ^= UINT64_C(1) << bit;
+        CHECK(make_short_text(&other, "t", "u", sizeof text) == MINISIGN_KEY_NOT_OPENED);
+    }
     CHECK(text_len == 0 && text[0] == 0);
+}
+
+/* A key that is taken in is the one that its text opens to. */
+static void taken_in(void)
+{
+    static const minisign_sealing none;
+    minisign_secret_key taken, opened;
+    minisign_public_key public_key;
+
+    memset(&taken, 0xaa, sizeof taken);
+    minisign_take_secret_key(key.key_id, key.secret, &taken);
+    CHECK(memcmp(&taken, &key, sizeof key) == 0);
+    CHECK(minisign_public_key_of(&taken, &public_key) == MINISIGN_OK);
+    CHECK(memcmp(public_key.key, key.secret + 32, 32) == 0 && memcmp(public_key.key_id, key.key_id, 8) == 0);
+    CHECK(minisign_secret_key_text(&taken, 0, NULL, 0, &none, 1, NULL, 0, text, sizeof text, &text_len) == MINISIGN_OK);
+    CHECK(minisign_open_secret_key(text, text_len, 0, NULL, 0, 1, 1, &opened) == MINISIGN_OK);
+    CHECK(memcmp(&opened, &key, sizeof key) == 0);
+    memset(text, 0, sizeof text);
+    text_len = 0;
 }
 
 /* Makes a key of zeros, sealed with little work where there is a password: N is 1024 and p is 4. */
 static enum minisign_error make_key(uint32_t with_password, uint64_t memory_limit, const char *comment, size_t room)
 {
-    static const uint8_t key_id[8], secret_key[64];
+    static const uint8_t key_id[8], secret[64];
     minisign_sealing sealing = { .operations_limit = 131072, .memory_limit = memory_limit };
+    minisign_secret_key zeros;
 
-    return minisign_make_secret_key(key_id, secret_key, with_password, ABC, sizeof ABC, &sealing, MINISIGN_KEEP_FEW_ROWS,
+    minisign_take_secret_key(key_id, secret, &zeros);
+    return minisign_secret_key_text(&zeros, with_password, ABC, sizeof ABC, &sealing, MINISIGN_KEEP_FEW_ROWS,
                                     (const uint8_t *) comment, strlen(comment), text, room, &text_len);
 }
 
@@ -303,12 +365,13 @@ static enum minisign_error make_key(uint32_t with_password, uint64_t memory_limi
 static void keys_made(void)
 {
     static const uint64_t little = 1 << 20;
-    static const uint8_t key_id[8], secret_key[64], zeros[64];
+    static const uint8_t key_id[8], secret[64];
     static const minisign_sealing none;
     const size_t room = MINISIGN_SECRET_KEY_BYTES(1);
-    minisign_state state, before;
+    minisign_secret_key zeros, opened, before;
     uint8_t sealed[MINISIGN_SECRET_KEY_BYTES(1)];
 
+    minisign_take_secret_key(key_id, secret, &zeros);
     memset(text, 0, sizeof text);
     text_len = 0;
     CHECK(make_key(2, UINT64_MAX, "\xff", 0) == MINISIGN_BAD_PASSWORD_FLAG);
@@ -316,29 +379,26 @@ static void keys_made(void)
     CHECK(make_key(1, UINT64_MAX, "\n\xff", 0) == MINISIGN_NOT_UTF8);
     CHECK(make_key(1, UINT64_MAX, "\n\r", 0) == MINISIGN_BAD_COMMENT);
     CHECK(make_key(1, UINT64_MAX, "\r", 0) == MINISIGN_UNREADABLE_COMMENT);
-    CHECK(minisign_make_secret_key(key_id, secret_key, 0, NULL, 0, &none, 1, (const uint8_t *) "\0", 1, text, sizeof text, &text_len)
+    CHECK(minisign_secret_key_text(&zeros, 0, NULL, 0, &none, 1, (const uint8_t *) "\0", 1, text, sizeof text, &text_len)
           == MINISIGN_UNREADABLE_COMMENT);
-    CHECK(minisign_make_public_key(key_id, secret_key, (const uint8_t *) "\0", 1, text, sizeof text, &text_len)
+    CHECK(minisign_public_key_text(&zeros, (const uint8_t *) "\0", 1, text, sizeof text, &text_len)
           == MINISIGN_UNREADABLE_COMMENT);
     CHECK(make_key(1, UINT64_MAX, "c", room - 1) == MINISIGN_NO_ROOM);
     CHECK(make_key(1, UINT64_MAX, "c", room) == MINISIGN_PARAMETERS_TOO_HIGH);
-    CHECK(minisign_make_public_key(key_id, secret_key, (const uint8_t *) "c", 1, text, 77, &text_len) == MINISIGN_NO_ROOM);
+    CHECK(minisign_public_key_text(&zeros, (const uint8_t *) "c", 1, text, 77, &text_len) == MINISIGN_NO_ROOM);
     CHECK(text_len == 0 && text[0] == 0);
-    CHECK(minisign_make_public_key(key_id, secret_key, (const uint8_t *) "c", 1, text, 78, &text_len) == MINISIGN_OK);
+    CHECK(minisign_public_key_text(&zeros, (const uint8_t *) "c", 1, text, 78, &text_len) == MINISIGN_OK);
     CHECK(text_len == MINISIGN_PUBLIC_KEY_BYTES(1));
     CHECK(make_key(1, little, "c", room) == MINISIGN_OK);
     CHECK(text_len == sizeof sealed);
     memcpy(sealed, text, sizeof sealed);
-    minisign_init(&state);
-    before = state;
-    CHECK(minisign_ask_signing(&state, sealed, sizeof sealed, 1, ABC, sizeof ABC, 0, 3, &signing) == MINISIGN_WORK_TOO_HIGH);
-    CHECK(minisign_ask_signing(&state, sealed, sizeof sealed, 1, ABC, 2, 1, 4, &signing) == MINISIGN_WRONG_PASSWORD);
-    CHECK(memcmp(&before, &state, sizeof before) == 0);
-    CHECK(minisign_ask_signing(&state, sealed, sizeof sealed, 1, ABC, sizeof ABC, UINT64_MAX, 4, &signing) == MINISIGN_OK);
-    CHECK(memcmp(signing.secret_key, zeros, 64) == 0 && memcmp(signing.key_id, zeros, 8) == 0);
-    memset(&state, 0, sizeof state);
-    CHECK(minisign_ask_signing(&state, NULL, 0, 1, ABC, sizeof ABC, 1, 4, &signing) == MINISIGN_NOT_BEGUN);
-    CHECK(minisign_ask_signing(&state, (const uint8_t *) "\xff", 1, 1, ABC, sizeof ABC, 1, 4, &signing) == MINISIGN_NOT_BEGUN);
+    memset(&opened, 0, sizeof opened);
+    before = opened;
+    CHECK(minisign_open_secret_key(sealed, sizeof sealed, 1, ABC, sizeof ABC, 0, 3, &opened) == MINISIGN_WORK_TOO_HIGH);
+    CHECK(minisign_open_secret_key(sealed, sizeof sealed, 1, ABC, 2, 1, 4, &opened) == MINISIGN_WRONG_PASSWORD);
+    CHECK(memcmp(&before, &opened, sizeof before) == 0);
+    CHECK(minisign_open_secret_key(sealed, sizeof sealed, 1, ABC, sizeof ABC, UINT64_MAX, 4, &opened) == MINISIGN_OK);
+    CHECK(memcmp(&opened, &zeros, sizeof zeros) == 0);
 }
 
 /* The base64 of the record of a prehashed signature, RFC 4648. */
@@ -359,35 +419,33 @@ static void write_record(char base64[100], const uint8_t key_id[8], const uint8_
     base64[99] = '=';
 }
 
-/* The signatures of a text make that text again under the identifier that was told, where it has room. */
+/* The signatures of a text make that text again under the key ID of the key, where it has room. */
 static void texts_of_signatures(void)
 {
     static const char *const refused[][2] = { { "t\n", "u" }, { "t ", "u" }, { "\tt", "u" }, { "t", "u\r" }, { "t", "\n" } };
     static const char untrusted[] = "signature from minisign secret key";
     static char expected[sizeof PREHASHED + 1];
     const size_t second_line = strlen("untrusted comment: ") + sizeof untrusted;
-    minisign_state state, before;
+    minisign_secret_key before = key;
+    minisign_state state;
 
     minisign_init(&state);
     CHECK(ask(&state) == MINISIGN_OK);
-    minisign_init(&state);
-    CHECK(ask_signing(&state) == MINISIGN_OK);
-    before = state;
     for (size_t room = 0; room < sizeof PREHASHED; room++) {
-        CHECK(make_short_text(&state, COMMENT, untrusted, room) == MINISIGN_NO_ROOM);
+        CHECK(make_short_text(&key, COMMENT, untrusted, room) == MINISIGN_NO_ROOM);
     }
     for (size_t i = 0; i < sizeof refused / sizeof refused[0]; i++) {
-        CHECK(make_short_text(&state, refused[i][0], refused[i][1], 0) == MINISIGN_BAD_COMMENT);
+        CHECK(make_short_text(&key, refused[i][0], refused[i][1], 0) == MINISIGN_BAD_COMMENT);
     }
-    CHECK(make_short_text(&state, "\xff", "u\r", 0) == MINISIGN_NOT_UTF8);
-    CHECK(make_short_text(&state, "t\n", "\xff", 0) == MINISIGN_NOT_UTF8);
+    CHECK(make_short_text(&key, "\xff", "u\r", 0) == MINISIGN_NOT_UTF8);
+    CHECK(make_short_text(&key, "t\n", "\xff", 0) == MINISIGN_NOT_UTF8);
     CHECK(text_len == 0 && text[0] == 0);
-    CHECK(make_short_text(&state, COMMENT, untrusted, sizeof PREHASHED) == MINISIGN_OK);
+    CHECK(make_short_text(&key, COMMENT, untrusted, sizeof PREHASHED) == MINISIGN_OK);
     memcpy(expected, PREHASHED, sizeof PREHASHED - 1);
     expected[sizeof PREHASHED - 1] = '\n';
-    write_record(expected + second_line, signing.key_id, questions.signature);
+    write_record(expected + second_line, key.key_id, questions.signature);
     CHECK(text_len == sizeof PREHASHED && memcmp(text, expected, text_len) == 0);
-    CHECK(memcmp(&before, &state, sizeof before) == 0);
+    CHECK(memcmp(&before, &key, sizeof before) == 0);
     for (size_t room = 0; room < MESSAGE_LEN; room++) {
         CHECK(minisign_comment_message(questions.signature, (const uint8_t *) COMMENT, sizeof COMMENT - 1, text, room)
               == MINISIGN_NO_ROOM);
@@ -402,21 +460,18 @@ static void texts_for_minisign(void)
 {
     static const char *const refused[][2] = { { "a\rb", "u" }, { "t", "a\rb" }, { "t", "\ru" } };
     static char letters[10000];
-    minisign_state state;
 
     memset(letters, 'a', sizeof letters);
-    minisign_init(&state);
-    CHECK(ask_signing(&state) == MINISIGN_OK);
-    CHECK(make_text(&state, "t", 1, letters, 1003, sizeof text) == MINISIGN_OK);
-    CHECK(make_text(&state, "t", 1, letters, 1004, sizeof text) == MINISIGN_UNREADABLE_COMMENT);
-    CHECK(make_text(&state, "t", 1, letters, 10000, 0) == MINISIGN_UNREADABLE_COMMENT);
-    CHECK(make_text(&state, letters, 8173, "u", 1, sizeof text) == MINISIGN_OK);
-    CHECK(make_text(&state, letters, 8174, "u", 1, sizeof text) == MINISIGN_UNREADABLE_COMMENT);
-    CHECK(make_text(&state, "a\0b", 3, "u", 1, sizeof text) == MINISIGN_UNREADABLE_COMMENT);
-    CHECK(make_text(&state, "t", 1, "a\0b", 3, sizeof text) == MINISIGN_UNREADABLE_COMMENT);
-    CHECK(make_text(&state, "t", 1, "\0", 1, sizeof text) == MINISIGN_UNREADABLE_COMMENT);
+    CHECK(make_text(&key, "t", 1, letters, 1003, sizeof text) == MINISIGN_OK);
+    CHECK(make_text(&key, "t", 1, letters, 1004, sizeof text) == MINISIGN_UNREADABLE_COMMENT);
+    CHECK(make_text(&key, "t", 1, letters, 10000, 0) == MINISIGN_UNREADABLE_COMMENT);
+    CHECK(make_text(&key, letters, 8173, "u", 1, sizeof text) == MINISIGN_OK);
+    CHECK(make_text(&key, letters, 8174, "u", 1, sizeof text) == MINISIGN_UNREADABLE_COMMENT);
+    CHECK(make_text(&key, "a\0b", 3, "u", 1, sizeof text) == MINISIGN_UNREADABLE_COMMENT);
+    CHECK(make_text(&key, "t", 1, "a\0b", 3, sizeof text) == MINISIGN_UNREADABLE_COMMENT);
+    CHECK(make_text(&key, "t", 1, "\0", 1, sizeof text) == MINISIGN_UNREADABLE_COMMENT);
     for (size_t i = 0; i < sizeof refused / sizeof refused[0]; i++) {
-        CHECK(make_short_text(&state, refused[i][0], refused[i][1], sizeof text) == MINISIGN_UNREADABLE_COMMENT);
+        CHECK(make_short_text(&key, refused[i][0], refused[i][1], sizeof text) == MINISIGN_UNREADABLE_COMMENT);
     }
 }
 
@@ -434,8 +489,10 @@ int main(void)
     before_asking();
     answers();
     copies();
-    before_signing();
+    told_unasked();
+    before_opening();
     texts_of_no_key();
+    taken_in();
     texts_of_signatures();
     texts_for_minisign();
     keys_made();

@@ -19,6 +19,7 @@ class ToyInstaller:
     """`minisign_installer`, under the toy scheme."""
 
     name = "minisign_installer"
+    version = b"0.1.0"
     # What it says where nothing is wrong.
     warning = toy.WARNING.encode()
     # Each of these calls fails in turn, and is interrupted in turn.
@@ -71,6 +72,7 @@ class RealInstaller:
     """`minisign-install`, with a key that Minisign's own program makes in this folder."""
 
     name = "minisign-install"
+    version = b"0.2.0"
     warning = b""
     changed_comment = ToyInstaller.changed_comment
     failing = ("open", "openat", "write", "fsync", "renameat", "read", "pread", "flock", "readdir", "fchmod", "fstat", "fstatat",

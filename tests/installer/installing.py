@@ -1192,7 +1192,7 @@ def word_cases(it):
         yield what, lambda words=words, status=status, said=said: it.says(words, status, said)
     for word in ("--help", "-h"):
         yield f"help by {word}", lambda word=word: it.says([word], 0, b"", shown=usage.replace(b" (--help shows the options)", b""))
-    yield "the version", lambda: it.says(["--version"], 0, b"", shown=name + b" 0.1.0\n")
+    yield "the version", lambda: it.says(["--version"], 0, b"", shown=name + b" " + it.kind.version + b"\n")
     orders = [
         ("options behind the paths", [*paths, "--first", "--mode", "0640"], 0o640),
         ("a bound with a unit", ["--most", "1M", *paths], None),

@@ -6,11 +6,13 @@
 The lines of crates.txt and the example stand in README.md or in docs/GUIDE.md, each in a block of its own. The libraries
 are those of this repository as they stand proved (tests/shared/proved.py); the caller's crate lists what the lines say
 and no more, and has the example, with the imports, the definition and the proof that stand in `minisign_examples`. The
+caller that the CALLING.md of a library shows is the whole source of a crate, over that library and those that it names. The
 last line is `N passed, M failed`.
 
 Needs Python 3.9 or later and the kit.
 """
 
+import functools
 import os
 import re
 import shutil
@@ -26,7 +28,7 @@ DOCUMENTS = ("README.md", "docs/GUIDE.md")
 # The crate whose example the documents show, and what of it the caller has beside that.
 EXAMPLES = "minisign_examples"
 MODULE = "updating"
-PARTS = (f"src/{MODULE}.rt", "specs/Updating.antt", f"proofs/{MODULE}")
+PARTS = (f"src/{MODULE}.rt", "specs/Updating.antt", f"proofs/{MODULE}", "proofs/Refusals.antt")
 CALLER = "your_crate"
 
 
@@ -70,6 +72,7 @@ def fill(folder):
         (shutil.copytree if os.path.isdir(came) else shutil.copyfile)(came, goes)
     write(folder, "src/lib.rt", f"//! An updater.\n\n#![tactic(auto)]\n\npub mod {MODULE};\n")
     write(folder, "specs/Lib.antt", "pub mod Updating\n")
+    write(folder, "proofs/Lib.antt", "mod Refusals\n")
     for at, _, names in os.walk(folder):
         for name in names:
             path = os.path.join(at, name)
@@ -101,15 +104,38 @@ def check():
         raise Wrong(f"the example is not proved: {proved.first_of(words)}")
 
 
+def check_page(page):
+    """Proves the caller that a page shows."""
+    blocks = re.findall(r"(?ms)^```rust\n(.*?)^```$", read(page))
+    if len(blocks) != 1:
+        raise Wrong(f"{page} has {len(blocks)} blocks of Rattle, and not one")
+    own = page.split("/")[1]
+    named = [it for it in proved.crates() if it == own or re.search(rf"\b{it}(?:::|\.)", blocks[0])]
+    crate = proved.Crate(f"{CALLER}: {' '.join(named)}", proved.crates())
+    why = proved.supply(crate.below)
+    if why:
+        raise Wrong(why)
+    with tempfile.TemporaryDirectory(prefix="minisign-caller-") as folder:
+        os.makedirs(f"{folder}/src")
+        write(folder, "src/lib.rt", f"//! A caller.\n\n{blocks[0]}")
+        words = proved.rattle("check", CALLER, folder, crate=crate).stdout
+    functions = re.findall(r"\bfn (\w+)", blocks[0])
+    if "logic=proved" not in words or {*functions} - {*proved.functions_of(CALLER, words)}:
+        raise Wrong(f"the caller of {page} is not proved: {proved.first_of(words)}")
+
+
 def main():
-    try:
-        check()
-    except Wrong as why:
-        print(f"FAILED: {why}")
-        print("0 passed, 1 failed")
-        return 1
-    print("1 passed, 0 failed")
-    return 0
+    pages = [f"crates/{it}/CALLING.md" for it in proved.crates() if os.path.exists(f"{proved.ROOT}/crates/{it}/CALLING.md")]
+    passed = failed = 0
+    for it in (check, *(functools.partial(check_page, page) for page in pages)):
+        try:
+            it()
+            passed += 1
+        except Wrong as why:
+            print(f"FAILED: {why}")
+            failed += 1
+    print(f"{passed} passed, {failed} failed")
+    return 1 if failed else 0
 
 
 if __name__ == "__main__":

@@ -146,17 +146,15 @@ def run_all(room):
     if status != 0:
         return [f"examples/rust was not built: {said[-1000:].decode(errors='replace')}"], 1
     verifying = ["-V", "-p", "{key}", "-m", "{data}", "-x", "{signature}"]
-    commands = {"c/minisign": [f"{room}/c/minisign", *verifying], "c/minisign-verify": [f"{room}/c/minisign-verify",
-                                                                                        *verifying],
+    commands = {"c/minisign": [f"{room}/c/minisign", *verifying],
                 "examples/rust": [f"{room}/rust/minisign-verify", "{key}", "{data}", "{signature}"],
                 "Python": [sys.executable, installed_verify.__file__, f"{room}/c/libminisign.so", "{key}", "{data}",
                            "{signature}"]}
     failures = sodium_failures(room, compiler)
-    for name in ("minisign", "minisign-verify"):
-        failures += program_failures(room, f"{room}/c/{name}")
+    failures += program_failures(room, f"{room}/c/minisign")
     failures += rust_failures(room, library) + python_failures()
     failures += every_file_failures(room, commands)
-    return failures, 5 * len(edges.vectors()) + 3 * len(commands)
+    return failures, 4 * len(edges.vectors()) + 3 * len(commands)
 
 
 def main():

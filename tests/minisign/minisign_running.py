@@ -1,6 +1,7 @@
 """How Minisign's own program and those of c/ and examples/ are run side by side."""
 
 import os
+import re
 import subprocess
 from dataclasses import dataclass
 
@@ -9,12 +10,11 @@ SECONDS = 120
 
 @dataclass(frozen=True)
 class Programs:
-    """The programs that are run: Minisign's, and ours in C, in Rust, and for signing."""
+    """The programs that are run: Minisign's, ours in C, and the one in Rust that verifies."""
 
     minisign: str
-    verify: str
+    ours: str
     verify_rust: str
-    sign: str
 
 
 @dataclass(frozen=True)
@@ -27,6 +27,12 @@ class Answer:
 
     def accepts(self):
         return self.status == 0
+
+    def is_as(self, other):
+        """Whether it is the other's, but that one more line of the error stream may say which text is meant."""
+        front, _, line = self.said.partition(b"\n")
+        is_said = self.said == other.said or (other.said == front + b"\n" and re.fullmatch(rb"[^\n]+: [^\n]+\n", line))
+        return bool(is_said) and (self.status, self.output) == (other.status, other.output)
 
     def is_usage(self):
         """Whether it is the program's usage, which each has in its own words."""

@@ -1,4 +1,4 @@
-"""What minisign-sign of c/ signs, beside Minisign's own program: the text has to be the same byte for byte, as
+"""What `c/minisign -S` signs, beside Minisign's own program: the text has to be the same byte for byte, as
 Ed25519 is deterministic, and Minisign and our verifier have to accept it."""
 
 import base64
@@ -44,13 +44,13 @@ class Signing:
         made = os.path.join(self.folder, "ours.minisig")
         if os.path.exists(made):
             os.remove(made)
-        ran = run([self.programs.sign, "-S", "-s", key, "-m", "data", "-x", "ours.minisig", *flags], self.folder,
+        ran = run([self.programs.ours, "-S", "-s", key, "-m", "data", "-x", "ours.minisig", *flags], self.folder,
                   stdin=typed)
         return ran, read(self.folder, "ours.minisig") if os.path.exists(made) else None
 
     def accepted(self, public):
         """Whether both verifiers accept what ours wrote."""
-        return [name for name, program in (("Minisign", self.programs.minisign), ("ours", self.programs.verify))
+        return [name for name, program in (("Minisign", self.programs.minisign), ("ours", self.programs.ours))
                 if run([program, "-V", "-p", public, "-m", "data", "-x", "ours.minisig"], self.folder).status != 0]
 
     def case(self, name, wrong):
@@ -141,7 +141,6 @@ def differing_keys(text, checked):
         yield "signing with a key whose halves do not belong together", joined([head, base64.b64encode(changed)]), None
     for memory in (2**30 + 1, 2**31, 2**40):
         yield "a memory limit over 1 GiB", sealed_key(text, b"pw", memory), b"pw"
-    yield "a password of 1,024 bytes", sealed_key(text, b"p" * 1024, MEMORY), b"p" * 1024
 
 
 def sealed_alike(text):
@@ -159,21 +158,25 @@ def with_checksum(text):
     return joined([lines(text)[0], base64.b64encode(record[:126] + digest)])
 
 
+# What is said of a key whose second line is not base64, or not of so many bytes.
+NOT_BASE64 = b"base64 conversion failed - was an actual secret key given?\ndamaged.key: this secret key is damaged: its second line is "
+
+
 def damaged_keys(text):
     """Texts that read as no key, and what is said of each."""
     head, encoded = lines(text)
     record = base64.b64decode(encoded)
-    yield "nothing", b"", b"Missing comment in secret key"
-    yield "one line", head + b"\n", b"Missing encoded key in secret key"
-    yield "no base64", joined([head, encoded[:-2] + b"!="]), b"invalid base64"
-    yield "white space", joined([head, b" " + encoded]), b"invalid base64"
-    yield "a byte less", joined([head, base64.b64encode(record[:-1])]), b"failed to fill whole buffer"
+    yield "nothing", b"", b"Error while loading the secret key file\ndamaged.key: this is empty\n"
+    yield "one line", head + b"\n", b"Error while loading the secret key file\ndamaged.key: this secret key is cut: it has 1 of 2 lines\n"
+    yield "no base64", joined([head, encoded[:-2] + b"!="]), NOT_BASE64 + b"not base64\n"
+    yield "white space", joined([head, b" " + encoded]), NOT_BASE64 + b"not base64\n"
+    yield "a byte less", joined([head, base64.b64encode(record[:-1])]), NOT_BASE64
     yield "no UTF-8", b"\xff" + text, b"stream did not contain valid UTF-8"
     for at in (0, 1, 54, 61, 62, 93, 94, 125, 126, 157):
         changed = record[:at] + bytes([record[at] ^ 1]) + record[at + 1:]
         yield f"bit of byte {at}", joined([head, base64.b64encode(changed)]), b"Corrupted key"
     yield "another derivation", joined([head, base64.b64encode(record[:2] + b"XX" + record[4:])]), \
-        b"Unsupported encryption algorithm"
+        b"Unsupported key derivation function"
 
 
 def signing_cases(programs, minisign):
@@ -233,4 +236,4 @@ def sealed(signing):
         signing.case(f"sealed key, {end!r}", f"{ran}, refused by {refusing}" if ran.status != 0 or refusing else "")
     signing.refuses("wrong password", "sealed.key", typed=b"wrong\n", said=b"Wrong password for that key")
     signing.refuses("no password", "sealed.key", typed=b"")
-    signing.refuses("a password that is no UTF-8", "sealed.key", typed=b"\xff\n", said=b"stream did not contain valid UTF-8")
+    signing.refuses("a password that is no UTF-8", "sealed.key", typed=b"\xff\n", said=b"The password is not UTF-8")

@@ -3,7 +3,8 @@
 //
 //     node answers.mjs LIBRARY MODULE CASES
 //
-// LIBRARY is page/library.js, and CASES a list of {key, signature, data} in base64, as JSON. It prints a list of texts as JSON.
+// LIBRARY is bindings/javascript/calls.js, and CASES a list of {key, signature, data} in base64, as JSON. It prints a list of
+// texts as JSON.
 
 function bytesOf(base64) {
   return Uint8Array.from(atob(base64), letter => letter.charCodeAt(0));
@@ -17,20 +18,24 @@ function textOf(answer) {
   return JSON.stringify(answer, (_, value) => value instanceof Uint8Array ? hexOf(value) : value);
 }
 
-// What it answers about one text, in a list.
+// What it answers about one text, in a list: about the signature where one of the readings of the key is good, and about the
+// key and what was fed in any case.
 function answersAbout(library, {key, signature, data}) {
   const [keyText, signatureText, bytes] = [key, signature, data].map(bytesOf);
   const found = [library.readKey(keyText, false), library.readKey(keyText, true)];
+  const read = found.find(it => it.number === 0)?.key ?? new Uint8Array(40);
   for (const allowsLegacy of [false, true]) {
     for (const [first, second] of [[true, true], [true, false], [false, true], [false, false]]) {
-      library.begin();
-      const fed = library.feed(bytes);
-      const asked = library.ask(keyText, signatureText, allowsLegacy);
-      const state = library.bytesAt(library.state, 512);
-      found.push({fed, asked, state, verdict: library.verdict(first, second), ended: library.bytesAt(library.state, 512)});
+      const state = library.begin();
+      const asked = library.ask(state, read, signatureText, allowsLegacy);
+      const fed = library.feed(state, bytes);
       if (asked.number !== 0) {
+        found.push({asked, fed, state});
         break;
       }
+      const digest = library.digest(state, asked);
+      const before = state.slice();
+      found.push({asked, fed, digest, before, verdict: library.verdict(state, first, second), state});
     }
   }
   return found;
@@ -47,6 +52,6 @@ if (typeof process === "object") {
   const {readFileSync} = await import("node:fs");
   const {runInThisContext} = await import("node:vm");
   const [script, module, cases] = process.argv.slice(2).map(path => readFileSync(path));
-  const Library = runInThisContext(`${script}; Library`);
+  const Library = runInThisContext(`${script.toString().replaceAll(/^export /gm, "")}; Library`);
   console.log(JSON.stringify(await answersOf(Library, module.toString("base64"), JSON.parse(cases))));
 }

@@ -1,8 +1,9 @@
-"""Changed texts, whose verdicts and reasons are compared with those of the program of c/ that verifies, and numbers for a
+"""Changed texts, whose verdicts and reasons are compared with those of `c/minisign -V`, and numbers for a
 flag that only who calls the module without the page can pass, compared with the library for C."""
 
 import ctypes
 import os
+import re
 import subprocess
 
 import cases
@@ -17,17 +18,15 @@ TEXTS = 500
 FLAGS = (0, 1, 2, 3, 2**31, 2**32 - 1)
 # The errors of the header: none, a state that was never begun, and a number that is no flag.
 OK, NOT_BEGUN, BAD_LEGACY_FLAG = 0, 1, 6
-STATE_BYTES, QUESTIONS_BYTES, MESSAGE_BYTES = 512, 256, 65536
+STATE_BYTES, QUESTIONS_BYTES, MESSAGE_BYTES, KEY_BYTES = 512, 256, 65536, 40
 # Has the module ask with any number as `allow_legacy`, where the page passes 0 or 1: what it says, and if the state stays.
 ASK = """const [key, signature, flag, isBegun] = arguments;
-  library.memory.fill(0, library.state, library.state + STATE_BYTES);
-  if (isBegun) { library.begin(); }
-  const before = library.bytesAt(library.state, STATE_BYTES);
-  const number = library.calls.page_ask(
-    BigInt(library.state), ...library.put(library.keyText, TEXT_BYTES, Uint8Array.from(key)),
-    ...library.put(library.signatureText, TEXT_BYTES, Uint8Array.from(signature)), flag, BigInt(library.questions),
-    BigInt(library.message), BigInt(TEXT_BYTES)) >>> 0;
-  return [number, library.bytesAt(library.state, STATE_BYTES).every((byte, at) => byte === before[at])];"""
+  const state = isBegun ? library.begin() : new Uint8Array(STATE_BYTES), before = state.slice();
+  const read = library.readKey(Uint8Array.from(key), false).key;
+  const number = library.onState(state, place => library.calls.page_ask(
+    place, library.put(library.key, KEY_BYTES, read)[0], ...library.put(library.text, TEXT_BYTES, Uint8Array.from(signature)),
+    flag, BigInt(library.questions), BigInt(library.message), BigInt(TEXT_BYTES)));
+  return [number, state.every((byte, at) => byte === before[at])];"""
 
 
 def check_texts(person, count=TEXTS):
@@ -79,17 +78,20 @@ def is_same_verdict(programs, case, ours, theirs):
         return status == 0 and output.decode().replace("\r", "U+000D").endswith(f"\nTrusted comment: {ours['comment']}\n")
     if ours["number"] == 29:
         return status == 1 and said.startswith(b"Signature key id in ")
-    # A key that reads is looked at before the signature, and by the program a text that is not UTF-8 before both.
-    return status in (1, 2) and said.decode() in (f"{programs.words[ours['number']]}\n", f"{programs.words[8]}\n" if not differences.is_utf8(case.sig) else "")
+    # A key that reads is looked at before the signature, and by the program a text that is not UTF-8 before both. A second line
+    # may say which text is meant.
+    line, _, more = said.decode().partition("\n")
+    is_line = re.fullmatch(r"([^\n]+\.(pub|minisig): [^\n]+\n)?", more) is not None
+    return status in (1, 2) and is_line and line in (programs.words[ours["number"]], programs.words[8] if not differences.is_utf8(case.sig) else None)
 
 
 class Programs:
-    """The program of c/ that verifies, its words for each number, and the library's."""
+    """`c/minisign`, its words for each number, and the library's."""
 
     def __init__(self, room):
         compiler = needs.libsodium()
         static_library.run_make(f"OUT={room}/c", f"CC={compiler}")
-        self.program = os.path.join(room, "c", "minisign-verify")
+        self.program = os.path.join(room, "c", "minisign")
         source = os.path.join(room, "words_of.c")
         with open(source, "w", encoding="utf-8") as file:
             file.write('#include <stdio.h>\n#include "words.h"\n'
@@ -104,12 +106,13 @@ class Programs:
 
     def ask(self, key, sig, flag, is_begun):
         """Has the library ask with any number as `allow_legacy`: its answer, and whether the state stays."""
-        state, questions, message = (ctypes.create_string_buffer(size) for size in (STATE_BYTES, QUESTIONS_BYTES, MESSAGE_BYTES))
+        state, read, questions, message = (ctypes.create_string_buffer(size) for size in (STATE_BYTES, KEY_BYTES, QUESTIONS_BYTES, MESSAGE_BYTES))
+        self.library.minisign_read_public_key(key, ctypes.c_size_t(len(key)), read)
         if is_begun:
             self.library.minisign_init(state)
         before = state.raw
-        sized = (key, ctypes.c_size_t(len(key)), sig, ctypes.c_size_t(len(sig)))
-        number = self.library.minisign_ask(state, *sized, ctypes.c_uint32(flag), questions, message, ctypes.c_size_t(MESSAGE_BYTES))
+        number = self.library.minisign_ask(state, read, sig, ctypes.c_size_t(len(sig)), ctypes.c_uint32(flag), questions, message,
+                                           ctypes.c_size_t(MESSAGE_BYTES))
         return [number, state.raw == before]
 
     def meaning(self, number):

@@ -96,7 +96,7 @@ def check_not_started(person, page):
     # No thread of its own: it verifies all the same.
     with Served(page, {"Content-Security-Policy": "worker-src 'none'"}) as served:
         browser.open(served.address)
-        engine = browser.run_later("const done = arguments[0]; beginEngine('', null).then(it => done(it.constructor.name));")
+        engine = browser.run_later("const done = arguments[0]; beginEngine('').then(it => done(it.constructor.name));")
         checks.same(engine, "NearEngine", "the engine where no thread is allowed")
         browser.choose_key(person.put("published.pub", cases.read_kept("published.pub")))
         browser.choose(*person.pair("test", cases.read_kept("test"), cases.read_kept("published.minisig")))

@@ -15,6 +15,7 @@ from minisign_cases import random_cases
 HERE = os.path.dirname(os.path.realpath(__file__))
 TEXTS = 500
 LEAST_CASES = 550
+CALLS = f"{build.PACKAGE}/calls.js"
 
 
 def check_modules(person, minisign, wide, narrow):
@@ -56,7 +57,7 @@ def texts_of(minisign):
 
 def answers_in_node(person, module, texts):
     """What a module answers in Node."""
-    paths = [os.path.join(build.HERE, "library.js"), person.put("module.wasm", module),
+    paths = [os.path.join(build.TOP, CALLS), person.put("module.wasm", module),
              person.put("texts.json", json.dumps(texts).encode())]
     ran = subprocess.run([needs.node(), os.path.join(HERE, "answers.mjs"), *paths], stdin=subprocess.DEVNULL,
                          stdout=subprocess.PIPE,
@@ -70,7 +71,7 @@ def answers_in_browser(browser, module, texts):
     """What a module answers in the empty page of a browser."""
     with open(os.path.join(HERE, "answers.mjs"), encoding="utf-8") as file:
         functions = file.read().partition("\nif (typeof process")[0]
-    script = f"""{build.read("library.js")}\n{functions}
+    script = f"""{build.script_of(CALLS)}\n{functions}
       const [module, texts, done] = arguments;
       answersOf(Library, module, texts).then(done, why => done([String(why)]));"""
     return browser.run_later(script, base64.b64encode(module).decode(), texts)

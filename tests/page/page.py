@@ -10,7 +10,7 @@ answer the same on all texts, in Node and in Chromium, which takes both. Firefox
 the kept corpus of Minisign's own program, keys and signatures that are made now, each fault, the vectors of Ed25519 that
 browsers answer differently, keys of other people, things in another's place, hostile comments and names, files that are
 dropped and stopped, 2 GB, and 500 changed texts (150 in Firefox), of which the verdicts and their reasons are compared with
-those of `c/minisign-verify`. In Chromium numbers that are no flag are passed to the module itself, beside the library for
+those of `c/minisign`. In Chromium numbers that are no flag are passed to the module itself, beside the library for
 C; it looks also at what is asked for from outside, at the names for a screen reader, the order of the keyboard, the
 contrast of colours, large letters and a narrow screen, and at what is said where the browser lacks something. It prints a
 line for each failure; the last line is `N passed, M failed`.

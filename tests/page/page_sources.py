@@ -22,31 +22,31 @@ def check_contracts(checks):
         with open(os.path.join(TOP, "crates", crate, "src", "lib.rt"), encoding="utf-8") as file:
             found = re.findall(r'^pub extern "C" fn ' + prefix + r"(\w+)(\(.*?)^\{$", file.read(), re.M | re.S)
         texts[crate] = {name: re.sub(r"\s+", " ", re.sub(r"(?m)^\s*//.*$", "", text)) for name, text in found}
-    checks.same(len(texts["minisign_page"]), 7, "the number of exports of minisign_page")
+    checks.same(len(texts["minisign_page"]), 8, "the number of exports of minisign_page")
     for name, text in texts["minisign_page"].items():
         for_c = text.replace("IsMeaning", "IsHostMeaning")
         checks.check(for_c == texts["minisign_c"].get(name), f"page_{name} has another contract than minisign_{name}")
 
 
 def check_numbers(checks):
-    """The numbers of library.js are those of the header, and words.js has words for each that a call can answer."""
+    """The numbers of calls.js are those of the header, and words.js has words for each that a call can answer."""
     with open(os.path.join(TOP, "include", "minisign.h"), encoding="utf-8") as file:
         header = file.read()
     with open(os.path.join(TOP, "tests", "c", "layout.c"), encoding="utf-8") as file:
         layout = file.read()
-    script = build.read("library.js")
+    script = build.read(f"{build.PACKAGE}/calls.js")
     for name in ("YES", "NO"):
         number = re.search(rf"MINISIGN_ANSWER_{name} = (0x\w+)", header)[1]
-        checks.check(f"const ANSWER_{name} = {number};" in script, f"library.js has another number for {name}")
-    offsets = dict(re.findall(r"IS_AT\(minisign_external, (\w+), (\d+),", layout))
+        checks.check(f"const ANSWER_{name} = {number};" in script, f"calls.js has another number for {name}")
+    offsets = dict(re.findall(r"IS_AT\(minisign_questions, (\w+), (\d+),", layout))
     parts = dict(re.findall(r"(\w+): (\d+)", re.search(r"const QUESTIONS = \{(.*?)\};", script, re.S)[1]))
     checks.check(parts and offsets, "no offsets of the questions are read")
     for name, at in parts.items():
-        checks.same(at, offsets.get(name), f"library.js: where {name} begins")
+        checks.same(at, offsets.get(name), f"calls.js: where {name} begins")
     sizes = dict(re.findall(r"IS_LAID_OUT\((\w+), (\d+),", layout))
-    for name, struct in (("STATE_BYTES", "minisign_state"), ("QUESTIONS_BYTES", "minisign_external")):
-        checks.same(re.search(rf"const {name} = (\d+)", script)[1], sizes.get(struct), f"library.js: {name}")
-    words = build.read("words.js")
+    for name, struct in (("STATE_BYTES", "minisign_state"), ("QUESTIONS_BYTES", "minisign_questions"), ("KEY_BYTES", "minisign_public_key")):
+        checks.same(re.search(rf"const {name} = (\d+)", script)[1], sizes.get(struct), f"calls.js: {name}")
+    words = build.read("page/words.js")
     told = {name: {int(number) for number in re.findall(r"^  \[(\d+), ", re.search(rf"{name} = new Map\(\[(.*?)\]\);",
                                                                                    words, re.S)[1], re.M)}
             for name in ("WHY_NO_KEY", "WHY_NOT")}
@@ -83,7 +83,7 @@ def check_same_bytes(checks, path):
     for words in (f"Minisign in Rattle {build.version()}, under the MIT License",
                   hashlib.sha256(lines.encode()).hexdigest(), "Permission is hereby granted"):
         checks.check(words in text, f"the page does not name {words!r}")
-    for name in ("crates/minisign/src/", "crates/minisign_hash/specs/", "crates/minisign_page/src/lib.rt", "page/page.js",
+    for name in ("bindings/javascript/calls.js", "crates/minisign/src/", "crates/minisign_hash/specs/", "crates/minisign_page/src/lib.rt", "page/page.js",
                  "include/minisign.h"):
         checks.check(name in lines, f"{name} is not among the sources")
 

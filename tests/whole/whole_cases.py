@@ -274,7 +274,7 @@ def signing(keys):
         ("with flags of other commands", (*key, "-f", "-q", "-Q", "-o")), ("by default of all", ("-m", "data")),
     ):
         yield Case(f"signed {what}", (Step(("-S", *arguments)),), files)
-    for what, arguments, words in (("a spoiled public key", ("-P", "x"), b"-P: this has 1 letters, and a public key has 56"),
+    for what, arguments, words in (("a spoiled public key", ("-P", "x"), b"-P: a public key is 56 characters long, and this is 1"),
                                    ("data as a public key", ("-p", "data"), b"data: this is no public key: it has 1 of 2 lines"),
                                    ("a secret key as a public key", ("-p", OPEN), b"first.key: this is a secret key, not a public key")):
         yield Case(f"signed with {what}", (Step(("-S", *key, *arguments)),), files, row="texts of a wrong kind", theirs=(2,), ours=(2,), judge=names(words))

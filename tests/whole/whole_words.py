@@ -310,7 +310,7 @@ def wrong_texts(keys, signature):
         ("-x", b"\n".join(signature.split(b"\n")[:2]) + b"\n", b"this signature is cut: it has 2 of 4 lines"),
         ("-x", b"\n".join(signature.split(b"\n")[:3]) + b"\n", b"this signature is cut: it has 3 of 4 lines"),
         ("-p", public[:-8] + b"\n", b"this public key is damaged: its second line is too short or too long"),
-        ("-s", text_of(record_of(secret))[:-20], b"this secret key is damaged: its second line is no base64"),
+        ("-s", text_of(record_of(secret))[:-20], b"this secret key is damaged: its second line is not base64"),
         ("-p", public.split(b"\n")[1] + b"\n", b"this is the line of a public key alone, as -P takes it"),
         ("-p", b"\xff\xff not a text", b"this is no public key: it is not UTF-8"),
         ("-x", b"some\nother\ntext\nof lines\n", b"this is no signature: its first line begins otherwise"),

@@ -1,7 +1,9 @@
 -- What follows after a refusal, and after one draw and then another.
-use Rattle.std.proofs.Common.{◌≡◌, ℕ, List, ◌++◌, Option, None, Some, Result, Ok, Err, IsErrAnd, MatchResult, IfErr, OnErr, append_assoc, ap, sym, subst, ◌∙◌}
+use Rattle.std.proofs.Common.{◌≡◌, ℕ, List, ◌++◌, Option, None, Some, Result, Ok, Err, IsErrAnd, MatchResult, IfOk, IfErr, OnErr, append_assoc, ap, sym, subst, ◌∙◌}
 use Rattle.std.specs.Io.KnownBytes.{Consumes}
+use Rattle.std.specs.Prelude.{⊤}
 use Rattle.minisign_base.specs.Devices.{HasGiven}
+use Rattle.minisign_base.specs.Steps.{without_value}
 
 -- what holds anyway holds after a refusal
 pub on_err_of : {T E : Type 0} (r : Result T E) (P : Type 0) → P → OnErr r P
@@ -17,6 +19,17 @@ passed_up (Err y) e P is h = subst P (sym is) h
 pub passed_on : {T E : Type 0} (r : Result T E) (e : E) (P : T → Type 0) (Q : E → Type 0) → IsErrAnd r (λ y. y ≡ e) → Q e → MatchResult r P Q
 passed_on (Ok x) e P Q is h = absurd is
 passed_on (Err y) e P Q is h = subst Q (sym is) h
+
+-- what is told of how a call ended, where it gave a value and where it did not
+pub told_value : {T E : Type 0} (r : Result T E) (P : T → Type 0) (Ends : Result ⊤ E → Type 0) (Q : T → Type 0) → IfOk r P → Ends (without_value r)
+    → ((v : T) → P v → Ends (Ok tt) → Q v) → IfOk r Q
+told_value (Ok v) P Ends Q h ended f = f v h ended
+told_value (Err e) P Ends Q h ended f = tt
+
+pub told_fault : {T E : Type 0} (r : Result T E) (Ends : Result ⊤ E → Type 0) (Q : E → Type 0) → Ends (without_value r)
+    → ((e : E) → Ends (Err e) → Q e) → IfErr r Q
+told_fault (Ok v) Ends Q ended f = tt
+told_fault (Err e) Ends Q ended f = f e ended
 
 -- what was given of the front, and then more of it
 pub given_behind : (old mid new : Option (List ℕ)) (a : List ℕ) → Consumes old mid a → HasGiven mid new → HasGiven old new

@@ -8,27 +8,18 @@ use Rattle.std.specs.declared.result.Result.TheVariants.{Ok, Err}
 use Rattle.minisign_base.specs.Fault.{Fault, Named}
 use Rattle.minisign_base.specs.declared.faults.NamedFault.TheVariants.{OutOfMemory}
 use Rattle.minisign_base.specs.DeviceCalls.{RereaderCall, SinkCall}
-use Rattle.minisign.specs.Acceptance.{Flags, Refuses, Verifier, Vouches}
-use Rattle.minisign.specs.Calls.{CopyIsVouchedWith, CopyVerifiedFails, IsCommentOf, IsCommentVerdict, IsFileVerdict, TextsVouchWith, VerifyReaderFails}
-use Rattle.minisign.specs.Headline.{IsVerdict, TextsRefuse, TextsVouchFor}
-use Rattle.minisign.specs.PublicKeyText.{read_public_key}
+use Rattle.minisign.specs.Acceptance.{Flags, Verifier, Vouches}
+use Rattle.minisign.specs.Calls.{CopyIsVouchedWith, CopyVerifiedFails, IsCommentOf, IsFileVerdict, TextsVouchWith, VerifyReaderFails}
+use Rattle.minisign.specs.Headline.{TextsVouchFor, verdict}
 use Rattle.minisign.specs.Reading.{IsAhead, ReadingFails, ReadsWhole}
 use Rattle.minisign.specs.Records.{PublicKeyRecord, SignatureBoxRecord, is_prehashed, prehashed_algorithm}
 use Rattle.minisign.specs.SignatureText.{read_signature_box}
-use Rattle.minisign.specs.VerifyingLaws.{fails_without_sinks, fails_without_status}
-use Rattle.minisign.specs.VerifyingTexts.{ReadTexts, TextsFail, VerifyingTextsFails, VerifyingTextsSucceeds}
+use Rattle.minisign.specs.Texts.{map_ok}
+use Rattle.minisign.proofs.VerifyingLaws.{fails_without_sinks, fails_without_status}
+use Rattle.minisign.specs.VerifyingTexts.{ReadTexts, VerifyingTextsFails, VerifyingTextsSucceeds}
 use Rattle.minisign.proofs.Passes.{IsReason, why_it_fails}
 use Rattle.minisign.proofs.ReadTexts.{one_value}
-use Rattle.minisign.proofs.VouchedTexts.{text_verdict}
-
-abbrev is_memory : Fault → Bool
-is_memory (Named OutOfMemory) = true
-is_memory _ = false
-
--- a fault is that memory ran out, or another
-pub memory_or_other : (e : Fault) → (e ≡ Named OutOfMemory) ⊎ (e ≢ Named OutOfMemory)
-memory_or_other (Named OutOfMemory) = inl refl
-memory_or_other _ = inr (λ same. true≢false (sym (ap is_memory same)))
+use Rattle.minisign.proofs.Verdicts.{box_refused, text_refused, vouched_verdict}
 
 -- the comment of the text is the one that was signed, where the texts vouch for the message
 pub signed_comment : (accepts : Verifier) (pk sig message : List ℕ) (legacy : Bool) (comment : List ℕ)
@@ -38,30 +29,6 @@ signed_comment accepts pk sig message legacy comment vouched said = record {
   comments = said.comments;
   both = ap (λ x. x.comments) (one_value (read_signature_box sig) vouched.box said.box vouched.box_read said.box_read) ∙ said.both;
   trusted = said.trusted;
-}
-
--- the verdict, and the comment where it is a good one
-pub comment_verdict : {T : Type 0} (bytes : T → List ℕ) (accepts : Verifier) (pk sig message : List ℕ) (legacy : Bool) (r : Result T Fault)
-    → (IfErr r (λ e. e ≢ Named OutOfMemory) → IsVerdict accepts pk sig message legacy r) → IfOk r (λ t. IsCommentOf sig (bytes t))
-    → IsCommentVerdict bytes accepts pk sig message legacy r
-comment_verdict bytes accepts pk sig message legacy (Ok t) verdict said = signed_comment accepts pk sig message legacy (bytes t) (verdict tt) said
-comment_verdict bytes accepts pk sig message legacy (Err e) verdict said = ⊎_elim inl (λ other. inr (verdict other)) (memory_or_other e)
-
--- a text is refused, whatever the message
-text_refusal : (accepts : Verifier) (pk sig message : List ℕ) (legacy : Bool) (e : Fault) → TextsFail pk sig e
-    → (e ≡ Named OutOfMemory) ⊎ TextsRefuse accepts pk sig message legacy e
-text_refusal accepts pk sig message legacy e fails =
-    ⊎_elim inl (λ other. inr (text_verdict {T = ⊤} accepts pk sig message legacy (Err e) e refl fails other)) (memory_or_other e)
-
--- the box that the texts read as is refused
-box_refusal : (accepts : Verifier) (pk sig message : List ℕ) (legacy : Bool) (key : PublicKeyRecord) (box : SignatureBoxRecord) (e : Fault)
-    → ReadTexts pk sig key box → Refuses accepts key box message legacy e → TextsRefuse accepts pk sig message legacy e
-box_refusal accepts pk sig message legacy key box e read refused = record {
-  first_case = inr (inr (key, box, read.key_read, read.box_read, refused.first));
-  unvouched = λ v. refused.unacceptable (
-      subst (λ k. Vouches accepts k box message legacy) (one_value (read_public_key pk) _ _ v.key_read read.key_read)
-      (subst (λ x. Vouches accepts v.key x message legacy) (one_value (read_signature_box sig) _ _ v.box_read read.box_read) v.vouches)
-      );
 }
 
 -- some message is ahead, where nothing is known of it
@@ -88,12 +55,12 @@ ahead_vouched bytes accepts pk sig reader status out (Err e) ok said = tt
 ahead_reason : {R W O : Type 0} (accepts : Verifier) (pk sig : List ℕ) (reader : RereaderCall R) (status : SinkCall W) (out : SinkCall O)
     (key : PublicKeyRecord) (box : SignatureBoxRecord) (e : Fault) → ReadTexts pk sig key box → IsReason accepts key box true false false reader status out e
     → (e ≡ Named OutOfMemory) ⊎ ReadingFails reader.source reader.old reader.new e
-    ⊎ ((message : List ℕ) × IsAhead (reader.source.ahead reader.old) message × TextsRefuse accepts pk sig message false e)
+    ⊎ ((message : List ℕ) × IsAhead (reader.source.ahead reader.old) message × (verdict accepts pk sig message false ≡ Err e))
 ahead_reason accepts pk sig reader status out key box e read (inl memory) = inl memory
 ahead_reason accepts pk sig reader status out key box e read (inr (inl (wanted, rose))) = absurd (true≢false (sym wanted))
 ahead_reason accepts pk sig reader status out key box e read (inr (inr (inl failed))) = inr (inl failed)
 ahead_reason accepts pk sig reader status out key box e read (inr (inr (inr (inl (message, given, down))))) =
-    inr (inr (message, given, box_refusal accepts pk sig message false key box e read down))
+    inr (inr (message, given, box_refused accepts pk sig message false key box e read down))
 ahead_reason accepts pk sig reader status out key box e read (inr (inr (inr (inr (inl (loud, rose)))))) = absurd (true≢false loud)
 ahead_reason accepts pk sig reader status out key box e read (inr (inr (inr (inr (inr (inl (wanted, rose))))))) = absurd (true≢false (sym wanted))
 ahead_reason accepts pk sig reader status out key box e read (inr (inr (inr (inr (inr (inr (wanted, other))))))) = absurd (true≢false (sym wanted))
@@ -102,11 +69,11 @@ ahead_reason accepts pk sig reader status out key box e read (inr (inr (inr (inr
 pub ahead_refused : {T R W O : Type 0} (accepts : Verifier) (pk sig : List ℕ) (reader : RereaderCall R) (status : SinkCall W) (out : SinkCall O) (r : Result T Fault)
     → IfErr r (VerifyingTextsFails accepts pk sig (silently false) reader status out)
     → IfErr r (λ e. (e ≡ Named OutOfMemory) ⊎ ReadingFails reader.source reader.old reader.new e
-    ⊎ ((message : List ℕ) × IsAhead (reader.source.ahead reader.old) message × TextsRefuse accepts pk sig message false e))
+    ⊎ ((message : List ℕ) × IsAhead (reader.source.ahead reader.old) message × (verdict accepts pk sig message false ≡ Err e)))
 ahead_refused accepts pk sig reader status out (Ok t) err = tt
 ahead_refused accepts pk sig reader status out (Err e) (inl stops) =
     let (message, ahead) = some_ahead (reader.source.ahead reader.old) in
-    ⊎_elim inl (λ refused. inr (inr (message, ahead, refused))) (text_refusal accepts pk sig message false e stops.why)
+    ⊎_elim inl (λ refused. inr (inr (message, ahead, refused))) (text_refused accepts pk sig message false e stops.why)
 ahead_refused accepts pk sig reader status out (Err e) (inr (key, box, read, h)) =
     ahead_reason accepts pk sig reader status out key box e read (why_it_fails accepts key box true false false reader status out e h)
 
@@ -123,12 +90,13 @@ reader_refused accepts pk sig reader status out (Err e) (inr (key, box, read, h)
 pub file_verdict : {T R : Type 0} (bytes : T → List ℕ) (accepts : Verifier) (pk sig : List ℕ) (reader : RereaderCall R) (r : Result T Fault)
     → IfOk r (λ t. (message : List ℕ) × ReadsWhole reader.source reader.old reader.new message × TextsVouchWith accepts pk sig message false (bytes t))
     → IfErr r (λ e. (e ≡ Named OutOfMemory) ⊎ ReadingFails reader.source reader.old reader.new e
-    ⊎ ((message : List ℕ) × IsAhead (reader.source.ahead reader.old) message × TextsRefuse accepts pk sig message false e))
-    → IsFileVerdict bytes accepts pk r
-file_verdict bytes accepts pk sig reader (Ok t) (message, given, vouched) refused = (sig, message, vouched)
+    ⊎ ((message : List ℕ) × IsAhead (reader.source.ahead reader.old) message × (verdict accepts pk sig message false ≡ Err e)))
+    → IsFileVerdict accepts pk (map_ok bytes r)
+file_verdict bytes accepts pk sig reader (Ok t) (message, given, vouched) refused =
+    inl (sig, message, sym (vouched_verdict accepts pk sig message false (bytes t) vouched))
 file_verdict bytes accepts pk sig reader (Err e) vouched refused =
-    ⊎_elim (λ memory. inl (inl memory))
-    (λ more. ⊎_elim (λ failed. inl (inr (inl failed.fault))) (λ (message, given, why). inr (sig, message, why)) more) refused
+    ⊎_elim (λ memory. inr (e, refl, inl memory))
+    (λ more. ⊎_elim (λ failed. inr (e, refl, inr (inl failed.fault))) (λ (message, given, why). inl (sig, message, sym why)) more) refused
 
 same_ahead : (known : Option (List ℕ)) (message copy : List ℕ) → IsAhead known message → (IsSome known → copy ≡ message) → IfSome known (λ xs. copy ≡ xs)
 same_ahead None message copy given same = tt

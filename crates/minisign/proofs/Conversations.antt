@@ -5,11 +5,11 @@ use Rattle.std.specs.Str.{chars, is_utf8}
 use lib.Utf8.{encode}
 use Rattle.minisign_base.specs.Fault.{Named}
 use Rattle.minisign_base.specs.declared.faults.NamedFault.TheVariants.{PasswordsDiffer}
-use Rattle.minisign_base.specs.PromptLaws.{written}
-use Rattle.minisign_base.specs.Passwords.{accepted_line, first_line, password_of, typed}
-use Rattle.minisign.specs.NewPassword.{choosing, difference, sealing}
+use Rattle.minisign_base.specs.Prompts.{written}
+use Rattle.minisign_base.specs.Passwords.{accepted_line, first_line, password_of, typed_password}
+use Rattle.minisign.specs.NewPassword.{choosing_steps, difference, sealing_steps}
 use Rattle.minisign.specs.PromptTexts.{asking_text, deriving_text, done_text, purpose_line, sealing_text, second_question}
-use Rattle.minisign.specs.Opening.{opening}
+use Rattle.minisign.specs.Opening.{opening_steps}
 use Rattle.minisign.specs.Records.{SecretKeyRecord}
 
 -- a line and its line feed
@@ -17,28 +17,28 @@ abbrev typing : List ℕ → List ℕ
 typing line = line ++ 10 ∷ []
 
 -- a key is sealed under a password that is typed twice
-pub written_while_sealing : written (choosing (typing (codes "one")) (typing (codes "one")) ++ sealing)
+pub written_while_sealing : written (choosing_steps (typing (codes "one")) (typing (codes "one")) ++ sealing_steps)
     ≡ codes "Please enter a password to protect the secret key.\nPassword: Password (one more time): Deriving a key from the password in order to encrypt the secret key... done\n"
 unfolding password_of first_line accepted_line is_utf8 chars encode purpose_line asking_text second_question sealing_text done_text
 written_while_sealing = refl
 
 -- an empty password is shown each time
-pub written_for_empty_passwords : written (choosing (typing []) (typing []))
+pub written_for_empty_passwords : written (choosing_steps (typing []) (typing []))
     ≡ codes "Please enter a password to protect the secret key.\nPassword: <empty>\nPassword (one more time): <empty>\n"
 unfolding password_of first_line accepted_line is_utf8 chars encode purpose_line asking_text second_question
 written_for_empty_passwords = refl
 
 -- a key is opened
-pub written_while_opening : (k : SecretKeyRecord) → written (opening k None (typing (codes "one")))
+pub written_while_opening : (k : SecretKeyRecord) → written (opening_steps k None (typing (codes "one")))
     ≡ codes "Password: Deriving a key from the password and decrypting the secret key... done\n"
 unfolding password_of first_line accepted_line is_utf8 chars encode asking_text deriving_text done_text
 written_while_opening k = refl
 
 -- the second password is another one
-pub other_password : difference (typed (typing (codes "one"))) (typed (typing (codes "two"))) ≡ Some (Named PasswordsDiffer)
+pub other_password : difference (typed_password (typing (codes "one"))) (typed_password (typing (codes "two"))) ≡ Some (Named PasswordsDiffer)
 unfolding password_of first_line accepted_line is_utf8 chars encode
 other_password = refl
 
-pub same_password : difference (typed (typing (codes "one"))) (typed (typing (codes "one"))) ≡ None
+pub same_password : difference (typed_password (typing (codes "one"))) (typed_password (typing (codes "one"))) ≡ None
 unfolding password_of first_line accepted_line is_utf8 chars encode
 same_password = refl

@@ -10,11 +10,10 @@ use Rattle.minisign_base.specs.declared.faults.NamedFault.TheVariants.{OutOfMemo
 use Rattle.minisign_kdf.specs.Params.{Numbers}
 use Rattle.minisign_base.specs.Limits.{cost_log2, limits}
 use Rattle.minisign.specs.Records.{PublicKeyRecord, SecretKeyRecord}
-use Rattle.minisign.specs.Sealing.{IsUnencrypted, IsWithin, Opens, checksum_of, is_encrypted, key_limits, key_numbers, key_xor, scrypt_kdf, work_refusal, xored_key}
-use Rattle.minisign.specs.SecretKeyText.{SecretKeyText}
-use Rattle.minisign.specs.Generation.{AreSeedAndKeynum, IsGenuinePair, IsSealedOf, IsSealedPair, OpensOnlyTo, OpensToPair, key_to_seal, opened_key, public_key_of, sealed_key, sealing_memory, sealing_operations, secret_of, unsealed_key}
-use Rattle.minisign.proofs.SecretKeyTexts.{one_key_text}
-use Rattle.minisign.proofs.SealingLimits.{allowed_numbers, within_bound}
+use Rattle.minisign.specs.Sealing.{IsUnencrypted, Opens, is_within, checksum_of, is_encrypted, key_limits, key_numbers, key_xor, scrypt_kdf, work_refusal, xored_key}
+use Rattle.minisign.specs.Generation.{AreSeedAndKeynum, IsGenuinePair, IsSealedOf, IsSealedPair, OpensToPair, key_to_seal, opened_key, public_key_of, sealed_key, sealing_memory, sealing_operations, secret_of, unsealed_key}
+use Rattle.minisign.proofs.Openings.{opens_to, work_none}
+use Rattle.minisign.proofs.SealingLimits.{allowed_numbers}
 
 -- 32 random bytes, and then 8
 pub seed_and_keynum : (seed keynum : List ℕ) → IsBytes seed × (length seed ≡ 32) → IsBytes keynum × (length keynum ≡ 8) → AreSeedAndKeynum seed keynum
@@ -53,12 +52,12 @@ unfolding key_limits limits cost_log2
 default_limits k operations memory = rw (operations, memory) refl
 
 default_work : (k : SecretKeyRecord) (bound : Option ℕ) → k.operations_limit ≡ to_le_bytes w64 sealing_operations → k.memory_limit ≡ to_le_bytes w64 sealing_memory
-    → IsWithin bound 1 → work_refusal k bound ≡ None
-default_work k bound operations memory one = within_bound k _ bound (default_limits k operations memory) one
+    → is_within bound 1 ≡ true → work_refusal k bound ≡ None
+default_work k bound operations memory one = work_none k _ bound (default_limits k operations memory) one
 
 -- where these limits stand, only memory can run out
 pub only_memory : (k : SecretKeyRecord) (bound : Option ℕ) (e : Fault) → k.operations_limit ≡ to_le_bytes w64 sealing_operations → k.memory_limit ≡ to_le_bytes w64 sealing_memory
-    → IsWithin bound 1 → ((e ≡ Named OutOfMemory) × (work_refusal k bound ≡ None)) ⊎ (work_refusal k bound ≡ Some e) → e ≡ Named OutOfMemory
+    → is_within bound 1 ≡ true → ((e ≡ Named OutOfMemory) × (work_refusal k bound ≡ None)) ⊎ (work_refusal k bound ≡ Some e) → e ≡ Named OutOfMemory
 only_memory k bound e operations memory one (inl (is, allowed)) = is
 only_memory k bound e operations memory one (inr refused) = let allowed = default_work k bound operations memory one in absurd (cc)
 
@@ -100,20 +99,6 @@ pub opened_checksum : (keynum secret salt : List ℕ) (operations memory : ℕ)
 unfolding key_to_seal unsealed_key
 opened_checksum keynum secret salt operations memory = refl
 
--- a key that opens, with the limits by default, opens within each bound
-opens_within : (sk : SecretKeyRecord) (password : List ℕ) (bound : Option ℕ) → Opens sk password None → (key_numbers sk).p ≡ 1 → IsWithin bound 1 → Opens sk password bound
-opens_within sk password None opens one least = opens
-opens_within sk password (Some max_p) opens one least =
-    record { kdf = opens.kdf; allowed = opens.allowed; bounded = omega (arith, one, least); restored = opens.restored }
-
--- a text that reads as such a key opens to that key alone
-opened_text : (sk : SecretKeyRecord) (password text : List ℕ) → Opens sk password None → (key_numbers sk).p ≡ 1 → SecretKeyText text sk
-    → OpensOnlyTo text password (xored_key sk password)
-opened_text sk password text opens one read = record {
-  opens = λ bound least. record { sealed = sk; read = read; opens = opens_within sk password bound opens one least; key = refl };
-  only = λ bound other is. is.key ∙ ap (λ (k : SecretKeyRecord). xored_key k password) (one_key_text text sk is.sealed read is.read);
-}
-
 -- a sealed pair opens under its password
 pub sealed_pair : {Z : Type 0} (public_of : List ℕ → List ℕ) (password : List ℕ) (z : RandomCall Z) (pk : PublicKeyRecord) (sk : SecretKeyRecord)
     → IsSealedPair public_of password z pk sk → OpensToPair public_of password pk sk
@@ -126,11 +111,11 @@ sealed_pair public_of password z pk sk pair =
     let opens : Opens sk password None = record {
       kdf = ap (λ k. k.kdf) sealed.secret ∙ sealed_kdf pair.keynum secret pair.salt password sealing_operations sealing_memory;
       allowed = allowed ∙ ap (λ (v : Numbers). Ok v) (sym numbers);
-      bounded = tt;
+      bounded = refl;
       restored = ap (λ k. k.checksum) sealed.opened ∙ opened_checksum pair.keynum secret pair.salt sealing_operations sealing_memory ∙ sym (ap checksum_of sealed.opened);
     } in
     record {
       opens = opens;
       pair = opened_pair public_of pair.seed pair.keynum pair.salt pk (xored_key sk password) pair.lengths sealed.public sealed.opened;
-      texts = λ text read. opened_text sk password text opens (ap (λ (v : Numbers). v.p) numbers) read;
+      texts = λ text read. opens_to text password sk _ read opens.kdf allowed opens.restored;
     }

@@ -24,10 +24,12 @@ pub mod WrittenKeys
 pub mod SignatureTexts
 pub mod SignedTexts
 pub mod DefaultComments
+pub mod VerifyingLaws
 pub mod Passes
+pub mod Verdicts
+pub mod Laws
 pub mod VouchedTexts
 pub mod Commented
-pub mod PasswordKeys
 pub mod MadeKeys
 pub mod Base64Pieces
 pub mod InPlace

@@ -12,24 +12,19 @@ use Rattle.minisign.specs.Generation.{key_to_seal, unsealed_key}
 use Rattle.minisign.specs.Making.{IsMadePublicText, IsMadeText, IsOfParts, OpensToParts}
 use Rattle.minisign.specs.PublicKeyText.{commented_public_key_text, read_public_key}
 use Rattle.minisign.specs.Records.{PublicKeyRecord, SecretKeyRecord, own_public_key}
-use Rattle.minisign.specs.Sealing.{IsWithin, Opens, bound_refusal, checksum_of, key_limits, key_numbers, key_xor, work_refusal, xored_key}
-use Rattle.minisign.specs.SecretKeyText.{SecretKeyText, secret_key_text}
+use Rattle.minisign.specs.Sealing.{bound_refusal, checksum_of, key_limits, key_xor, work_refusal, xored_key}
+use Rattle.minisign.specs.SecretKeyText.{read_secret_key, secret_key_text}
+use Rattle.minisign.specs.OpenedTexts.{OpensTo}
 use Rattle.minisign.specs.declared.making.Sealing.{Sealing}
 use Rattle.minisign.proofs.GeneratedKeys.{opened_checksum, opened_is_open, sealed_kdf, unsealed_is_open, unsealed_is_unencrypted}
 use Rattle.minisign.proofs.SealingLimits.{sealing_numbers}
-use Rattle.minisign.proofs.SecretKeyTexts.{one_key_text}
+use Rattle.minisign.proofs.Openings.{opens_to, unencrypted_taken, unencrypted_text}
 
 -- the limits of a key that is sealed with these
 pub limits_named : (k : SecretKeyRecord) (operations memory : ℕ) → operations < 2 ^ 64 → memory < 2 ^ 64
     → k.operations_limit ≡ to_le_bytes w64 operations → k.memory_limit ≡ to_le_bytes w64 memory → key_limits k ≡ sealing_limits memory operations
 unfolding key_limits
 limits_named k operations memory some more same_operations same_memory =
-    rw (same_operations, same_memory, from_le_bytes-to_le_bytes_8 operations some, from_le_bytes-to_le_bytes_8 memory more) refl
-
-numbers_named : (k : SecretKeyRecord) (operations memory : ℕ) → operations < 2 ^ 64 → memory < 2 ^ 64
-    → k.operations_limit ≡ to_le_bytes w64 operations → k.memory_limit ≡ to_le_bytes w64 memory → key_numbers k ≡ numbers memory operations
-unfolding key_numbers
-numbers_named k operations memory some more same_operations same_memory =
     rw (same_operations, same_memory, from_le_bytes-to_le_bytes_8 operations some, from_le_bytes-to_le_bytes_8 memory more) refl
 
 -- what a test with no bound says of the limits
@@ -67,15 +62,14 @@ sealed_parts keynum secret salt operations memory =
 
 -- the text of a key that is not sealed
 pub made_unsealed : (keynum secret comment text : List ℕ) (s : Sealing) (sk : SecretKeyRecord) → sk ≡ unsealed_key keynum secret
-    → text ≡ secret_key_text (Some comment) sk → (LacksByte 10 comment → SecretKeyText text sk) → length text ≡ length comment + 233
+    → text ≡ secret_key_text (Some comment) sk → (LacksByte 10 comment → read_secret_key text ≡ Ok sk) → length text ≡ length comment + 233
     → IsMadeText keynum secret None s comment text
 made_unsealed keynum secret comment text s sk same written reads size = record {
   written = written ∙ ap (λ (k : SecretKeyRecord). secret_key_text (Some comment) k) same;
-  gives = λ lacks. let read : SecretKeyText text (unsealed_key keynum secret) = subst (λ k. SecretKeyText text k) same (reads lacks) in record {
+  gives = λ lacks. record {
     key = unsealed_key keynum secret;
     parts = unsealed_parts keynum secret;
-    reads = record { read = read; unencrypted = unsealed_is_unencrypted keynum secret };
-    only = λ other is. one_key_text text (unsealed_key keynum secret) other read is;
+    reads = unencrypted_text text (unsealed_key keynum secret) _ (reads lacks ∙ ap (λ k. Ok k) same) (unencrypted_taken _ (unsealed_is_unencrypted keynum secret));
   };
   size = size;
 }
@@ -93,24 +87,16 @@ module _ (keynum secret salt password : List ℕ) (operations memory : ℕ) (som
   unfolding key_xor key_to_seal
   memory_kept = ap (λ k. k.memory_limit) sealed
 
-  same_numbers : key_numbers sk ≡ numbers memory operations
-  same_numbers = numbers_named sk operations memory some more operations_kept memory_kept
+  restored : (xored_key sk password).checksum ≡ checksum_of (xored_key sk password)
+  restored = ap (λ k. k.checksum) opened ∙ opened_checksum keynum secret salt operations memory ∙ sym (ap checksum_of opened)
 
-  opens_within : (bound : Option ℕ) → IsWithin bound (numbers memory operations).p → Opens sk password bound
-  opens_within bound within = record {
-    kdf = ap (λ k. k.kdf) sealed ∙ sealed_kdf keynum secret salt password operations memory;
-    allowed = limits_named sk operations memory some more operations_kept memory_kept ∙ allowed_limits memory operations _ refl allowed
-        ∙ ap (λ (v : Numbers). Ok v) (sym same_numbers);
-    bounded = subst (λ (v : Numbers). IsWithin bound v.p) (sym same_numbers) within;
-    restored = ap (λ k. k.checksum) opened ∙ opened_checksum keynum secret salt operations memory ∙ sym (ap checksum_of opened);
-  }
-
-  pub opens_to_parts : (text : List ℕ) → SecretKeyText text sk → OpensToParts text password keynum secret (numbers memory operations).p
+  pub opens_to_parts : (text : List ℕ) → read_secret_key text ≡ Ok sk → OpensToParts text password keynum secret (numbers memory operations).p
   opens_to_parts text read = record {
     key = key_to_seal keynum secret salt operations memory;
     parts = sealed_parts keynum secret salt operations memory;
-    opens = λ bound within. record { sealed = sk; read = read; opens = opens_within bound within; key = sym opened };
-    only = λ bound other is. is.key ∙ ap (λ (k : SecretKeyRecord). xored_key k password) (one_key_text text sk is.sealed read is.read) ∙ opened;
+    opens = subst (λ k. OpensTo text password (numbers memory operations).p k) opened
+        (opens_to text password sk _ read (ap (λ k. k.kdf) sealed ∙ sealed_kdf keynum secret salt password operations memory)
+        (limits_named sk operations memory some more operations_kept memory_kept ∙ allowed_limits memory operations _ refl allowed) restored);
   }
 
 -- the text of a sealed key
@@ -118,7 +104,7 @@ pub made_sealed : (keynum secret password comment text : List ℕ) (s : Sealing)
     → sk ≡ xored_key (key_to_seal keynum secret s.salt s.operations_limit s.memory_limit) password
     → xored_key sk password ≡ key_to_seal keynum secret s.salt s.operations_limit s.memory_limit
     → IsOk (sealing_limits s.memory_limit s.operations_limit)
-    → text ≡ secret_key_text (Some comment) sk → (LacksByte 10 comment → SecretKeyText text sk) → length text ≡ length comment + 233
+    → text ≡ secret_key_text (Some comment) sk → (LacksByte 10 comment → read_secret_key text ≡ Ok sk) → length text ≡ length comment + 233
     → IsMadeText keynum secret (Some password) s comment text
 made_sealed keynum secret password comment text s sk some more sealed opened allowed written reads size = record {
   written = written ∙ ap (λ (k : SecretKeyRecord). secret_key_text (Some comment) k) sealed;
@@ -145,7 +131,7 @@ made_public keynum secret comment text pk sk same own written reads size =
 
 -- the same of what was returned
 pub returned_unsealed : (keynum secret comment : List ℕ) (s : Sealing) (sk : SecretKeyRecord) (r : Result (List ℕ) Fault) → sk ≡ unsealed_key keynum secret
-    → IfOk r (λ b. b ≡ secret_key_text (Some comment) sk) → (LacksByte 10 comment → IfOk r (λ b. SecretKeyText b sk)) → IfOk r (λ b. length b ≡ length comment + 233)
+    → IfOk r (λ b. b ≡ secret_key_text (Some comment) sk) → (LacksByte 10 comment → IfOk r (λ b. read_secret_key b ≡ Ok sk)) → IfOk r (λ b. length b ≡ length comment + 233)
     → IfOk r (IsMadeText keynum secret None s comment)
 returned_unsealed keynum secret comment s sk (Ok text) same written reads size = made_unsealed keynum secret comment text s sk same written reads size
 returned_unsealed keynum secret comment s sk (Err e) same written reads size = tt
@@ -154,7 +140,7 @@ pub returned_sealed : (keynum secret password comment : List ℕ) (s : Sealing) 
     → sk ≡ xored_key (key_to_seal keynum secret s.salt s.operations_limit s.memory_limit) password
     → xored_key sk password ≡ key_to_seal keynum secret s.salt s.operations_limit s.memory_limit
     → IsOk (sealing_limits s.memory_limit s.operations_limit)
-    → IfOk r (λ b. b ≡ secret_key_text (Some comment) sk) → (LacksByte 10 comment → IfOk r (λ b. SecretKeyText b sk)) → IfOk r (λ b. length b ≡ length comment + 233)
+    → IfOk r (λ b. b ≡ secret_key_text (Some comment) sk) → (LacksByte 10 comment → IfOk r (λ b. read_secret_key b ≡ Ok sk)) → IfOk r (λ b. length b ≡ length comment + 233)
     → IfOk r (IsMadeText keynum secret (Some password) s comment)
 returned_sealed keynum secret password comment s sk (Ok text) some more sealed opened allowed written reads size =
     made_sealed keynum secret password comment text s sk some more sealed opened allowed written reads size

@@ -1,196 +1,187 @@
--- When a secret key's text gives a key, and what a refusal says.
-use Rattle.std.proofs.Common.{◌≡◌, ◌⊎◌, ℕ, ◌≤◌, Bool, true, false, not, ◌&&◌, if◌then◌else◌, nat_lt, bytes_eq, List, Option, None, Some, Result, Ok, Err, MatchResult, IfOk, IfErr, refl, sym, ap, ◌∙◌, inl, inr}
-use Rattle.std.specs.Option.{option_or}
-use Rattle.std.proofs.lemmas.Bool.{ltb-false}
+-- What a secret key opens to, and when a text gives a key: the functions and the relations agree.
+use Rattle.std.proofs.Common.{◌≡◌, ℕ, Bool, true, false, not, ◌&&◌, if◌then◌else◌, bytes_eq, List, Option, None, Some, refl, sym, ap, subst, ◌∙◌, inl, inr}
+use Rattle.std.specs.declared.result.Result.{Result}
+use Rattle.std.specs.declared.result.Result.TheVariants.{Ok, Err}
 use Rattle.std.proofs.lemmas.Slice.Eq.{bytes_eq-Decides}
 use Rattle.minisign_base.specs.Fault.{Fault, Named}
-use Rattle.minisign_base.specs.declared.faults.NamedFault.TheVariants.{OutOfMemory, KeyMightBeEncrypted, CorruptedKey, WrongPassword, KeyNotEncrypted, UnsupportedEncryptionAlgorithm, WorkTooHigh}
+use Rattle.minisign_base.specs.Steps.{without_value}
+use Rattle.minisign_base.specs.declared.faults.NamedFault.{NamedFault}
+use Rattle.minisign_base.specs.declared.faults.NamedFault.TheVariants.{CorruptedKey, KeyMightBeEncrypted, KeyNotEncrypted, UnsupportedEncryptionAlgorithm, WorkTooHigh, WrongPassword}
 use Rattle.minisign_kdf.specs.Params.{Numbers}
-use Rattle.minisign_base.specs.DeviceCalls.{PromptCall}
 use Rattle.minisign.specs.Records.{SecretKeyRecord}
-use Rattle.minisign.specs.SecretKeyText.{SecretKeyText}
-use Rattle.minisign.specs.Headline.{OpeningHeadline}
-use Rattle.minisign.specs.Sealing.{IsUnencrypted, IsWithin, Opens, bound_refusal, checksum_of, checksum_refusal, is_encrypted, kdf_refusal, key_limits, key_numbers, no_kdf, scrypt_kdf, opening_refusal, password_refusal, unencrypted_refusal, work_refusal, xored_key}
-use Rattle.minisign.specs.Opening.{IsOpening}
-use Rattle.minisign.proofs.SecretKeyTexts.{one_key_text}
-use Rattle.minisign.proofs.SealingLimits.{allowed_numbers, within_bound}
-use Rattle.minisign.specs.OpenedTexts.{RefusesKey, IsOpened, RefusesOpening, IsUnencryptedText, RefusesUnencrypted}
-
--- two tests of which both hold
-both_none : (a b : Option Fault) → option_or a b ≡ None → (a ≡ None) × (b ≡ None)
-both_none None b h = (refl, h)
-both_none (Some e) b h = absurd (cc)
+use Rattle.minisign.specs.SecretKeyText.{SecretKeyText, read_secret_key}
+use Rattle.minisign.specs.Sealing.{IsUnencrypted, Opens, bound_refusal, checksum_of, checksum_refusal, is_encrypted, is_within, key_limits, key_numbers, no_kdf, open_sealed, scrypt_kdf, sealed_by_scrypt, unencrypted_key, work_refusal, xored_key}
+use Rattle.minisign.specs.OpenedTexts.{IsOpened, IsUnencryptedText, OpensTo, open_key, read_sealed_key, read_unencrypted_key}
+use Rattle.minisign.specs.Texts.{IsReadOrNoMemory, IsReading, and_then, require, unless}
+use Rattle.minisign.proofs.ReadTexts.{is_reading, not_refused, passed, read_before, same_end, same_value}
+use Rattle.minisign.proofs.SealingLimits.{allowed_numbers}
+use Rattle.minisign.proofs.SecretKeyTexts.{read_as}
 
 -- a test that holds
 held : (b : Bool) (e : Fault) → (if b then None else Some e) ≡ None → b ≡ true
 held true e h = refl
 held false e h = absurd (cc)
 
-checksum_held : (k : SecretKeyRecord) (e : Fault) → checksum_refusal k e ≡ None → k.checksum ≡ checksum_of k
-checksum_held k e h = (bytes_eq-Decides k.checksum (checksum_of k)).0 (held _ e h)
+-- the checksum is restored exactly where nothing is refused
+checksum_held : (k : SecretKeyRecord) → checksum_refusal k ≡ None → k.checksum ≡ checksum_of k
+checksum_held k h = (bytes_eq-Decides k.checksum (checksum_of k)).0 (held _ (Named WrongPassword) h)
 
-checksum_none : (k : SecretKeyRecord) (e : Fault) → k.checksum ≡ checksum_of k → checksum_refusal k e ≡ None
-checksum_none k e h = let same : bytes_eq k.checksum (checksum_of k) ≡ true = (bytes_eq-Decides k.checksum (checksum_of k)).1 h in rw same refl
+checksum_none : (k : SecretKeyRecord) → k.checksum ≡ checksum_of k → checksum_refusal k ≡ None
+checksum_none k h = let same : bytes_eq k.checksum (checksum_of k) ≡ true = (bytes_eq-Decides k.checksum (checksum_of k)).1 h in rw same refl
 
--- nothing is refused exactly of a key that was never sealed
-unencrypted_held : (k : SecretKeyRecord) → unencrypted_refusal k ≡ None → IsUnencrypted k
-unencrypted_held k h =
-    let (kdf, checksum) = both_none (if bytes_eq k.kdf no_kdf then None else Some (Named KeyMightBeEncrypted)) (checksum_refusal k (Named CorruptedKey)) h in
-    record { kdf = (bytes_eq-Decides k.kdf no_kdf).0 (held _ (Named KeyMightBeEncrypted) kdf); checksum = checksum_held k (Named CorruptedKey) checksum }
+-- a key is taken as sealed by scrypt exactly where it names scrypt
+sealed_held : (k l : SecretKeyRecord) → sealed_by_scrypt k ≡ Ok l → (k ≡ l) × (k.kdf ≡ scrypt_kdf)
+sealed_held k l h =
+    let first = passed (not (bytes_eq k.kdf no_kdf)) KeyNotEncrypted (require (bytes_eq k.kdf scrypt_kdf) UnsupportedEncryptionAlgorithm (Ok k)) l h in
+    let second = passed (bytes_eq k.kdf scrypt_kdf) UnsupportedEncryptionAlgorithm (Ok k) l first.1 in
+    (same_value k l second.1, (bytes_eq-Decides k.kdf scrypt_kdf).0 second.0)
 
-unencrypted_none : (k : SecretKeyRecord) → IsUnencrypted k → unencrypted_refusal k ≡ None
-unencrypted_none k h =
-    let same : bytes_eq k.kdf no_kdf ≡ true = (bytes_eq-Decides k.kdf no_kdf).1 h.kdf in
-    rw same (checksum_none k (Named CorruptedKey) h.checksum)
+pub sealed_taken : (k : SecretKeyRecord) → k.kdf ≡ scrypt_kdf → sealed_by_scrypt k ≡ Ok k
+sealed_taken k h = rw h refl
 
--- what the tests of a key that was never sealed say of it
-pub unencrypted_verdict : {T : Type 0} (k : SecretKeyRecord) (r : Result T Fault)
-    → MatchResult r (λ _. unencrypted_refusal k ≡ None) (λ e. unencrypted_refusal k ≡ Some e)
-    → MatchResult r (λ _. IsUnencrypted k) (λ e. (unencrypted_refusal k ≡ Some e) × ¬ (IsUnencrypted k))
-unencrypted_verdict k (Ok t) h = unencrypted_held k h
-unencrypted_verdict k (Err e) h = (h, λ held. let none : unencrypted_refusal k ≡ None = unencrypted_none k held in absurd (cc))
+-- where two tests end well, their value is read
+both_passed : {V : Type 0} (a b : Bool) (e f : NamedFault) (v : V) → Ok tt ≡ without_value (require a e (require b f (Ok v))) → require a e (require b f (Ok v)) ≡ Ok v
+both_passed true true e f v h = refl
+both_passed true false e f v h = cc h
+both_passed false b e f v h = cc h
 
--- a key that is refused is not one that is not
-not_refused : (text : List ℕ) (refusal : SecretKeyRecord → Option Fault) (e : Fault) (k : SecretKeyRecord)
-    → RefusesKey text refusal e → SecretKeyText text k → ¬ (refusal k ≡ None)
-not_refused text refusal e k (inl unread) read none = unread.unread k read
-not_refused text refusal e k (inr (l, other, refused)) read none =
-    let same : k ≡ l = one_key_text text l k other read in
-    let both : refusal l ≡ None = ap refusal (sym same) ∙ none in
-    absurd (cc)
+pub sealed_passed : (k : SecretKeyRecord) → Ok tt ≡ without_value (sealed_by_scrypt k) → sealed_by_scrypt k ≡ Ok k
+sealed_passed k h = both_passed (not (bytes_eq k.kdf no_kdf)) (bytes_eq k.kdf scrypt_kdf) KeyNotEncrypted UnsupportedEncryptionAlgorithm k h
 
--- what the tests of a key that was never sealed say of its text
-pub unencrypted_outcome : (text : List ℕ) (r : Result SecretKeyRecord Fault)
-    → IfOk r (λ k. SecretKeyText text k × (unencrypted_refusal k ≡ None)) → IfErr r (λ e. (e ≡ Named OutOfMemory) ⊎ RefusesKey text unencrypted_refusal e)
-    → MatchResult r (IsUnencryptedText text) (λ e. (e ≡ Named OutOfMemory) ⊎ RefusesUnencrypted text e)
-unencrypted_outcome text (Ok k) (read, none) refused = record { read = read; unencrypted = unencrypted_held k none }
-unencrypted_outcome text (Err e) ok (inl memory) = inl memory
-unencrypted_outcome text (Err e) ok (inr refused) =
-    inr (record { first = refused; none = λ k read h. not_refused text unencrypted_refusal e k refused read (unencrypted_none k h) })
+pub unencrypted_passed : (k : SecretKeyRecord) → Ok tt ≡ without_value (unencrypted_key k) → unencrypted_key k ≡ Ok k
+unencrypted_passed k h = both_passed (bytes_eq k.kdf no_kdf) (bytes_eq k.checksum (checksum_of k)) KeyMightBeEncrypted CorruptedKey k h
 
--- the key derivation is scrypt exactly where nothing is refused of it
-kdf_tests : (none scrypt : Bool) → (if none then Some (Named KeyNotEncrypted) else (if scrypt then None else Some (Named UnsupportedEncryptionAlgorithm))) ≡ None → scrypt ≡ true
-kdf_tests true scrypt h = absurd (cc)
-kdf_tests false true h = refl
-kdf_tests false false h = absurd (cc)
+-- limits that are allowed, and a parallelization within the bound
+work_held : (k : SecretKeyRecord) (bound : Option ℕ) (r : Result Numbers Fault) → key_limits k ≡ r → bound_refusal r bound ≡ None
+    → (key_limits k ≡ Ok (key_numbers k)) × (is_within bound (key_numbers k).p ≡ true)
+work_held k bound (Err e) same h = absurd (cc)
+work_held k bound (Ok v) same h =
+    let numbers : key_numbers k ≡ v = allowed_numbers k v same in
+    (same ∙ ap (λ (w : Numbers). Ok w) (sym numbers), ap (λ (w : Numbers). is_within bound w.p) numbers ∙ held _ (Named WorkTooHigh) h)
 
-pub kdf_held : (k : SecretKeyRecord) → kdf_refusal k ≡ None → k.kdf ≡ scrypt_kdf
-kdf_held k h = (bytes_eq-Decides k.kdf scrypt_kdf).0 (kdf_tests (bytes_eq k.kdf no_kdf) _ h)
+pub work_none : (k : SecretKeyRecord) (v : Numbers) (bound : Option ℕ) → key_limits k ≡ Ok v → is_within bound v.p ≡ true → work_refusal k bound ≡ None
+work_none k v bound allowed within = ap (λ r. bound_refusal r bound) allowed ∙ rw within refl
 
-kdf_none : (k : SecretKeyRecord) → k.kdf ≡ scrypt_kdf → kdf_refusal k ≡ None
-kdf_none k h = rw h refl
+-- a sealed key opens exactly where the conditions hold
+opening_held : (k v : SecretKeyRecord) (password : List ℕ) (bound : Option ℕ) → k.kdf ≡ scrypt_kdf → open_sealed k password bound ≡ Ok v
+    → Opens k password bound × (v ≡ xored_key k password)
+opening_held k v password bound kdf h =
+    let opened : SecretKeyRecord = xored_key k password in
+    let work = not_refused (work_refusal k bound) (unless (checksum_refusal opened) (Ok opened)) v h in
+    let checksum = not_refused (checksum_refusal opened) (Ok opened) v work.1 in
+    let limits = work_held k bound (key_limits k) refl work.0 in (
+      record { kdf = kdf; allowed = limits.0; bounded = limits.1; restored = checksum_held opened checksum.0 },
+      sym (same_value opened v checksum.1),
+    )
 
--- what is refused for its key derivation is refused for no later reason
-first_refused : (text : List ℕ) (later : SecretKeyRecord → Option Fault) (e : Fault) → RefusesKey text kdf_refusal e
-    → RefusesKey text (λ k. option_or (kdf_refusal k) (later k)) e
-first_refused text later e (inl unread) = inl unread
-first_refused text later e (inr (k, read, refused)) = inr (k, read, ap (λ (o : Option Fault). option_or o (later k)) refused)
-
-not_above : (b : Bool) → (if b then Some (Named WorkTooHigh) else None) ≡ None → b ≡ false
-not_above true h = absurd (cc)
-not_above false h = refl
-
--- a bound that is met
-bound_held : (k : SecretKeyRecord) (bound : Option ℕ) (r : Result Numbers Fault) → r ≡ key_limits k → bound_refusal r bound ≡ None
-    → (key_limits k ≡ Ok (key_numbers k)) × IsWithin bound (key_numbers k).p
-bound_held k bound (Err e) same h = absurd (cc)
-bound_held k None (Ok v) same h = (sym same ∙ ap (λ (w : Numbers). Ok w) (sym (allowed_numbers k v (sym same))), tt)
-bound_held k (Some max_p) (Ok v) same h =
-    let numbers : key_numbers k ≡ v = allowed_numbers k v (sym same) in
-    let within : v.p ≤ max_p = ltb-false max_p v.p (not_above (nat_lt max_p v.p) h) in
-    (sym same ∙ ap (λ (w : Numbers). Ok w) (sym numbers), rw numbers within)
-
--- nothing is refused exactly of a key that opens
-opening_held : (k : SecretKeyRecord) (password : List ℕ) (bound : Option ℕ) → opening_refusal k password bound ≡ None → Opens k password bound
-opening_held k password bound h =
-    let (kdf, rest) = both_none (kdf_refusal k) (password_refusal k password bound) h in
-    let (work, checksum) = both_none (work_refusal k bound) (checksum_refusal (xored_key k password) (Named WrongPassword)) rest in
-    let (allowed, bounded) = bound_held k bound (key_limits k) refl work in
-    record {
-      kdf = kdf_held k kdf;
-      allowed = allowed;
-      bounded = bounded;
-      restored = checksum_held (xored_key k password) (Named WrongPassword) checksum;
-    }
-
-opening_none : (k : SecretKeyRecord) (password : List ℕ) (bound : Option ℕ) → Opens k password bound → opening_refusal k password bound ≡ None
+opening_none : (k : SecretKeyRecord) (password : List ℕ) (bound : Option ℕ) → Opens k password bound → open_sealed k password bound ≡ Ok (xored_key k password)
 opening_none k password bound h =
-    let work : work_refusal k bound ≡ None = within_bound k (key_numbers k) bound h.allowed h.bounded in
-    let checksum : checksum_refusal (xored_key k password) (Named WrongPassword) ≡ None = checksum_none (xored_key k password) (Named WrongPassword) h.restored in
-    (λ i. option_or (kdf_none k h.kdf i) (option_or (work i) (checksum i)))
+    rw (work_none k (key_numbers k) bound h.allowed h.bounded, checksum_none (xored_key k password) h.restored) refl
+
+pub opened_so : (k v : SecretKeyRecord) (password : List ℕ) (bound : Option ℕ) → v ≡ xored_key k password → work_refusal k bound ≡ None
+    → checksum_refusal v ≡ None → open_sealed k password bound ≡ Ok v
+opened_so k v password bound is work checksum =
+    let restored : checksum_refusal (xored_key k password) ≡ None = ap checksum_refusal (sym is) ∙ checksum in
+    rw (work, restored) (ap (λ x. Ok x) (sym is))
 
 -- a key that opened is not encrypted any more
 neither : (a b : Bool) → b ≡ true → a && not b ≡ false
 neither true b h = ap not h
 neither false b h = refl
 
-pub opened_key_is_open : (k v : SecretKeyRecord) (password : List ℕ) (bound : Option ℕ) → v ≡ xored_key k password → password_refusal k password bound ≡ None
-    → is_encrypted v ≡ false
-opened_key_is_open k v password bound is h =
-    let (work, checksum) = both_none (work_refusal k bound) (checksum_refusal (xored_key k password) (Named WrongPassword)) h in
-    ap is_encrypted is ∙ neither _ _ ((bytes_eq-Decides (xored_key k password).checksum (checksum_of (xored_key k password))).1 (checksum_held (xored_key k password) (Named WrongPassword) checksum))
+pub opened_key_is_open : (k v : SecretKeyRecord) (password : List ℕ) (bound : Option ℕ) → open_sealed k password bound ≡ Ok v → is_encrypted v ≡ false
+opened_key_is_open k v password bound h =
+    let opened : SecretKeyRecord = xored_key k password in
+    let work = not_refused (work_refusal k bound) (unless (checksum_refusal opened) (Ok opened)) v h in
+    let checksum = not_refused (checksum_refusal opened) (Ok opened) v work.1 in
+    ap is_encrypted (sym (same_value opened v checksum.1)) ∙ neither _ _ ((bytes_eq-Decides opened.checksum (checksum_of opened)).1 (checksum_held opened checksum.0))
 
--- a text that no password opens
-pub any_password : (text password : List ℕ) (bound : Option ℕ) (e : Fault) → (e ≡ Named OutOfMemory) ⊎ RefusesKey text kdf_refusal e
-    → (e ≡ Named OutOfMemory) ⊎ RefusesOpening text password bound e
-any_password text password bound e (inl memory) = inl memory
-any_password text password bound e (inr refused) = inr (record {
-  first = first_refused text (λ k. password_refusal k password bound) e refused;
-  closed = λ k read h. not_refused text kdf_refusal e k refused read (kdf_none k h.kdf);
-})
+-- the key of a text
+pub sealed_text : (text : List ℕ) (k : SecretKeyRecord) (r : Result SecretKeyRecord Fault) → read_secret_key text ≡ Ok k → sealed_by_scrypt k ≡ r → read_sealed_key text ≡ r
+sealed_text text k r read of_key = ap (λ x. and_then x sealed_by_scrypt) read ∙ of_key
 
--- a key of which nothing is refused opens
-pub key_opens : (sealed : SecretKeyRecord) (password : List ℕ) (bound : Option ℕ) → kdf_refusal sealed ≡ None → password_refusal sealed password bound ≡ None
-    → Opens sealed password bound
-key_opens sealed password bound kdf none =
-    opening_held sealed password bound (ap (λ (o : Option Fault). option_or o (password_refusal sealed password bound)) kdf ∙ none)
+pub unread_text : (text : List ℕ) (e : Fault) → read_secret_key text ≡ Err e → read_sealed_key text ≡ Err e
+unread_text text e read = ap (λ x. and_then x sealed_by_scrypt) read
 
--- a key that was opened
-pub opened_text : (text password : List ℕ) (bound : Option ℕ) (sealed k : SecretKeyRecord) → SecretKeyText text sealed → kdf_refusal sealed ≡ None
-    → k ≡ xored_key sealed password → password_refusal sealed password bound ≡ None → IsOpened text password bound k
-opened_text text password bound sealed k read kdf is none = record {
-  sealed = sealed;
-  read = read;
-  opens = key_opens sealed password bound kdf none;
-  key = is;
-}
+pub open_text : (text password : List ℕ) (bound : Option ℕ) (k : SecretKeyRecord) → read_sealed_key text ≡ Ok k → open_key text password bound ≡ open_sealed k password bound
+unfolding open_key
+open_text text password bound k read = ap (λ x. and_then x (λ l. open_sealed l password bound)) read
 
--- what opening says of the text
-pub opening_outcome : (text password : List ℕ) (bound : Option ℕ) (sealed : SecretKeyRecord) (r : Result SecretKeyRecord Fault)
-    → SecretKeyText text sealed → kdf_refusal sealed ≡ None
-    → IfOk r (λ k. (k ≡ xored_key sealed password) × (password_refusal sealed password bound ≡ None))
-    → IfErr r (λ e. ((e ≡ Named OutOfMemory) × (work_refusal sealed bound ≡ None)) ⊎ (password_refusal sealed password bound ≡ Some e))
-    → MatchResult r (IsOpened text password bound) (λ e. (e ≡ Named OutOfMemory) ⊎ RefusesOpening text password bound e)
-opening_outcome text password bound sealed (Ok k) read kdf (is, none) refused = opened_text text password bound sealed k read kdf is none
-opening_outcome text password bound sealed (Err e) read kdf ok (inl (memory, work)) = inl memory
-opening_outcome text password bound sealed (Err e) read kdf ok (inr refused) =
-    let first : opening_refusal sealed password bound ≡ Some e = ap (λ (o : Option Fault). option_or o (password_refusal sealed password bound)) kdf ∙ refused in
-    let whole : RefusesKey text (λ k. opening_refusal k password bound) e = inr (sealed, read, first) in
-    inr (record { first = whole; closed = λ k other h. not_refused text (λ k. opening_refusal k password bound) e k whole other (opening_none k password bound h) })
+pub unopened_text : (text password : List ℕ) (bound : Option ℕ) (e : Fault) → read_sealed_key text ≡ Err e → open_key text password bound ≡ Err e
+unfolding open_key
+unopened_text text password bound e read = ap (λ x. and_then x (λ l. open_sealed l password bound)) read
 
--- why a key that is read does not open
-refused_key : (text password : List ℕ) (bound : Option ℕ) (e : Fault) (k : SecretKeyRecord) → RefusesKey text (λ k. opening_refusal k password bound) e
-    → SecretKeyText text k → k.kdf ≡ scrypt_kdf → password_refusal k password bound ≡ Some e
-refused_key text password bound e k (inl unread) read kdf = absurd (unread.unread k read)
-refused_key text password bound e k (inr (l, other, refused)) read kdf =
-    let same : k ≡ l = one_key_text text l k other read in
-    ap (λ (o : Option Fault). option_or o (password_refusal k password bound)) (sym (kdf_none k kdf)) ∙ ap (λ (m : SecretKeyRecord). opening_refusal m password bound) same ∙ refused
+text_opens : (text password : List ℕ) (bound : Option ℕ) (v : SecretKeyRecord) → open_key text password bound ≡ Ok v → IsOpened text password bound v
+unfolding open_key
+text_opens text password bound v h =
+    let (k, sealed, opened) = read_before (read_sealed_key text) (λ l. open_sealed l password bound) v h in
+    let (l, read, taken) = read_before (read_secret_key text) sealed_by_scrypt k sealed in
+    let (same, kdf) = sealed_held l k taken in
+    let (opens, is) = opening_held l v password bound kdf (ap (λ m. open_sealed m password bound) same ∙ opened) in
+    record { sealed = l; read = ((read_as text).value l).0 read; opens = opens; key = is }
 
--- a key that is read opens exactly where its own conditions hold
-pub opening_headline : (text password : List ℕ) (bound : Option ℕ) (r : Result SecretKeyRecord Fault)
-    → MatchResult r (IsOpened text password bound) (λ e. (e ≡ Named OutOfMemory) ⊎ RefusesOpening text password bound e)
-    → (k : SecretKeyRecord) → SecretKeyText text k → k.kdf ≡ scrypt_kdf
-    → MatchResult r (λ v. Opens k password bound × (v ≡ xored_key k password))
-    (λ e. (e ≡ Named OutOfMemory) ⊎ (¬ (Opens k password bound) × (password_refusal k password bound ≡ Some e)))
-opening_headline text password bound (Ok v) opened k read kdf =
-    let same : opened.sealed ≡ k = one_key_text text k opened.sealed read opened.read in
-    (rw same at opened.opens, opened.key ∙ ap (λ (l : SecretKeyRecord). xored_key l password) same)
-opening_headline text password bound (Err e) (inl memory) k read kdf = inl memory
-opening_headline text password bound (Err e) (inr refused) k read kdf =
-    inr (refused.closed k read, refused_key text password bound e k refused.first read kdf)
+opens_text : (text password : List ℕ) (bound : Option ℕ) (v : SecretKeyRecord) → IsOpened text password bound v → open_key text password bound ≡ Ok v
+opens_text text password bound v h =
+    let read : read_secret_key text ≡ Ok h.sealed = ((read_as text).value h.sealed).1 h.read in
+    open_text text password bound h.sealed (sealed_text text h.sealed _ read (sealed_taken h.sealed h.opens.kdf))
+    ∙ opening_none h.sealed password bound h.opens ∙ ap (λ x. Ok x) (sym h.key)
 
--- the same of an opening as a whole
-pub headline_of : {R W : Type 0} (p : PromptCall R W) (given : Option (List ℕ)) (text : List ℕ) (bound : Option ℕ) (r : Result SecretKeyRecord Fault)
-    → IsOpening p given text bound r → OpeningHeadline given text bound r
-headline_of p None text bound r h = tt
-headline_of p (Some password) text bound r (same, h) = opening_headline text password bound r h
+pub opened_as : (text password : List ℕ) (bound : Option ℕ) → IsReading (IsOpened text password bound) (open_key text password bound)
+opened_as text password bound =
+    is_reading (IsOpened text password bound) (open_key text password bound) (λ v. (text_opens text password bound v, opens_text text password bound v))
+
+-- a text opens to the key that a sealed one opens to, within each bound that its parallelization is within
+pub opens_to : (text password : List ℕ) (k : SecretKeyRecord) (v : Numbers) → read_secret_key text ≡ Ok k → k.kdf ≡ scrypt_kdf → key_limits k ≡ Ok v
+    → (xored_key k password).checksum ≡ checksum_of (xored_key k password) → OpensTo text password v.p (xored_key k password)
+opens_to text password k v read kdf allowed restored = λ bound.
+    open_text text password bound k (sealed_text text k _ read (sealed_taken k kdf)) ∙ rw (allowed, checksum_none (xored_key k password) restored) (of (is_within bound v.p))
+  where
+    of : (b : Bool) → unless (if b then None else Some (Named WorkTooHigh)) (Ok (xored_key k password)) ≡ require b WorkTooHigh (Ok (xored_key k password))
+    of true = refl
+    of false = refl
+
+-- a key is taken as one that was never sealed exactly where it is one
+pub unencrypted_taken : (k : SecretKeyRecord) → IsUnencrypted k → unencrypted_key k ≡ Ok k
+unencrypted_taken k h =
+    let kdf : bytes_eq k.kdf no_kdf ≡ true = (bytes_eq-Decides k.kdf no_kdf).1 h.kdf in
+    let checksum : bytes_eq k.checksum (checksum_of k) ≡ true = (bytes_eq-Decides k.checksum (checksum_of k)).1 h.checksum in
+    rw (kdf, checksum) refl
+
+unencrypted_held : (k l : SecretKeyRecord) → unencrypted_key k ≡ Ok l → (k ≡ l) × IsUnencrypted k
+unencrypted_held k l h =
+    let kdf = passed (bytes_eq k.kdf no_kdf) KeyMightBeEncrypted (require (bytes_eq k.checksum (checksum_of k)) CorruptedKey (Ok k)) l h in
+    let checksum = passed (bytes_eq k.checksum (checksum_of k)) CorruptedKey (Ok k) l kdf.1 in
+    (same_value k l checksum.1, record { kdf = (bytes_eq-Decides k.kdf no_kdf).0 kdf.0; checksum = (bytes_eq-Decides k.checksum (checksum_of k)).0 checksum.0 })
+
+pub unencrypted_text : (text : List ℕ) (k : SecretKeyRecord) (r : Result SecretKeyRecord Fault) → read_secret_key text ≡ Ok k → unencrypted_key k ≡ r → read_unencrypted_key text ≡ r
+unfolding read_unencrypted_key
+unencrypted_text text k r read of_key = ap (λ x. and_then x unencrypted_key) read ∙ of_key
+
+pub unread_unencrypted : (text : List ℕ) (e : Fault) → read_secret_key text ≡ Err e → read_unencrypted_key text ≡ Err e
+unfolding read_unencrypted_key
+unread_unencrypted text e read = ap (λ x. and_then x unencrypted_key) read
+
+text_is_unencrypted : (text : List ℕ) (v : SecretKeyRecord) → read_unencrypted_key text ≡ Ok v → IsUnencryptedText text v
+unfolding read_unencrypted_key
+text_is_unencrypted text v h =
+    let (k, read, taken) = read_before (read_secret_key text) unencrypted_key v h in
+    let (same, unencrypted) = unencrypted_held k v taken in
+    record { read = ((read_as text).value v).0 (read ∙ ap (λ x. Ok x) same); unencrypted = subst IsUnencrypted same unencrypted }
+
+pub unencrypted_as : (text : List ℕ) → IsReading (IsUnencryptedText text) (read_unencrypted_key text)
+unencrypted_as text = is_reading (IsUnencryptedText text) (read_unencrypted_key text) (λ v. (
+  text_is_unencrypted text v,
+  λ h. unencrypted_text text v _ (((read_as text).value v).1 h.read) (unencrypted_taken v h.unencrypted),
+))
+
+-- how taking a key ends that was never sealed
+module _ (text : List ℕ) (k : SecretKeyRecord) where
+  pub unencrypted_refused : (e : Fault) → read_secret_key text ≡ Ok k → Err e ≡ without_value (unencrypted_key k) → IsReadOrNoMemory (Err e) (read_unencrypted_key text)
+  unencrypted_refused e read h = inl (sym (unencrypted_text text k _ read (same_end _ e h)))
+
+  pub unencrypted_value : read_secret_key text ≡ Ok k → Ok tt ≡ without_value (unencrypted_key k) → IsReadOrNoMemory (Ok k) (read_unencrypted_key text)
+  unencrypted_value read h = inl (sym (unencrypted_text text k _ read (unencrypted_passed k h)))
+
+pub unread_outcome : (text : List ℕ) (e : Fault) → IsReadOrNoMemory (Err e) (read_secret_key text) → IsReadOrNoMemory (Err e) (read_unencrypted_key text)
+unread_outcome text e (inl read) = inl (sym (unread_unencrypted text e (sym read)))
+unread_outcome text e (inr memory) = inr memory

@@ -18,12 +18,14 @@ use Rattle.minisign.specs.declared.signed_data.SignedData.{SignedData}
 use Rattle.minisign.specs.declared.signed_data.SignedData.TheVariants.{Digest, Kept, Unkept}
 use Rattle.minisign.specs.Reading.{IsAhead, IsReadFault, ReadingFails, ReadsWhole}
 use Rattle.minisign.specs.Records.{PublicKeyRecord, SignatureBoxRecord, is_prehashed, prehashed_algorithm}
-use Rattle.minisign.specs.Acceptance.{Refuses, Verifier, Vouches, signed_bytes}
-use Rattle.minisign.specs.SignedData.{AreSigned, HoldsSigned, copying_held, held_bytes}
-use Rattle.minisign.specs.Stages.{Devices, StagesEnd, Flush, Judge, Put, Stage, StageEnds, copying, copying_again, is_reread, reading, reporting}
+use Rattle.minisign.specs.Acceptance.{Verifier, Vouches, judge, signed_bytes}
+use Rattle.minisign.specs.SignedData.{AreSigned, HoldsSigned, held_copy_stages, held_bytes}
+use Rattle.minisign.specs.Stages.{Devices, StagesEnd, Flush, Judge, Put, Stage, StageEnds, copying_stages, second_copy_stages, is_reread, reading_stages, reporting_stages}
 use Rattle.minisign.specs.Verifying.{ReadsTwice, VerifyingFails, VerifyingSucceeds, wanted_status}
-use Rattle.minisign.specs.VerifyingLaws.{UseNoOutput, UseNoStatus, beside_output, beside_status}
+use Rattle.minisign.proofs.VerifyingLaws.{UseNoOutput, UseNoStatus, beside_output, beside_status}
+use Rattle.minisign.specs.Texts.{IsReadOrNoMemory}
 use Rattle.minisign.proofs.Copies.{all_kept}
+use Rattle.minisign.proofs.Verdicts.{vouches_judged}
 
 -- what is ahead after going back to where this was ahead
 what_was_marked : (first behind returned : Option (List ℕ)) (second : List ℕ) → behind ≡ first → IfSome behind (λ xs. returned ≡ Some xs) → IsAhead returned second
@@ -108,15 +110,15 @@ module _ {R W O : Type 0} (reader : RereaderCall R) (status : SinkCall W) (out :
   stopped_in_either first second e h = stopped_in OneEnds first second begun ended e h
 
 -- reading uses neither sink, and copying not the status
-reading_unsaid : (again : Bool) (message : List ℕ) → UseNoStatus (reading again message)
+reading_unsaid : (again : Bool) (message : List ℕ) → UseNoStatus (reading_stages again message)
 reading_unsaid true message = (tt, (tt, tt))
 reading_unsaid false message = (tt, tt)
 
-reading_uncopied : (again : Bool) (message : List ℕ) → UseNoOutput (reading again message)
+reading_uncopied : (again : Bool) (message : List ℕ) → UseNoOutput (reading_stages again message)
 reading_uncopied true message = (tt, (tt, tt))
 reading_uncopied false message = (tt, tt)
 
-copying_unsaid : (output : Bool) (signed : SignedData) (second : List ℕ) → UseNoStatus (copying_held output signed second)
+copying_unsaid : (output : Bool) (signed : SignedData) (second : List ℕ) → UseNoStatus (held_copy_stages output signed second)
 copying_unsaid false signed second = tt
 copying_unsaid true (Digest digest) second = (tt, (tt, (tt, (tt, tt))))
 copying_unsaid true (Kept bytes) second = (tt, (tt, tt))
@@ -126,53 +128,53 @@ module _ {R : Type 0} (source : SourceOf R) (steady : R → Type 0) (old mid new
   -- the place could not be marked
   mark_stops_here : (again : Bool) (e : Fault)
       → (again ≡ true) × (e ≡ Named GoingBackFailed) × Marks (rereader_call source steady old new) (Err tt)
-      → (message : List ℕ) × StagesEnd (rereader_call source steady old new) unused unused (reading again message) (Err e)
+      → (message : List ℕ) × StagesEnd (rereader_call source steady old new) unused unused (reading_stages again message) (Err e)
   mark_stops_here true e (wanted, is, fails) = ([], inl ((is, fails), refl, refl))
   mark_stops_here false e (wanted, is, fails) = absurd (true≢false (sym wanted))
 
   -- the data could not be read
   read_stops_here : (again : Bool) → (again ≡ false → mid ≡ old) → (again ≡ true → Marks (rereader_call source steady old mid) (Ok tt))
       → (e : Fault) → IsReadFault source mid new e → HasGiven (source.ahead mid) (source.ahead new) → source.is_marked new ≡ source.is_marked mid
-      → (message : List ℕ) × StagesEnd (rereader_call source steady old new) unused unused (reading again message) (Err e)
+      → (message : List ℕ) × StagesEnd (rereader_call source steady old new) unused unused (reading_stages again message) (Err e)
   read_stops_here true unmarked marked e fails given same =
       ([], inr (record { reader = mid; status = tt; out = tt }, (marked refl, refl, refl), inl (((fails, given), same), refl, refl)))
   read_stops_here false unmarked marked e fails given same = (
     [],
-    subst (λ r. StagesEnd (rereader_call source steady r new) unused unused (reading false []) (Err e)) (unmarked refl)
+    subst (λ r. StagesEnd (rereader_call source steady r new) unused unused (reading_stages false []) (Err e)) (unmarked refl)
         (inl (((fails, given), same), refl, refl)),
   )
 
   -- the data was read
   read_runs_here : (again : Bool) → (again ≡ false → mid ≡ old) → (again ≡ true → Marks (rereader_call source steady old mid) (Ok tt))
       → (message : List ℕ) → ReadsWhole source mid new message → source.is_marked new ≡ source.is_marked mid
-      → StagesEnd (rereader_call source steady old new) unused unused (reading again message) (Ok tt)
+      → StagesEnd (rereader_call source steady old new) unused unused (reading_stages again message) (Ok tt)
   read_runs_here true unmarked marked message whole same = (
     record { reader = mid; status = tt; out = tt },
     (marked refl, refl, refl),
     (record { reader = new; status = tt; out = tt }, ((whole, same), refl, refl), refl),
   )
   read_runs_here false unmarked marked message whole same =
-      subst (λ r. StagesEnd (rereader_call source steady r new) unused unused (reading false message) (Ok tt)) (unmarked refl)
+      subst (λ r. StagesEnd (rereader_call source steady r new) unused unused (reading_stages false message) (Ok tt)) (unmarked refl)
       (record { reader = new; status = tt; out = tt }, ((whole, same), refl, refl), refl)
 
   module _ (again wanted : Bool) (is : again ≡ wanted) where
     pub mark_stops : (e : Fault)
         → (again ≡ true) × (e ≡ Named GoingBackFailed) × Marks (rereader_call source steady old new) (Err tt)
-        → (message : List ℕ) × StagesEnd (rereader_call source steady old new) unused unused (reading wanted message) (Err e)
+        → (message : List ℕ) × StagesEnd (rereader_call source steady old new) unused unused (reading_stages wanted message) (Err e)
     mark_stops e why =
-        subst (λ a. (message : List ℕ) × StagesEnd (rereader_call source steady old new) unused unused (reading a message) (Err e)) is (mark_stops_here again e why)
+        subst (λ a. (message : List ℕ) × StagesEnd (rereader_call source steady old new) unused unused (reading_stages a message) (Err e)) is (mark_stops_here again e why)
 
     module _ (unmarked : again ≡ false → mid ≡ old) (marked : again ≡ true → Marks (rereader_call source steady old mid) (Ok tt)) where
       pub read_stops : (e : Fault) → IsReadFault source mid new e → HasGiven (source.ahead mid) (source.ahead new) → source.is_marked new ≡ source.is_marked mid
-          → (message : List ℕ) × StagesEnd (rereader_call source steady old new) unused unused (reading wanted message) (Err e)
+          → (message : List ℕ) × StagesEnd (rereader_call source steady old new) unused unused (reading_stages wanted message) (Err e)
       read_stops e fails given same =
-          subst (λ a. (message : List ℕ) × StagesEnd (rereader_call source steady old new) unused unused (reading a message) (Err e)) is
+          subst (λ a. (message : List ℕ) × StagesEnd (rereader_call source steady old new) unused unused (reading_stages a message) (Err e)) is
           (read_stops_here again unmarked marked e fails given same)
 
       pub read_runs : (message : List ℕ) → ReadsWhole source mid new message → source.is_marked new ≡ source.is_marked mid
-          → StagesEnd (rereader_call source steady old new) unused unused (reading wanted message) (Ok tt)
+          → StagesEnd (rereader_call source steady old new) unused unused (reading_stages wanted message) (Ok tt)
       read_runs message whole same =
-          subst (λ a. StagesEnd (rereader_call source steady old new) unused unused (reading a message) (Ok tt)) is
+          subst (λ a. StagesEnd (rereader_call source steady old new) unused unused (reading_stages a message) (Ok tt)) is
           (read_runs_here again unmarked marked message whole same)
 
 -- the data was read to its end without a fault, and gave this message; the mark stays, or was set before
@@ -185,7 +187,7 @@ pub record FirstPass {R : Type 0} (again : Bool) (reader : RereaderCall R) (mess
 
 -- what follows where the data was read
 module _ {R W O : Type 0} (reader : RereaderCall R) (status : SinkCall W) (out : SinkCall O) where
-  pub first_pass : (again : Bool) (message : List ℕ) → StagesEnd reader status out (reading again message) (Ok tt)
+  pub first_pass : (again : Bool) (message : List ℕ) → StagesEnd reader status out (reading_stages again message) (Ok tt)
       → FirstPass again reader message × (status.new ≡ status.old) × (out.new ≡ out.old)
   first_pass true message (d, (marked, s, o), (d2, ((whole, same), s2, o2), is)) = (
     subst (λ r. FirstPass true (record reader { new = r }) message) (sym (ap (λ d. d.reader) is)) (record {
@@ -213,33 +215,33 @@ module _ {R W O : Type 0} (reader : RereaderCall R) (status : SinkCall W) (out :
   -- what was to be said was not
   say_stops : (quiet : Bool) (x : SignatureBoxRecord) (e : Fault) → reader.new ≡ reader.old → out.new ≡ out.old
       → (quiet ≡ false) × (((e ≡ Named OutOfMemory) × (status.new ≡ status.old)) ⊎ IsWritingFault status e)
-      → TakesFront status (wanted_status quiet x) → IsUnflushed status → StagesEnd reader status out (reporting quiet x) (Err e)
+      → TakesFront status (wanted_status quiet x) → IsUnflushed status → StagesEnd reader status out (reporting_stages quiet x) (Err e)
   say_stops true x e r o (wanted, why) front unflushed = absurd (true≢false wanted)
   say_stops false x e r o (wanted, why) front unflushed = inl (⊎_elim inl (λ failed. inr ((failed, front), unflushed)) why, r, o)
 
   -- it was
   say_runs : (quiet : Bool) (x : SignatureBoxRecord) → reader.new ≡ reader.old → out.new ≡ out.old
       → (quiet ≡ true → status.new ≡ status.old) → Takes status (wanted_status quiet x) → SinkHasNoNewFault status → IsUnflushed status
-      → StagesEnd reader status out (reporting quiet x) (Ok tt)
+      → StagesEnd reader status out (reporting_stages quiet x) (Ok tt)
   say_runs true x r o unsaid said no_new_fault unflushed = λ i. record { reader = r i; status = unsaid refl i; out = o i }
   say_runs false x r o unsaid said no_new_fault unflushed =
       (record { reader = reader.new; status = status.new; out = out.new }, (inr ((said, no_new_fault), unflushed), r, o), refl)
 
 -- what is copied of data that was kept
 pub kept_steps : (output : Bool) (signed : SignedData) (bytes : Vec ℕ _) (second : List ℕ) → output ≡ true → signed ≡ Kept bytes
-    → Put bytes.items ∷ Flush ∷ [] ≡ copying_held output signed second
+    → Put bytes.items ∷ Flush ∷ [] ≡ held_copy_stages output signed second
 kept_steps output signed bytes second wanted is =
-    ap (λ s. copying_held true s second) (sym is) ∙ ap (λ o. copying_held o signed second) (sym wanted)
+    ap (λ s. held_copy_stages true s second) (sym is) ∙ ap (λ o. held_copy_stages o signed second) (sym wanted)
 
 -- what is copied of what is held is what is to be copied
 copying_is : (accepts : Verifier) (pk : PublicKeyRecord) (x : SignatureBoxRecord) (legacy : Bool) (message second : List ℕ) (output : Bool) (signed : SignedData)
     → HoldsSigned signed x legacy message → Vouches accepts pk x message legacy
-    → copying_held output signed second ≡ copying output (is_prehashed x.signature) message second
+    → held_copy_stages output signed second ≡ copying_stages output (is_prehashed x.signature) message second
 copying_is accepts pk x legacy message second false signed holds vouches = refl
 copying_is accepts pk x legacy message second true (Digest digest) holds vouches =
-    ap (λ d. copying_again d second) holds.1 ∙ ap (λ hashed. copying true hashed message second) (sym holds.0)
+    ap (λ d. second_copy_stages d second) holds.1 ∙ ap (λ hashed. copying_stages true hashed message second) (sym holds.0)
 copying_is accepts pk x legacy message second true (Kept bytes) holds vouches =
-    ap (λ (kept : List ℕ). Put kept ∷ Flush ∷ []) holds.1 ∙ ap (λ hashed. copying true hashed message second) (sym holds.0)
+    ap (λ (kept : List ℕ). Put kept ∷ Flush ∷ []) holds.1 ∙ ap (λ hashed. copying_stages true hashed message second) (sym holds.0)
 copying_is accepts pk x legacy message second true Unkept holds vouches = absurd (unallowed accepts pk x message legacy holds.0 holds.1 vouches)
 
 module _ {R W O : Type 0} (accepts : Verifier) (pk : PublicKeyRecord) (x : SignatureBoxRecord) (quiet output legacy : Bool)
@@ -252,38 +254,38 @@ module _ {R W O : Type 0} (accepts : Verifier) (pk : PublicKeyRecord) (x : Signa
       (rereader_call source steady old r) (sink_call status_sink said_before w) (sink_call out_sink out_before o) e
 
   -- the reading stopped
-  pub unread : (message : List ℕ) × StagesEnd (rereader_call source steady old new) unused unused (reading (is_reread output x) message) (Err e)
+  pub unread : (message : List ℕ) × StagesEnd (rereader_call source steady old new) unused unused (reading_stages (is_reread output x) message) (Err e)
       → Fails new said_before out_before
   unread (message, h) = (
     message,
     [],
     stopped_first (rereader_call source steady old new) (sink_call status_sink said_before said_before) (sink_call out_sink out_before out_before)
-        (reading (is_reread output x) message)
-        (Judge accepts pk x legacy message ∷ (reporting quiet x ++ copying output (is_prehashed x.signature) message [])) e
+        (reading_stages (is_reread output x) message)
+        (Judge accepts pk x legacy message ∷ (reporting_stages quiet x ++ copying_stages output (is_prehashed x.signature) message [])) e
         (beside_output out_sink out_before (rereader_call source steady old new) (sink_call status_sink said_before said_before) unused
-        (reading (is_reread output x) message) (Err e) (reading_uncopied (is_reread output x) message)
+        (reading_stages (is_reread output x) message) (Err e) (reading_uncopied (is_reread output x) message)
         (beside_status status_sink said_before (rereader_call source steady old new) unused unused
-        (reading (is_reread output x) message) (Err e) (reading_unsaid (is_reread output x) message) h)),
+        (reading_stages (is_reread output x) message) (Err e) (reading_unsaid (is_reread output x) message) h)),
   )
 
-  module _ (message : List ℕ) (read : StagesEnd (rereader_call source steady old mid) unused unused (reading (is_reread output x) message) (Ok tt)) where
+  module _ (message : List ℕ) (read : StagesEnd (rereader_call source steady old mid) unused unused (reading_stages (is_reread output x) message) (Ok tt)) where
     -- reading, beside the sinks
     was_read : StagesEnd (rereader_call source steady old mid) (sink_call status_sink said_before said_before)
-        (sink_call out_sink out_before out_before) (reading (is_reread output x) message) (Ok tt)
+        (sink_call out_sink out_before out_before) (reading_stages (is_reread output x) message) (Ok tt)
     was_read =
         beside_output out_sink out_before (rereader_call source steady old mid) (sink_call status_sink said_before said_before) unused
-        (reading (is_reread output x) message) (Ok tt) (reading_uncopied (is_reread output x) message)
+        (reading_stages (is_reread output x) message) (Ok tt) (reading_uncopied (is_reread output x) message)
         (beside_status status_sink said_before (rereader_call source steady old mid) unused unused
-        (reading (is_reread output x) message) (Ok tt) (reading_unsaid (is_reread output x) message) read)
+        (reading_stages (is_reread output x) message) (Ok tt) (reading_unsaid (is_reread output x) message) read)
 
     -- the box is refused, or memory ran out
-    pub unjudged : ((e ≡ Named OutOfMemory) ⊎ Refuses accepts pk x message legacy e) → Fails mid said_before out_before
+    pub unjudged : IsReadOrNoMemory {V = ⊤} (Err e) (judge accepts pk x message legacy) → Fails mid said_before out_before
     unjudged why = (
       message,
       [],
       second_ended (rereader_call source steady old mid) (sink_call status_sink said_before said_before) (sink_call out_sink out_before out_before)
-          (record { reader = mid; status = said_before; out = out_before }) (reading (is_reread output x) message)
-          (Judge accepts pk x legacy message ∷ (reporting quiet x ++ copying output (is_prehashed x.signature) message [])) (Err e) was_read
+          (record { reader = mid; status = said_before; out = out_before }) (reading_stages (is_reread output x) message)
+          (Judge accepts pk x legacy message ∷ (reporting_stages quiet x ++ copying_stages output (is_prehashed x.signature) message [])) (Err e) was_read
           (inl (why, refl, refl, refl)),
     )
 
@@ -297,13 +299,13 @@ module _ {R W O : Type 0} (accepts : Verifier) (pk : PublicKeyRecord) (x : Signa
             message,
             [],
             second_ended (rereader_call source steady old mid) (sink_call status_sink said_before said) (sink_call out_sink out_before out_before)
-                d (reading (is_reread output x) message)
-                (Judge accepts pk x legacy message ∷ (reporting quiet x ++ copying output (is_prehashed x.signature) message [])) (Err e) was_read
+                d (reading_stages (is_reread output x) message)
+                (Judge accepts pk x legacy message ∷ (reporting_stages quiet x ++ copying_stages output (is_prehashed x.signature) message [])) (Err e) was_read
                 (inr (
                   d,
-                  (vouches, refl, refl, refl),
+                  (inl (sym (vouches_judged accepts pk x message legacy vouches)), refl, refl, refl),
                   stopped_first (rereader_call source steady mid mid) (sink_call status_sink said_before said)
-                      (sink_call out_sink out_before out_before) (reporting quiet x) (copying output (is_prehashed x.signature) message []) e
+                      (sink_call out_sink out_before out_before) (reporting_stages quiet x) (copying_stages output (is_prehashed x.signature) message []) e
                       (say_stops (rereader_call source steady mid mid) (sink_call status_sink said_before said)
                       (sink_call out_sink out_before out_before) quiet x e refl refl why front unflushed),
                 )),
@@ -313,7 +315,7 @@ module _ {R W O : Type 0} (accepts : Verifier) (pk : PublicKeyRecord) (x : Signa
       pub uncopied : (signed : SignedData) → HoldsSigned signed x legacy message → (quiet ≡ true → said ≡ said_before)
           → Takes (sink_call status_sink said_before said) (wanted_status quiet x) → SinkHasNoNewFault (sink_call status_sink said_before said)
           → IsUnflushed (sink_call status_sink said_before said)
-          → (second : List ℕ) × StagesEnd (rereader_call source steady mid new) unused (sink_call out_sink out_before out) (copying_held output signed second) (Err e)
+          → (second : List ℕ) × StagesEnd (rereader_call source steady mid new) unused (sink_call out_sink out_before out) (held_copy_stages output signed second) (Err e)
           → Fails new said out
       uncopied signed holds silent says no_new_fault unflushed (second, h) =
           let d : Devices R W O = record { reader = mid; status = said_before; out = out_before } in
@@ -321,19 +323,19 @@ module _ {R W O : Type 0} (accepts : Verifier) (pk : PublicKeyRecord) (x : Signa
             message,
             second,
             second_ended (rereader_call source steady old new) (sink_call status_sink said_before said) (sink_call out_sink out_before out)
-                d (reading (is_reread output x) message)
-                (Judge accepts pk x legacy message ∷ (reporting quiet x ++ copying output (is_prehashed x.signature) message second)) (Err e) was_read
+                d (reading_stages (is_reread output x) message)
+                (Judge accepts pk x legacy message ∷ (reporting_stages quiet x ++ copying_stages output (is_prehashed x.signature) message second)) (Err e) was_read
                 (inr (
                   d,
-                  (vouches, refl, refl, refl),
+                  (inl (sym (vouches_judged accepts pk x message legacy vouches)), refl, refl, refl),
                   second_ended (rereader_call source steady mid new) (sink_call status_sink said_before said)
-                      (sink_call out_sink out_before out) told (reporting quiet x) (copying output (is_prehashed x.signature) message second) (Err e)
+                      (sink_call out_sink out_before out) told (reporting_stages quiet x) (copying_stages output (is_prehashed x.signature) message second) (Err e)
                       (say_runs (rereader_call source steady mid mid) (sink_call status_sink said_before said)
                       (sink_call out_sink out_before out_before) quiet x refl refl silent says no_new_fault unflushed)
                       (subst (λ steps. StagesEnd (rereader_call source steady mid new) (sink_call status_sink said said) (sink_call out_sink out_before out) steps (Err e))
                       (copying_is accepts pk x legacy message second output signed holds vouches)
                       (beside_status status_sink said (rereader_call source steady mid new) unused (sink_call out_sink out_before out)
-                      (copying_held output signed second) (Err e) (copying_unsaid output signed second) h)),
+                      (held_copy_stages output signed second) (Err e) (copying_unsaid output signed second) h)),
                 )),
           )
 
@@ -350,7 +352,7 @@ record CopiedAgain {R O : Type 0} (reader : RereaderCall R) (out : SinkCall O) (
   pub unchanged : blake2b_digest 64 second ≡ digest
 
 copied_again : {R W O : Type 0} (reader : RereaderCall R) (status : SinkCall W) (out : SinkCall O) (digest second : List ℕ)
-    → StagesEnd reader status out (copying_again digest second) (Ok tt) → CopiedAgain reader out digest second
+    → StagesEnd reader status out (second_copy_stages digest second) (Ok tt) → CopiedAgain reader out digest second
 copied_again reader status out digest second (d1, (at, s1, o1), (d2, (copied, s2), (d3, (equal, r3, s3, o3), (d4, (flushed, r4, s4), is)))) =
     let begun : Appends (out.sink.taken out.old) (out.sink.taken d2.out) second =
     subst (λ o. Appends (out.sink.taken o) (out.sink.taken d2.out) second) o1 copied.all in
@@ -383,21 +385,21 @@ copied_kept reader status out bytes (d1, (((all, no_new_fault), unflushed), r1, 
 module _ {R W O : Type 0} (accepts : Verifier) (pk : PublicKeyRecord) (x : SignatureBoxRecord) (quiet legacy : Bool)
     (source : SourceOf R) (steady : R → Type 0) (old mid new : R) (status : SinkCall W) (out : SinkCall O) (message : List ℕ) where
   -- two readings, one after the other
-  twice : (first second : List ℕ) → StagesEnd (rereader_call source steady old mid) unused unused (reading true first) (Ok tt)
-      → StagesEnd (rereader_call source steady mid new) unused out (copying_again (blake2b_digest 64 first) second) (Ok tt)
+  twice : (first second : List ℕ) → StagesEnd (rereader_call source steady old mid) unused unused (reading_stages true first) (Ok tt)
+      → StagesEnd (rereader_call source steady mid new) unused out (second_copy_stages (blake2b_digest 64 first) second) (Ok tt)
       → ReadsTwice (rereader_call source steady old new) out first second
   twice first second read again =
       second_ended (rereader_call source steady old new) unused out (record { reader = mid; status = tt; out = out.old })
-      (reading true first) (copying_again (blake2b_digest 64 first) second) (Ok tt)
-      (beside_output out.sink out.old (rereader_call source steady old mid) unused unused (reading true first) (Ok tt) (reading_uncopied true first) read)
+      (reading_stages true first) (second_copy_stages (blake2b_digest 64 first) second) (Ok tt)
+      (beside_output out.sink out.old (rereader_call source steady old mid) unused unused (reading_stages true first) (Ok tt) (reading_uncopied true first) read)
       again
 
   -- what was to be copied is copied
   copied : (output : Bool) (signed : SignedData) → HoldsSigned signed x legacy message
-      → StagesEnd (rereader_call source steady old mid) unused unused (reading (is_reread output x) message) (Ok tt)
+      → StagesEnd (rereader_call source steady old mid) unused unused (reading_stages (is_reread output x) message) (Ok tt)
       → FirstPass (is_reread output x) (rereader_call source steady old mid) message
       → Vouches accepts pk x message legacy → Takes status (wanted_status quiet x) → SinkHasNoNewFault status → IsUnflushed status
-      → (second : List ℕ) → StagesEnd (rereader_call source steady mid new) unused out (copying_held output signed second) (Ok tt)
+      → (second : List ℕ) → StagesEnd (rereader_call source steady mid new) unused out (held_copy_stages output signed second) (Ok tt)
       → VerifyingSucceeds accepts pk x (record { quiet = quiet; output = output; legacy = legacy }) (rereader_call source steady old new) status out
   copied false signed holds read pass vouches said status_no_new_fault status_unflushed second same = record {
     message = message;
@@ -431,8 +433,8 @@ module _ {R W O : Type 0} (accepts : Verifier) (pk : PublicKeyRecord) (x : Signa
           all = done.all;
           flushed = done.flushed;
           read_twice = λ hashed. twice message second
-              (subst (λ again. StagesEnd (rereader_call source steady old mid) unused unused (reading again message) (Ok tt)) hashed read)
-              (subst (λ (d : List ℕ). StagesEnd (rereader_call source steady mid new) unused out (copying_again d second) (Ok tt)) holds.1 run);
+              (subst (λ again. StagesEnd (rereader_call source steady old mid) unused unused (reading_stages again message) (Ok tt)) hashed read)
+              (subst (λ (d : List ℕ). StagesEnd (rereader_call source steady mid new) unused out (second_copy_stages d second) (Ok tt)) holds.1 run);
           vouched = vouches_alike accepts pk x message second legacy equal vouches;
           signed_same = equal;
           legacy_same = λ kept. absurd (true≢false (sym holds.0 ∙ kept));
@@ -472,11 +474,11 @@ module _ {R W O : Type 0} (accepts : Verifier) (pk : PublicKeyRecord) (x : Signa
   copied true Unkept holds read pass vouches said status_no_new_fault status_unflushed second run = absurd (unallowed accepts pk x message legacy holds.0 holds.1 vouches)
 
   module _ (output : Bool) (signed : SignedData) (holds : HoldsSigned signed x legacy message)
-      (read : StagesEnd (rereader_call source steady old mid) unused unused (reading (is_reread output x) message) (Ok tt))
+      (read : StagesEnd (rereader_call source steady old mid) unused unused (reading_stages (is_reread output x) message) (Ok tt))
       (pass : FirstPass (is_reread output x) (rereader_call source steady old mid) message)
       (vouches : Vouches accepts pk x message legacy) (said : Takes status (wanted_status quiet x)) where
     pub copying_succeeds : {T : Type 0} (r : Result T Fault) → SinkHasNoNewFault status → IsUnflushed status
-        → OnOk r ((second : List ℕ) × StagesEnd (rereader_call source steady mid new) unused out (copying_held output signed second) (Ok tt))
+        → OnOk r ((second : List ℕ) × StagesEnd (rereader_call source steady mid new) unused out (held_copy_stages output signed second) (Ok tt))
         → OnOk r (VerifyingSucceeds accepts pk x (record { quiet = quiet; output = output; legacy = legacy }) (rereader_call source steady old new) status out)
     copying_succeeds (Ok v) status_no_new_fault status_unflushed (second, run) = copied output signed holds read pass vouches said status_no_new_fault status_unflushed second run
     copying_succeeds (Err e) status_no_new_fault status_unflushed run = tt
@@ -494,7 +496,7 @@ IsReason accepts pk x quiet output legacy reader status out e =
     (e ≡ Named OutOfMemory)
     ⊎ ((output ≡ true) × SourceFails reader)
     ⊎ ReadingFails reader.source reader.old reader.new e
-    ⊎ ((message : List ℕ) × IsAhead (reader.source.ahead reader.old) message × Refuses accepts pk x message legacy e)
+    ⊎ ((message : List ℕ) × IsAhead (reader.source.ahead reader.old) message × (judge accepts pk x message legacy ≡ Err e))
     ⊎ ((quiet ≡ false) × SinkFails status)
     ⊎ ((output ≡ true) × SinkFails out)
     ⊎ ((output ≡ true) × ((message : List ℕ) × IsAhead (reader.source.ahead reader.old) message × IsOther reader message))
@@ -516,7 +518,7 @@ module _ {R W O : Type 0} (accepts : Verifier) (pk : PublicKeyRecord) (x : Signa
   mark_fault : output ≡ true → (r : R) → reader.source.faults r ≡ reader.source.faults reader.old → Rose (reader.source.faults r) (reader.source.faults reader.new) → Why
   mark_fault wanted r no_new_fault rose = inr (inl (wanted, subst (λ n. Rose n (reader.source.faults reader.new)) no_new_fault rose))
 
-  why_unread : (again : Bool) (message : List ℕ) → (again ≡ true → output ≡ true) → StagesEnd reader status out (reading again message) (Err e) → Why
+  why_unread : (again : Bool) (message : List ℕ) → (again ≡ true → output ≡ true) → StagesEnd reader status out (reading_stages again message) (Err e) → Why
   why_unread true message wanted (inl ((is, fails), s, o)) = mark_fault (wanted refl) reader.old refl fails.fault
   why_unread true message wanted (inr (d, (marked, s, o), inl (((fails, given), same), s2, o2))) = read_fault d.reader marked.no_new_fault fails
   why_unread true message wanted (inr (d, done, inr (d2, done2, h))) = absurd h
@@ -524,7 +526,7 @@ module _ {R W O : Type 0} (accepts : Verifier) (pk : PublicKeyRecord) (x : Signa
   why_unread false message wanted (inr (d, done, h)) = absurd h
 
   why_unsaid : (wanted : Bool) → wanted ≡ quiet → (d : Devices R W O) → d.status ≡ status.old
-      → StagesEnd (record reader { old = d.reader }) (record status { old = d.status }) (record out { old = d.out }) (reporting wanted x) (Err e) → Why
+      → StagesEnd (record reader { old = d.reader }) (record status { old = d.status }) (record out { old = d.out }) (reporting_stages wanted x) (Err e) → Why
   why_unsaid true is d same h = absurd h
   why_unsaid false is d same (inl (inl memory, r, o)) = inl memory.0
   why_unsaid false is d same (inl (inr (((fault, rose), front), unflushed), r, o)) =
@@ -533,14 +535,14 @@ module _ {R W O : Type 0} (accepts : Verifier) (pk : PublicKeyRecord) (x : Signa
 
   -- what was said leaves the others as they were
   said_only : (wanted : Bool) (d d2 : Devices R W O)
-      → StagesEnd (record reader { old = d.reader; new = d2.reader }) (record status { old = d.status; new = d2.status }) (record out { old = d.out; new = d2.out }) (reporting wanted x) (Ok tt)
+      → StagesEnd (record reader { old = d.reader; new = d2.reader }) (record status { old = d.status; new = d2.status }) (record out { old = d.out; new = d2.out }) (reporting_stages wanted x) (Ok tt)
       → (d2.reader ≡ d.reader) × (d2.out ≡ d.out)
   said_only true d d2 is = (ap (λ d. d.reader) is, ap (λ d. d.out) is)
   said_only false d d2 (d3, (said, r, o), is) = (ap (λ d. d.reader) is ∙ r, ap (λ d. d.out) is ∙ o)
 
   why_uncopied : (copies hashed : Bool) → copies ≡ output → (message second : List ℕ) (d : Devices R W O)
       → FirstPass (copies && hashed) (record reader { new = d.reader }) message → d.out ≡ out.old
-      → StagesEnd (record reader { old = d.reader }) (record status { old = d.status }) (record out { old = d.out }) (copying copies hashed message second) (Err e) → Why
+      → StagesEnd (record reader { old = d.reader }) (record status { old = d.status }) (record out { old = d.out }) (copying_stages copies hashed message second) (Err e) → Why
   why_uncopied false hashed is message second d pass same h = absurd h
   why_uncopied true true is message second d pass same (inl ((fault, fails), s, o)) = mark_fault (sym is) d.reader pass.no_new_fault fails.fault
   why_uncopied true true is message second d pass same (inr (d2, (at, s2, o2), inl (not, s3))) =
@@ -572,10 +574,10 @@ module _ {R W O : Type 0} (accepts : Verifier) (pk : PublicKeyRecord) (x : Signa
   why_after : (hashed : Bool) (message second : List ℕ) (d : Devices R W O)
       → FirstPass (output && hashed) (record reader { new = d.reader }) message → (d.status ≡ status.old) → (d.out ≡ out.old)
       → StagesEnd (record reader { old = d.reader }) (record status { old = d.status }) (record out { old = d.out })
-      (Judge accepts pk x legacy message ∷ (reporting quiet x ++ copying output hashed message second)) (Err e)
+      (Judge accepts pk x legacy message ∷ (reporting_stages quiet x ++ copying_stages output hashed message second)) (Err e)
       → Why
-  why_after hashed message second d pass s o (inl (inl memory, r, s2, o2)) = inl memory
-  why_after hashed message second d pass s o (inl (inr refuses, r, s2, o2)) = inr (inr (inr (inl (message, pass.given, refuses))))
+  why_after hashed message second d pass s o (inl (inl refuses, r, s2, o2)) = inr (inr (inr (inl (message, pass.given, sym refuses))))
+  why_after hashed message second d pass s o (inl (inr memory, r, s2, o2)) = inl (cc memory)
   why_after hashed message second d pass s o (inr (d2, (vouches, r2, s2, o2), h)) =
       ⊎_elim (why_unsaid quiet refl d2 (s2 ∙ s))
       (λ (d3, said, h3).
@@ -583,7 +585,7 @@ module _ {R W O : Type 0} (accepts : Verifier) (pk : PublicKeyRecord) (x : Signa
       why_uncopied output hashed refl message second d3
       (subst (λ r. FirstPass (output && hashed) (record reader { new = r }) message) (sym (r3 ∙ r2)) pass) (o3 ∙ o2 ∙ o) h3)
       (stopped_in_either (record reader { old = d2.reader }) (record status { old = d2.status }) (record out { old = d2.out })
-      (reporting quiet x) (copying output hashed message second) e h)
+      (reporting_stages quiet x) (copying_stages output hashed message second) e h)
 
   both_wanted : (a b : Bool) → (a && b) ≡ true → a ≡ true
   both_wanted true b h = refl
@@ -595,5 +597,5 @@ module _ {R W O : Type 0} (accepts : Verifier) (pk : PublicKeyRecord) (x : Signa
       (λ (d, read, h2).
       let (pass, s, o) = first_pass (record reader { new = d.reader }) (record status { new = d.status }) (record out { new = d.out }) (is_reread output x) message read in
       why_after (is_prehashed x.signature) message second d pass s o h2)
-      (stopped_in_either reader status out (reading (is_reread output x) message)
-      (Judge accepts pk x legacy message ∷ (reporting quiet x ++ copying output (is_prehashed x.signature) message second)) e h)
+      (stopped_in_either reader status out (reading_stages (is_reread output x) message)
+      (Judge accepts pk x legacy message ∷ (reporting_stages quiet x ++ copying_stages output (is_prehashed x.signature) message second)) e h)

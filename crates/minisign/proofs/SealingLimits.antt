@@ -1,13 +1,12 @@
 -- The limits of a sealed key.
 use Rattle.std.proofs.Common.{◌≡◌, ℕ, ◌^◌, Bool, true, false, if◌then◌else◌, List, length, take, Option, None, Some, Result, Ok, Err, refl, sym, ap, ◌∙◌, arith}
-use Rattle.std.proofs.lemmas.Bool.{le-ltb}
 use Rattle.std.proofs.lemmas.List.{take_all}
 use Rattle.std.specs.Int.{w64, from_le_bytes}
 use Rattle.minisign_base.specs.Fault.{Fault}
 use Rattle.minisign_kdf.specs.Params.{Numbers}
 use Rattle.minisign_base.specs.Limits.{numbers, limits, sealing_limits}
 use Rattle.minisign.specs.Records.{SecretKeyRecord}
-use Rattle.minisign.specs.Sealing.{IsWithin, key_limits, key_numbers, stream_of, work_refusal, bound_refusal}
+use Rattle.minisign.specs.Sealing.{key_limits, key_numbers, stream_of}
 use Rattle.minisign_kdf.specs.Scrypt.{scrypt}
 
 -- two tests passed
@@ -48,9 +47,3 @@ pub derived_stream : (k : SecretKeyRecord) (v : Numbers) (password salt out : Li
 unfolding stream_of
 derived_stream k v password salt out len same_numbers same_salt whole derived =
     derived ∙ (λ i. let w = sym same_numbers i in scrypt password (same_salt i) (2 ^ w.n_log2) w.r w.p (whole i))
-
--- parameters that are allowed and within the bound
-pub within_bound : (k : SecretKeyRecord) (v : Numbers) (bound : Option ℕ) → key_limits k ≡ Ok v → IsWithin bound v.p → work_refusal k bound ≡ None
-within_bound k v None allowed within = ap (λ r. bound_refusal r None) allowed
-within_bound k v (Some max_p) allowed within =
-    ap (λ r. bound_refusal r (Some max_p)) allowed ∙ rw (le-ltb max_p v.p within) refl

@@ -1,16 +1,16 @@
--- What the two lines of a text say of the secret key that it reads as.
-use Rattle.std.proofs.Common.{◌≡◌, ℕ, ◌+◌, ◌-◌, ◌<◌, ◌≤◌, ◌⊎◌, true, false, List, [], ◌∷◌, ◌++◌, length, take, drop, nat_le, Result, Ok, Err, MatchResult, IfOk, refl, sym, ap, ◌∙◌, inr, arith}
-use Rattle.std.specs.declared.option.Option.TheVariants.{None}
-use Rattle.std.proofs.lemmas.Bool.{lt-leb, le-leb, leb-true}
-use Rattle.std.proofs.lemmas.List.{length-append, length-take-le, length-drop, take-append-drop}
+-- Texts of secret keys: the function that reads them and the relation agree.
+use Rattle.std.proofs.Common.{◌≡◌, ℕ, ◌+◌, ◌≤◌, true, false, List, [], ◌∷◌, ◌++◌, length, take, drop, refl, sym, ap, subst, ◌∙◌, arith}
+use Rattle.std.specs.declared.result.Result.TheVariants.{Ok, Err}
+use Rattle.std.proofs.Math.Dec.{leb}
+use Rattle.std.proofs.lemmas.Bool.{le-leb, leb-true}
+use Rattle.std.proofs.lemmas.List.{drop-drop, length-append, length-take-le, length-drop, take-append-drop}
 use Rattle.std.specs.Str.Lines.{lines}
-use Rattle.minisign_base.specs.Fault.{Fault, Named}
-use Rattle.minisign_base.specs.declared.faults.NamedFault.TheVariants.{OutOfMemory, SecretKeyNotBase64, RecordTooShort}
+use Rattle.minisign_base.specs.declared.faults.NamedFault.TheVariants.{SecretKeyNotBase64, RecordTooShort}
 use Rattle.minisign.specs.Records.{SecretKeyRecord, ReadsSecretKey}
-use Rattle.minisign.specs.SecretKeyText.{SecretKeyText, secret_key_refusal}
-use Rattle.minisign.specs.Texts.{IsBase64Of, IsDecided, IsRefused, base64_bytes, has_line, is_base64, line_at}
-use Rattle.minisign.proofs.Base64Texts.{bytes_read, is_read, one_decoding, reads}
-use Rattle.minisign.proofs.ReadTexts.{tested}
+use Rattle.minisign.specs.SecretKeyText.{SecretKeyText, read_secret_key, read_secret_key_bytes, secret_key_in_line, secret_key_in_lines, secret_key_of_bytes}
+use Rattle.minisign.specs.Texts.{IsBase64Of, IsReading, base64_bytes, is_base64}
+use Rattle.minisign.proofs.Base64Texts.{bytes_read, is_read, reads}
+use Rattle.minisign.proofs.ReadTexts.{is_reading, passed, same_value}
 use Rattle.minisign.proofs.RecordFields.{joined_fields, one_secret_key}
 
 -- a stored secret key has 158 bytes
@@ -18,159 +18,78 @@ stored_length : (bytes : List ℕ) (k : SecretKeyRecord) → ReadsSecretKey byte
 stored_length bytes k reads =
     omega (arith, reads.algorithm_length, reads.kdf_length, reads.checksum_algorithm_length, reads.salt_length, reads.operations_limit_length, reads.memory_limit_length, reads.keynum_length, reads.secret_length, reads.checksum_length, simp length-append at (ap length reads.front.1))
 
--- two lines at least
-record HasSecondLine (text y : List ℕ) : Type 0 where
-  some : has_line 0 text ≡ true
-  more : has_line 1 text ≡ true
-  at : line_at 1 text ≡ y
+-- the bytes behind the first n: a field, and those behind it
+cut : (n a : ℕ) (bytes : List ℕ) → drop n bytes ≡ take a (drop n bytes) ++ drop (n + a) bytes
+cut n a bytes = sym (take-append-drop a (drop n bytes)) ∙ ap (λ (t : List ℕ). take a (drop n bytes) ++ t) (drop-drop a n bytes)
 
-second_line : (text x y : List ℕ) (rest : List (List ℕ)) → lines text ≡ x ∷ y ∷ rest → HasSecondLine text y
-second_line text x y rest cut =
-    record { some = rw cut refl; more = rw cut refl; at = rw cut refl }
+three_fields : (n a b c : ℕ) (bytes : List ℕ)
+    → drop n bytes ≡ take a (drop n bytes) ++ take b (drop (n + a) bytes) ++ take c (drop (n + a + b) bytes) ++ drop (n + a + b + c) bytes
+three_fields n a b c bytes = joined_fields (drop n bytes) _ _ _ _ _ _ (cut n a bytes) (cut (n + a) b bytes) (cut (n + a + b) c bytes)
 
--- a text whose second line is the base64 of a key
-pub read_text : (text x y bytes : List ℕ) (rest : List (List ℕ)) (k : SecretKeyRecord) → lines text ≡ x ∷ y ∷ rest → IsBase64Of y bytes → ReadsSecretKey bytes k
-    → SecretKeyText text k
-read_text text x y bytes rest k cut encoded stored =
-    let second = second_line text x y rest cut in
-    record { bytes = bytes; second_line = second.more; encoded = rw second.at encoded; stored = stored }
-
--- a text whose second line is no base64
-pub not_base64_text : (text x y : List ℕ) (rest : List (List ℕ)) → lines text ≡ x ∷ y ∷ rest → is_base64 y ≡ false → IsRefused (SecretKeyText text) (secret_key_refusal text) (Named SecretKeyNotBase64)
-not_base64_text text x y rest cut failed =
-    let second = second_line text x y rest cut in
-    let no : is_base64 (line_at 1 text) ≡ false = ap is_base64 second.at ∙ failed in
-    record {
-      first_case = rw (second.some, second.more, no) refl;
-      unread = λ k read. let yes : is_base64 (line_at 1 text) ≡ true = is_read (line_at 1 text) read.bytes read.encoded in absurd (cc);
-    }
-
--- a text whose second line is the base64 of too few bytes
-short_text : (text x y bytes : List ℕ) (rest : List (List ℕ)) → lines text ≡ x ∷ y ∷ rest → IsBase64Of y bytes → length bytes < 158
-    → IsRefused (SecretKeyText text) (secret_key_refusal text) (Named RecordTooShort)
-short_text text x y bytes rest cut encoded short =
-    let second = second_line text x y rest cut in
-    let read : is_base64 (line_at 1 text) ≡ true = ap is_base64 second.at ∙ is_read y bytes encoded in
-    let decoded : base64_bytes (line_at 1 text) ≡ bytes = ap base64_bytes second.at ∙ bytes_read y bytes encoded in
-    let few : nat_le 158 (length bytes) ≡ false = lt-leb 158 (length bytes) short in
-    record {
-      first_case = rw (second.some, second.more, read, decoded, few) refl;
-      unread = λ k other. let same : other.bytes ≡ bytes = one_decoding (line_at 1 text) other.bytes bytes other.encoded (rw second.at encoded) in
-          absurd (omega (arith, stored_length other.bytes k other.stored, ap length same));
-    }
-
--- what reading the record says of the text
-pub text_outcome : (text x y bytes : List ℕ) (rest : List (List ℕ)) (r : Result SecretKeyRecord Fault) → lines text ≡ x ∷ y ∷ rest → IsBase64Of y bytes
-    → MatchResult r (ReadsSecretKey bytes) (λ e. (e ≡ Named RecordTooShort) × (length bytes < 158))
-    → MatchResult r (SecretKeyText text) (λ e. (e ≡ Named OutOfMemory) ⊎ IsRefused (SecretKeyText text) (secret_key_refusal text) e)
-text_outcome text x y bytes rest (Ok k) cut encoded stored = read_text text x y bytes rest k cut encoded stored
-text_outcome text x y bytes rest (Err e) cut encoded (is, short) = inr (rw is (short_text text x y bytes rest cut encoded short))
-
--- a text reads as one key
-pub one_key_text : (text : List ℕ) (k l : SecretKeyRecord) → SecretKeyText text k → SecretKeyText text l → l ≡ k
-one_key_text text k l read again =
-    let same : again.bytes ≡ read.bytes = one_decoding (line_at 1 text) again.bytes read.bytes again.encoded read.encoded in
-    one_secret_key read.bytes l k (rw same at again.stored) read.stored
-
--- what was read is the only key that the text reads as
-pub only_key : (text : List ℕ) (r : Result SecretKeyRecord Fault) (Q : Fault → Type 0) → MatchResult r (SecretKeyText text) Q
-    → IfOk r (λ k. (other : SecretKeyRecord) → SecretKeyText text other → other ≡ k)
-only_key text (Ok k) Q read = λ other again. one_key_text text k other read again
-only_key text (Err e) Q refused = tt
-
--- three fields at the front of bytes
-three_fields : (bytes : List ℕ) (a b c : ℕ) → bytes ≡ take a bytes ++ take b (drop a bytes) ++ take c (drop b (drop a bytes)) ++ drop c (drop b (drop a bytes))
-three_fields bytes a b c =
-    joined_fields bytes _ _ _ _ _ _ (sym (take-append-drop a bytes)) (sym (take-append-drop b (drop a bytes))) (sym (take-append-drop c (drop b (drop a bytes))))
-
--- the bytes behind three fields
-behind : ℕ → ℕ → ℕ → List ℕ → List ℕ
-behind a b c bytes = drop c (drop b (drop a bytes))
-
--- the key at the front of bytes
-key_in : List ℕ → SecretKeyRecord
-key_in bytes =
-    let limits = behind 2 2 2 bytes in
-    let sealed = behind 32 8 8 limits in
-    record {
-      algorithm = take 2 bytes;
-      kdf = take 2 (drop 2 bytes);
-      checksum_algorithm = take 2 (drop 2 (drop 2 bytes));
-      salt = take 32 limits;
-      operations_limit = take 8 (drop 32 limits);
-      memory_limit = take 8 (drop 8 (drop 32 limits));
-      keynum = take 8 sealed;
-      secret = take 64 (drop 8 sealed);
-      checksum = take 32 (drop 64 (drop 8 sealed));
-    }
-
--- the lengths of three fields at the front of bytes that have them
-field_lengths : (bytes : List ℕ) (a b c : ℕ) → a + b + c ≤ length bytes
-    → (length (take a bytes) ≡ a) × (length (take b (drop a bytes)) ≡ b) × (length (take c (drop b (drop a bytes))) ≡ c)
-field_lengths bytes a b c long = (
-  length-take-le a bytes (omega arith),
-  length-take-le b (drop a bytes) (omega (arith, length-drop a bytes)),
-  length-take-le c (drop b (drop a bytes)) (omega (arith, length-drop a bytes, length-drop b (drop a bytes))),
-)
-
-length-behind : (bytes : List ℕ) (a b c : ℕ) → length (behind a b c bytes) ≡ length bytes - (a + b + c)
-unfolding behind
-length-behind bytes a b c = omega (arith, length-drop a bytes, length-drop b (drop a bytes), length-drop c (drop b (drop a bytes)))
+field_length : (n a : ℕ) (bytes : List ℕ) → n + a ≤ length bytes → length (take a (drop n bytes)) ≡ a
+field_length n a bytes long = length-take-le a (drop n bytes) (omega (arith, length-drop n bytes))
 
 -- bytes that are many enough begin with a key
-key_in_front : (bytes : List ℕ) → 158 ≤ length bytes → ReadsSecretKey bytes (key_in bytes)
-unfolding key_in behind
-key_in_front bytes long =
-    let limits : List ℕ = behind 2 2 2 bytes in
-    let sealed : List ℕ = behind 32 8 8 limits in
-    let many_limits : 152 ≤ length limits = omega (arith, length-behind bytes 2 2 2) in
-    let many_sealed : 104 ≤ length sealed = omega (arith, length-behind limits 32 8 8) in
-    let first = field_lengths bytes 2 2 2 (omega arith) in
-    let second = field_lengths limits 32 8 8 (omega arith) in
-    let third = field_lengths sealed 8 64 32 (omega arith) in
+key_in_front : (bytes : List ℕ) → 158 ≤ length bytes → ReadsSecretKey bytes (secret_key_of_bytes bytes)
+unfolding secret_key_of_bytes
+key_in_front bytes long = record {
+  algorithm_length = field_length 0 2 bytes (omega arith);
+  kdf_length = field_length 2 2 bytes (omega arith);
+  checksum_algorithm_length = field_length 4 2 bytes (omega arith);
+  salt_length = field_length 6 32 bytes (omega arith);
+  operations_limit_length = field_length 38 8 bytes (omega arith);
+  memory_limit_length = field_length 46 8 bytes (omega arith);
+  keynum_length = field_length 54 8 bytes (omega arith);
+  secret_length = field_length 62 64 bytes (omega arith);
+  checksum_length = field_length 126 32 bytes (omega arith);
+  front = (drop 158 bytes, joined_fields bytes _ _ _ (drop 6 bytes) (drop 54 bytes) _ (three_fields 0 2 2 2 bytes) (three_fields 6 32 8 8 bytes) (three_fields 54 8 64 32 bytes));
+}
+
+pub bytes_are_read : (bytes : List ℕ) (k : SecretKeyRecord) → ReadsSecretKey bytes k → read_secret_key_bytes bytes ≡ Ok k
+bytes_are_read bytes k h =
+    let long : 158 ≤ length bytes = stored_length bytes k h in
+    let yes : leb 158 (length bytes) ≡ true = le-leb 158 _ long in
+    rw yes (ap (λ x. Ok x) (one_secret_key bytes (secret_key_of_bytes bytes) k (key_in_front bytes long) h))
+
+read_bytes : (bytes : List ℕ) (k : SecretKeyRecord) → read_secret_key_bytes bytes ≡ Ok k → ReadsSecretKey bytes k
+read_bytes bytes k h =
+    let long = passed (leb 158 (length bytes)) RecordTooShort (Ok (secret_key_of_bytes bytes)) k h in
+    subst (ReadsSecretKey bytes) (same_value _ k long.1) (key_in_front bytes (leb-true 158 _ long.0))
+
+pub bytes_read_as : (bytes : List ℕ) → IsReading (ReadsSecretKey bytes) (read_secret_key_bytes bytes)
+bytes_read_as bytes = is_reading (ReadsSecretKey bytes) (read_secret_key_bytes bytes) (λ k. (read_bytes bytes k, bytes_are_read bytes k))
+
+-- a line is read by the bytes that it is the base64 of
+pub line_is_read : (line bytes : List ℕ) → IsBase64Of line bytes → secret_key_in_line line ≡ read_secret_key_bytes bytes
+line_is_read line bytes base64 = rw (is_read line bytes base64, bytes_read line bytes base64) refl
+
+-- a text is read by its lines
+pub of_lines : (text : List ℕ) (ls : List (List ℕ)) → lines text ≡ ls → read_secret_key text ≡ secret_key_in_lines ls
+unfolding read_secret_key
+of_lines text ls cut = ap secret_key_in_lines cut
+
+-- a text reads as a key where it is read as this key
+pub text_is_read : (text : List ℕ) (k : SecretKeyRecord) → SecretKeyText text k → read_secret_key text ≡ Ok k
+text_is_read text k h = of_lines text _ h.cut ∙ line_is_read h.encoded h.bytes h.base64 ∙ bytes_are_read h.bytes k h.reads
+
+read_lines : (text : List ℕ) (ls : List (List ℕ)) (k : SecretKeyRecord) → lines text ≡ ls → secret_key_in_lines ls ≡ Ok k → SecretKeyText text k
+read_lines text [] k cut h = cc h
+read_lines text (a ∷ []) k cut h = cc h
+read_lines text (a ∷ b ∷ later) k cut h =
+    let base64 = passed (is_base64 b) SecretKeyNotBase64 (read_secret_key_bytes (base64_bytes b)) k h in
     record {
-      algorithm_length = first.0;
-      kdf_length = first.1;
-      checksum_algorithm_length = first.2;
-      salt_length = second.0;
-      operations_limit_length = second.1;
-      memory_limit_length = second.2;
-      keynum_length = third.0;
-      secret_length = third.1;
-      checksum_length = third.2;
-      front = (behind 8 64 32 sealed, joined_fields bytes _ _ _ limits sealed _ (three_fields bytes 2 2 2) (three_fields limits 32 8 8) (three_fields sealed 8 64 32));
+      comment = a;
+      encoded = b;
+      later = later;
+      cut = cut;
+      bytes = base64_bytes b;
+      base64 = reads b base64.0;
+      reads = read_bytes (base64_bytes b) k base64.1;
     }
 
--- no case fails where a key is read
-no_refusal : (text : List ℕ) (ls : List (List ℕ)) (k : SecretKeyRecord) → lines text ≡ ls → SecretKeyText text k → secret_key_refusal text ≡ None
-no_refusal text [] k e h = let no = rw e at h.second_line in cc no
-no_refusal text (a ∷ []) k e h = let no = rw e at h.second_line in cc no
-no_refusal text (a ∷ b ∷ later) k e h =
-    let second = second_line text a b later e in
-    let base64 : is_base64 (line_at 1 text) ≡ true = is_read (line_at 1 text) h.bytes h.encoded in
-    let decoded : base64_bytes (line_at 1 text) ≡ h.bytes = bytes_read (line_at 1 text) h.bytes h.encoded in
-    let long : nat_le 158 (length h.bytes) ≡ true = le-leb 158 (length h.bytes) (stored_length h.bytes k h.stored) in
-    rw (second.some, second.more, base64, decoded, long) refl
+read_text : (text : List ℕ) (k : SecretKeyRecord) → read_secret_key text ≡ Ok k → SecretKeyText text k
+unfolding read_secret_key
+read_text text k h = read_lines text (lines text) k refl h
 
-read_where_none_fails : (text : List ℕ) (ls : List (List ℕ)) → lines text ≡ ls → secret_key_refusal text ≡ None → (k : SecretKeyRecord) × SecretKeyText text k
-read_where_none_fails text [] e h = let no = rw e at h in cc no
-read_where_none_fails text (a ∷ []) e h = let no = rw e at h in cc no
-read_where_none_fails text (a ∷ b ∷ later) e h =
-    let second = second_line text a b later e in
-    let base64_test = tested _ _ _ (rw (second.some, second.more) at h) in
-    let record_test = tested _ _ _ base64_test.1 in (
-      key_in (base64_bytes (line_at 1 text)),
-      record {
-        bytes = base64_bytes (line_at 1 text);
-        second_line = second.more;
-        encoded = reads (line_at 1 text) base64_test.0;
-        stored = key_in_front (base64_bytes (line_at 1 text)) (leb-true 158 _ record_test.0);
-      },
-    )
-
--- no case fails exactly where a text reads as a key, and it reads as one at most
-pub decided : (text : List ℕ) → IsDecided (SecretKeyText text) (secret_key_refusal text)
-decided text = record {
-  none_fails = (read_where_none_fails text (lines text) refl, λ read. no_refusal text (lines text) read.0 refl read.1);
-  one_value = λ k l read again. one_key_text text l k again read;
-}
+pub read_as : (text : List ℕ) → IsReading (SecretKeyText text) (read_secret_key text)
+read_as text = is_reading (SecretKeyText text) (read_secret_key text) (λ k. (read_text text k, text_is_read text k))

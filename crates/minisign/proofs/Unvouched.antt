@@ -4,7 +4,7 @@ use Rattle.std.specs.Option.{option_map_or}
 use Rattle.std.proofs.lemmas.Bool.Decides.{nat_tests}
 use Rattle.std.proofs.lemmas.List.{length-take}
 use Rattle.minisign.specs.Records.{PublicKeyRecord, SignatureRecord, CommentsRecord, SignatureBoxRecord}
-use Rattle.minisign.specs.Acceptance.{Verifier, SameComments, SameWhereVouched, accepts_comment, first_refusal}
+use Rattle.minisign.specs.Acceptance.{Verifier, SameComments, SameWhereVouched, accepts_comment, judge}
 
 -- whether a number is at least 64 shows in its smaller one with 64
 at_least : (m n : ℕ) → min 64 n ≡ min 64 m → nat_le 64 n ≡ nat_le 64 m
@@ -24,6 +24,6 @@ same_comments accepts pk other s t (Some c) (Some d) key signature same =
     rw (signature, key, long_enough c.signature d.signature same.1, same.0, same.1) refl
 
 pub unvouched_same : (accepts : Verifier) (pk other : PublicKeyRecord) (x y : SignatureBoxRecord) (message : List ℕ) (legacy : Bool)
-    → SameWhereVouched pk other x y → first_refusal accepts other y message legacy ≡ first_refusal accepts pk x message legacy
+    → SameWhereVouched pk other x y → judge accepts other y message legacy ≡ judge accepts pk x message legacy
 unvouched_same accepts pk other x y message legacy same =
     rw (same_comments accepts pk other x.signature y.signature x.comments y.comments same.key same.signature same.comments, same.signature, same.keynum, same.key) refl

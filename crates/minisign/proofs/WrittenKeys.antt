@@ -9,13 +9,13 @@ use Rattle.std.specs.Str.Iter.{LacksByte}
 use Rattle.std.specs.Str.Lines.{lines, strip_carriage_return}
 use Rattle.minisign.specs.Lines.{line}
 use Rattle.minisign.specs.Records.{PublicKeyRecord, SecretKeyRecord, ReadsSecretKey, public_key_bytes, secret_key_bytes}
-use Rattle.minisign.specs.SecretKeyText.{SecretKeyText, default_secret_key_comment, secret_key_text}
+use Rattle.minisign.specs.SecretKeyText.{default_secret_key_comment, read_secret_key, secret_key_text}
 use Rattle.minisign.specs.Texts.{IsBase64Of, base64_of, untrusted_comment_label}
 use Rattle.minisign.specs.PublicKeyText.{BarePublicKey, EncodesPublicKey, commented_public_key_text, read_public_key}
 use Rattle.minisign.proofs.PublicKeyTexts.{graphic, stays, text_is_read}
 use Rattle.minisign.proofs.FirstLine.{lines-cut}
 use Rattle.minisign.proofs.Letters.{graphic_base64}
-use Rattle.minisign.proofs.SecretKeyTexts.{read_text}
+use Rattle.minisign.proofs.SecretKeyTexts.{bytes_are_read, line_is_read, of_lines}
 use Rattle.minisign.proofs.WrittenLines.{IsOneLine, length_base64_secret, lines_last, shown_codes, shown_graphic, shown_one_line}
 
 -- two lists without line feeds
@@ -46,10 +46,10 @@ commented_lines comment encoded text lacks one written =
 
 -- a comment without line feed, and the base64 of a key, on a line each
 pub written_secret_key : (comment encoded bytes text : List ℕ) (k : SecretKeyRecord) → LacksByte 10 comment → IsBase64Of encoded bytes → ReadsSecretKey bytes k
-    → text ≡ line (untrusted_comment_label ++ comment) ++ line encoded → SecretKeyText text k
+    → text ≡ line (untrusted_comment_label ++ comment) ++ line encoded → read_secret_key text ≡ Ok k
 written_secret_key comment encoded bytes text k lacks base64 stored written =
     let one : IsOneLine encoded = rw base64.encoded (shown_one_line _ (shown_graphic _ (graphic_base64 bytes base64.each))) in
-    read_text text _ encoded bytes [] k (commented_lines comment encoded text lacks one written) base64 stored
+    of_lines text _ (commented_lines comment encoded text lacks one written) ∙ line_is_read encoded bytes base64 ∙ bytes_are_read bytes k stored
 
 -- a comment without line feed, and the base64 of a public key, on a line each
 pub commented_public_key : (k : PublicKeyRecord) (comment text : List ℕ) → BarePublicKey (base64_of (public_key_bytes k)) k → LacksByte 10 comment

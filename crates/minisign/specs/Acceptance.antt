@@ -1,12 +1,13 @@
--- When a signature box vouches for data under a public key, which condition fails first where it does
--- not, and what is said where it does.
-use Rattle.std.specs.Prelude.{◌≡◌, ⊤, ℕ, ◌≤◌, Bool, true, IsTrue, ◌⊎◌, ◌||◌, ◌&&◌, if◌then◌else◌, nat_le, List, [], ◌++◌, length, take, Option, None, Some, IfSome, codes, bytes_eq}
+-- When a signature box vouches for data under a public key: as a record of conditions, and as a function that gives the
+-- first one that fails. And what is said where it does.
+use Rattle.std.specs.Prelude.{◌≡◌, ⊤, ℕ, ◌≤◌, Bool, true, IsTrue, ◌⊎◌, ◌||◌, ◌&&◌, if◌then◌else◌, nat_le, List, [], ◌++◌, length, take, Option, None, Some, IfSome, Result, Ok, codes, bytes_eq}
 use Rattle.std.specs.Option.{option_map_or}
 use Rattle.minisign_hash.specs.Blake2b.{blake2b_digest}
-use Rattle.minisign_base.specs.Fault.{Fault, Named}
+use Rattle.minisign_base.specs.Fault.{Fault}
 use Rattle.minisign_base.specs.declared.faults.NamedFault.TheVariants.{DifferentKeyIds, LegacyNotAccepted, SignatureRefused, CommentSignatureRefused}
 use Rattle.minisign.specs.Lines.{line}
 use Rattle.minisign.specs.Records.{PublicKeyRecord, SignatureRecord, CommentsRecord, SignatureBoxRecord, is_prehashed, prehashed_algorithm}
+use Rattle.minisign.specs.Texts.{and_then, require}
 
 -- what a scheme accepts: a message, a public key and a signature
 abbrev pub Verifier : Type 0
@@ -36,7 +37,7 @@ pub record Vouches (accepts : Verifier) (pk : PublicKeyRecord) (x : SignatureBox
   pub signed : IsTrue (accepts (signed_bytes x message) pk.key x.signature.signature)
   pub comment_signed : IfSome x.comments (CommentIsSigned accepts pk x.signature)
 
--- the box vouches for the message under every public key that has these 32 bytes and this identifier
+-- the box vouches for the message under every public key that has these 32 bytes and this key ID
 abbrev pub VouchesUnderEachKey : Verifier → List ℕ → List ℕ → List ℕ → SignatureBoxRecord → Type 0
 VouchesUnderEachKey accepts key keynum message x =
     (pk : PublicKeyRecord) (legacy : Bool) → pk.key ≡ key → pk.keynum ≡ keynum → Vouches accepts pk x message legacy
@@ -50,17 +51,30 @@ accepts_comment accepts pk s c =
 abbrev pub accepts_comments : Verifier → PublicKeyRecord → SignatureBoxRecord → Bool
 accepts_comments accepts pk x = option_map_or (accepts_comment accepts pk x.signature) x.comments true
 
--- the first condition that fails, in the order of the record above
-abbrev pub first_refusal : Verifier → PublicKeyRecord → SignatureBoxRecord → List ℕ → Bool → Option Fault
-first_refusal accepts pk x message legacy =
-    if bytes_eq x.signature.keynum pk.keynum then
-    (if is_prehashed x.signature || legacy then
-    (if accepts (signed_bytes x message) pk.key x.signature.signature then
-    (if accepts_comments accepts pk x then None
-    else Some (Named CommentSignatureRefused))
-    else Some (Named SignatureRefused))
-    else Some (Named LegacyNotAccepted))
-    else Some (Named (DifferentKeyIds x.signature.keynum pk.keynum))
+-- what key and signature alone decide, in this order: the signature is made by the key of this key ID, and it is over
+-- the digest of the data, where one over the data itself will not do
+abbrev pub judge_key : PublicKeyRecord → SignatureRecord → Bool → Result ⊤ Fault
+judge_key pk s legacy =
+    require (bytes_eq s.keynum pk.keynum) (DifferentKeyIds s.keynum pk.keynum)
+    (require (is_prehashed s || legacy) LegacyNotAccepted
+    (Ok tt))
+
+-- what two answers of the scheme decide, in this order: it accepts the signature, and the comment signature
+abbrev pub judge_answers : Bool → Bool → Result ⊤ Fault
+judge_answers signature comments =
+    require signature SignatureRefused
+    (require comments CommentSignatureRefused
+    (Ok tt))
+
+-- whether the box vouches under the key, where its signature is over these bytes; or the first condition that fails
+abbrev pub judge_signed : Verifier → PublicKeyRecord → SignatureBoxRecord → List ℕ → Bool → Result ⊤ Fault
+judge_signed accepts pk x signed legacy =
+    and_then (judge_key pk x.signature legacy) (λ _.
+    judge_answers (accepts signed pk.key x.signature.signature) (accepts_comments accepts pk x))
+
+-- whether the box vouches for the message under the key, or the first condition that fails
+abbrev pub judge : Verifier → PublicKeyRecord → SignatureBoxRecord → List ℕ → Bool → Result ⊤ Fault
+judge accepts pk x message legacy = judge_signed accepts pk x (signed_bytes x message) legacy
 
 -- comments with the same trusted comment and the same first 64 bytes of the comment signature, or none
 abbrev pub SameComments : Option CommentsRecord → Option CommentsRecord → Type 0
@@ -76,11 +90,6 @@ pub record SameWhereVouched (pk other : PublicKeyRecord) (x y : SignatureBoxReco
   pub key : other.key ≡ pk.key
   pub signature : y.signature ≡ x.signature
   pub comments : SameComments x.comments y.comments
-
--- the box does not vouch for the message, and this is why
-pub record Refuses (accepts : Verifier) (pk : PublicKeyRecord) (x : SignatureBoxRecord) (message : List ℕ) (legacy : Bool) (e : Fault) : Type 0 where
-  pub first : first_refusal accepts pk x message legacy ≡ Some e
-  pub unacceptable : ¬ (Vouches accepts pk x message legacy)
 
 unfoldable pub verified_text : List ℕ
 verified_text = codes "Signature and comment signature verified"

@@ -1,23 +1,20 @@
 -- What the calls for callers promise: data is vouched for and this is the comment that was signed with it, or the
--- first reason why it is not; a text gives a key under a password, or the first reason why it gives none.
-use Rattle.std.specs.Prelude.{◌≡◌, ℕ, ◌<◌, ◌≤◌, Bool, true, false, ◌⊎◌, if◌then◌else◌, bytes_eq, List, length, Option, None, Some, Ok, IfSome, MatchResult}
+-- first reason why it is not; and why bytes are not signed, and no pair is made.
+use Rattle.std.specs.Prelude.{◌≡◌, ℕ, ◌<◌, ◌≤◌, Bool, true, false, ◌⊎◌, List, length, Option, None, Some, Ok, Err, IfSome}
 use Rattle.std.specs.declared.result.Result.{Result}
 use Rattle.minisign_base.specs.Fault.{Fault, Named}
 use Rattle.minisign_base.specs.declared.faults.NamedFault.TheVariants.{EncryptedKeyRefused, OutOfMemory, PasswordTooLong, ReadingFailed}
-use Rattle.minisign_base.specs.DeviceCalls.{IsFlushed, IsSteady, RandomCall, RereaderCall, SinkCall, SinkFails, SourceCall, SourceFails, Takes, unused}
+use Rattle.minisign_base.specs.DeviceCalls.{IsFlushed, IsSteady, RandomCall, RereaderCall, SinkCall, SourceCall, Takes, unused}
 use Rattle.minisign.specs.Records.{CommentsRecord, PublicKeyRecord, SecretKeyRecord, SignatureBoxRecord}
 use Rattle.minisign.specs.Acceptance.{Flags, Verifier}
 use Rattle.minisign.specs.Generation.{AllDrawn}
-use Rattle.minisign.specs.Headline.{TextsRefuse, TextsVouchFor}
-use Rattle.minisign.specs.Sealing.{is_encrypted, no_kdf, opening_refusal, unencrypted_refusal}
-use Rattle.minisign.specs.SecretKeyText.{SecretKeyText, secret_key_refusal}
+use Rattle.minisign.specs.Headline.{TextsVouchFor, verdict}
+use Rattle.minisign.specs.Sealing.{is_encrypted}
 use Rattle.minisign.specs.SignatureText.{read_signature_box}
 use Rattle.minisign.specs.Signing.{DrawFails, KeyIsSealed, OpenedSigningFails, RunsOutDrawing}
 use Rattle.minisign.specs.TextFiles.{IsTextFileFault}
-use Rattle.minisign.specs.Texts.{IsRefused}
 use Rattle.minisign.specs.Verifying.{ReadsTwice, VerifyingFails}
 use Rattle.minisign.specs.VerifyingTexts.{ReadTexts, TextsFail}
-use Rattle.minisign.specs.OpenedTexts.{IsOpened, IsUnencryptedText}
 
 -- the text reads as a box whose trusted comment this is
 pub record IsCommentOf (sig_text comment : List ℕ) : Type 0 where
@@ -34,31 +31,12 @@ pub record TextsVouchWith (accepts : Verifier) (pk_text sig_text message : List 
   pub both : vouched.box.comments ≡ Some comments
   pub trusted : comments.trusted ≡ comment
 
--- the comment is returned exactly where the texts vouch for the message, and otherwise the first failing case;
--- memory aside
-abbrev pub IsCommentVerdict : {T : Type 0} → (T → List ℕ) → Verifier → List ℕ → List ℕ → List ℕ → Bool → Result T Fault → Type 0
-IsCommentVerdict bytes accepts pk_text sig_text message legacy r =
-    MatchResult r (λ t. TextsVouchWith accepts pk_text sig_text message legacy (bytes t))
-    (λ e. (e ≡ Named OutOfMemory) ⊎ TextsRefuse accepts pk_text sig_text message legacy e)
-
--- the same of some signature text and some data, or a fault of reading files: no byte of std's files is known, so that
--- these are those of the named files is not said
-abbrev pub IsFileVerdict : {T : Type 0} → (T → List ℕ) → Verifier → List ℕ → Result T Fault → Type 0
-IsFileVerdict bytes accepts pk_text r =
-    MatchResult r (λ t. (sig_text : List ℕ) × (message : List ℕ) × TextsVouchWith accepts pk_text sig_text message false (bytes t))
-    (λ e. IsTextFileFault e ⊎ ((sig_text : List ℕ) × (message : List ℕ) × TextsRefuse accepts pk_text sig_text message false e))
-
--- over data that is known, where the source does not fail: the answer is the verdict on the data
-abbrev pub ReadsExactly : {T R : Type 0} → (T → List ℕ) → Verifier → List ℕ → List ℕ → RereaderCall R → Result T Fault → Type 0
-ReadsExactly bytes accepts pk_text sig_text reader answer =
-    (message : List ℕ) → reader.source.ahead reader.old ≡ Some message → ¬ (SourceFails reader)
-    → IsCommentVerdict bytes accepts pk_text sig_text message false answer
-
--- over data that is known, where no device fails and the source is steady: the answer is the verdict on the data
-abbrev pub CopiesExactly : {T R O : Type 0} → (T → List ℕ) → Verifier → List ℕ → List ℕ → RereaderCall R → SinkCall O → Result T Fault → Type 0
-CopiesExactly bytes accepts pk_text sig_text reader out answer =
-    (message : List ℕ) → reader.source.ahead reader.old ≡ Some message → ¬ (SourceFails reader) → ¬ (SinkFails out) → IsSteady reader
-    → IsCommentVerdict bytes accepts pk_text sig_text message false answer
+-- the answer is the verdict on some signature text and some data, or a fault of reading files: no byte of std's files is
+-- known, so that these are those of the named files is not said
+abbrev pub IsFileVerdict : Verifier → List ℕ → Result (List ℕ) Fault → Type 0
+IsFileVerdict accepts pk_text r =
+    ((sig_text : List ℕ) × (message : List ℕ) × (r ≡ verdict accepts pk_text sig_text message false))
+    ⊎ ((e : Fault) × (r ≡ Err e) × IsTextFileFault e)
 
 -- what the output took and flushed is vouched for, and this is the comment that was signed with it; a second reading
 -- gave it, with the digest of the first; it is what was ahead, of a steady source, where that is known
@@ -94,21 +72,6 @@ CopyVerifiedFails accepts pk_text sig_text reader out e =
     (TextsFail pk_text sig_text e × (reader.new ≡ reader.old) × (out.new ≡ out.old))
     ⊎ ((key : PublicKeyRecord) × (box : SignatureBoxRecord) × ReadTexts pk_text sig_text key box
     × VerifyingFails accepts key box only_copies reader unused out e)
-
--- the text gives this key under the password: the key was never sealed and its checksum matches, whatever the
--- password; or it is sealed, and this is the key opened
-abbrev pub GivesKeyWith : List ℕ → List ℕ → SecretKeyRecord → Type 0
-GivesKeyWith text password key = IsUnencryptedText text key ⊎ IsOpened text password None key
-
--- the first reason for which a key is not given
-abbrev pub key_refusal : SecretKeyRecord → List ℕ → Option Fault
-key_refusal k password = if bytes_eq k.kdf no_kdf then unencrypted_refusal k else opening_refusal k password None
-
--- the text gives no key under the password, and this is the first reason
-pub record GivesNoKeyWith (text password : List ℕ) (e : Fault) : Type 0 where
-  pub first : IsRefused (SecretKeyText text) (secret_key_refusal text) e
-      ⊎ ((k : SecretKeyRecord) × SecretKeyText text k × (key_refusal k password ≡ Some e))
-  pub none : (k : SecretKeyRecord) → ¬ (GivesKeyWith text password k)
 
 -- signing bytes with a key fails: the key is sealed, with nothing drawn; or it is opened, and memory runs out or
 -- the random source fails

@@ -7,11 +7,12 @@ use Rattle.minisign_base.specs.declared.faults.NamedFault.TheVariants.{OutOfMemo
 use Rattle.minisign_base.specs.Scheme.{IsBytes}
 use Rattle.minisign.specs.NewPassword.{IsSealing}
 use Rattle.minisign.specs.PublicKeyText.{public_key_text}
-use Rattle.minisign.specs.Records.{PublicKeyRecord, SecretKeyRecord, legacy_algorithm, public_key_bytes, secret_key_bytes}
-use Rattle.minisign.specs.Sealing.{IsWithin, Opens, checksum_of, no_kdf, scrypt_kdf, xored_key}
-use Rattle.minisign.specs.SecretKeyText.{SecretKeyText, secret_key_text}
+use Rattle.minisign.specs.Records.{PublicKeyRecord, SecretKeyRecord, legacy_algorithm, public_key_bytes}
+use Rattle.minisign.specs.Records.{secret_key_bytes}
+use Rattle.minisign.specs.Sealing.{Opens, checksum_of, no_kdf, scrypt_kdf, xored_key}
+use Rattle.minisign.specs.SecretKeyText.{read_secret_key, secret_key_text}
 use Rattle.minisign.specs.Signing.{DrawFails, HasDrawn, IsGenuine, RandomHasNoNewFault}
-use Rattle.minisign.specs.OpenedTexts.{IsOpened}
+use Rattle.minisign.specs.OpenedTexts.{OpensTo}
 
 -- the checksum's algorithm: Blake2b
 abbrev pub blake2b_algorithm : List ℕ
@@ -88,7 +89,8 @@ pub record AreSeedAndKeynum (seed keynum : List ℕ) : Type 0 where
   pub keynum_bytes : IsBytes keynum
 
 -- the pair that is not sealed, of random bytes that were drawn
-pub record IsUnsealedPair {Z : Type 0} (public_of : List ℕ → List ℕ) (z : RandomCall Z) (pk : PublicKeyRecord) (sk : SecretKeyRecord) : Type 0 where
+pub record IsUnsealedPair {Z : Type 0} (public_of : List ℕ → List ℕ) (z : RandomCall Z)
+    (pk : PublicKeyRecord) (sk : SecretKeyRecord) : Type 0 where
   pub seed : List ℕ
   pub keynum : List ℕ
   pub lengths : AreSeedAndKeynum seed keynum
@@ -97,14 +99,16 @@ pub record IsUnsealedPair {Z : Type 0} (public_of : List ℕ → List ℕ) (z : 
   pub secret : sk ≡ unsealed_key keynum (secret_of public_of seed)
 
 -- the sealed pair of a seed under an identifier, with a salt, under a password
-pub record IsSealedOf (public_of : List ℕ → List ℕ) (seed keynum salt password : List ℕ) (pk : PublicKeyRecord) (sk : SecretKeyRecord) : Type 0 where
+pub record IsSealedOf (public_of : List ℕ → List ℕ) (seed keynum salt password : List ℕ)
+    (pk : PublicKeyRecord) (sk : SecretKeyRecord) : Type 0 where
   pub public : pk ≡ public_key_of public_of seed keynum
   pub secret : sk ≡ sealed_key keynum (secret_of public_of seed) salt password
   -- opening gives the key as it was
   pub opened : xored_key sk password ≡ opened_key keynum (secret_of public_of seed) salt
 
 -- the sealed pair of random bytes that were drawn: those of the other pair, and then 32 of a salt
-pub record IsSealedPair {Z : Type 0} (public_of : List ℕ → List ℕ) (password : List ℕ) (z : RandomCall Z) (pk : PublicKeyRecord) (sk : SecretKeyRecord) : Type 0 where
+pub record IsSealedPair {Z : Type 0} (public_of : List ℕ → List ℕ) (password : List ℕ) (z : RandomCall Z)
+    (pk : PublicKeyRecord) (sk : SecretKeyRecord) : Type 0 where
   pub seed : List ℕ
   pub keynum : List ℕ
   pub salt : List ℕ
@@ -113,23 +117,25 @@ pub record IsSealedPair {Z : Type 0} (public_of : List ℕ → List ℕ) (passwo
   pub drawn : HasDrawn z (seed ++ keynum ++ salt)
   pub sealed : IsSealedOf public_of seed keynum salt password pk sk
 
--- the text opens under the password, whatever bound p is within, to this key and to no other
-pub record OpensOnlyTo (text password : List ℕ) (key : SecretKeyRecord) : Type 0 where
-  pub opens : (bound : Option ℕ) → IsWithin bound 1 → IsOpened text password bound key
-  pub only : (bound : Option ℕ) (other : SecretKeyRecord) → IsOpened text password bound other → other ≡ key
+-- the text opens under the password, with a parallelization of 1, to this key and to no other
+abbrev pub OpensOnlyTo : List ℕ → List ℕ → SecretKeyRecord → Type 0
+OpensOnlyTo text password key = OpensTo text password 1 key
 
 -- the secret key opens under the password, and then belongs to the public key; so does each text that reads
 -- as it
-pub record OpensToPair (public_of : List ℕ → List ℕ) (password : List ℕ) (pk : PublicKeyRecord) (sk : SecretKeyRecord) : Type 0 where
+pub record OpensToPair (public_of : List ℕ → List ℕ) (password : List ℕ)
+    (pk : PublicKeyRecord) (sk : SecretKeyRecord) : Type 0 where
   pub opens : Opens sk password None
   pub pair : IsGenuinePair public_of pk (xored_key sk password)
-  pub texts : (text : List ℕ) → SecretKeyText text sk → OpensOnlyTo text password (xored_key sk password)
+  pub texts : (text : List ℕ) → read_secret_key text ≡ Ok sk → OpensOnlyTo text password (xored_key sk password)
 
 -- the two parts could not be written: the public sink failed at the public part, with the secret sink as it
 -- was, or took and flushed it, and the secret sink failed at the secret part
-pub record WritingFails {P K : Type 0} (pk_sink : SinkCall P) (sk_sink : SinkCall K) (public secret : List ℕ) (e : Fault) : Type 0 where
+pub record WritingFails {P K : Type 0} (pk_sink : SinkCall P) (sk_sink : SinkCall K)
+    (public secret : List ℕ) (e : Fault) : Type 0 where
   pub fault : e ≡ Named WritingFailed
-  pub part : (FailsAtPart pk_sink public × (sk_sink.new ≡ sk_sink.old)) ⊎ (TakesPart pk_sink public × FailsAtPart sk_sink secret)
+  pub part : (FailsAtPart pk_sink public × (sk_sink.new ≡ sk_sink.old))
+      ⊎ (TakesPart pk_sink public × FailsAtPart sk_sink secret)
 
 -- both sinks are as they were
 abbrev pub AreUnwritten : {P K : Type 0} → SinkCall P → SinkCall K → Type 0

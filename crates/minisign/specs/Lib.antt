@@ -12,7 +12,6 @@ pub mod Signing
 pub mod SignedData
 pub mod Stages
 pub mod Verifying
-pub mod VerifyingLaws
 pub mod Headline
 pub mod VerifyingTexts
 pub mod SecretKeyText

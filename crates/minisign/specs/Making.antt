@@ -8,10 +8,10 @@ use Rattle.minisign_base.specs.Limits.{numbers, sealing_limits}
 use Rattle.minisign.specs.Generation.{key_to_seal, unsealed_key}
 use Rattle.minisign.specs.PublicKeyText.{read_public_key, commented_public_key_text}
 use Rattle.minisign.specs.Records.{SecretKeyRecord, legacy_algorithm, own_public_key}
-use Rattle.minisign.specs.Sealing.{IsWithin, is_encrypted, xored_key}
-use Rattle.minisign.specs.SecretKeyText.{SecretKeyText, secret_key_text}
+use Rattle.minisign.specs.Sealing.{is_encrypted, xored_key}
+use Rattle.minisign.specs.SecretKeyText.{secret_key_text}
 use Rattle.minisign.specs.declared.making.Sealing.{Sealing}
-use Rattle.minisign.specs.OpenedTexts.{IsOpened, IsUnencryptedText}
+use Rattle.minisign.specs.OpenedTexts.{OpensTo, read_unencrypted_key}
 
 -- the secret key of these parts, open
 pub record IsOfParts (keynum secret : List ℕ) (key : SecretKeyRecord) : Type 0 where
@@ -31,15 +31,13 @@ made_key keynum secret (Some password) s =
 pub record OpensToParts (text password keynum secret : List ℕ) (p : ℕ) : Type 0 where
   pub key : SecretKeyRecord
   pub parts : IsOfParts keynum secret key
-  pub opens : (bound : Option ℕ) → IsWithin bound p → IsOpened text password bound key
-  pub only : (bound : Option ℕ) (other : SecretKeyRecord) → IsOpened text password bound other → other ≡ key
+  pub opens : OpensTo text password p key
 
--- the text reads as the key of these parts, which was never sealed, and as no other key
+-- the text reads as the key of these parts, which was never sealed
 pub record ReadsAsParts (text keynum secret : List ℕ) : Type 0 where
   pub key : SecretKeyRecord
   pub parts : IsOfParts keynum secret key
-  pub reads : IsUnencryptedText text key
-  pub only : (other : SecretKeyRecord) → SecretKeyText text other → other ≡ key
+  pub reads : read_unencrypted_key text ≡ Ok key
 
 -- the text gives back the key of these parts: with the password, or without one
 abbrev pub GivesParts : List ℕ → Option (List ℕ) → List ℕ → List ℕ → Sealing → Type 0
@@ -48,7 +46,8 @@ GivesParts text (Some password) keynum secret s =
     OpensToParts text password keynum secret (numbers s.memory_limit s.operations_limit).p
 
 -- the text of the secret key that is made of these parts: a line of comment, and a line of base64
-pub record IsMadeText (keynum secret : List ℕ) (password : Option (List ℕ)) (s : Sealing) (comment text : List ℕ) : Type 0 where
+pub record IsMadeText (keynum secret : List ℕ) (password : Option (List ℕ)) (s : Sealing)
+    (comment text : List ℕ) : Type 0 where
   pub written : text ≡ secret_key_text (Some comment) (made_key keynum secret password s)
   pub gives : LacksByte 10 comment → GivesParts text password keynum secret s
   pub size : length text ≡ length comment + 233
@@ -63,5 +62,6 @@ IsMakingFault (Some password) s e =
 -- the text of the public key of these parts: it reads as the public key of the secret key that they make
 pub record IsMadePublicText (keynum secret comment text : List ℕ) : Type 0 where
   pub written : text ≡ commented_public_key_text comment (own_public_key (unsealed_key keynum secret))
-  pub reads : LacksByte 10 comment → (key : SecretKeyRecord) → IsOfParts keynum secret key → read_public_key text ≡ Ok (own_public_key key)
+  pub reads : LacksByte 10 comment → (key : SecretKeyRecord) → IsOfParts keynum secret key
+      → read_public_key text ≡ Ok (own_public_key key)
   pub size : length text ≡ length comment + 77

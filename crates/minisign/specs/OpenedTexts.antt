@@ -1,14 +1,45 @@
--- What a secret key's text gives, under a password or without one: the key, or the first reason why there is none.
-use Rattle.std.specs.Prelude.{◌≡◌, ◌⊎◌, ℕ, List, Option, Some}
+-- What a secret key's text gives, under a password or without one: the key, or the first fault; and the same as
+-- relations.
+use Rattle.std.specs.Prelude.{◌≡◌, ℕ, Bool, false, not, if◌then◌else◌, bytes_eq, List, Option, None, Result, Ok, Err}
 use Rattle.minisign_base.specs.Fault.{Fault}
+use Rattle.minisign_base.specs.declared.faults.NamedFault.TheVariants.{WorkTooHigh}
 use Rattle.minisign.specs.Records.{SecretKeyRecord}
-use Rattle.minisign.specs.SecretKeyText.{SecretKeyText, secret_key_refusal}
-use Rattle.minisign.specs.Texts.{IsRefused}
-use Rattle.minisign.specs.Sealing.{IsUnencrypted, Opens, opening_refusal, unencrypted_refusal, xored_key}
+use Rattle.minisign.specs.SecretKeyText.{SecretKeyText, read_secret_key}
+use Rattle.minisign.specs.Sealing.{IsUnencrypted, Opens, is_within, no_kdf, open_sealed, sealed_by_scrypt}
+use Rattle.minisign.specs.Sealing.{unencrypted_key, xored_key}
+use Rattle.minisign.specs.Texts.{and_then, require}
 
--- the text reads as no key, or as one that is refused, and this is why
-abbrev pub RefusesKey : List ℕ → (SecretKeyRecord → Option Fault) → Fault → Type 0
-RefusesKey text refusal e = IsRefused (SecretKeyText text) (secret_key_refusal text) e ⊎ ((k : SecretKeyRecord) × SecretKeyText text k × (refusal k ≡ Some e))
+-- the sealed key that a text reads as
+abbrev pub read_sealed_key : List ℕ → Result SecretKeyRecord Fault
+read_sealed_key text = and_then (read_secret_key text) sealed_by_scrypt
+
+-- what a text opens to under a password, within a bound on the parallelization, where there is one
+unfoldable pub open_key : List ℕ → List ℕ → Option ℕ → Result SecretKeyRecord Fault
+open_key text password bound = and_then (read_sealed_key text) (λ k. open_sealed k password bound)
+
+-- the key that was never sealed, and that a text reads as
+unfoldable pub read_unencrypted_key : List ℕ → Result SecretKeyRecord Fault
+read_unencrypted_key text = and_then (read_secret_key text) unencrypted_key
+
+-- the text reads as a key that names a key derivation
+abbrev pub names_kdf : Result SecretKeyRecord Fault → Bool
+names_kdf (Ok k) = not (bytes_eq k.kdf no_kdf)
+names_kdf (Err e) = false
+
+unfoldable pub is_sealed_text : List ℕ → Bool
+is_sealed_text text = names_kdf (read_secret_key text)
+
+-- what a text gives to who has its password: a key that was never sealed as it stands, whatever the password, and any
+-- other one opened
+abbrev pub key_with_password : List ℕ → List ℕ → Result SecretKeyRecord Fault
+key_with_password text password =
+    if is_sealed_text text then open_key text password None else read_unencrypted_key text
+
+-- the text opens under the password to this key, within each bound that its parallelization is within, and never to
+-- another one
+abbrev pub OpensTo : List ℕ → List ℕ → ℕ → SecretKeyRecord → Type 0
+OpensTo text password p key =
+    (bound : Option ℕ) → open_key text password bound ≡ require (is_within bound p) WorkTooHigh (Ok key)
 
 -- the text reads as a key that opens under the password within the bound, and this is the key opened
 pub record IsOpened (text password : List ℕ) (bound : Option ℕ) (opened : SecretKeyRecord) : Type 0 where
@@ -17,17 +48,7 @@ pub record IsOpened (text password : List ℕ) (bound : Option ℕ) (opened : Se
   pub opens : Opens sealed password bound
   pub key : opened ≡ xored_key sealed password
 
--- the text reads as no such key, and this is the first reason
-pub record RefusesOpening (text password : List ℕ) (bound : Option ℕ) (e : Fault) : Type 0 where
-  pub first : RefusesKey text (λ k. opening_refusal k password bound) e
-  pub closed : (k : SecretKeyRecord) → SecretKeyText text k → ¬ (Opens k password bound)
-
 -- the text reads as this key, which was never sealed and whose checksum matches
 pub record IsUnencryptedText (text : List ℕ) (k : SecretKeyRecord) : Type 0 where
   pub read : SecretKeyText text k
   pub unencrypted : IsUnencrypted k
-
--- the text reads as no such key, and this is the first reason
-pub record RefusesUnencrypted (text : List ℕ) (e : Fault) : Type 0 where
-  pub first : RefusesKey text unencrypted_refusal e
-  pub none : (k : SecretKeyRecord) → SecretKeyText text k → ¬ (IsUnencrypted k)

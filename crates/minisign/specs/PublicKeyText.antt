@@ -69,7 +69,7 @@ pub record BarePublicKey (text : List ℕ) (k : PublicKeyRecord) : Type 0 where
 unfoldable pub public_key_label : List ℕ
 public_key_label = codes "minisign public key: "
 
--- the text that is written for a key: its identifier, and its record in base64
+-- the text that is written for a key: its key ID, and its record in base64
 abbrev pub public_key_text : PublicKeyRecord → List ℕ
 public_key_text k =
     line (untrusted_comment_label ++ public_key_label ++ identifier_text k.keynum) ++ line (base64_of (public_key_bytes k))

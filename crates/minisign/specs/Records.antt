@@ -1,11 +1,12 @@
 -- The records that keys and signatures are stored as: fields of fixed lengths, joined in their order.
-use Rattle.std.specs.Prelude.{◌≡◌, ℕ, Bool, ◌<◌, ◌≤◌, List, ◌++◌, length, take, drop, Option, ◌⊎◌, codes, bytes_eq, false}
+use Rattle.std.specs.Prelude.{◌≡◌, ℕ, Bool, ◌<◌, ◌≤◌, List, ◌++◌, length, take, drop, Option, ◌⊎◌, codes, bytes_eq}
+use Rattle.std.specs.Prelude.{false}
 use Rattle.std.specs.Fmt.{digits}
 use Rattle.std.specs.List.{flat_map}
 use Rattle.minisign_base.specs.Fault.{Fault, Named}
 use Rattle.minisign_base.specs.declared.faults.NamedFault.TheVariants.{RecordTooShort, UnsupportedSignatureAlgorithm}
 
--- a public key: 2 bytes of algorithm, 8 of identifier, 32 of key
+-- a public key: 2 bytes of algorithm, 8 of key ID, 32 of key
 pub record PublicKeyRecord : Type 0 where
   pub algorithm : List ℕ
   pub keynum : List ℕ
@@ -22,7 +23,7 @@ pub record ReadsPublicKey (bytes : List ℕ) (k : PublicKeyRecord) : Type 0 wher
   pub key_length : length k.key ≡ 32
   pub front : (rest : List ℕ) × (bytes ≡ public_key_bytes k ++ rest)
 
--- a signature: 2 bytes of algorithm, 8 of identifier, 64 of signature
+-- a signature: 2 bytes of algorithm, 8 of key ID, 64 of signature
 pub record SignatureRecord : Type 0 where
   pub algorithm : List ℕ
   pub keynum : List ℕ
@@ -74,7 +75,7 @@ pub record SignatureBoxRecord : Type 0 where
   pub comments : Option CommentsRecord
 
 -- a secret key: 2 bytes of algorithm, 2 of key derivation, 2 of checksum algorithm, 32 of salt, 8 of
--- operations limit, 8 of memory limit (both little endian), 8 of identifier, 64 of secret, 32 of checksum
+-- operations limit, 8 of memory limit (both little endian), 8 of key ID, 64 of secret, 32 of checksum
 pub record SecretKeyRecord : Type 0 where
   pub algorithm : List ℕ
   pub kdf : List ℕ
@@ -106,7 +107,7 @@ pub record ReadsSecretKey (bytes : List ℕ) (k : SecretKeyRecord) : Type 0 wher
   pub checksum_length : length k.checksum ≡ 32
   pub front : (rest : List ℕ) × (bytes ≡ secret_key_bytes k ++ rest)
 
--- the public key of a secret key: its algorithm, its identifier and the last 32 bytes of its secret
+-- the public key of a secret key: its algorithm, its key ID and the last 32 bytes of its secret
 abbrev pub own_public_key : SecretKeyRecord → PublicKeyRecord
 own_public_key k = record { algorithm = k.algorithm; keynum = k.keynum; key = drop 32 k.secret }
 

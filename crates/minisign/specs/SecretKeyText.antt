@@ -1,32 +1,64 @@
--- The text of a secret key: a line of comment, and a line that is the base64 of the key's record, with
--- nothing before or behind it. What follows these two lines does not matter.
-use Rattle.std.specs.Prelude.{ℕ, IsTrue, nat_le, List, [], ◌∷◌, ◌++◌, length, Option, codes}
+-- Texts of secret keys: what a text reads as, key or first fault; the same as a relation; and the text that is written
+-- for a key.
+use Rattle.std.specs.Prelude.{◌≡◌, ℕ, List, [], ◌∷◌, ◌++◌, length, take, drop, nat_le, Option, Result, Ok, Err, codes}
 use Rattle.std.specs.Option.{unwrap_or}
+use Rattle.std.specs.Str.Lines.{lines}
 use Rattle.minisign_base.specs.Fault.{Fault, Named}
-use Rattle.minisign_base.specs.declared.faults.NamedFault.TheVariants.{MissingSecretKeyComment, MissingEncodedSecretKey, SecretKeyNotBase64, RecordTooShort}
+use Rattle.minisign_base.specs.declared.faults.NamedFault.TheVariants.{MissingSecretKeyComment, MissingEncodedSecretKey}
+use Rattle.minisign_base.specs.declared.faults.NamedFault.TheVariants.{SecretKeyNotBase64, RecordTooShort}
 use Rattle.minisign.specs.Lines.{line}
 use Rattle.minisign.specs.Records.{SecretKeyRecord, ReadsSecretKey, secret_key_bytes}
-use Rattle.minisign.specs.Texts.{IsBase64Of, Test, base64_bytes, base64_of, first_failing, has_line, is_base64, line_at, untrusted_comment_label}
+use Rattle.minisign.specs.Texts.{IsBase64Of, base64_of, base64_bytes, is_base64, require, untrusted_comment_label}
 
--- the text reads as the key
+-- == Reading ==
+
+-- the fields of a key, one behind the other
+unfoldable pub secret_key_of_bytes : List ℕ → SecretKeyRecord
+secret_key_of_bytes bytes = record {
+  algorithm = take 2 bytes;
+  kdf = take 2 (drop 2 bytes);
+  checksum_algorithm = take 2 (drop 4 bytes);
+  salt = take 32 (drop 6 bytes);
+  operations_limit = take 8 (drop 38 bytes);
+  memory_limit = take 8 (drop 46 bytes);
+  keynum = take 8 (drop 54 bytes);
+  secret = take 64 (drop 62 bytes);
+  checksum = take 32 (drop 126 bytes);
+}
+
+-- the key in the first 158 bytes
+abbrev pub read_secret_key_bytes : List ℕ → Result SecretKeyRecord Fault
+read_secret_key_bytes bytes = require (nat_le 158 (length bytes)) RecordTooShort (Ok (secret_key_of_bytes bytes))
+
+-- the key in a line that is base64 as it stands
+abbrev pub secret_key_in_line : List ℕ → Result SecretKeyRecord Fault
+secret_key_in_line encoded =
+    require (is_base64 encoded) SecretKeyNotBase64 (read_secret_key_bytes (base64_bytes encoded))
+
+-- the first line may be anything, and the second has the key; later lines do not matter
+abbrev pub secret_key_in_lines : List (List ℕ) → Result SecretKeyRecord Fault
+secret_key_in_lines [] = Err (Named MissingSecretKeyComment)
+secret_key_in_lines (comment ∷ []) = Err (Named MissingEncodedSecretKey)
+secret_key_in_lines (comment ∷ encoded ∷ later) = secret_key_in_line encoded
+
+-- what a text reads as
+unfoldable pub read_secret_key : List ℕ → Result SecretKeyRecord Fault
+read_secret_key text = secret_key_in_lines (lines text)
+
+-- == The grammar as a relation ==
+
+-- the text reads as the key: the first line may be anything, and the second is the base64 of bytes that begin with the
+-- record of the key, which has 158; later lines do not matter
 pub record SecretKeyText (text : List ℕ) (k : SecretKeyRecord) : Type 0 where
+  pub comment : List ℕ
+  pub encoded : List ℕ
+  pub later : List (List ℕ)
+  pub cut : lines text ≡ comment ∷ encoded ∷ later
   pub bytes : List ℕ
-  pub second_line : IsTrue (has_line 1 text)
-  pub encoded : IsBase64Of (line_at 1 text) bytes
-  pub stored : ReadsSecretKey bytes k
+  pub base64 : IsBase64Of encoded bytes
+  pub reads : ReadsSecretKey bytes k
 
--- the tests of a text, in their order
-abbrev pub secret_key_text_tests : List ℕ → List Test
-secret_key_text_tests text =
-    record { holds = has_line 0 text; fault = Named MissingSecretKeyComment }
-    ∷ record { holds = has_line 1 text; fault = Named MissingEncodedSecretKey }
-    ∷ record { holds = is_base64 (line_at 1 text); fault = Named SecretKeyNotBase64 }
-    ∷ record { holds = nat_le 158 (length (base64_bytes (line_at 1 text))); fault = Named RecordTooShort }
-    ∷ []
-
--- the first case that fails
-abbrev pub secret_key_refusal : List ℕ → Option Fault
-secret_key_refusal text = first_failing (secret_key_text_tests text)
+-- == Writing ==
 
 unfoldable pub default_secret_key_comment : List ℕ
 default_secret_key_comment = codes "rsign encrypted secret key"
@@ -34,4 +66,5 @@ default_secret_key_comment = codes "rsign encrypted secret key"
 -- the text that is written, with the comment that is given or else the default
 unfoldable pub secret_key_text : Option (List ℕ) → SecretKeyRecord → List ℕ
 secret_key_text comment k =
-    line (untrusted_comment_label ++ unwrap_or comment default_secret_key_comment) ++ line (base64_of (secret_key_bytes k))
+    line (untrusted_comment_label ++ unwrap_or comment default_secret_key_comment)
+    ++ line (base64_of (secret_key_bytes k))

@@ -5,7 +5,7 @@ use Rattle.minisign.specs.declared.signed_data.SignedData.{SignedData}
 use Rattle.minisign.specs.declared.signed_data.SignedData.TheVariants.{Digest, Kept, Unkept}
 use Rattle.minisign.specs.Acceptance.{signed_bytes}
 use Rattle.minisign.specs.Records.{SignatureBoxRecord, is_prehashed}
-use Rattle.minisign.specs.Stages.{Flush, Put, Stage, copying_again}
+use Rattle.minisign.specs.Stages.{Flush, Put, Stage, second_copy_stages}
 
 -- the bytes that are held
 abbrev pub held_bytes : SignedData → List ℕ
@@ -25,8 +25,8 @@ abbrev pub AreSigned : List ℕ → SignatureBoxRecord → Bool → List ℕ →
 AreSigned bytes x legacy message = (is_prehashed x.signature || legacy) ≡ true → bytes ≡ signed_bytes x message
 
 -- what is copied of data that was read
-abbrev pub copying_held : Bool → SignedData → List ℕ → List Stage
-copying_held false signed second = []
-copying_held true (Digest digest) second = copying_again digest second
-copying_held true (Kept bytes) second = Put bytes.items ∷ Flush ∷ []
-copying_held true Unkept second = []
+abbrev pub held_copy_stages : Bool → SignedData → List ℕ → List Stage
+held_copy_stages false signed second = []
+held_copy_stages true (Digest digest) second = second_copy_stages digest second
+held_copy_stages true (Kept bytes) second = Put bytes.items ∷ Flush ∷ []
+held_copy_stages true Unkept second = []

@@ -1,14 +1,15 @@
 -- What verifying does stage by stage, and how each stage ends. The devices are the source of the data, the status, and
 -- the output.
-use Rattle.std.specs.Prelude.{◌≡◌, ◌≢◌, ◌⊎◌, ⊤, ℕ, Bool, true, false, ◌&&◌, List, [], ◌∷◌, ◌++◌, Result, Ok, Err, IsErrAnd, MatchResult}
+use Rattle.std.specs.Prelude.{◌≡◌, ◌≢◌, ◌⊎◌, ⊤, ℕ, Bool, true, false, ◌&&◌, List, [], ◌∷◌, ◌++◌, Result, Ok, Err, IsErrAnd}
 use Rattle.minisign_hash.specs.Blake2b.{blake2b_digest}
 use Rattle.minisign_base.specs.Fault.{Fault, Named}
 use Rattle.minisign_base.specs.DeviceCalls.{Flushes, GoesBack, Marks, Puts, RereaderCall, SinkCall}
 use Rattle.minisign_base.specs.Steps.{EndsWith, StepsEnd}
 use Rattle.minisign_base.specs.declared.faults.NamedFault.TheVariants.{DataChanged, GoingBackFailed, OutOfMemory, WritingFailed}
-use Rattle.minisign.specs.Acceptance.{Flags, Refuses, Verifier, Vouches, status_lines}
+use Rattle.minisign.specs.Acceptance.{Flags, Verifier, judge, status_lines}
 use Rattle.minisign.specs.Reading.{Copies, Reads}
 use Rattle.minisign.specs.Records.{PublicKeyRecord, SignatureBoxRecord, is_prehashed}
+use Rattle.minisign.specs.Texts.{IsReadOrNoMemory}
 
 -- a stage: the place is marked; the data is read to its end, which gives these bytes; the box is judged for this
 -- message; the status gets a text; the mark is gone back to; the data is read to its end, and what that gives is put to
@@ -37,8 +38,7 @@ module _ {R W O : Type 0} (reader : RereaderCall R) (status : SinkCall W) (out :
       EndsWith (Marks reader (Ok tt)) GoingBackFailed (Marks reader (Err tt)) answer × (status.new ≡ status.old) × (out.new ≡ out.old)
   StageEnds (Read message) answer = Reads reader message answer × (status.new ≡ status.old) × (out.new ≡ out.old)
   StageEnds (Judge accepts pk x legacy message) answer =
-      MatchResult answer (λ _. Vouches accepts pk x message legacy) (λ e. (e ≡ Named OutOfMemory) ⊎ Refuses accepts pk x message legacy e)
-      × (reader.new ≡ reader.old) × (status.new ≡ status.old) × (out.new ≡ out.old)
+      IsReadOrNoMemory answer (judge accepts pk x message legacy) × (reader.new ≡ reader.old) × (status.new ≡ status.old) × (out.new ≡ out.old)
   StageEnds (Report text) answer =
       ((IsErrAnd answer (λ e. e ≡ Named OutOfMemory) × (status.new ≡ status.old)) ⊎ Puts status text answer)
       × (reader.new ≡ reader.old) × (out.new ≡ out.old)
@@ -62,32 +62,32 @@ module _ {R W O : Type 0} (reader : RereaderCall R) (status : SinkCall W) (out :
       stages (record { reader = reader.old; status = status.old; out = out.old }) (record { reader = reader.new; status = status.new; out = out.new }) answer
 
 -- the data is read, and its place is marked first where it is to be read again
-abbrev pub reading : Bool → List ℕ → List Stage
-reading true message = Mark ∷ Read message ∷ []
-reading false message = Read message ∷ []
+abbrev pub reading_stages : Bool → List ℕ → List Stage
+reading_stages true message = Mark ∷ Read message ∷ []
+reading_stages false message = Read message ∷ []
 
 -- the lines of a box that was accepted are reported
-abbrev pub reporting : Bool → SignatureBoxRecord → List Stage
-reporting true x = []
-reporting false x = Report (status_lines x) ∷ []
+abbrev pub reporting_stages : Bool → SignatureBoxRecord → List Stage
+reporting_stages true x = []
+reporting_stages false x = Report (status_lines x) ∷ []
 
 -- a second reading is copied, which has to have this digest
-abbrev pub copying_again : List ℕ → List ℕ → List Stage
-copying_again digest second = Return ∷ Copy second ∷ Compare digest second ∷ Flush ∷ []
+abbrev pub second_copy_stages : List ℕ → List ℕ → List Stage
+second_copy_stages digest second = Return ∷ Copy second ∷ Compare digest second ∷ Flush ∷ []
 
 -- where the data is to be copied, it is read again where the signature is over its digest, and otherwise it was kept
-abbrev pub copying : Bool → Bool → List ℕ → List ℕ → List Stage
-copying false hashed message second = []
-copying true true message second = copying_again (blake2b_digest 64 message) second
-copying true false message second = Put message ∷ Flush ∷ []
+abbrev pub copying_stages : Bool → Bool → List ℕ → List ℕ → List Stage
+copying_stages false hashed message second = []
+copying_stages true true message second = second_copy_stages (blake2b_digest 64 message) second
+copying_stages true false message second = Put message ∷ Flush ∷ []
 
 -- the data is read again where it is copied out and the signature is over its digest
 abbrev pub is_reread : Bool → SignatureBoxRecord → Bool
 is_reread output x = output && is_prehashed x.signature
 
 -- verifying: the data is read, the box is judged, and that is reported; then the data is copied
-abbrev pub verifying : Verifier → PublicKeyRecord → SignatureBoxRecord → Flags → List ℕ → List ℕ → List Stage
-verifying accepts pk x flags message second =
-    reading (is_reread flags.output x) message
+abbrev pub verifying_stages : Verifier → PublicKeyRecord → SignatureBoxRecord → Flags → List ℕ → List ℕ → List Stage
+verifying_stages accepts pk x flags message second =
+    reading_stages (is_reread flags.output x) message
     ++ (Judge accepts pk x flags.legacy message
-    ∷ (reporting flags.quiet x ++ copying flags.output (is_prehashed x.signature) message second))
+    ∷ (reporting_stages flags.quiet x ++ copying_stages flags.output (is_prehashed x.signature) message second))

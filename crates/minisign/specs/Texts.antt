@@ -1,7 +1,7 @@
 -- What texts of keys and signatures are made of: lines, base64 as RFC 4648 section 4 has it, and tests
 -- in an order.
-use Rattle.std.specs.Prelude.{◌≡◌, ◌↔◌, ◌⊎◌, ℕ, ◌%◌, Bool, if◌then◌else◌, bytes_eq, map, List, [], ◌∷◌, slice_get, slice_index_or, Option, None, Some, Result, Ok, Err, is_some, codes}
-use Rattle.std.specs.Str.Lines.{lines}
+use Rattle.std.specs.Prelude.{◌≡◌, ◌↔◌, ◌⊎◌, ℕ, ◌%◌, Bool, if◌then◌else◌, bytes_eq, map, List, Option, None, Some}
+use Rattle.std.specs.Prelude.{Result, Ok, Err, codes}
 use Rattle.base64.specs.Engines.{standard}
 use Rattle.base64.specs.GeneralPurpose.{IsBytes, encode_of, decoded_bytes_of}
 use Rattle.minisign_base.specs.Fault.{Fault, Named}
@@ -25,17 +25,19 @@ base64_bytes text = map (λ b. b % 256) (decoded_bytes_of standard text)
 unfoldable pub is_base64 : List ℕ → Bool
 is_base64 text = bytes_eq text (base64_of (base64_bytes text))
 
--- a text has a line at this place, counted from 0
-abbrev pub has_line : ℕ → List ℕ → Bool
-has_line n text = is_some (slice_get (lines text) n)
-
--- that line
-abbrev pub line_at : ℕ → List ℕ → List ℕ
-line_at n text = slice_index_or (lines text) n []
-
 -- reading goes on where a test holds, and ends with the fault where it does not
 abbrev pub require : {V : Type 0} → Bool → NamedFault → Result V Fault → Result V Fault
 require holds fault more = if holds then more else Err (Named fault)
+
+-- it ends with the fault that a test names, where it names one
+abbrev pub unless : {V : Type 0} → Option Fault → Result V Fault → Result V Fault
+unless None more = more
+unless (Some e) more = Err e
+
+-- reading goes on with what was read, and ends with the fault where there is one
+abbrev pub and_then : {V W : Type 0} → Result V Fault → (V → Result W Fault) → Result W Fault
+and_then (Ok v) more = more v
+and_then (Err e) more = Err e
 
 -- what is read, as something else
 abbrev pub map_ok : {V W : Type 0} → (V → W) → Result V Fault → Result W Fault
@@ -52,26 +54,6 @@ pub record IsReading {V : Type 0} (reads : V → Type 0) (read : Result V Fault)
   pub value : (v : V) → (read ≡ Ok v) ↔ reads v
   pub one_value : (v w : V) → reads v → reads w → v ≡ w
   pub no_value : (e : Fault) → read ≡ Err e → (v : V) → ¬ (reads v)
-
--- what is asked of a text, and the fault where it does not hold
-pub record Test : Type 0 where
-  pub holds : Bool
-  pub fault : Fault
-
--- the fault of the first test that does not hold
-abbrev pub first_failing : List Test → Option Fault
-first_failing [] = None
-first_failing (t ∷ tests) = if t.holds then first_failing tests else Some t.fault
-
--- a text is refused: this is the first case that fails, and the text reads as no value
-pub record IsRefused {V : Type 0} (reads : V → Type 0) (first : Option Fault) (e : Fault) : Type 0 where
-  pub first_case : first ≡ Some e
-  pub unread : (v : V) → ¬ (reads v)
-
--- no case fails exactly where a text reads as some value, and it reads as one at most
-pub record IsDecided {V : Type 0} (reads : V → Type 0) (first : Option Fault) : Type 0 where
-  pub none_fails : (first ≡ None) ↔ ((v : V) × reads v)
-  pub one_value : (v w : V) → reads v → reads w → v ≡ w
 
 -- how the first line of a written text begins
 unfoldable pub untrusted_comment_label : List ℕ

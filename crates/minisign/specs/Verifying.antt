@@ -7,7 +7,7 @@ use Rattle.minisign_base.specs.DeviceCalls.{IsFlushed, IsSteady, IsUnflushed, Re
 use Rattle.minisign.specs.Records.{PublicKeyRecord, SignatureBoxRecord, is_prehashed}
 use Rattle.minisign.specs.Acceptance.{Flags, Verifier, Vouches, signed_bytes, status_lines}
 use Rattle.minisign.specs.Reading.{IsAhead}
-use Rattle.minisign.specs.Stages.{StagesEnd, copying_again, is_reread, reading, verifying}
+use Rattle.minisign.specs.Stages.{StagesEnd, second_copy_stages, is_reread, reading_stages, verifying_stages}
 
 -- what is to be said of a box that was accepted
 abbrev pub wanted_status : Bool → SignatureBoxRecord → List ℕ
@@ -16,7 +16,7 @@ wanted_status quiet x = if quiet then [] else status_lines x
 -- the data was read to its end, which gave the message, and from its mark to its end again, which gave the copy, as
 -- long as both have one digest
 abbrev pub ReadsTwice : {R O : Type 0} → RereaderCall R → SinkCall O → List ℕ → List ℕ → Type 0
-ReadsTwice reader out message copy = StagesEnd reader unused out (reading true message ++ copying_again (blake2b_digest 64 message) copy) (Ok tt)
+ReadsTwice reader out message copy = StagesEnd reader unused out (reading_stages true message ++ second_copy_stages (blake2b_digest 64 message) copy) (Ok tt)
 
 -- the output holds a copy that the box vouches for, as it does for the message: the two have one digest, or are
 -- the same where the data itself is signed and over a steady source whose bytes are known; it was flushed, and for
@@ -53,4 +53,4 @@ pub record VerifyingSucceeds {R W O : Type 0} (accepts : Verifier) (pk : PublicK
 abbrev pub VerifyingFails : {R W O : Type 0} → Verifier → PublicKeyRecord → SignatureBoxRecord → Flags
     → RereaderCall R → SinkCall W → SinkCall O → Fault → Type 0
 VerifyingFails accepts pk x flags reader status out e =
-    (message : List ℕ) × (second : List ℕ) × StagesEnd reader status out (verifying accepts pk x flags message second) (Err e)
+    (message : List ℕ) × (second : List ℕ) × StagesEnd reader status out (verifying_stages accepts pk x flags message second) (Err e)

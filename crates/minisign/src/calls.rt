@@ -1,22 +1,24 @@
 //! Calls for callers: verifying with texts, and the comment that was signed.
 
-ghost use Rattle.std.specs.Prelude.{◌≡◌, ◌⊎◌, ℕ, List, true, false, string_bytes, MatchResult, IfOk, IfErr, OnOk};
+ghost use Rattle.std.specs.Prelude.{◌≡◌, ◌≤◌, ◌⊎◌, ℕ, List, Err, true, false, length, string_bytes, MatchResult, IfOk, IfErr, OnOk};
 ghost use Rattle.minisign_base.specs.Fault.{Named};
 ghost use Rattle.minisign_base.specs.declared.faults.NamedFault.TheVariants.{OutOfMemory};
-ghost use Rattle.minisign_base.specs.DeviceCalls.{rereader_call, sink_call};
+ghost use Rattle.minisign_base.specs.DeviceCalls.{rereader_call, sink_call, unused};
 ghost use Rattle.minisign_base.specs.Devices.{HasGiven};
-ghost use Rattle.minisign.specs.Calls.{CopiesExactly, CopyIsVouchedWith, CopyVerifiedFails, IsCommentOf, IsCommentVerdict, IsFileVerdict, ReadsExactly, TextsVouchWith, VerifyReaderFails};
-ghost use Rattle.minisign.specs.Headline.{TextsRefuse, VerifiesExactly};
+ghost use Rattle.minisign.specs.Calls.{CopyIsVouchedWith, CopyVerifiedFails, IsCommentOf, IsFileVerdict, TextsVouchWith, VerifyReaderFails};
+ghost use Rattle.minisign.specs.Headline.{WhereNothingFails, verdict};
 ghost use Rattle.minisign.specs.Reading.{IsAhead, ReadingFails, ReadsWhole};
+ghost use Rattle.minisign.specs.Texts.{IsReadOrNoMemory, map_ok};
 ghost use Rattle.minisign.specs.VerifyingTexts.{ReadTexts, TextsFail, VerifyingTextsFails, VerifyingTextsSucceeds};
 
-use crate::memory::MemorySource;
+use crate::in_place::{read_public_key, read_signature};
+use crate::judging::judge_view;
 use crate::options::VerifyOptions;
 use crate::public_key::PublicKey;
-use crate::public_key_box::PublicKeyBox;
-use crate::reading::read_text_file;
+use crate::reading::{read_text_file, zeros};
 use crate::signature_box::SignatureBox;
 use crate::verifying::verify;
+use crate::verifying_texts::read_texts;
 use minisign_base::devices::sinks::{NoSink, Sink};
 use minisign_base::devices::sources::{FileSource, Rereader};
 use minisign_base::scheme::Scheme;
@@ -41,11 +43,12 @@ pub fn verify_with<S: Scheme, R: Rereader, W: Sink, O: Sink>(
     status: &mut W,
     out: &mut O,
 ) -> Result<String>
-    // Over any devices, by its options: the verdict of `verify_texts`, under the same premises.
-    ensures headline { VerifiesExactly (S.accepts scheme.now) pk_text.now sig_text.now
-        (record { quiet = options.quiet; output = options.output; legacy = options.allow_legacy })
-        (rereader_call R.Source R.steady data_reader.old data_reader.new)
-        (sink_call W.Sink status.old status.new) (sink_call O.Sink out.old out.new) result }
+    // Over data that is known, where no device fails, and over a steady source where the data is copied: the answer is the
+    // verdict, a function of the two texts, the data and the flag, or out of memory.
+    ensures headline { WhereNothingFails options.output (rereader_call R.Source R.steady data_reader.old data_reader.new)
+        (sink_call W.Sink status.old status.new) (sink_call O.Sink out.old out.new)
+        (λ message. IsReadOrNoMemory (map_ok string_bytes result)
+        (verdict (S.accepts scheme.now) pk_text.now sig_text.now message options.allow_legacy)) }
 
     // What is returned is the comment that the signature text holds.
     ensures comment { IfOk result (λ t. IsCommentOf sig_text.now (string_bytes t)) }
@@ -68,7 +71,7 @@ pub fn verify_with<S: Scheme, R: Rereader, W: Sink, O: Sink>(
     // Without `output` the reader lost at most some bytes at its front, whatever the result.
     ensures given { options.output ≡ false → HasGiven (R.ahead data_reader.old) (R.ahead data_reader.new) }
 {
-    let (pk, signature_box, comment) = read_texts(alloc, pk_text, sig_text)?;
+    let (pk, signature_box, comment) = read_with_comment(alloc, pk_text, sig_text)?;
     verify(
         alloc,
         scheme,
@@ -85,7 +88,7 @@ pub fn verify_with<S: Scheme, R: Rereader, W: Sink, O: Sink>(
 }
 
 // The key and the box that the texts read as, the key first, and the trusted comment of the box.
-fn read_texts(
+fn read_with_comment(
     alloc: Global,
     pk_text: &str,
     sig_text: &str,
@@ -95,8 +98,7 @@ fn read_texts(
         (TextsFail pk_text.now sig_text.now) }
     ensures comment { IfOk result (λ all. IsCommentOf sig_text.now (string_bytes all.2)) }
 {
-    let pk = PublicKeyBox::from_string(alloc, pk_text)?.into_public_key(alloc)?;
-    let signature_box = SignatureBox::from_string(alloc, sig_text)?;
+    let (pk, signature_box) = read_texts(alloc, pk_text, sig_text)?;
     let comment = signature_box.trusted_comment(alloc)?;
     Ok((pk, signature_box, comment))
 }
@@ -119,20 +121,45 @@ pub fn verify_bytes<S: Scheme>(
     sig_text: &str,
     message: &[u8],
 ) -> Result<String>
-    // Of data in memory: the comment that was signed with it is returned exactly when the two texts
-    // vouch for the data, and otherwise the first reason, or memory ran out. No device can fail.
-    ensures { IsCommentVerdict string_bytes (S.accepts scheme.now) pk_text.now sig_text.now message.now false result }
+    // Of data in memory: the answer is the verdict, a function of the two texts and the data, or out of memory.
+    ensures { IsReadOrNoMemory (map_ok string_bytes result)
+        (verdict (S.accepts scheme.now) pk_text.now sig_text.now message.now false) }
 {
-    verify_with(
-        alloc,
-        scheme,
-        pk_text,
-        sig_text,
-        &mut MemorySource::new(message),
-        VerifyOptions::SILENT,
-        &mut NoSink,
-        &mut NoSink,
-    )
+    let mut room = zeros(alloc, sig_text.len())?;
+    let comment = verify_in_place(scheme, pk_text, sig_text, message, false, &mut room)?;
+    Ok(String::from_str(alloc, comment)?)
+}
+
+/// Verifies that the texts of a public key and of a signature vouch for the data in memory, and returns the trusted
+/// comment, which was signed with the data, where it lies in the text of the signature. Takes no memory: `room` has as
+/// many bytes as the text of the signature at least, and holds afterwards what the comment signature is over, or what it
+/// held before.
+///
+/// These are refused, in this order: the text of the public key, as `read_public_key` says; the text of the signature, as
+/// `read_signature` says; key IDs that differ; a signature over the data itself, unless `allow_legacy`; a signature that
+/// the scheme does not accept; a comment signature that has fewer than 64 bytes, or that the scheme does not accept.
+///
+/// ```
+/// let comment = verify_in_place(&scheme, PUBLIC_KEY, signature, update, false, &mut room)?;
+/// ```
+pub fn verify_in_place<'a, S: Scheme>(
+    scheme: &S,
+    pk_text: &str,
+    sig_text: &'a str,
+    message: &[u8],
+    allow_legacy: bool,
+    room: &mut [u8],
+) -> Result<&'a str>
+    requires { length sig_text.now ≤ length room.old }
+
+    // Of every scheme, all texts and all data: the answer is the verdict, a function of the two texts, the data and the
+    // flag.
+    ensures { map_ok (λ t. t.now) result ≡ verdict (S.accepts scheme.now) pk_text.now sig_text.now message.now allow_legacy }
+{
+    let pk = read_public_key(pk_text)?;
+    let view = read_signature(sig_text)?;
+    judge_view(scheme, &pk, &view, message, allow_legacy, room)?;
+    Ok(view.trusted_comment())
 }
 
 /// Verifies that the text of a public key and the signature text in the file at `sig_path` vouch
@@ -156,12 +183,10 @@ pub fn verify_file<F: Files, S: Scheme>(
     sig_path: &str,
     data_path: &str,
 ) -> Result<String>
-    // Of files by name: on success the text of the key and some signature text vouch for some data,
-    // and the comment is the one that was signed with it; otherwise it is out of memory, `reading
-    // failed` or the fault of a text that is not UTF-8, and no contract says when; or the first
-    // reason for which some texts do not vouch for some data. That the named files are the ones
-    // that are read, the code and tests show.
-    ensures { IsFileVerdict string_bytes (S.accepts scheme.now) pk_text.now result }
+    // Of files by name: the answer is the verdict on the text of the key, some signature text and some data; or out of
+    // memory, `reading failed` or the fault of a text that is not UTF-8, and no contract says when. That the named files
+    // are the ones that are read, the code and tests show.
+    ensures { IsFileVerdict (S.accepts scheme.now) pk_text.now (map_ok string_bytes result) }
 {
     let sig_text = read_text_file(files, alloc, sig_path)?;
     match fs::open(files, data_path) {
@@ -194,21 +219,20 @@ pub fn verify_reader<S: Scheme, R: Rereader>(
     sig_text: &str,
     data_reader: &mut R,
 ) -> Result<String>
-    // Over a source whose bytes are known, if it does not fail: the comment is returned exactly when
-    // the texts vouch for the data, and otherwise the first reason, or memory ran out.
-    ensures headline { ReadsExactly string_bytes (S.accepts scheme.now) pk_text.now sig_text.now
-        (rereader_call R.Source R.steady data_reader.old data_reader.new) result }
+    // Over a source whose bytes are known, if it does not fail: the answer is the verdict, a function of the two texts
+    // and the data, or out of memory.
+    ensures headline { WhereNothingFails false (rereader_call R.Source R.steady data_reader.old data_reader.new) unused unused
+        (λ message. IsReadOrNoMemory (map_ok string_bytes result) (verdict (S.accepts scheme.now) pk_text.now sig_text.now message false)) }
 
     // Whether its bytes are known or not: on success the texts vouch for what was ahead, with the
     // comment that is returned; all of it was read to its end, without a fault.
     ensures vouched { IfOk result (λ t. (message : List ℕ) × ReadsWhole R.Source data_reader.old data_reader.new message
         × TextsVouchWith (S.accepts scheme.now) pk_text.now sig_text.now message false (string_bytes t)) }
 
-    // Otherwise out of memory; or `reading failed`, only if the reader's count of faults rose; or
-    // the first reason.
+    // Otherwise out of memory; or `reading failed`, only if the reader's count of faults rose; or the verdict's refusal.
     ensures refused { IfErr result (λ e. (e ≡ Named OutOfMemory) ⊎ ReadingFails R.Source data_reader.old data_reader.new e
         ⊎ ((message : List ℕ) × IsAhead (R.ahead data_reader.old) message
-        × TextsRefuse (S.accepts scheme.now) pk_text.now sig_text.now message false e)) }
+        × (verdict (S.accepts scheme.now) pk_text.now sig_text.now message false ≡ Err e))) }
 
     // After a refusal a text was refused, or memory ran out for one, with the reader as it was; or
     // it failed at one of the stages of `verify`: at the reading, where memory ran out or the reader
@@ -240,7 +264,7 @@ fn verify_opened_file<S: Scheme, R: Rereader>(
     sig_text: &str,
     data_reader: &mut R,
 ) -> Result<String>
-    ensures { IsFileVerdict string_bytes (S.accepts scheme.now) pk_text.now result }
+    ensures { IsFileVerdict (S.accepts scheme.now) pk_text.now (map_ok string_bytes result) }
 {
     verify_reader(alloc, scheme, pk_text, sig_text, data_reader)
 }
@@ -254,7 +278,7 @@ fn verify_opened_file<S: Scheme, R: Rereader>(
 /// what `verify_bytes` refuses of the data; all these with `out` untouched. Then a source that
 /// cannot go back, `going_back_failed`; a second reading or an `out` that fails, whichever comes
 /// first; a second reading that has another digest, `data_changed`; an `out` that fails at its
-/// flush. It may run out of memory at any time. After any refusal nobody may rely on what `out`
+/// flush. It may run out of memory until the second reading begins. After any refusal nobody may rely on what `out`
 /// holds. On success `out` is flushed.
 ///
 /// ```
@@ -268,10 +292,11 @@ pub fn copy_verified<S: Scheme, R: Rereader, O: Sink>(
     data_reader: &mut R,
     out: &mut O,
 ) -> Result<String>
-    // Over a steady source whose bytes are known, if no device fails: the comment is returned
-    // exactly when the texts vouch for the data, and otherwise the first reason, or memory ran out.
-    ensures headline { CopiesExactly string_bytes (S.accepts scheme.now) pk_text.now sig_text.now
-        (rereader_call R.Source R.steady data_reader.old data_reader.new) (sink_call O.Sink out.old out.new) result }
+    // Over a steady source whose bytes are known, if no device fails: the answer is the verdict, a function of the two
+    // texts and the data, or out of memory.
+    ensures headline { WhereNothingFails true (rereader_call R.Source R.steady data_reader.old data_reader.new) unused
+        (sink_call O.Sink out.old out.new)
+        (λ message. IsReadOrNoMemory (map_ok string_bytes result) (verdict (S.accepts scheme.now) pk_text.now sig_text.now message false)) }
 
     // What the output took and flushed is itself vouched for, with the comment that is returned; a
     // second reading gave it, with the digest of the first; and it is what was ahead of a steady

@@ -9,12 +9,12 @@ ghost use Rattle.minisign_base.specs.Fault.{Named};
 ghost use Rattle.minisign_base.specs.declared.faults.NamedFault.TheVariants.{GoingBackFailed, WritingFailed};
 ghost use Rattle.minisign_base.specs.DeviceCalls.{Flushes, GoesBack, Puts, rereader_call, sink_call, unused};
 ghost use Rattle.minisign.specs.Reading.{Copies, IsCopyFault};
-ghost use Rattle.minisign.specs.Stages.{StagesEnd, copying_again};
-ghost use Rattle.minisign.specs.SignedData.{copying_held};
+ghost use Rattle.minisign.specs.Stages.{StagesEnd, second_copy_stages};
+ghost use Rattle.minisign.specs.SignedData.{held_copy_stages};
 
 use crate::reading::{finished, piece_buffer};
 use crate::signed_data::SignedData;
-use minisign_base::devices::sinks::{Sink, put_all};
+use minisign_base::devices::sinks::{Sink, write_all};
 use minisign_base::devices::sources::Rereader;
 use minisign_base::{NamedFault, Result};
 use minisign_hash::blake2b::Blake2b;
@@ -31,9 +31,9 @@ pub(crate) fn copy_out<R: Rereader, O: Sink>(
 ) -> Result<()>
     ensures { MatchResult result
         (λ _. (second : List ℕ) × StagesEnd (rereader_call R.Source R.steady data_reader.old data_reader.new)
-        unused (sink_call O.Sink out.old out.new) (copying_held output signed.now second) (Ok tt))
+        unused (sink_call O.Sink out.old out.new) (held_copy_stages output signed.now second) (Ok tt))
         (λ e. (second : List ℕ) × StagesEnd (rereader_call R.Source R.steady data_reader.old data_reader.new)
-        unused (sink_call O.Sink out.old out.new) (copying_held output signed.now second) (Err e)) }
+        unused (sink_call O.Sink out.old out.new) (held_copy_stages output signed.now second) (Err e)) }
 {
     if !output {
         return Ok(());
@@ -57,9 +57,9 @@ fn copy_again<R: Rereader, O: Sink>(
 ) -> Result<()>
     ensures { MatchResult result
         (λ _. (second : List ℕ) × StagesEnd (rereader_call R.Source R.steady data_reader.old data_reader.new)
-        unused (sink_call O.Sink out.old out.new) (copying_again digest.now second) (Ok tt))
+        unused (sink_call O.Sink out.old out.new) (second_copy_stages digest.now second) (Ok tt))
         (λ e. (second : List ℕ) × StagesEnd (rereader_call R.Source R.steady data_reader.old data_reader.new)
-        unused (sink_call O.Sink out.old out.new) (copying_again digest.now second) (Err e)) }
+        unused (sink_call O.Sink out.old out.new) (second_copy_stages digest.now second) (Err e)) }
 {
     go_back(data_reader)?;
     let second = copy_hashed(alloc, data_reader, out)?;
@@ -138,7 +138,7 @@ fn go_back<R: Rereader>(data_reader: &mut R) -> Result<()>
 fn put_bytes<O: Sink>(out: &mut O, bytes: &[u8]) -> Result<()>
     ensures { Puts (sink_call O.Sink out.old out.new) bytes.now result }
 {
-    match put_all(out, bytes) {
+    match write_all(out, bytes) {
         Ok(()) => Ok(()),
         Err(_) => Err(NamedFault::WritingFailed.into()),
     }

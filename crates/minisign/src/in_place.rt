@@ -48,7 +48,7 @@ impl<'a> Model for SignatureView<'a> {
 }
 
 impl<'a> SignatureView<'a> {
-    /// The signature, with its algorithm and the identifier of its key.
+    /// The signature, with its algorithm and the key ID of its key.
     pub fn signature(&self) -> &Signature
         ensures { result.now ≡ self.now.signature }
     {

@@ -7,23 +7,21 @@ ghost use Rattle.minisign_base.specs.Devices.{HasGiven};
 ghost use Rattle.minisign_base.specs.Fault.{Named};
 ghost use Rattle.minisign_base.specs.declared.faults.NamedFault.TheVariants.{OutOfMemory};
 ghost use Rattle.minisign_base.specs.DeviceCalls.{random_call, source_call};
-ghost use Rattle.minisign.specs.Calls.{BytesSigningFails, GivesKeyWith, GivesNoKeyWith, PasswordPairFails, PathSigningFails, ReaderSigningFails};
+ghost use Rattle.minisign.specs.Calls.{BytesSigningFails, PasswordPairFails, PathSigningFails, ReaderSigningFails};
 ghost use Rattle.minisign.specs.Generation.{IsSealedPair, OpensToPair};
 ghost use Rattle.minisign.specs.Headline.{SigningHeadline};
 ghost use Rattle.minisign.specs.Reading.{ReadsWhole};
 ghost use Rattle.minisign.specs.Sealing.{is_encrypted};
-ghost use Rattle.minisign.specs.Records.{SecretKeyRecord};
-ghost use Rattle.minisign.specs.SecretKeyText.{SecretKeyText};
 ghost use Rattle.minisign.specs.Signing.{chosen_of, given_comments};
 ghost use Rattle.minisign.specs.SigningTexts.{IsSignedText};
-ghost use Rattle.minisign.specs.OpenedTexts.{IsUnencryptedText, RefusesUnencrypted};
+ghost use Rattle.minisign.specs.OpenedTexts.{key_with_password};
+ghost use Rattle.minisign.specs.Texts.{IsReadOrNoMemory};
 
-use crate::constants::KDF_NONE;
 use crate::keypair::{KeyPair, draw_with_salt, make_sealed_pair};
 use crate::memory::MemorySource;
 use crate::secret_key::SecretKey;
 use crate::signing::GivenComments;
-use crate::signing_texts::sign_opened;
+use crate::signing_texts::{key_of_text, sign_opened};
 use minisign_base::devices::random_sources::RandomSource;
 use minisign_base::devices::sources::{ReaderSource, Source};
 use minisign_base::prompt::{PASSWORD_BYTES, Prompt};
@@ -45,29 +43,12 @@ use std::rt::Files;
 /// let sk = open_with_password(alloc, sk_text, password)?;
 /// ```
 pub fn open_with_password(alloc: Global, sk_text: &str, password: &str) -> Result<SecretKey>
-    // A text gives a key under a password exactly when the key was never sealed and its checksum
-    // matches, or it is sealed and opens; otherwise the first reason, or memory ran out.
-    ensures opens { MatchResult result (GivesKeyWith sk_text.now password.now)
-        (λ e. (e ≡ Named OutOfMemory) ⊎ GivesNoKeyWith sk_text.now password.now e) }
-
-    // The text gives one key at most under the password.
-    ensures one_key { (k l : SecretKeyRecord) → GivesKeyWith sk_text.now password.now k → GivesKeyWith sk_text.now password.now l → k ≡ l }
+    // What the text gives to who has its password: a key that was never sealed as it stands, where
+    // its checksum matches, and any other one opened; otherwise the first fault, or out of memory.
+    ensures { IsReadOrNoMemory result (key_with_password sk_text.now password.now) }
 {
-    let sk = SecretKey::from_text(alloc, sk_text)?;
-    if sk.kdf_alg == KDF_NONE {
-        return unsealed(sk);
-    }
     let passed_in = Some(String::from_str(alloc, password)?);
-    sk.open(alloc, passed_in, &mut Prompt::silent(), None, 1)
-}
-
-// The key, where it was never sealed and its checksum matches.
-fn unsealed(sk: SecretKey) -> Result<SecretKey>
-    ensures { (text : List ℕ) → SecretKeyText text sk →
-        MatchResult result (IsUnencryptedText text) (λ e. (e ≡ Named OutOfMemory) ⊎ RefusesUnencrypted text e) }
-{
-    sk.check_unencrypted()?;
-    Ok(sk)
+    key_of_text(alloc, sk_text, passed_in, &mut Prompt::silent())
 }
 
 impl KeyPair {

@@ -12,11 +12,11 @@ ghost use Rattle.minisign.specs.Sealing.{IsUnencrypted, xored_key};
 ghost use Rattle.minisign.specs.Signing.{DrawFails, HasDrawn};
 ghost use Rattle.minisign_base.specs.Prompts.{ConversationEnds};
 ghost use Rattle.minisign_base.specs.Passwords.{password_of};
-ghost use Rattle.minisign.specs.NewPassword.{IsSealing, choosing, sealing};
+ghost use Rattle.minisign.specs.NewPassword.{IsSealing, choosing_steps, sealing_steps};
 ghost use Rattle.minisign.specs.PublicKeyText.{public_key_text};
-ghost use Rattle.minisign.specs.SecretKeyText.{SecretKeyText, secret_key_text};
+ghost use Rattle.minisign.specs.SecretKeyText.{read_secret_key, secret_key_text};
 ghost use Rattle.minisign.specs.Generation.{AreSeedAndKeynum, HasSealed, IsGenuinePair, IsSealedOf, IsUnsealedPair, OpensOnlyTo, OpensToPair, PartsFail, RawPairFails, SealedPairFails, SealedTextsFail, WritingFails, public_key_of, secret_of, unsealed_key};
-ghost use Rattle.minisign.specs.OpenedTexts.{IsUnencryptedText};
+ghost use Rattle.minisign.specs.OpenedTexts.{read_unencrypted_key};
 
 use crate::constants::SIGALG;
 use crate::drawing::{draw, draw_two};
@@ -72,8 +72,8 @@ impl KeyPair {
         // Each text that reads as an unsealed pair's secret key is accepted by
         // `SecretKey::from_unencrypted_box`.
         ensures texts { IfOk result
-            (λ pair. (text : List ℕ) → SecretKeyText text pair.sk
-            → IsUnencryptedText text pair.sk) }
+            (λ pair. (text : List ℕ) → read_secret_key text ≡ Ok pair.sk
+            → read_unencrypted_key text ≡ Ok pair.sk) }
 
         // On success the random source did not fail.
         ensures no_new_fault { OnOk result (Z.random_faults random.new ≡ Z.random_faults random.old) }
@@ -309,10 +309,10 @@ fn choose_password<R: Source, W: Sink>(alloc: Global, prompt: &mut Prompt<R, W>)
     ensures chosen { IfOk result (λ password. (first : List ℕ) × (second : List ℕ)
         × (password_of first ≡ Ok (string_bytes password))
         × (password_of second ≡ Ok (string_bytes password))
-        × ConversationEnds (prompt_call R.Source W.Sink prompt.old prompt.new) (choosing first second) (Ok tt)) }
+        × ConversationEnds (prompt_call R.Source W.Sink prompt.old prompt.new) (choosing_steps first second) (Ok tt)) }
     ensures refused { IfErr result (λ e. (first : List ℕ) × (second : List ℕ)
         × ConversationEnds (prompt_call R.Source W.Sink prompt.old prompt.new)
-        (choosing first second) (Err e)) }
+        (choosing_steps first second) (Err e)) }
 {
     prompt.say("Please enter a password to protect the secret key.\n")?;
     let password = get_password(alloc, prompt, "Password: ")?;
@@ -333,11 +333,11 @@ fn seal_aloud<S: Scheme, R: Source, W: Sink>(
     prompt: &mut Prompt<R, W>,
 ) -> Result<KeyPair>
     ensures told { OnOk result
-        (ConversationEnds (prompt_call R.Source W.Sink prompt.old prompt.new) sealing (Ok tt)) }
+        (ConversationEnds (prompt_call R.Source W.Sink prompt.old prompt.new) sealing_steps (Ok tt)) }
     ensures sealed { IfOk result
         (λ pair. IsSealedOf (S.public_of scheme.now) drawn.now.seed drawn.now.keynum drawn.now.salt password.now pair.pk pair.sk) }
     ensures refused { IfErr result
-        (λ e. ConversationEnds (prompt_call R.Source W.Sink prompt.old prompt.new) sealing (Err e)) }
+        (λ e. ConversationEnds (prompt_call R.Source W.Sink prompt.old prompt.new) sealing_steps (Err e)) }
 {
     prompt.say("Deriving a key from the password in order to encrypt the secret key... ")?;
     let pair = make_sealed_pair(alloc, scheme, drawn, password)?;
@@ -379,7 +379,7 @@ fn write_texts<P: Sink, K: Sink>(
         (TakesPart (sink_call K.Sink sk_sink.old sk_sink.new)
         (secret_key_text (option_copied comment.entry) pair.now.sk)) }
     ensures reads_back { IfSome comment.entry (λ s. LacksByte 10 s.now)
-        → OnOk result (SecretKeyText (secret_key_text (option_copied comment.entry) pair.now.sk) pair.now.sk) }
+        → OnOk result (read_secret_key (secret_key_text (option_copied comment.entry) pair.now.sk) ≡ Ok pair.now.sk) }
     ensures refused { IfErr result (PartsFail (sink_call P.Sink pk_sink.old pk_sink.new)
         (sink_call K.Sink sk_sink.old sk_sink.new)
         (public_key_text pair.now.pk) (secret_key_text (option_copied comment.entry) pair.now.sk)) }

@@ -13,6 +13,7 @@ mod copying;
 mod drawing;
 mod fields;
 pub mod in_place;
+mod judging;
 pub mod key_calls;
 pub mod keynum;
 pub mod keypair;
@@ -38,7 +39,9 @@ mod texts;
 pub mod verifying;
 pub mod verifying_texts;
 
-pub use calls::{copy_verified, verify_bytes, verify_file, verify_reader, verify_with};
+pub use calls::{
+    copy_verified, verify_bytes, verify_file, verify_in_place, verify_reader, verify_with,
+};
 pub use constants::{
     DEFAULT_COMMENT, SIG_DEFAULT_CONFIG_DIR, SIG_DEFAULT_CONFIG_DIR_ENV_VAR, SIG_DEFAULT_PKFILE,
     SIG_DEFAULT_SKFILE, SIG_SUFFIX,
@@ -67,5 +70,5 @@ pub use signature_box::SignatureBox;
 pub use signing::{default_comments_are_read_back, sign};
 pub use signing_texts::sign_texts;
 pub use texts::texts_are_decided;
-pub use verifying::{unvouched_parts_change_no_verdict, verify};
+pub use verifying::{unvouched_parts_change_no_verdict, verdicts_are_decided, verify};
 pub use verifying_texts::verify_texts;

@@ -14,6 +14,7 @@ use crate::constants::{CHK_ALG, KDF_NONE, SIGALG};
 use crate::keynum::KeynumSK;
 use crate::public_key::PublicKey;
 use crate::public_key_box::PublicKeyBox;
+use crate::sealing::Derivation;
 use crate::secret_key::SecretKey;
 use crate::secret_key_box::SecretKeyBox;
 use minisign_base::Result;
@@ -70,7 +71,8 @@ impl SecretKey {
         ensures refused { IfErr result (IsMakingFault (Some password.now) sealing) }
     {
         let mut sk = self.with_limits(sealing.salt, sealing.operations_limit, sealing.memory_limit);
-        sk.apply_stream(alloc, password, None, k)?;
+        let derivation = Derivation { bound: None, k };
+        sk.apply_stream(alloc, password, derivation)?;
         Ok(sk)
     }
 }

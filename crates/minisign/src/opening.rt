@@ -1,22 +1,23 @@
 //! The key of a text: opened with a password where it is sealed.
 
-ghost use Rattle.std.specs.Prelude.{◌≡◌, ◌≤◌, ◌⊎◌, ℕ, List, None, Some, Ok, false, string_bytes, MatchResult, IfOk, IfErr, OnOk};
+ghost use Rattle.std.specs.Prelude.{◌≡◌, ◌≤◌, ◌⊎◌, ℕ, List, None, Some, Ok, Err, false, string_bytes, IfOk, IfErr, OnOk};
+ghost use Rattle.std.specs.Result.{result_err};
 ghost use Rattle.std.specs.Option.{option_map};
-ghost use Rattle.minisign_base.specs.Fault.{Named};
-ghost use Rattle.minisign_base.specs.declared.faults.NamedFault.TheVariants.{OutOfMemory, WritingFailed, WrongPassword};
-ghost use Rattle.minisign.specs.Records.{SecretKeyRecord};
-ghost use Rattle.minisign.specs.SecretKeyText.{SecretKeyText};
 ghost use Rattle.minisign.specs.Headline.{OpeningHeadline};
-ghost use Rattle.minisign.specs.Sealing.{checksum_refusal, is_encrypted, kdf_refusal, password_refusal, unencrypted_refusal, work_refusal, xored_key};
-ghost use Rattle.minisign.specs.Opening.{IsFileOpening, IsOpening, ending, opening, telling};
+ghost use Rattle.minisign.specs.Sealing.{checksum_refusal, is_encrypted, open_sealed, sealed_by_scrypt};
+ghost use Rattle.minisign.specs.Opening.{IsFileOpening, IsOpening, ending_steps, opening_steps, telling_steps};
 ghost use Rattle.minisign.specs.PromptTexts.{asking_text, deriving_text, done_text};
 ghost use Rattle.minisign_base.specs.DeviceCalls.{prompt_call};
-ghost use Rattle.minisign_base.specs.Prompts.{ConversationEnds, Say, StepEnds, asking};
+ghost use Rattle.minisign_base.specs.Prompts.{ConversationEnds, Say, StepEnds, asking_steps};
 ghost use Rattle.minisign_base.specs.Passwords.{password_of};
-ghost use Rattle.minisign.specs.OpenedTexts.{IsUnencryptedText, RefusesKey, RefusesUnencrypted};
+ghost use Rattle.minisign_base.specs.Steps.{without_value};
+ghost use Rattle.minisign.specs.OpenedTexts.{read_unencrypted_key};
+ghost use Rattle.minisign.specs.SecretKeyText.{read_secret_key};
+ghost use Rattle.minisign.specs.Texts.{IsReadOrNoMemory};
 
 use crate::constants::{KDF_ALG, KDF_NONE};
 use crate::reading::read_text_file;
+use crate::sealing::Derivation;
 use crate::secret_key::SecretKey;
 use crate::secret_key_box::SecretKeyBox;
 use minisign_base::devices::sinks::Sink;
@@ -48,10 +49,7 @@ impl SecretKeyBox {
     /// The key, where it was never sealed: `SecretKey::from_unencrypted_box`.
     pub fn into_unencrypted_secret_key(self, alloc: Global) -> Result<SecretKey>
         // The text that it holds is read, and refused, as `SecretKey::from_unencrypted_box` says.
-        ensures outcome { MatchResult result (IsUnencryptedText self)
-            (λ e. (e ≡ Named OutOfMemory) ⊎ RefusesUnencrypted self e) }
-        ensures one_reading { IfOk result
-            (λ v. (other : SecretKeyRecord) → SecretKeyText self other → other ≡ v) }
+        ensures { IsReadOrNoMemory result (read_unencrypted_key self) }
     {
         SecretKey::from_unencrypted_box(alloc, self)
     }
@@ -98,7 +96,8 @@ impl SecretKey {
         ensures headline { OpeningHeadline
             (option_map string_bytes password) sk_box None result }
     {
-        SecretKey::open_box(alloc, sk_box, password, prompt, None, 1)
+        let derivation = Derivation { bound: None, k: 1 };
+        SecretKey::open_box(alloc, sk_box, password, prompt, derivation)
     }
 
     /// Reads a sealed key and opens it with the password in a fraction of the memory: `from_box`
@@ -122,7 +121,8 @@ impl SecretKey {
         ensures headline { OpeningHeadline
             (option_map string_bytes password) sk_box None result }
     {
-        SecretKey::open_box(alloc, sk_box, password, prompt, None, k)
+        let derivation = Derivation { bound: None, k };
+        SecretKey::open_box(alloc, sk_box, password, prompt, derivation)
     }
 
     /// Reads a sealed key and opens it with the password, within a bound on the work of a
@@ -148,10 +148,8 @@ impl SecretKey {
         prompt: &mut Prompt<R, W>,
         max_p: u32,
     ) -> Result<SecretKey>
-        // With a password that is passed in: the text reads as a key that opens under it within the
-        // bound, and what is returned is this key opened; otherwise out of memory, or the first
-        // reason, and no key that the text reads as opens in this way. The prompt is left
-        // untouched.
+        // With a password that is passed in: what the text opens to under it within the bound, key
+        // or first fault, or out of memory. The prompt is left untouched.
         //
         // With a password that is asked for: what was typed opens the key so, and the prompt wrote
         // what docs/FORMATS.md says; a text that no password opens, and running out of
@@ -160,12 +158,15 @@ impl SecretKey {
         ensures opens { IsOpening (prompt_call R.Source W.Sink prompt.old prompt.new)
             (option_map string_bytes password) sk_box (Some max_p) result }
 
-        // In one piece, for a key that the text reads as and that is sealed by scrypt: it opens
-        // exactly when its limits are allowed and the stream of RFC 7914 restores its checksum.
+        // In one piece, with a password that is passed in: a text opens exactly when it reads as a
+        // key that is sealed by scrypt, its limits are allowed and within the bound, and the stream
+        // of RFC 7914 restores its checksum.
         ensures headline { OpeningHeadline (option_map string_bytes password) sk_box
             (Some max_p) result }
     {
-        SecretKey::open_box(alloc, sk_box, password, prompt, Some(max_p), 1)
+        let bound = Some(max_p);
+        let derivation = Derivation { bound, k: 1 };
+        SecretKey::open_box(alloc, sk_box, password, prompt, derivation)
     }
 
     /// Reads a sealed key and opens it with the password, within a bound on the work and in a
@@ -192,7 +193,9 @@ impl SecretKey {
         ensures headline { OpeningHeadline (option_map string_bytes password) sk_box
             (Some max_p) result }
     {
-        SecretKey::open_box(alloc, sk_box, password, prompt, Some(max_p), k)
+        let bound = Some(max_p);
+        let derivation = Derivation { bound, k };
+        SecretKey::open_box(alloc, sk_box, password, prompt, derivation)
     }
 
     /// Reads a key that was never sealed. Its text is read as two lines: one of comment, and one
@@ -204,34 +207,30 @@ impl SecretKey {
     /// bytes; a checksum that does not match.
     pub fn from_unencrypted_box(alloc: Global, sk_box: SecretKeyBox) -> Result<SecretKey>
         // A key that was never sealed is read exactly when its text reads as a key, names no key
-        // derivation and has a matching checksum, and it is the only key that the text reads as;
-        // otherwise out of memory or the first reason.
-        ensures outcome { MatchResult result (IsUnencryptedText sk_box)
-            (λ e. (e ≡ Named OutOfMemory) ⊎ RefusesUnencrypted sk_box e) }
-        ensures one_reading { IfOk result
-            (λ v. (other : SecretKeyRecord) → SecretKeyText sk_box other → other ≡ v) }
+        // derivation and has a matching checksum; otherwise it is the first fault, or out of memory.
+        ensures { IsReadOrNoMemory result (read_unencrypted_key sk_box) }
     {
-        SecretKey::unencrypted_from_text(alloc, sk_box.as_str())
+        let sk = SecretKey::from_text(alloc, sk_box.as_str())?;
+        sk.test_unencrypted()?;
+        Ok(sk)
     }
 
-    // Reads a sealed key and opens it, within a bound on the parallelization where there is one,
-    // with every k-th row kept.
+    // Reads a sealed key and opens it.
     fn open_box<R: Source, W: Sink>(
         alloc: Global,
         sk_box: SecretKeyBox,
         password: Option<String>,
         prompt: &mut Prompt<R, W>,
-        bound: Option<u32>,
-        k: u64,
+        derivation: Derivation,
     ) -> Result<SecretKey>
-        requires kept { 1 ≤ k }
+        requires kept { 1 ≤ derivation.k }
         ensures opens { IsOpening (prompt_call R.Source W.Sink prompt.old prompt.new)
-            (option_map string_bytes password) sk_box bound result }
+            (option_map string_bytes password) sk_box derivation.bound result }
         ensures headline { OpeningHeadline
-            (option_map string_bytes password) sk_box bound result }
+            (option_map string_bytes password) sk_box derivation.bound result }
     {
         let sk = SecretKey::from_text(alloc, sk_box.as_str())?;
-        sk.open(alloc, password, prompt, bound, k)
+        sk.open(alloc, password, prompt, derivation)
     }
 
     // Opens the sealed key that a text reads as, with a password that is passed in or asked for.
@@ -240,54 +239,24 @@ impl SecretKey {
         alloc: Global,
         password: Option<String>,
         prompt: &mut Prompt<R, W>,
-        bound: Option<u32>,
-        k: u64,
+        derivation: Derivation,
     ) -> Result<SecretKey>
-        requires { 1 ≤ k }
-        ensures opens { (text : List ℕ) → SecretKeyText text self →
+        requires { 1 ≤ derivation.k }
+        ensures opens { (text : List ℕ) → read_secret_key text ≡ Ok self →
             IsOpening (prompt_call R.Source W.Sink prompt.old prompt.new)
-            (option_map string_bytes password) text bound result }
+            (option_map string_bytes password) text derivation.bound result }
         ensures opened { IfOk result (λ v. is_encrypted v ≡ false) }
     {
-        self.check_sealed()?;
+        self.test_sealed()?;
         match password {
-            Some(password) => self.open_with(alloc, password.as_bytes(), bound, k),
-            None => self.open_asking(alloc, prompt, bound, k),
+            Some(password) => self.open_with(alloc, password.as_bytes(), derivation),
+            None => self.open_asking(alloc, prompt, derivation),
         }
-    }
-
-    // Reads the text of a key that was never sealed.
-    fn unencrypted_from_text(alloc: Global, text: &str) -> Result<SecretKey>
-        ensures unencrypted { IfOk result
-            (λ v. SecretKeyText text.now v × (unencrypted_refusal v ≡ None)) }
-        ensures refused { IfErr result
-            (λ e. (e ≡ Named OutOfMemory) ⊎ RefusesKey text.now unencrypted_refusal e) }
-        ensures one_reading { IfOk result
-            (λ v. (other : SecretKeyRecord) → SecretKeyText text.now other → other ≡ v) }
-    {
-        let sk = SecretKey::from_text(alloc, text)?;
-        sk.check_unencrypted()?;
-        Ok(sk)
-    }
-
-    // Tests that the key was never sealed, and then its checksum.
-    pub(crate) fn check_unencrypted(&self) -> Result<()>
-        ensures { MatchResult result (λ _. unencrypted_refusal self.now ≡ None)
-            (λ e. unencrypted_refusal self.now ≡ Some e) }
-    {
-        if self.kdf_alg != KDF_NONE {
-            return Err(NamedFault::KeyMightBeEncrypted.into());
-        }
-        if self.keynum_sk.chk != self.read_checksum() {
-            return Err(NamedFault::CorruptedKey.into());
-        }
-        Ok(())
     }
 
     // Tests that the key is sealed, and by scrypt.
-    fn check_sealed(&self) -> Result<()>
-        ensures { MatchResult result (λ _. kdf_refusal self.now ≡ None)
-            (λ e. kdf_refusal self.now ≡ Some e) }
+    fn test_sealed(&self) -> Result<()>
+        ensures { result ≡ without_value (sealed_by_scrypt self.now) }
     {
         if self.kdf_alg == KDF_NONE {
             return Err(NamedFault::KeyNotEncrypted.into());
@@ -303,21 +272,19 @@ impl SecretKey {
         self,
         alloc: Global,
         prompt: &mut Prompt<R, W>,
-        bound: Option<u32>,
-        k: u64,
+        derivation: Derivation,
     ) -> Result<SecretKey>
-        requires { 1 ≤ k }
+        requires { 1 ≤ derivation.k }
         ensures opened { IfOk result (λ v. (bytes : List ℕ) × (password : List ℕ)
-            × (password_of bytes ≡ Ok password) × (v ≡ xored_key self password)
-            × (password_refusal self password bound ≡ None)
+            × (password_of bytes ≡ Ok password) × (open_sealed self password derivation.bound ≡ Ok v)
             × ConversationEnds (prompt_call R.Source W.Sink prompt.old prompt.new)
-            (opening self bound bytes) (Ok tt)) }
+            (opening_steps self derivation.bound bytes) (Ok tt)) }
         ensures refused { IfErr result (λ e. (bytes : List ℕ)
             × ConversationEnds (prompt_call R.Source W.Sink prompt.old prompt.new)
-            (opening self bound bytes) (Err e)) }
+            (opening_steps self derivation.bound bytes) (Err e)) }
     {
         let password = ask_password(alloc, prompt)?;
-        self.open_telling(alloc, password.as_bytes(), prompt, bound, k)
+        self.open_telling(alloc, password.as_bytes(), prompt, derivation)
     }
 
     // Opens a sealed key, and says so before the derivation and behind it.
@@ -326,64 +293,43 @@ impl SecretKey {
         alloc: Global,
         password: &[u8],
         prompt: &mut Prompt<R, W>,
-        bound: Option<u32>,
-        k: u64,
+        derivation: Derivation,
     ) -> Result<SecretKey>
-        requires { 1 ≤ k }
-        ensures opened { IfOk result
-            (λ v. (v ≡ xored_key self password.now)
-            × (password_refusal self password.now bound ≡ None)
-            × ConversationEnds (prompt_call R.Source W.Sink prompt.old prompt.new)
-            (telling self password.now bound) (Ok tt)) }
-        ensures refused { IfErr result
-            (λ e. ConversationEnds (prompt_call R.Source W.Sink prompt.old prompt.new)
-            (telling self password.now bound) (Err e)) }
+        requires { 1 ≤ derivation.k }
+        ensures opened { IfOk result (λ v. open_sealed self password.now derivation.bound ≡ Ok v) }
+        ensures ended { ConversationEnds (prompt_call R.Source W.Sink prompt.old prompt.new)
+            (telling_steps self password.now derivation.bound) (without_value result) }
     {
         say_deriving(prompt)?;
         let mut sk = self;
-        sk.apply_stream(alloc, password, bound, k)?;
+        sk.apply_stream(alloc, password, derivation)?;
         sk.finish_telling(prompt)?;
         Ok(sk)
     }
 
     // Says that the key was derived, and only then tests that opening restored the checksum.
     fn finish_telling<R: Source, W: Sink>(&self, prompt: &mut Prompt<R, W>) -> Result<()>
-        ensures held { OnOk result
-            (ConversationEnds (prompt_call R.Source W.Sink prompt.old prompt.new) (ending self.now) (Ok tt)) }
-        ensures restored { OnOk result (checksum_refusal self.now (Named WrongPassword) ≡ None) }
-        ensures refused { IfErr result
-            (λ e. ConversationEnds (prompt_call R.Source W.Sink prompt.old prompt.new) (ending self.now) (Err e)) }
+        ensures ended { ConversationEnds (prompt_call R.Source W.Sink prompt.old prompt.new) (ending_steps self.now) result }
+        ensures restored { OnOk result (checksum_refusal self.now ≡ None) }
     {
         say_done(prompt)?;
-        self.check_restored()
+        self.test_restored()
     }
 
     // Opens a sealed key with a password that was passed in.
-    fn open_with(
-        self,
-        alloc: Global,
-        password: &[u8],
-        bound: Option<u32>,
-        k: u64,
-    ) -> Result<SecretKey>
-        requires { 1 ≤ k }
-        ensures opened { IfOk result
-            (λ v. (v ≡ xored_key self password.now)
-            × (password_refusal self password.now bound ≡ None)) }
-        ensures refused { IfErr result
-            (λ e. ((e ≡ Named OutOfMemory) × (work_refusal self bound ≡ None))
-            ⊎ (password_refusal self password.now bound ≡ Some e)) }
+    fn open_with(self, alloc: Global, password: &[u8], derivation: Derivation) -> Result<SecretKey>
+        requires { 1 ≤ derivation.k }
+        ensures { IsReadOrNoMemory result (open_sealed self password.now derivation.bound) }
     {
         let mut sk = self;
-        sk.apply_stream(alloc, password, bound, k)?;
-        sk.check_restored()?;
+        sk.apply_stream(alloc, password, derivation)?;
+        sk.test_restored()?;
         Ok(sk)
     }
 
     // Tests that opening restored the checksum.
-    fn check_restored(&self) -> Result<()>
-        ensures { MatchResult result (λ _. checksum_refusal self.now (Named WrongPassword) ≡ None)
-            (λ e. checksum_refusal self.now (Named WrongPassword) ≡ Some e) }
+    fn test_restored(&self) -> Result<()>
+        ensures { checksum_refusal self.now ≡ result_err result }
     {
         if self.keynum_sk.chk != self.read_checksum() {
             return Err(NamedFault::WrongPassword.into());
@@ -398,10 +344,10 @@ fn ask_password<R: Source, W: Sink>(alloc: Global, prompt: &mut Prompt<R, W>) ->
     ensures asked { IfOk result (λ password. (bytes : List ℕ)
         × (password_of bytes ≡ Ok (string_bytes password))
         × ConversationEnds (prompt_call R.Source W.Sink prompt.old prompt.new)
-        (asking asking_text bytes) (Ok tt)) }
+        (asking_steps asking_text bytes) (Ok tt)) }
     ensures refused { IfErr result (λ e. (bytes : List ℕ)
         × ConversationEnds (prompt_call R.Source W.Sink prompt.old prompt.new)
-        (asking asking_text bytes) (Err e)) }
+        (asking_steps asking_text bytes) (Err e)) }
 {
     get_password(alloc, prompt, "Password: ")
 }

@@ -1,17 +1,18 @@
 //! The parts of keys and boxes that a caller needs whose signature scheme stands outside.
 
-ghost use Rattle.std.specs.Prelude.{◌≡◌, None, Some, IfOk, IfErr, MatchOption, MatchResult, IsSomeAnd};
+ghost use Rattle.std.specs.Prelude.{◌≡◌, None, Some, IfOk, IfErr, MatchOption, IsSomeAnd};
 ghost use Rattle.minisign_base.specs.Fault.{Named};
 ghost use Rattle.minisign_base.specs.declared.faults.NamedFault.TheVariants.{OutOfMemory};
 ghost use Rattle.minisign.specs.Records.{prehashed_algorithm};
-ghost use Rattle.minisign.specs.Sealing.{IsUnencrypted, unencrypted_refusal};
+ghost use Rattle.minisign_base.specs.Steps.{without_value};
+ghost use Rattle.minisign.specs.Sealing.{unencrypted_key};
 
-use crate::constants::SIGALG_PREHASHED;
+use crate::constants::{KDF_NONE, SIGALG_PREHASHED};
 use crate::public_key::PublicKey;
 use crate::secret_key::SecretKey;
 use crate::signature::Signature;
 use crate::signature_box::{Comments, SignatureBox};
-use minisign_base::Result;
+use minisign_base::{NamedFault, Result};
 use std::alloc::Global;
 
 impl PublicKey {
@@ -22,7 +23,7 @@ impl PublicKey {
         &self.keynum_pk.pk
     }
 
-    /// The identifier, as an array.
+    /// The key ID, as an array.
     pub fn key_id(&self) -> &[u8; 8]
         ensures { result.now ≡ self.now.keynum }
     {
@@ -31,7 +32,7 @@ impl PublicKey {
 }
 
 impl SecretKey {
-    /// The identifier, as an array, as it stands: of a sealed key the sealed one.
+    /// The key ID, as an array, as it stands: of a sealed key the sealed one.
     pub fn key_id(&self) -> &[u8; 8]
         ensures { result.now ≡ self.now.keynum }
     {
@@ -65,15 +66,20 @@ impl SecretKey {
     pub fn test_unencrypted(&self) -> Result<()>
         // A key is taken exactly if it was never sealed and its checksum matches; otherwise it is
         // the first reason.
-        ensures { MatchResult result (λ _. IsUnencrypted self.now)
-            (λ e. (unencrypted_refusal self.now ≡ Some e) × ¬ (IsUnencrypted self.now)) }
+        ensures { result ≡ without_value (unencrypted_key self.now) }
     {
-        self.check_unencrypted()
+        if self.kdf_alg != KDF_NONE {
+            return Err(NamedFault::KeyMightBeEncrypted.into());
+        }
+        if self.keynum_sk.chk != self.read_checksum() {
+            return Err(NamedFault::CorruptedKey.into());
+        }
+        Ok(())
     }
 }
 
 impl SignatureBox {
-    /// The box of a signature over the digest of the data, under the identifier of the key that
+    /// The box of a signature over the digest of the data, under the key ID of the key that
     /// signed, with both comments and the signature of that signature followed by the trusted one.
     /// Nothing of it is tested. Only running out of memory is refused.
     pub fn from_parts(
@@ -106,7 +112,7 @@ impl SignatureBox {
         })
     }
 
-    /// The signature, with its algorithm and the identifier of its key.
+    /// The signature, with its algorithm and the key ID of its key.
     pub fn signature(&self) -> &Signature
         ensures { result.now ≡ self.now.signature }
     {

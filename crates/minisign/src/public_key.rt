@@ -25,7 +25,7 @@ use std::alloc::Global;
 use std::marker::Model;
 use std::rt::Files;
 
-/// A public key: an algorithm of 2 bytes, an identifier of 8 and a key of 32. The algorithm is kept
+/// A public key: an algorithm of 2 bytes, a key ID of 8 and a key of 32. The algorithm is kept
 /// as it was read and never tested.
 #[derive(Clone, Debug, Drop)]
 pub struct PublicKey {
@@ -44,14 +44,14 @@ impl Model for PublicKey {
 impl PublicKey {
     ghost use Rattle.minisign.specs.Records.{PublicKeyRecord, ReadsPublicKey, public_key_bytes};
 
-    /// The identifier, 8 bytes.
+    /// The key ID, 8 bytes.
     pub fn keynum(&self) -> &[u8]
         ensures { result.now ≡ self.now.keynum }
     {
         &self.keynum_pk.keynum[..]
     }
 
-    /// Reads the 42 bytes at the front: algorithm, identifier, key. Fewer bytes are refused, and
+    /// Reads the 42 bytes at the front: algorithm, key ID, key. Fewer bytes are refused, and
     /// later ones are ignored. Takes no memory.
     pub fn from_bytes(bytes: &[u8]) -> Result<PublicKey>
         // The lists that begin with a record are read as that record; exactly those that are too
@@ -108,10 +108,10 @@ impl PublicKey {
         read_bare_public_key(text)
     }
 
-    /// The public key of a secret key: its algorithm, its identifier and the last 32 bytes of its
+    /// The public key of a secret key: its algorithm, its key ID and the last 32 bytes of its
     /// secret, as they stand in a sealed key too. Never refuses, and takes no memory.
     pub fn from_secret_key(sk: &SecretKey) -> Result<PublicKey>
-        // A public key made from a secret one has its algorithm, its identifier as it stands, and
+        // A public key made from a secret one has its algorithm, its key ID as it stands, and
         // the last 32 of its secret bytes; making it never fails.
         ensures succeeds { IsOk result }
         ensures key { IfOk result (λ v. v ≡ own_public_key sk.now) }
@@ -129,7 +129,7 @@ impl PublicKey {
     }
 
     /// The text of the key, two lines: `untrusted comment: minisign public key: ` and the
-    /// identifier, read little endian, in 16 upper hexadecimal digits; the base64 of the 42 bytes.
+    /// key ID, read little endian, in 16 upper hexadecimal digits; the base64 of the 42 bytes.
     /// Only running out of memory is refused.
     pub fn to_box(&self, alloc: Global) -> Result<PublicKeyBox>
         // The text of a key, and its base64, are the ones by definition, and read as this key; the
@@ -198,7 +198,7 @@ impl PublicKey {
     }
 }
 
-/// Two public keys are equal where their 32 key bytes are, whatever their identifiers.
+/// Two public keys are equal where their 32 key bytes are, whatever their key IDs.
 impl PartialEq for PublicKey {
     ghost eq = { λ a b. bytes_eq a.key b.key };
 

@@ -148,7 +148,7 @@ pub(crate) fn piece_buffer(alloc: Global) -> Result<Vec<u8>>
 }
 
 // A buffer of zeros.
-fn zeros(alloc: Global, len: usize) -> Result<Vec<u8>>
+pub(crate) fn zeros(alloc: Global, len: usize) -> Result<Vec<u8>>
     ensures len { IfOk result (λ v. vec_len v ≡ len) }
     ensures refused { IfErr result (λ e. e ≡ Named OutOfMemory) }
 {

@@ -21,6 +21,14 @@ const MEMLIMIT_MAX: u64 = 1073741824;
 // The logarithm to base 2 of the greatest cost of a key that is sealed or opened.
 const N_LOG2_MAX: u8 = 20;
 
+// How much work and memory a derivation may take: within a bound on the parallelization, where there
+// is one, and with every k-th row of scrypt kept, for k from 1 on.
+#[derive(Clone, Copy)]
+pub(crate) struct Derivation {
+    pub(crate) bound: Option<u32>,
+    pub(crate) k: u64,
+}
+
 impl SecretKey {
     // Seals a key that is not sealed, with a salt and the limits by default.
     pub(crate) fn seal(self, alloc: Global, salt: [u8; 32], password: &[u8]) -> Result<SecretKey>
@@ -31,7 +39,8 @@ impl SecretKey {
         ensures refused { IfErr result (λ e. e ≡ Named OutOfMemory) }
     {
         let mut sk = self.with_limits(salt, OPSLIMIT, MEMLIMIT);
-        sk.apply_stream(alloc, password, None, 1)?;
+        let derivation = Derivation { bound: None, k: 1 };
+        sk.apply_stream(alloc, password, derivation)?;
         Ok(sk)
     }
 
@@ -53,26 +62,24 @@ impl SecretKey {
 
     // Xors the last 104 bytes of the record with the stream under the password: opens a sealed key,
     // and seals an opened one. Limits that are not allowed are refused before anything is derived,
-    // and then a parallelization above the bound; neither takes memory. Every k-th row of scrypt is
-    // kept.
+    // and then a parallelization above the bound; neither takes memory.
     #[tactic(auto, using(crate::proofs::SealedParts::restored_key))]
     pub(crate) fn apply_stream(
         &mut self,
         alloc: Global,
         password: &[u8],
-        bound: Option<u32>,
-        k: u64,
+        derivation: Derivation,
     ) -> Result<()>
-        requires { 1 ≤ k }
+        requires { 1 ≤ derivation.k }
         ensures xored { OnOk result (self.new ≡ xored_key self.old password.now) }
         ensures restores { OnOk result (xored_key self.new password.now ≡ self.old) }
-        ensures allowed { OnOk result (work_refusal self.old bound ≡ None) }
+        ensures allowed { OnOk result (work_refusal self.old derivation.bound ≡ None) }
         ensures refused { IfErr result
-            (λ e. ((e ≡ Named OutOfMemory) × (work_refusal self.old bound ≡ None))
-            ⊎ (work_refusal self.old bound ≡ Some e)) }
+            (λ e. ((e ≡ Named OutOfMemory) × (work_refusal self.old derivation.bound ≡ None))
+            ⊎ (work_refusal self.old derivation.bound ≡ Some e)) }
         ensures same { OnErr result (self.new ≡ self.old) }
     {
-        let stream = derive_stream(alloc, self, password, bound, k)?;
+        let stream = derive_stream(alloc, self, password, derivation)?;
         self.xor_keynum(&stream);
         Ok(())
     }
@@ -107,18 +114,24 @@ fn derive_stream(
     alloc: Global,
     sk: &SecretKey,
     password: &[u8],
-    bound: Option<u32>,
-    k: u64,
+    derivation: Derivation,
 ) -> Result<[u8; 104]>
-    requires { 1 ≤ k }
+    requires { 1 ≤ derivation.k }
     ensures stream { IfOk result (λ s. s ≡ stream_of sk.now password.now) }
-    ensures allowed { OnOk result (work_refusal sk.now bound ≡ None) }
-    ensures refused { IfErr result (λ e. ((e ≡ Named OutOfMemory) × (work_refusal sk.now bound ≡ None))
-        ⊎ (work_refusal sk.now bound ≡ Some e)) }
+    ensures allowed { OnOk result (work_refusal sk.now derivation.bound ≡ None) }
+    ensures refused { IfErr result (λ e. ((e ≡ Named OutOfMemory) × (work_refusal sk.now derivation.bound ≡ None))
+        ⊎ (work_refusal sk.now derivation.bound ≡ Some e)) }
 {
-    let params = bounded_params(sk, bound)?;
+    let params = bounded_params(sk, derivation.bound)?;
     let mut stream = [0u8; 104];
-    scrypt_keeping(alloc, password, &sk.kdf_salt, &params, k, &mut stream)?;
+    scrypt_keeping(
+        alloc,
+        password,
+        &sk.kdf_salt,
+        &params,
+        derivation.k,
+        &mut stream,
+    )?;
     Ok(stream)
 }
 

@@ -1,10 +1,10 @@
 //! A secret key, which signs.
 
-ghost use Rattle.std.specs.Prelude.{◌≡◌, ◌<◌, Some, length, MatchResult, IfOk, IfErr, bytes_eq};
+ghost use Rattle.std.specs.Prelude.{◌≡◌, Some, Ok, IfOk, IfErr, bytes_eq};
 ghost use Rattle.std.specs.Cmp.{on_per, on_equiv, partial_equiv_from_equiv};
 ghost use Rattle.std.specs.Cmp.Lexicographic.{nat_list_eq_equiv};
 ghost use Rattle.minisign_base.specs.Fault.{Named};
-ghost use Rattle.minisign_base.specs.declared.faults.NamedFault.TheVariants.{OutOfMemory, RecordTooShort};
+ghost use Rattle.minisign_base.specs.declared.faults.NamedFault.TheVariants.{OutOfMemory};
 
 use crate::constants::KDF_NONE;
 use crate::fields::{push_three, split_three};
@@ -50,7 +50,8 @@ impl Model for SecretKey {
 }
 
 impl SecretKey {
-    ghost use Rattle.minisign.specs.Records.{SecretKeyRecord, ReadsSecretKey, secret_key_bytes};
+    ghost use Rattle.minisign.specs.Records.{secret_key_bytes};
+    ghost use Rattle.minisign.specs.SecretKeyText.{read_secret_key_bytes};
     ghost use Rattle.minisign.specs.Sealing.{checksum_of, is_encrypted};
 
     // The checksum that the other fields call for.
@@ -95,8 +96,7 @@ impl SecretKey {
     pub fn from_bytes(bytes: &[u8]) -> Result<SecretKey>
         // The lists that begin with a record are read as that record; exactly those that are too
         // short are refused.
-        ensures { MatchResult result (ReadsSecretKey bytes.now)
-            (λ e. (e ≡ Named RecordTooShort) × (length bytes.now < 158)) }
+        ensures { result ≡ read_secret_key_bytes bytes.now }
     {
         let (sig_alg, kdf_alg, chk_alg, rest) = split_three(bytes)?;
         let (kdf_salt, kdf_opslimit_le, kdf_memlimit_le, rest) = split_three(rest)?;
@@ -117,9 +117,7 @@ impl SecretKey {
         // The bytes are those of the record, and are read as this record and no other; the only
         // refusal is out of memory.
         ensures bytes { IfOk result (λ v. v.items ≡ secret_key_bytes self.now) }
-        ensures reads_back { IfOk result (λ v. ReadsSecretKey v.items self.now) }
-        ensures one_reading { IfOk result
-            (λ v. (other : SecretKeyRecord) → ReadsSecretKey v.items other → other ≡ self.now) }
+        ensures reads_back { IfOk result (λ v. read_secret_key_bytes v.items ≡ Ok self.now) }
         ensures refused { IfErr result (λ e. e ≡ Named OutOfMemory) }
     {
         let mut bytes = Vec::with_capacity(alloc, 158)?;

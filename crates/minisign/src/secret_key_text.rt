@@ -1,13 +1,12 @@
 //! A secret key read from its text, and written to it.
 
-ghost use Rattle.std.specs.Prelude.{◌≡◌, ◌⊎◌, ◌+◌, Some, length, MatchResult, IfOk, IfErr, IfSome};
+ghost use Rattle.std.specs.Prelude.{◌≡◌, ◌+◌, Some, Ok, length, IfOk, IfErr, IfSome};
 ghost use Rattle.std.specs.Str.Iter.{LacksByte};
 ghost use Rattle.std.specs.Option.{option_copied};
 ghost use Rattle.minisign_base.specs.Fault.{Named};
 ghost use Rattle.minisign_base.specs.declared.faults.NamedFault.TheVariants.{OutOfMemory};
-ghost use Rattle.minisign.specs.Records.{SecretKeyRecord};
-ghost use Rattle.minisign.specs.SecretKeyText.{SecretKeyText, secret_key_refusal, secret_key_text};
-ghost use Rattle.minisign.specs.Texts.{IsRefused};
+ghost use Rattle.minisign.specs.SecretKeyText.{read_secret_key, secret_key_in_line, secret_key_text};
+ghost use Rattle.minisign.specs.Texts.{IsReadOrNoMemory};
 
 use crate::constants::{COMMENT_PREFIX, SECRETKEY_DEFAULT_COMMENT};
 use crate::secret_key::SecretKey;
@@ -24,13 +23,9 @@ impl SecretKey {
     /// Refused are, in this order: a text without a first line, without a second one, with a second
     /// line that is not base64, or of fewer than 158 bytes. It may run out of memory at any time.
     pub fn from_text(alloc: Global, text: &str) -> Result<SecretKey>
-        // The text of a secret key is read as the one key that its grammar gives it, sealed or not;
-        // otherwise out of memory or the first test that fails.
-        ensures outcome { MatchResult result (SecretKeyText text.now)
-            (λ e. (e ≡ Named OutOfMemory)
-            ⊎ IsRefused (SecretKeyText text.now) (secret_key_refusal text.now) e) }
-        ensures one_reading { IfOk result
-            (λ v. (other : SecretKeyRecord) → SecretKeyText text.now other → other ≡ v) }
+        // What the text reads as, by the function of its grammar: the key, sealed or not, or the
+        // first fault; or out of memory.
+        ensures { IsReadOrNoMemory result (read_secret_key text.now) }
     {
         let mut lines = text.lines();
         let Some(_comment) = next_line(&mut lines) else {
@@ -39,6 +34,13 @@ impl SecretKey {
         let Some(encoded) = next_line(&mut lines) else {
             return Err(NamedFault::MissingEncodedSecretKey.into());
         };
+        SecretKey::from_line(alloc, encoded)
+    }
+
+    // Reads the second line of a text.
+    fn from_line(alloc: Global, encoded: &str) -> Result<SecretKey>
+        ensures { IsReadOrNoMemory result (secret_key_in_line encoded.now) }
+    {
         let Some(bytes) = decode(alloc, encoded)? else {
             return Err(NamedFault::SecretKeyNotBase64.into());
         };
@@ -59,7 +61,7 @@ impl SecretKey {
         ensures text { IfOk result
             (λ b. b ≡ secret_key_text (option_copied comment.entry) self.now) }
         ensures reads_back { IfSome comment.entry (λ s. LacksByte 10 s.now)
-            → IfOk result (λ b. SecretKeyText b self.now) }
+            → IfOk result (λ b. read_secret_key b ≡ Ok self.now) }
         ensures size { IfSome comment.entry
             (λ s. IfOk result (λ b. length b ≡ length s.now + 233)) }
         ensures refused { IfErr result (λ e. e ≡ Named OutOfMemory) }
@@ -75,7 +77,7 @@ impl SecretKey {
     fn write_box(&self, alloc: Global, comment: &str) -> Result<SecretKeyBox>
         ensures text { IfOk result (λ b. b ≡ secret_key_text (Some comment.now) self.now) }
         ensures reads_back { LacksByte 10 comment.now
-            → IfOk result (λ b. SecretKeyText b self.now) }
+            → IfOk result (λ b. read_secret_key b ≡ Ok self.now) }
         ensures size { IfOk result (λ b. length b ≡ length comment.now + 233) }
         ensures refused { IfErr result (λ e. e ≡ Named OutOfMemory) }
     {

@@ -1,4 +1,4 @@
-//! A signature as it is stored: algorithm, identifier, signature.
+//! A signature as it is stored: algorithm, key ID, signature.
 
 ghost use Rattle.std.specs.Prelude.{◌≡◌, Some, ◌<◌, ◌++◌, length, vec_len, replicate, MatchResult, IfOk, IfErr};
 ghost use Rattle.minisign_base.specs.Scheme.{IsBytes};
@@ -14,12 +14,12 @@ use std::alloc::Global;
 use std::fmt;
 use std::marker::Model;
 
-/// A signature: an algorithm of 2 bytes, the identifier of the key of 8, and the signature of 64.
+/// A signature: an algorithm of 2 bytes, the key ID of the key of 8, and the signature of 64.
 #[derive(Clone, Drop)]
 pub struct Signature {
     /// The algorithm, kept as it was read.
     pub sig_alg: [u8; 2],
-    /// The identifier of the key that signed.
+    /// The key ID of the key that signed.
     pub keynum: [u8; 8],
     /// The signature of the data, or of its digest.
     pub sig: [u8; 64],
@@ -56,7 +56,7 @@ impl Signature {
         Ok(bytes)
     }
 
-    /// Reads the 74 bytes at the front: algorithm, identifier, signature. Fewer bytes are refused,
+    /// Reads the 74 bytes at the front: algorithm, key ID, signature. Fewer bytes are refused,
     /// and later ones are ignored. Takes no memory.
     pub fn from_bytes(bytes: &[u8]) -> Result<Signature>
         // The lists that begin with a record are read as that record; exactly those that are too

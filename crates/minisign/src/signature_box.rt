@@ -222,7 +222,7 @@ impl SignatureBox {
         }
     }
 
-    /// The identifier of the key that signed, 8 bytes.
+    /// The key ID of the key that signed, 8 bytes.
     pub fn keynum(&self) -> &[u8]
         ensures { result.now ≡ self.now.signature.keynum }
     {

@@ -61,7 +61,7 @@ pub fn sign<S: Scheme, R: Source, Z: RandomSource>(
 ) -> Result<SignatureBox>
     // The box is made from all the bytes that were ahead, the comments or their defaults, and two
     // times 64 random bytes. What a genuine key signed is accepted under its own public key with
-    // the same identifier, whatever the comments (`VouchesWhereGenuine`).
+    // the same key ID, whatever the comments (`VouchesWhereGenuine`).
     ensures signed { IfOk result
         (λ x. (message : List ℕ) × ReadsWhole R.Source data_reader.old data_reader.new message
         × IsSigned (S.signature_of scheme.now) sk.now message
@@ -72,7 +72,7 @@ pub fn sign<S: Scheme, R: Source, Z: RandomSource>(
     // On success the key is not sealed.
     ensures opened { OnOk result (is_encrypted sk.now ≡ false) }
 
-    // On success the 32 bytes of a given public key accept the comment signature; identifiers are
+    // On success the 32 bytes of a given public key accept the comment signature; key IDs are
     // not compared.
     ensures given_key { IfOk result
         (λ x. IfSome pk.entry (λ p. accepts_comments (S.accepts scheme.now) p.now x ≡ true)) }

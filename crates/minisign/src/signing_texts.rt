@@ -9,10 +9,10 @@ ghost use Rattle.minisign.specs.Reading.{IsAhead, ReadsWhole};
 ghost use Rattle.minisign.specs.Sealing.{is_encrypted};
 ghost use Rattle.minisign.specs.Signing.{OpenedSigningFails, chosen_of, given_comments};
 ghost use Rattle.minisign.specs.Headline.{SigningHeadline};
-ghost use Rattle.minisign.specs.SecretKeyText.{SecretKeyText};
 ghost use Rattle.minisign.specs.SigningTexts.{GivesKey, IsKeyOf, IsSignedText, TextSigningFails};
 
 use crate::constants::KDF_NONE;
+use crate::sealing::Derivation;
 use crate::secret_key::SecretKey;
 use crate::signing::{GivenComments, sign_data};
 use minisign_base::Result;
@@ -50,7 +50,7 @@ pub fn sign_texts<S: Scheme, P: Source, Q: Sink, R: Source, Z: RandomSource>(
     moment: u64,
 ) -> Result<String>
     // The text is that of a key, which it gives under some password, and a genuine key's text is
-    // read back as a box that every public key of its seed and identifier vouches with, if neither
+    // read back as a box that every public key of its seed and key ID vouches with, if neither
     // comment has a line feed and the trusted one is trimmed.
     ensures headline { IfOk result
         (λ t. (sk : SecretKeyRecord) × (message : List ℕ)
@@ -58,9 +58,6 @@ pub fn sign_texts<S: Scheme, P: Source, Q: Sink, R: Source, Z: RandomSource>(
         × IsKeyOf sk_text.now sk
         × SigningHeadline (S.accepts scheme.now) (S.public_of scheme.now) sk message
         (given_comments trusted_comment.entry untrusted_comment.entry moment) (string_bytes t)) }
-
-    // The text of a secret key reads as one key at most.
-    ensures one_reading { (k l : SecretKeyRecord) → SecretKeyText sk_text.now k → SecretKeyText sk_text.now l → k ≡ l }
 
     // On success the text gave a key: either one that was never sealed and whose checksum matches,
     // with the prompt untouched, or a sealed one that opened under the password that was passed in or
@@ -134,7 +131,7 @@ pub(crate) fn sign_opened<S: Scheme, R: Source, Z: RandomSource>(
 }
 
 // The key of a text: one that was never sealed as it stands, any other opened with the password.
-fn key_of_text<P: Source, Q: Sink>(
+pub(crate) fn key_of_text<P: Source, Q: Sink>(
     alloc: Global,
     text: &str,
     password: Option<String>,
@@ -147,8 +144,9 @@ fn key_of_text<P: Source, Q: Sink>(
 {
     let sk = SecretKey::from_text(alloc, text)?;
     if sk.kdf_alg == KDF_NONE {
-        sk.check_unencrypted()?;
+        sk.test_unencrypted()?;
         return Ok(sk);
     }
-    sk.open(alloc, password, prompt, None, 1)
+    let derivation = Derivation { bound: None, k: 1 };
+    sk.open(alloc, password, prompt, derivation)
 }

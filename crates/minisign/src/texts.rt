@@ -1,15 +1,17 @@
 //! Reading and writing texts: their lines one after the other, and base64.
 
-ghost use Rattle.std.specs.Prelude.{◌≡◌, ℕ, ◌+◌, ◌≤◌, List, [], ◌∷◌, ◌++◌, length, false, string_bytes, IfOk, IfErr, OnOk, IfSome, IfNone};
+ghost use Rattle.std.specs.Prelude.{◌≡◌, ℕ, ◌+◌, ◌≤◌, List, [], ◌∷◌, ◌++◌, length, false, Option, string_bytes, IfOk, IfErr, OnOk, IfSome, IfNone};
 ghost use Rattle.std.specs.Str.Lines.{lines};
 ghost use Rattle.std.specs.Str.Iter.{lines_rest};
 ghost use Rattle.minisign_base.specs.Fault.{Named};
 ghost use Rattle.minisign_base.specs.declared.faults.NamedFault.TheVariants.{OutOfMemory};
 ghost use Rattle.minisign.specs.Lines.{line};
 ghost use Rattle.minisign.specs.PublicKeyText.{BarePublicKey, PublicKeyText, read_bare_public_key, read_public_key};
-ghost use Rattle.minisign.specs.SecretKeyText.{SecretKeyText, secret_key_refusal};
+ghost use Rattle.minisign.specs.OpenedTexts.{IsOpened, IsUnencryptedText, open_key, read_unencrypted_key};
+ghost use Rattle.minisign.specs.Records.{ReadsSecretKey};
+ghost use Rattle.minisign.specs.SecretKeyText.{SecretKeyText, read_secret_key, read_secret_key_bytes};
 ghost use Rattle.minisign.specs.SignatureText.{SignatureText, read_signature};
-ghost use Rattle.minisign.specs.Texts.{IsBase64Of, IsDecided, IsReading, base64_of, is_base64};
+ghost use Rattle.minisign.specs.Texts.{IsBase64Of, IsReading, base64_of, is_base64};
 
 use base64::DecodeAllocError;
 use base64::engine::general_purpose::STANDARD;
@@ -17,19 +19,26 @@ use minisign_base::{NamedFault, Result};
 use std::alloc::Global;
 use std::str::Lines;
 
-/// A law, for which nothing is done: the functions that read texts, and the first case that fails, agree with the
-/// relations that the grammars are.
-#[tactic(auto, using(crate::proofs::PublicKeyTexts::read_as, crate::proofs::PublicKeyTexts::bare_read_as, crate::proofs::SignatureTexts::read_as, crate::proofs::SecretKeyTexts::decided))]
+/// A law, for which nothing is done: the functions that read texts, and those that open and take secret keys, agree with
+/// the relations that the grammars are.
+#[tactic(auto, using(crate::proofs::PublicKeyTexts::read_as, crate::proofs::PublicKeyTexts::bare_read_as, crate::proofs::SignatureTexts::read_as, crate::proofs::SecretKeyTexts::read_as, crate::proofs::SecretKeyTexts::bytes_read_as, crate::proofs::Openings::opened_as, crate::proofs::Openings::unencrypted_as))]
 pub fn texts_are_decided()
-    // What is read of a text, by the function of its grammar, is a public key (of its text, or of bare base64) or a
-    // signature with its comments exactly where the text reads as these by the relation that its grammar is; it reads as
-    // one at most, and as none where what is read is a fault.
+    // What is read of a text, by the function of its grammar, is a public key (of its text, or of bare base64), a
+    // signature with its comments or a secret key exactly where the text reads as these by the relation that its
+    // grammar is; it reads as one at most, and as none where what is read is a fault. So do the bytes of a secret key.
     ensures public_key { (text : List ℕ) → IsReading (PublicKeyText text) (read_public_key text) }
     ensures bare_public_key { (text : List ℕ) → IsReading (BarePublicKey text) (read_bare_public_key text) }
     ensures signature { (text : List ℕ) → IsReading (SignatureText text) (read_signature text) }
+    ensures secret_key { (text : List ℕ) → IsReading (SecretKeyText text) (read_secret_key text) }
+    ensures secret_key_bytes { (bytes : List ℕ) → IsReading (ReadsSecretKey bytes) (read_secret_key_bytes bytes) }
 
-    // No test fails exactly when a text reads as some secret key; and it reads as one at most.
-    ensures secret_key { (text : List ℕ) → IsDecided (SecretKeyText text) (secret_key_refusal text) }
+    // A text opens under a password to a key exactly where it reads as a key that is sealed by scrypt, whose limits are
+    // allowed and within the bound and whose checksum the stream under the password restores, and this is the key
+    // opened; and it is taken as a key that was never sealed exactly where it reads as one whose checksum matches. In
+    // both cases there is one key at most, and none where what comes is a fault.
+    ensures opened_key { (text password : List ℕ) (bound : Option ℕ)
+        → IsReading (IsOpened text password bound) (open_key text password bound) }
+    ensures unencrypted_key { (text : List ℕ) → IsReading (IsUnencryptedText text) (read_unencrypted_key text) }
 {}
 
 // The next line of a text: what comes before a line feed, less one carriage return at its end, or

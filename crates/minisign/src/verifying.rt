@@ -1,18 +1,22 @@
 //! Whether a signature box vouches for data under a public key.
 
-ghost use Rattle.std.specs.Prelude.{◌≡◌, ℕ, Bool, List, true, false, ◌⊎◌, Ok, Err, MatchResult, IfErr, OnOk, OnErr};
+ghost use Rattle.std.specs.Prelude.{◌≡◌, ◌↔◌, ℕ, Bool, List, true, false, ◌⊎◌, Ok, Err, MatchResult, IfErr, OnOk, OnErr};
 ghost use Rattle.minisign_base.specs.Devices.{HasGiven};
 ghost use Rattle.minisign_base.specs.Fault.{Named};
 ghost use Rattle.minisign_base.specs.declared.faults.NamedFault.TheVariants.{GoingBackFailed, OutOfMemory};
 ghost use Rattle.minisign_base.specs.DeviceCalls.{IsWritingFault, Marks, Takes, TakesFront, rereader_call, sink_call, unused};
 ghost use Rattle.minisign.specs.Records.{PublicKeyRecord, SignatureBoxRecord};
-ghost use Rattle.minisign.specs.Acceptance.{Verifier, Vouches, Refuses, SameWhereVouched, first_refusal, status_lines};
-ghost use Rattle.minisign.specs.SignedData.{AreSigned, HoldsSigned};
-ghost use Rattle.minisign.specs.Stages.{StagesEnd, is_reread, reading};
+ghost use Rattle.minisign.specs.Acceptance.{Verifier, Vouches, SameWhereVouched, judge, judge_signed, status_lines};
+ghost use Rattle.minisign.specs.Calls.{TextsVouchWith};
+ghost use Rattle.minisign.specs.Headline.{WhereNothingFails, verdict};
+ghost use Rattle.minisign.specs.SignedData.{HoldsSigned};
+ghost use Rattle.minisign.specs.Stages.{StagesEnd, is_reread, reading_stages};
+ghost use Rattle.minisign.specs.Texts.{IsReadOrNoMemory, IsReading};
 ghost use Rattle.minisign.specs.Verifying.{VerifyingFails, VerifyingSucceeds, wanted_status};
 
 use crate::comment_signature::accepts_comments;
 use crate::copying::copy_out;
+use crate::judging::judge_key;
 use crate::public_key::PublicKey;
 use crate::signature_box::SignatureBox;
 use crate::signed_data::{SignedData, read_signed_data};
@@ -53,7 +57,13 @@ pub fn verify<S: Scheme, R: Rereader, W: Sink, O: Sink>(
     status: &mut W,
     out: &mut O,
 ) -> Result<()>
-    // On success the box vouches for all the bytes that were ahead: the identifiers are equal; the
+    // Over data that is known, where no device fails, and over a steady source where the data is copied: the answer is
+    // that of the function `judge`, of key, box, data and flag, or out of memory.
+    ensures headline { WhereNothingFails output (rereader_call R.Source R.steady data_reader.old data_reader.new)
+        (sink_call W.Sink status.old status.new) (sink_call O.Sink out.old out.new)
+        (λ message. IsReadOrNoMemory result (judge (S.accepts scheme.now) pk.now signature_box.now message allow_legacy)) }
+
+    // On success the box vouches for all the bytes that were ahead: the key IDs are equal; the
     // box is prehashed or legacy ones are allowed; the scheme accepts the signature for the Blake2b
     // digest (or the data of a legacy box); and the comment signature, if there is one, has at
     // least 64 bytes, of which the first 64 are accepted for the signature and the trusted comment.
@@ -86,10 +96,10 @@ pub fn verify<S: Scheme, R: Rereader, W: Sink, O: Sink>(
     // the data is read to its end; the box is judged; its lines are reported, unless `quiet`; and
     // with `output` the mark is gone back to, what is ahead then is copied, its digest is compared
     // with that of the data, and the output is flushed; or for a legacy box the data is put out and
-    // flushed (`verifying`). A stage changes no device but its own (`StageEnds`).
+    // flushed (`verifying_stages`). A stage changes no device but its own (`StageEnds`).
     //
-    // A refusal of the box is the first condition that fails, and the box then does not vouch for
-    // the data, all of which was read without a fault; status and output are untouched (`Judge`).
+    // A refusal of the box is that of the function `judge` for the data, all of which was read without a fault; status
+    // and output are untouched (`Judge`).
     //
     // `going back failed` comes only at the mark, with nothing read, or at the return, with nothing
     // copied; the source's count of faults rose, and no place is marked (`Mark`, `Return`).
@@ -154,8 +164,21 @@ pub fn unvouched_parts_change_no_verdict()
     // past the 64th of the comment signature.
     ensures { (accepts : Verifier) (pk key : PublicKeyRecord) (x other : SignatureBoxRecord)
         (message : List ℕ) (legacy : Bool) → SameWhereVouched pk key x other →
-        first_refusal accepts key other message legacy
-        ≡ first_refusal accepts pk x message legacy }
+        judge accepts key other message legacy ≡ judge accepts pk x message legacy }
+{}
+
+/// A law, for which nothing is done: the functions that judge a box, and two texts, agree with the records of conditions
+/// that acceptance is.
+#[tactic(auto, using(crate::proofs::Verdicts::judge_decided, crate::proofs::Verdicts::verdict_decided))]
+pub fn verdicts_are_decided()
+    // The judge passes a box exactly where it vouches for the message under the key.
+    ensures judge { (accepts : Verifier) (pk : PublicKeyRecord) (x : SignatureBoxRecord) (message : List ℕ) (legacy : Bool) →
+        (judge accepts pk x message legacy ≡ Ok tt) ↔ Vouches accepts pk x message legacy }
+
+    // The verdict gives a comment exactly where the texts vouch for the message, with this comment; they do with one at
+    // most, and with none where the verdict is a fault.
+    ensures verdict { (accepts : Verifier) (pk_text sig_text message : List ℕ) (legacy : Bool) →
+        IsReading (TextsVouchWith accepts pk_text sig_text message legacy) (verdict accepts pk_text sig_text message legacy) }
 {}
 
 // Marks the place where the data will be read again, and reads it to its end.
@@ -169,10 +192,10 @@ fn read_data<R: Rereader>(
     ensures held { MatchResult result
         (λ d. (message : List ℕ) × HoldsSigned d signature_box.now allow_legacy message
         × StagesEnd (rereader_call R.Source R.steady data_reader.old data_reader.new) unused unused
-        (reading (is_reread output signature_box.now) message) (Ok tt))
+        (reading_stages (is_reread output signature_box.now) message) (Ok tt))
         (λ e. (message : List ℕ)
         × StagesEnd (rereader_call R.Source R.steady data_reader.old data_reader.new) unused unused
-        (reading (is_reread output signature_box.now) message) (Err e)) }
+        (reading_stages (is_reread output signature_box.now) message) (Err e)) }
     ensures given { HasGiven (R.ahead data_reader.old) (R.ahead data_reader.new) }
 {
     mark_place(data_reader, reads_again(signature_box, output))?;
@@ -212,26 +235,11 @@ fn judge<S: Scheme>(
     signed: &[u8],
     allow_legacy: bool,
 ) -> Result<()>
-    ensures { MatchResult result
-        (λ _. (message : List ℕ) → AreSigned signed.now signature_box.now allow_legacy message →
-        Vouches (S.accepts scheme.now) pk.now signature_box.now message allow_legacy)
-        (λ e. (e ≡ Named OutOfMemory)
-        ⊎ ((message : List ℕ) → AreSigned signed.now signature_box.now allow_legacy message →
-        Refuses (S.accepts scheme.now) pk.now signature_box.now message allow_legacy e)) }
+    ensures { IsReadOrNoMemory result (judge_signed (S.accepts scheme.now) pk.now signature_box.now signed.now allow_legacy) }
 {
     let signature = &signature_box.signature;
-    let keynum_pk = &pk.keynum_pk;
-    if signature.keynum != keynum_pk.keynum {
-        return Err(NamedFault::DifferentKeyIds {
-            signature: signature.keynum,
-            key: keynum_pk.keynum,
-        }
-        .into());
-    }
-    if !signature_box.is_prehashed() && !allow_legacy {
-        return Err(NamedFault::LegacyNotAccepted.into());
-    }
-    if !scheme.verify(signed, &keynum_pk.pk, &signature.sig) {
+    judge_key(pk, signature, allow_legacy)?;
+    if !scheme.verify(signed, &pk.keynum_pk.pk, &signature.sig) {
         return Err(NamedFault::SignatureRefused.into());
     }
     if !accepts_comments(alloc, scheme, pk, signature_box)? {

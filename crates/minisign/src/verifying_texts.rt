@@ -5,8 +5,9 @@ ghost use Rattle.minisign_base.specs.Devices.{HasGiven};
 ghost use Rattle.minisign_base.specs.DeviceCalls.{TakesFront, rereader_call, sink_call};
 ghost use Rattle.minisign.specs.Records.{PublicKeyRecord, SignatureBoxRecord};
 ghost use Rattle.minisign.specs.Verifying.{wanted_status};
+ghost use Rattle.minisign.specs.Texts.{IsReadOrNoMemory, map_ok};
 ghost use Rattle.minisign.specs.VerifyingTexts.{ReadTexts, TextsFail, VerifyingTextsFails, VerifyingTextsSucceeds};
-ghost use Rattle.minisign.specs.Headline.{CopyIsVouchedFor, VerifiesExactly};
+ghost use Rattle.minisign.specs.Headline.{CopyIsVouchedFor, WhereNothingFails, verdict};
 
 use crate::in_place::read_public_key;
 use crate::public_key::PublicKey;
@@ -37,13 +38,12 @@ pub fn verify_texts<S: Scheme, R: Rereader, W: Sink, O: Sink>(
     status: &mut W,
     out: &mut O,
 ) -> Result<()>
-    // The headline's first part: over data that is known, where memory is found and no device fails,
-    // and over a steady source where the data is copied, success exactly where the texts vouch for
-    // the data, and otherwise the first failing case.
-    ensures headline { VerifiesExactly (S.accepts scheme.now) pk_text.now sig_text.now
-        (record { quiet = quiet; output = output; legacy = allow_legacy })
-        (rereader_call R.Source R.steady data_reader.old data_reader.new)
-        (sink_call W.Sink status.old status.new) (sink_call O.Sink out.old out.new) result }
+    // The headline's first part: over data that is known, where no device fails, and over a steady source where the data
+    // is copied, the answer is the verdict, a function of the two texts, the data and the flag; or out of memory.
+    ensures headline { WhereNothingFails output (rereader_call R.Source R.steady data_reader.old data_reader.new)
+        (sink_call W.Sink status.old status.new) (sink_call O.Sink out.old out.new)
+        (λ message. IsReadOrNoMemory result
+        (map_ok (λ _. tt) (verdict (S.accepts scheme.now) pk_text.now sig_text.now message allow_legacy))) }
 
     // On success both texts were read by the grammar, as a key and a box for which everything holds
     // that `verify` promises on success.
@@ -97,7 +97,11 @@ pub fn verify_texts<S: Scheme, R: Rereader, W: Sink, O: Sink>(
 }
 
 // The key and the box that the texts read as, the key first.
-fn read_texts(alloc: Global, pk_text: &str, sig_text: &str) -> Result<(PublicKey, SignatureBox)>
+pub(crate) fn read_texts(
+    alloc: Global,
+    pk_text: &str,
+    sig_text: &str,
+) -> Result<(PublicKey, SignatureBox)>
     ensures read { IfOk result (λ both. ReadTexts pk_text.now sig_text.now both.0 both.1) }
     ensures refused { IfErr result (TextsFail pk_text.now sig_text.now) }
 {

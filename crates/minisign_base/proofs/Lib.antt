@@ -6,3 +6,4 @@ mod HandedOn
 pub mod LeastCost
 pub mod Facts
 mod PromptLines
+mod ConversationTexts

@@ -46,10 +46,13 @@ SourceGives reader = HasGiven (reader.source.ahead reader.old) (reader.source.ah
 
 -- a call that marks the place, and one that goes back to it
 abbrev pub Marks : {R : Type 0} → RereaderCall R → Result ⊤ ⊤ → Type 0
-Marks r answer = HasMarked r.steady r.source.ahead r.source.behind r.source.since r.source.is_marked r.source.faults r.old r.new answer
+Marks r answer =
+    HasMarked r.steady r.source.ahead r.source.behind r.source.since r.source.is_marked r.source.faults
+    r.old r.new answer
 
 abbrev pub GoesBack : {R : Type 0} → RereaderCall R → Result ⊤ ⊤ → Type 0
-GoesBack r answer = HasGoneBack r.source.ahead r.source.behind r.source.since r.source.is_marked r.source.faults r.old r.new answer
+GoesBack r answer =
+    HasGoneBack r.source.ahead r.source.behind r.source.since r.source.is_marked r.source.faults r.old r.new answer
 
 -- the sink failed: its count of faults rose, or stands at its greatest value
 abbrev pub SinkFails : {W : Type 0} → SinkCall W → Type 0
@@ -97,7 +100,8 @@ IsWritingFault sink e = (e ≡ Named WritingFailed) × SinkFails sink
 -- bytes are put to a sink, which flushes nothing: it takes all of them, or a beginning where it fails
 abbrev pub Puts : {W : Type 0} → SinkCall W → List ℕ → Result ⊤ Fault → Type 0
 Puts out bytes answer =
-    MatchResult answer (λ _. Takes out bytes × SinkHasNoNewFault out) (λ e. IsWritingFault out e × TakesFront out bytes) × IsUnflushed out
+    MatchResult answer (λ _. Takes out bytes × SinkHasNoNewFault out) (λ e. IsWritingFault out e × TakesFront out bytes)
+    × IsUnflushed out
 
 -- a sink that nothing uses
 abbrev pub unused : SinkCall ⊤

@@ -1,7 +1,8 @@
 -- What calls on a device do to what is known of its bytes and to its count of faults. Each kind of call has a
 -- record over the members of the device's trait, the device at the call (old) and at the return (new), and
 -- the answer.
-use Rattle.std.specs.Prelude.{◌≡◌, ℕ, ◌+◌, ◌-◌, ◌^◌, ◌<◌, ◌≤◌, min, Bool, true, false, List, [], ◌++◌, length, take, Option, Some, IfSome, Result, IsErr, IfOk, OnOk, OnErr}
+use Rattle.std.specs.Prelude.{◌≡◌, ℕ, ◌+◌, ◌-◌, ◌^◌, ◌<◌, ◌≤◌, min, Bool, true, false, List, [], ◌++◌, length, take}
+use Rattle.std.specs.Prelude.{Option, Some, IfSome, Result, IsErr, IfOk, OnOk, OnErr}
 use Rattle.std.specs.Io.KnownBytes.{append_known, Appends, Consumes, IsAtEnd, Keeps}
 
 -- the greatest value of a count
@@ -34,7 +35,8 @@ AllFlushed flushed taken = IfSome flushed (λ xs. taken ≡ Some xs)
 
 -- a read moved the next n bytes to the front of the buffer, 0 only where there is no room or no byte is
 -- left, or failed; a place that is marked stays marked
-pub record HasRead {S E : Type 0} (ahead_of behind_of since_of : S → Option (List ℕ)) (is_marked_of : S → Bool) (left_of faults_of : S → ℕ)
+pub record HasRead {S E : Type 0} (ahead_of behind_of since_of : S → Option (List ℕ))
+    (is_marked_of : S → Bool) (left_of faults_of : S → ℕ)
     (old new : S) (buffer : List ℕ) (answer : Result ℕ E) : Type 0 where
   pub bound : IfOk answer (λ n. n ≤ length buffer)
   pub bytes : IfOk answer (λ n. Consumes (ahead_of old) (ahead_of new) (take n buffer))
@@ -50,8 +52,8 @@ pub record HasRead {S E : Type 0} (ahead_of behind_of since_of : S → Option (L
   pub since_kept : OnErr answer (StaysOrHides (since_of old) (since_of new))
 
 -- a steady source remembers the bytes ahead, which stay; a place is marked now, or after a fault none is
-pub record HasMarked {S A E : Type 0} (steady_of : S → Type 0) (ahead_of behind_of since_of : S → Option (List ℕ)) (is_marked_of : S → Bool)
-    (faults_of : S → ℕ)
+pub record HasMarked {S A E : Type 0} (steady_of : S → Type 0) (ahead_of behind_of since_of : S → Option (List ℕ))
+    (is_marked_of : S → Bool) (faults_of : S → ℕ)
     (old new : S) (answer : Result A E) : Type 0 where
   pub bytes : OnOk answer (ahead_of new ≡ ahead_of old)
   pub mark : steady_of old → OnOk answer (behind_of new ≡ ahead_of old)
@@ -64,7 +66,8 @@ pub record HasMarked {S A E : Type 0} (steady_of : S → Type 0) (ahead_of behin
 
 -- the bytes that were remembered are ahead again, which cannot be where no place is marked; the place stays
 -- marked, and going back once more would bring the same bytes, or after a fault none is
-pub record HasGoneBack {S A E : Type 0} (ahead_of behind_of since_of : S → Option (List ℕ)) (is_marked_of : S → Bool) (faults_of : S → ℕ)
+pub record HasGoneBack {S A E : Type 0} (ahead_of behind_of since_of : S → Option (List ℕ))
+    (is_marked_of : S → Bool) (faults_of : S → ℕ)
     (old new : S) (answer : Result A E) : Type 0 where
   pub needs_mark : is_marked_of old ≡ false → IsErr answer
   pub bytes : OnOk answer (IfSome (behind_of old) (λ xs. ahead_of new ≡ Some xs))

@@ -5,7 +5,8 @@ use Rattle.std.specs.Int.{from_le_bytes, w64}
 
 -- 8 bytes read little endian, as upper hexadecimal digits with zeros in front (4) up to 16
 unfoldable pub identifier_text : List ℕ → List ℕ
-identifier_text id = padded_integral (format_spec 32 0 4 16 (2 ^ 64 - 1)) false [] (digits 16 true (from_le_bytes w64 id))
+identifier_text id =
+    padded_integral (format_spec 32 0 4 16 (2 ^ 64 - 1)) false [] (digits 16 true (from_le_bytes w64 id))
 
 -- the last places of a number in upper hexadecimal digits, before those that are there already
 abbrev pub last_digits : ℕ → ℕ → List ℕ → List ℕ

@@ -36,5 +36,5 @@ password_of bytes =
     else accepted_line (first_line bytes))
 
 -- what is typed: the password that the bytes hold, or nothing where they hold none
-abbrev pub typed : List ℕ → List ℕ
-typed bytes = result_unwrap_or (password_of bytes) []
+abbrev pub typed_password : List ℕ → List ℕ
+typed_password bytes = result_unwrap_or (password_of bytes) []

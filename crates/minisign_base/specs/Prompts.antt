@@ -1,11 +1,12 @@
 -- What a prompt reads and writes: how a conversation ends, step by step, of which asking for a password is one. The
 -- bytes of a prompt are all that its reader has ahead.
-use Rattle.std.specs.Prelude.{◌≡◌, ⊤, ℕ, ◌+◌, ◌<◌, List, [], ◌∷◌, ◌++◌, length, take, drop, Option, Some, IfSome, Result, codes}
+use Rattle.std.specs.Prelude.{◌≡◌, ⊤, ℕ, ◌+◌, ◌<◌, List, [], ◌∷◌, ◌++◌, length, take, drop, Option, Some, IfSome}
+use Rattle.std.specs.Prelude.{Result, codes}
 use Rattle.std.specs.Result.{result_err}
 use Rattle.minisign_base.specs.Devices.{Rose}
 use Rattle.minisign_base.specs.Fault.{Fault}
 use Rattle.minisign_base.specs.DeviceCalls.{FailsAtPart, PromptCall, SourceCall, TakesPart, reader_of, writer_of}
-use Rattle.minisign_base.specs.Passwords.{password_of, read_count, typed}
+use Rattle.minisign_base.specs.Passwords.{password_of, read_count, typed_password}
 use Rattle.minisign_base.specs.Steps.{EndsWith, StepsEnd}
 use Rattle.minisign_base.specs.declared.faults.NamedFault.TheVariants.{OutOfMemory, ReadingFailed, WritingFailed}
 
@@ -34,24 +35,37 @@ pub data Step : Type 0 where
   Hear : List ℕ → Step
   Test : Option Fault → Step
 
--- how a step ends, and what it leaves alone: nothing is read while a text is said, and nothing said while a line is heard
+-- how a step ends, and what it leaves alone: nothing is read while a text is said, and nothing said while a line is
+-- heard
 abbrev pub StepEnds : {R W : Type 0} → PromptCall R W → Step → Result ⊤ Fault → Type 0
 StepEnds p Allocate answer = EndsWith ⊤ OutOfMemory ⊤ answer × (p.new ≡ p.old)
 StepEnds p (Say text) answer =
-    EndsWith (TakesPart (writer_of p) text) WritingFailed (FailsAtPart (writer_of p) text) answer × (p.new.reader ≡ p.old.reader)
+    EndsWith (TakesPart (writer_of p) text) WritingFailed (FailsAtPart (writer_of p) text) answer
+    × (p.new.reader ≡ p.old.reader)
 StepEnds p (Hear bytes) answer =
-    EndsWith (HasReadLine (reader_of p) bytes) ReadingFailed (HasFailedInLine (reader_of p)) answer × (p.new.writer ≡ p.old.writer)
+    EndsWith (HasReadLine (reader_of p) bytes) ReadingFailed (HasFailedInLine (reader_of p)) answer
+    × (p.new.writer ≡ p.old.writer)
 StepEnds p (Test refusal) answer = (refusal ≡ result_err answer) × (p.new ≡ p.old)
 
 -- how a conversation of these steps ends
 abbrev pub ConversationEnds : {R W : Type 0} → PromptCall R W → List Step → Result ⊤ Fault → Type 0
-ConversationEnds p steps answer = StepsEnd (λ step old new. StepEnds (record p { old = old; new = new }) step) steps p.old p.new answer
+ConversationEnds p steps answer =
+    StepsEnd (λ step old new. StepEnds (record p { old = old; new = new }) step) steps p.old p.new answer
 
 -- where a password is empty, that is said
-abbrev pub marking : List ℕ → List Step
-marking [] = Say empty_mark ∷ []
-marking (b ∷ password) = []
+abbrev pub marking_steps : List ℕ → List Step
+marking_steps [] = Say empty_mark ∷ []
+marking_steps (b ∷ password) = []
 
 -- a password is asked for with a text, and typed in these bytes
-abbrev pub asking : List ℕ → List ℕ → List Step
-asking text bytes = Allocate ∷ Say text ∷ Hear bytes ∷ Test (result_err (password_of bytes)) ∷ marking (typed bytes)
+abbrev pub asking_steps : List ℕ → List ℕ → List Step
+asking_steps text bytes =
+    Allocate ∷ Say text ∷ Hear bytes ∷ Test (result_err (password_of bytes)) ∷ marking_steps (typed_password bytes)
+
+-- what a conversation writes
+abbrev pub written : List Step → List ℕ
+written [] = []
+written (Allocate ∷ later) = written later
+written (Say text ∷ later) = text ++ written later
+written (Hear bytes ∷ later) = written later
+written (Test refusal ∷ later) = written later

@@ -1,5 +1,6 @@
 -- What follows for a sink from one write after another, for callers that write a text in parts.
-use Rattle.std.proofs.Common.{ℕ, ◌+◌, min, Option, None, Some, List, ◌++◌, length, take, ap, sym, ◌∙◌, append_assoc, append-nil, arith}
+use Rattle.std.proofs.Common.{ℕ, ◌+◌, min, Option, None, Some, List, ◌++◌, length, take, ap, sym, ◌∙◌, append_assoc}
+use Rattle.std.proofs.Common.{append-nil, arith}
 use Rattle.std.proofs.lemmas.List.{take-append-le, take_all, take_min}
 use Rattle.std.proofs.Math.Seq.{take-append-add}
 use Rattle.std.specs.Io.KnownBytes.{Appends, Keeps}
@@ -12,12 +13,14 @@ AppendsFront-keeps (Some x) None bs k = absurd k
 AppendsFront-keeps (Some x) (Some y) bs k = (0, ap Some (k ∙ sym (append-nil x)))
 
 -- a whole part, and then a beginning of the next
-pub AppendsFront-after : (a b c : Option (List ℕ)) (bs cs : List ℕ) → Appends a b bs → AppendsFront b c cs → AppendsFront a c (bs ++ cs)
+pub AppendsFront-after : (a b c : Option (List ℕ)) (bs cs : List ℕ) → Appends a b bs → AppendsFront b c cs
+    → AppendsFront a c (bs ++ cs)
 AppendsFront-after None b c bs cs p q = (0, tt)
 AppendsFront-after (Some x) None c bs cs p q = absurd p
 AppendsFront-after (Some x) (Some y) c bs cs p (n, q) = (
   length bs + n,
-  q ∙ ap Some (ap (λ l. l ++ take n cs) p ∙ append_assoc x bs (take n cs) ∙ ap (λ l. x ++ l) (sym (take-append-add bs cs n))),
+  q ∙ ap Some (ap (λ l. l ++ take n cs) p ∙
+      append_assoc x bs (take n cs) ∙ ap (λ l. x ++ l) (sym (take-append-add bs cs n))),
 )
 
 -- a beginning of a part is one of the whole text
@@ -33,4 +36,5 @@ pub AppendsFront-whole : (a b c : Option (List ℕ)) (bs : List ℕ) → Appends
 AppendsFront-whole None b c bs p k = (0, tt)
 AppendsFront-whole (Some x) None c bs p k = absurd p
 AppendsFront-whole (Some x) (Some y) None bs p k = absurd k
-AppendsFront-whole (Some x) (Some y) (Some z) bs p k = (length bs, ap Some (k ∙ p ∙ ap (λ l. x ++ l) (sym (take_all (length bs) bs (omega arith)))))
+AppendsFront-whole (Some x) (Some y) (Some z) bs p k =
+    (length bs, ap Some (k ∙ p ∙ ap (λ l. x ++ l) (sym (take_all (length bs) bs (omega arith)))))

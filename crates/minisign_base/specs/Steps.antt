@@ -7,13 +7,15 @@ use Rattle.minisign_base.specs.declared.faults.NamedFault.{NamedFault}
 
 -- how these steps end: all were done, one after another; or one was not, where each before it was done, and none behind
 -- it was begun
-abbrev pub StepsEnd : {Step D E : Type 0} → (Step → D → D → Result ⊤ E → Type 0) → List Step → D → D → Result ⊤ E → Type 0
+abbrev pub StepsEnd : {Step D E : Type 0} → (Step → D → D → Result ⊤ E → Type 0) → List Step → D → D
+    → Result ⊤ E → Type 0
 StepsEnd Ends [] old new (Ok _) = new ≡ old
 StepsEnd Ends [] old new (Err e) = ⊥
 StepsEnd {D = D} Ends (step ∷ later) old new (Ok _) =
     (between : D) × Ends step old between (Ok tt) × StepsEnd Ends later between new (Ok tt)
 StepsEnd {D = D} Ends (step ∷ later) old new (Err e) =
-    Ends step old new (Err e) ⊎ ((between : D) × Ends step old between (Ok tt) × StepsEnd Ends later between new (Err e))
+    Ends step old new (Err e)
+    ⊎ ((between : D) × Ends step old between (Ok tt) × StepsEnd Ends later between new (Err e))
 
 -- an end that has one fault: what is so where all went well, that fault, and what is so with it
 abbrev pub EndsWith : Type 0 → NamedFault → Type 0 → Result ⊤ Fault → Type 0

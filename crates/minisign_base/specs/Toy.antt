@@ -1,6 +1,7 @@
 -- A scheme for tests that meets the laws of a scheme and protects nothing: whoever knows the public
 -- key can sign.
-use Rattle.std.specs.Prelude.{ℕ, ◌+◌, ◌%◌, ◌==◌, ◌&&◌, ◌||◌, Bool, Option, Some, None, List, [], ◌∷◌, ◌++◌, map, take, drop, replicate, bit_xor, if◌then◌else◌}
+use Rattle.std.specs.Prelude.{ℕ, ◌+◌, ◌%◌, ◌==◌, ◌&&◌, ◌||◌, Bool, Option, Some, None, List, [], ◌∷◌, ◌++◌, map, take}
+use Rattle.std.specs.Prelude.{drop, replicate, bit_xor, if◌then◌else◌}
 use Rattle.std.specs.List.{list_any, range_with_len}
 use Rattle.std.specs.Simd.Lanes.{zip2}
 use Rattle.std.specs.Str.{bytes_eq}

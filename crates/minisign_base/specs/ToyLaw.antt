@@ -3,7 +3,8 @@ use Rattle.std.proofs.Common.{◌≡◌, ℕ, Option, None, Some, List, ◌++◌
 use Rattle.std.proofs.lemmas.List.{drop_at, length-replicate, length-take-le, take_at}
 use Rattle.std.proofs.lemmas.Slice.Eq.{bytes_eq-Decides}
 use Rattle.minisign_base.specs.Scheme.{IsBytes, AreRandomBytes}
-use Rattle.minisign_base.specs.Toy.{toy_public_of, toy_signature_of, toy_accepts, toy_accepts_with, is_listed, random_half, tied_half}
+use Rattle.minisign_base.specs.Toy.{toy_public_of, toy_signature_of, toy_accepts, toy_accepts_with, is_listed}
+use Rattle.minisign_base.specs.Toy.{random_half, tied_half}
 use Rattle.minisign_base.specs.declared.toy.Triple.{Triple}
 
 -- the random half has 32 bytes
@@ -18,9 +19,11 @@ tied_accepted seed m z bytes len message nonce =
     let size = length-random_half z nonce in
     let key = toy_public_of seed in
     let tied = tied_half random (drop 32 (seed ++ key)) m in
-    rw (take_at random tied 32 size, drop_at random tied 32 size, drop_at seed key 32 len) ((bytes_eq-Decides (tied_half random key m) (tied_half random key m)).1 refl)
+    rw (take_at random tied 32 size, drop_at random tied 32 size, drop_at seed key 32 len)
+    ((bytes_eq-Decides (tied_half random key m) (tied_half random key m)).1 refl)
 
-pub own_accepted : (table : List Triple) (seed m : List ℕ) (z : Option (List ℕ)) → IsBytes seed → length seed ≡ 32 → IsBytes m → AreRandomBytes z
+pub own_accepted : (table : List Triple) (seed m : List ℕ) (z : Option (List ℕ)) → IsBytes seed → length seed ≡ 32
+    → IsBytes m → AreRandomBytes z
     → toy_accepts_with table m (toy_public_of seed) (toy_signature_of m (seed ++ toy_public_of seed) z) ≡ true
 own_accepted table seed m z bytes len message nonce =
     let key = toy_public_of seed in

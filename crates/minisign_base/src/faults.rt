@@ -63,11 +63,11 @@ pub enum NamedFault {
     MissingPublicKeyComment,
     /// A public key text has no second line.
     MissingEncodedPublicKey,
-    /// The second line of a public key text has not 56 bytes.
+    /// The second line of a public key text is not 56 bytes long.
     PublicKeyLineLength,
     /// The second line of a public key text is not base64.
     PublicKeyLineNotBase64,
-    /// A public key given as base64 alone has not 56 bytes.
+    /// A public key given as base64 alone is not 56 bytes long.
     BarePublicKeyLength,
     /// A public key given as base64 alone is not base64.
     BarePublicKeyNotBase64,

@@ -8,7 +8,7 @@ ghost use Rattle.minisign_base.specs.Fault.{Named};
 ghost use Rattle.minisign_base.specs.declared.faults.NamedFault.TheVariants.{ClockIncorrect, OutOfMemory};
 ghost use Rattle.minisign_base.specs.Limits.{IsCostLog2, checked_numbers, cost_log2, greatest_cost, limits, numbers, parallelization};
 ghost use Rattle.minisign_base.specs.DeviceCalls.{prompt_call};
-ghost use Rattle.minisign_base.specs.Prompts.{ConversationEnds, asking};
+ghost use Rattle.minisign_base.specs.Prompts.{ConversationEnds, asking_steps};
 ghost use Rattle.minisign_base.specs.Passwords.{password_of};
 
 use crate::devices::sinks::Sink;
@@ -92,7 +92,7 @@ pub fn get_password<R: Source, W: Sink>(
     ensures asked { IfOk result (λ password. (bytes : List ℕ)
         × (password_of bytes ≡ Ok (string_bytes password))
         × ConversationEnds (prompt_call R.Source W.Sink prompt.old prompt.new)
-        (asking text.now bytes) (Ok tt)) }
+        (asking_steps text.now bytes) (Ok tt)) }
 
     // Otherwise it stopped at the first of these steps that was not done: memory ran out, with
     // nothing written or read; or the writer failed before anything was read; or the reader failed
@@ -100,7 +100,7 @@ pub fn get_password<R: Source, W: Sink>(
     // of the line; or the writer failed at the mark.
     ensures refused { IfErr result (λ e. (bytes : List ℕ)
         × ConversationEnds (prompt_call R.Source W.Sink prompt.old prompt.new)
-        (asking text.now bytes) (Err e)) }
+        (asking_steps text.now bytes) (Err e)) }
 {
     let line = line_buffer(alloc)?;
     prompt.say(text)?;

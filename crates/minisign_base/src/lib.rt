@@ -14,7 +14,7 @@ pub mod toy;
 
 pub use devices::DeviceFault;
 pub use devices::random_sources::{FixedRandom, RandomSource, SourceRandom};
-pub use devices::sinks::{NoSink, Sink, VecSink, WriterSink, put_all, put_and_flush, put_line};
+pub use devices::sinks::{NoSink, Sink, VecSink, WriterSink, put_and_flush, put_line, write_all};
 pub use devices::sources::{
     FileSource, NoSource, ReaderSource, Rereader, SliceSource, Source, fill_from,
 };

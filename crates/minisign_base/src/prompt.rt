@@ -1,13 +1,13 @@
 //! Where a person is asked: texts are written, and lines are read.
 
 ghost use Rattle.std.specs.Prelude.{◌≡◌, ◌⊎◌, ℕ, ◌+◌, ◌≤◌, List, [], ◌∷◌, length, take, Ok, Err, IfOk, IfErr, OnOk, OnErr, MatchOption, MatchResult, string_bytes};
-ghost use Rattle.std.specs.Io.KnownBytes.{Consumes, IsAtEnd};
+ghost use Rattle.std.specs.Io.KnownBytes.{Appends, Consumes, IsAtEnd};
 ghost use Rattle.std.specs.Str.Lines.{strip_carriage_return};
-ghost use Rattle.minisign_base.specs.Devices.{Rose, StaysOrHides};
+ghost use Rattle.minisign_base.specs.Devices.{AppendsFront, Rose, StaysOrHides};
 ghost use Rattle.minisign_base.specs.DeviceCalls.{FailsAtPart, TakesPart, prompt_call, sink_call, source_call};
-ghost use Rattle.minisign_base.specs.Fault.{Named};
+ghost use Rattle.minisign_base.specs.Fault.{Fault, Named};
 ghost use Rattle.minisign_base.specs.declared.faults.NamedFault.TheVariants.{EndOfInput, ReadingFailed, WritingFailed};
-ghost use Rattle.minisign_base.specs.Prompts.{ConversationEnds, HasFailedInLine, HasReadLine, Say, StepEnds, marking};
+ghost use Rattle.minisign_base.specs.Prompts.{ConversationEnds, HasFailedInLine, HasReadLine, Say, Step, StepEnds, marking_steps, written};
 ghost use Rattle.minisign_base.specs.Passwords.{accepted_line, password_of};
 
 use crate::devices::sinks::{NoSink, Sink, put_and_flush};
@@ -64,7 +64,7 @@ impl<R: Source, W: Sink> Prompt<R, W> {
     // Where the password is empty, shows that.
     pub(crate) fn mark_empty(&mut self, password: &str) -> Result<()>
         ensures ended { ConversationEnds (prompt_call R.Source W.Sink self.old self.new)
-            (marking password.now) result }
+            (marking_steps password.now) result }
     {
         if !password.is_empty() {
             return Ok(());
@@ -165,6 +165,18 @@ fn next_byte<R: Source>(source: &mut R) -> Result<Option<u8>>
         Err(_) => Err(NamedFault::ReadingFailed.into()),
     }
 }
+
+/// A law, for which nothing is done: what a prompt's writer takes follows from the steps of its conversation.
+pub fn conversations_are_written<R: Source, W: Sink>()
+    // Where all steps were done, the writer took all that they write, with no new fault; where a conversation stopped,
+    // it took a beginning of that.
+    ensures taken { (old new : Prompt R W) (steps : List Step) → ConversationEnds (prompt_call R.Source W.Sink old new) steps (Ok tt)
+        → Appends (W.taken old.writer) (W.taken new.writer) (written steps) }
+    ensures no_new_fault { (old new : Prompt R W) (steps : List Step) → ConversationEnds (prompt_call R.Source W.Sink old new) steps (Ok tt)
+        → W.sink_faults new.writer ≡ W.sink_faults old.writer }
+    ensures front { (old new : Prompt R W) (steps : List Step) (e : Fault) → ConversationEnds (prompt_call R.Source W.Sink old new) steps (Err e)
+        → AppendsFront (W.taken old.writer) (W.taken new.writer) (written steps) }
+{}
 
 // How long a line is without one carriage return at its end.
 fn without_carriage_return(line: &[u8]) -> usize

@@ -3,19 +3,21 @@
 
 #![tactic(auto)]
 
-ghost use Rattle.std.specs.Prelude.{◌≡◌, ◌==◌, ◌⊎◌, ◌<◌, ◌≤◌, ◌+◌, ◌++◌, ℕ, Bool, List, [], Some, None, false, MatchOption, length, take};
+ghost use Rattle.std.specs.Prelude.{◌≡◌, ◌==◌, ◌⊎◌, ◌<◌, ◌≤◌, ◌+◌, ◌++◌, ℕ, Bool, List, [], Some, None, Ok, true, false, MatchOption, length, take};
 ghost use Rattle.std.specs.Option.{option_map};
 ghost use Rattle.std.specs.Str.{IsUtf8};
 ghost use Rattle.minisign_hash.specs.Blake2b.{blake2b_digest};
 ghost use Rattle.minisign.specs.PublicKeyText.{read_bare_public_key, read_public_key};
-ghost use Rattle.minisign.specs.Records.{PublicKeyRecord, SecretKeyRecord, SignatureBoxRecord, CommentsRecord};
+ghost use Rattle.minisign.specs.Records.{SecretKeyRecord};
+ghost use Rattle.minisign.specs.SignatureText.{SignatureTextRecord, read_signature};
 ghost use Rattle.minisign.specs.Acceptance.{Verifier};
-ghost use Rattle.minisign_external.specs.Questions.{AnswersTexts, AreOpen};
+ghost use Rattle.minisign_external.specs.Questions.{Answers, AnswersComment, AnswersTexts, HoldsMessage, IsKeyText, comment_verdict_under, read_under, verdict_under};
 ghost use Rattle.minisign_external.specs.Numbers.{IsAnswer, WritesCut, answer_yes, misuse_number};
 ghost use Rattle.minisign_external.specs.PublicKeys.{read_utf8, told_key_number};
 ghost use Rattle.minisign_external.specs.Making.{HoldsPublicKey, HoldsSecretKey, IsMakingNumber, IsPublicKeyNumber};
-ghost use Rattle.minisign_external.specs.Signing.{AreReadByMinisign, GivesSecretKey, HoldsText, IsSigningNumber, IsWritingNumber, TellsKey, comments_of, passed_in};
-ghost use Rattle.minisign_external.specs.declared.state.Misuse.TheVariants.{BadFirstFlag, BadNumbering, NoRoom, NotDue};
+ghost use Rattle.minisign_external.specs.Signing.{AreReadByMinisign, GivesSecretKey, HoldsKey, HoldsText, IsOpeningNumber, IsWritingNumber, comments_of, is_opened, passed_in, public_value_of, taken_key, told_public_key};
+ghost use Rattle.minisign_external.specs.declared.public_keys.PublicKeyValue.{PublicKeyValue};
+ghost use Rattle.minisign_external.specs.declared.state.Misuse.TheVariants.{BadFirstFlag, BadNumbering, BadPasswordFlag, NoRoom, NotDue};
 ghost use Rattle.minisign_install.specs.Comments.{Says};
 ghost use Rattle.minisign_install.specs.HostNumbers.{IsHostMeaning, numbering_number};
 ghost use Rattle.minisign_install.specs.Hosted.{CannotBeFed, CannotFail, CannotGo, GivesUpdateNumber, CallHasFailed, HasGone, HasReadRecord, HasReadBack, IsAnswerNumber, IsAskNumber, IsAsking, IsCommentNumber, IsDue, due_number, due_of, numbering_of, wanted_by};
@@ -24,13 +26,13 @@ ghost use Rattle.minisign_install.specs.RecordTexts.{record_of};
 ghost use Rattle.minisign_install.specs.declared.order.Due.TheVariants.{Answer, Lock, ReadBack, ReadRecord, TakeRights, WriteRecord};
 ghost use Rattle.minisign_install.specs.declared.order.Due.TheVariants as ended;
 ghost use Rattle.minisign_install.specs.declared.order.Outcome.TheVariants.{Done, More};
-ghost use Rattle.minisign_external.specs.States.{AreQuestions, GivesNumber, HasAsked, HasEnded, HasToldKey, IsAskingNumber, IsFedState, IsMarkedFed, IsVerdictNumber, TellsIdentifiers, feeding_misuse};
+ghost use Rattle.minisign_external.specs.States.{AreQuestions, GivesNumber, HasAsked, HasEnded, HasToldDigest, IsCommentVerdictNumber, IsFedState, IsMarkedFed, IsMarkedTold, IsVerdictNumber, KeepsAsked, asking_number, feeding_misuse, is_asked, is_begun, questions_of, verdict_number};
 
 use minisign::Sealing;
 use minisign_external::making::{write_public_key, write_secret_key};
 use minisign_external::numbers::{ANSWER_YES, is_answer};
-use minisign_external::public_keys::{tell_bare_public_key, tell_public_key};
-use minisign_external::secrets::SigningQuestions;
+use minisign_external::public_keys::{PublicKeyValue, tell_bare_public_key, tell_public_key};
+use minisign_external::secrets::{SecretKeyValue, open_secret_key};
 use minisign_external::signed_texts::{write_comment_message, write_signed_text};
 use minisign_external::state::{Misuse, Questions, Refusal, State};
 use minisign_install::Numbering;
@@ -75,90 +77,124 @@ pub extern "C" fn minisign_update(state: &mut State, piece: &[u8]) -> u32
     }
 }
 
-/// Reads the text of a public key, two lines: tells its 32 bytes and its identifier. Takes no
-/// memory.
+/// Tells the digest of the data that was fed. The state then takes no more.
 #[unsafe(no_mangle)]
-pub extern "C" fn minisign_read_public_key(
-    pk_text: &[u8],
-    public_key: &mut [u8; 32],
-    key_id: &mut [u8; 8],
-) -> u32
-    // The 32 bytes and the identifier are told of the public key that its text of two lines reads as, a function of the
+pub extern "C" fn minisign_digest(state: &mut State, digest: &mut [u8; 64]) -> u32
+    // The digest of everything the state was fed, which it has then told; what was asked stays. A state that is not being
+    // fed tells none: the wrong use has its number, and state and digest stay as they were.
+    ensures digest { (m : List ℕ) → IsFedState state.old m
+        → (result ≡ 0) × (digest.new ≡ blake2b_digest 64 m) × HasToldDigest state.new m }
+    ensures asked { KeepsAsked state.old state.new }
+    ensures told { result ≡ 0 → IsMarkedFed state.old × IsMarkedTold state.new }
+    ensures refused { 0 < result → (result ≡ misuse_number (feeding_misuse state.old)) × (state.new ≡ state.old) × (digest.new ≡ digest.old) }
+{
+    match state.digest(digest) {
+        Ok(()) => 0,
+        Err(misuse) => misuse.number(),
+    }
+}
+
+/// Reads the text of a public key, two lines. Does not allocate.
+#[unsafe(no_mangle)]
+pub extern "C" fn minisign_read_public_key(pk_text: &[u8], key: &mut PublicKeyValue) -> u32
+    // The 32 bytes and the key ID are told of the public key that its text of two lines reads as, a function of the
     // bytes, which have to be UTF-8; otherwise the number is that of the first case that fails, and nothing is written.
-    ensures { (result, public_key.new, key_id.new) ≡ told_key_number (read_utf8 read_public_key pk_text.now) public_key.old key_id.old }
+    ensures { (result, key.new) ≡ told_key_number (read_utf8 read_public_key pk_text.now) key.old }
 {
-    match tell_public_key(pk_text, public_key, key_id) {
+    match tell_public_key(pk_text, key) {
         Ok(()) => 0,
         Err(fault) => Refusal::Refused(fault).number(),
     }
 }
 
-/// Reads the bare base64 of a public key, as updaters embed it: tells its 32 bytes and its
-/// identifier. Takes no memory.
+/// Reads the bare base64 of a public key, as updaters embed it. Does not allocate.
 #[unsafe(no_mangle)]
-pub extern "C" fn minisign_read_bare_public_key(
-    base64: &[u8],
-    public_key: &mut [u8; 32],
-    key_id: &mut [u8; 8],
-) -> u32
+pub extern "C" fn minisign_read_bare_public_key(base64: &[u8], key: &mut PublicKeyValue) -> u32
     // The same is told of the base64 of a public key alone.
-    ensures { (result, public_key.new, key_id.new) ≡ told_key_number (read_utf8 read_bare_public_key base64.now) public_key.old key_id.old }
+    ensures { (result, key.new) ≡ told_key_number (read_utf8 read_bare_public_key base64.now) key.old }
 {
-    match tell_bare_public_key(base64, public_key, key_id) {
+    match tell_bare_public_key(base64, key) {
         Ok(()) => 0,
         Err(fault) => Refusal::Refused(fault).number(),
     }
 }
 
-/// Asks what Ed25519 has to answer before it is known whether the two texts vouch for the data.
-/// Takes no memory.
+/// Asks what Ed25519 has to answer before it is known whether the key and the text of the signature vouch for the data.
+/// Does not allocate.
 #[unsafe(no_mangle)]
 pub extern "C" fn minisign_ask(
     state: &mut State,
-    pk_text: &[u8],
+    key: &PublicKeyValue,
     sig_text: &[u8],
     allow_legacy: u32,
     questions: &mut Questions,
     message: &mut [u8],
 ) -> u32
-    // The questions are those of what the texts read as, as `State::ask` says, and the state has then asked them.
-    ensures asked { result ≡ 0 → (pk : PublicKeyRecord) × (x : SignatureBoxRecord) × (c : CommentsRecord)
-        × AreOpen pk_text.now sig_text.now (allow_legacy == 1) pk x c
-        × AreQuestions questions.new message.new pk x c }
-    ensures digest { result ≡ 0 → (m : List ℕ) → IsFedState state.old m → questions.new.digest ≡ blake2b_digest 64 m }
-    ensures asking { result ≡ 0 → HasAsked state.new pk_text.now sig_text.now (allow_legacy == 1) }
+    // What is answered is one number, a function of the state, the key, the text, the flag and the room: first an
+    // `allow_legacy` above 1 is refused, and then comes what `State::ask` refuses, in its order.
+    ensures number { result ≡ asking_number state.old key.now sig_text.now allow_legacy (length message.old) }
 
-    // They are asked of a state that is being fed alone, and with an `allow_legacy` of 0 or 1 alone.
-    ensures begun { result ≡ 0 → IsMarkedFed state.old }
-    ensures number { result ≡ 0 → allow_legacy < 2 }
+    // The questions are those of the key and of what the text reads as, with zeros for the digest, and the message of the
+    // second stands at the front of the buffer. They are then asked, and what was fed stays.
+    ensures asked { result ≡ 0 → (t : SignatureTextRecord) × (read_under key.now (allow_legacy == 1) sig_text.now ≡ Ok t)
+        × (questions.new ≡ questions_of key.now t) × HoldsMessage t.signature t.comments.trusted message.new questions.new.message_len }
+    ensures asking { result ≡ 0 → HasAsked state.new key.now sig_text.now (allow_legacy == 1) }
+    ensures fed { (m : List ℕ) → IsFedState state.old m → IsFedState state.new m }
 
-    // The identifiers are answered as `State::ask` says.
-    ensures identifiers { allow_legacy < 2 → (m : List ℕ) → IsFedState state.old m → IsUtf8 pk_text.now → IsUtf8 sig_text.now
-        → TellsIdentifiers pk_text.now sig_text.now questions.new }
-
-    // A number that is neither 0 nor 1 is refused first, and then the number is that of the first reason of
-    // `State::ask`. State and message buffer are then as they were.
-    ensures refused { 0 < result → IsAskingNumber state.old pk_text.now sig_text.now allow_legacy message.old result }
+    // After a refusal state and message buffer are as they were; with an `allow_legacy` of 0 or 1, of a state that may be
+    // asked and a text that reads, both key IDs are told.
     ensures kept { 0 < result → (state.new ≡ state.old) × (message.new ≡ message.old) }
+    ensures key_ids { allow_legacy < 2 → IsMarkedFed state.old → is_asked state.old ≡ false
+        → (t : SignatureTextRecord) → read_utf8 read_signature sig_text.now ≡ Ok t
+        → (questions.new.public_key_id ≡ key.now.key_id) × (questions.new.signature_key_id ≡ t.signature.keynum) }
 {
     if allow_legacy > 1 {
         return Misuse::BadLegacyFlag.number();
     }
-    match state.ask(pk_text, sig_text, allow_legacy == 1, questions, message) {
+    match state.ask(key, sig_text, allow_legacy == 1, questions, message) {
         Ok(()) => 0,
         Err(refusal) => refusal.number(),
     }
 }
 
-/// The verdict from what Ed25519 answered to the two questions, `ANSWER_YES` or `ANSWER_NO`. It
-/// ends the state.
+/// What the answer to the second question, `ANSWER_YES` or `ANSWER_NO`, is worth by itself.
+#[unsafe(no_mangle)]
+pub extern "C" fn minisign_comment_verdict(state: &State, second: u32) -> u32
+    // For every relation that answers the second question so: 0 exactly when the trusted comment was signed by the key,
+    // together with the first signature. Nothing is said of any data.
+    ensures verdict { (v : PublicKeyValue) (sig_text : List ℕ) (legacy : Bool) (accepts : Verifier)
+        → HasAsked state.now v sig_text legacy → is_begun state.now ≡ true → IsAnswer second
+        → AnswersComment accepts v sig_text (second == answer_yes)
+        → result ≡ verdict_number (comment_verdict_under accepts v sig_text legacy) }
+
+    // An answer is 7955827 for yes or 28271 for no, and no other number is taken; a state that has not asked gives none.
+    ensures asked { result ≡ 0 → (is_asked state.now ≡ true) × IsAnswer second }
+    ensures refused { 0 < result → IsCommentVerdictNumber state.now second result }
+{
+    if !is_answer(second) {
+        return Misuse::BadAnswer.number();
+    }
+    match state.comment_verdict(second == ANSWER_YES) {
+        Ok(()) => 0,
+        Err(refusal) => refusal.number(),
+    }
+}
+
+/// The verdict from what Ed25519 answered to the two questions, `ANSWER_YES` or `ANSWER_NO`. It ends the state.
 #[unsafe(no_mangle)]
 pub extern "C" fn minisign_verdict(state: &mut State, first: u32, second: u32) -> u32
-    // **For every relation that answers the two questions as the caller says, and every message: 0 exactly when the
-    // texts vouch for the message, otherwise the number of the first case that fails.**
-    ensures verdict { (pk_text sig_text message : List ℕ) (legacy : Bool) (accepts : Verifier)
-        → HasAsked state.old pk_text sig_text legacy → IsAnswer first → IsAnswer second
-        → AnswersTexts accepts pk_text sig_text message (first == answer_yes) (second == answer_yes)
+    // **For every relation that answers the two questions as the caller says, and every message: the number of the
+    // verdict on the key, the text of the signature and the message, 0 exactly when they vouch for it.**
+    ensures verdict { (v : PublicKeyValue) (sig_text message : List ℕ) (legacy : Bool) (accepts : Verifier)
+        → HasAsked state.old v sig_text legacy → IsMarkedTold state.old → IsAnswer first → IsAnswer second
+        → Answers accepts v sig_text message (first == answer_yes) (second == answer_yes)
+        → result ≡ verdict_number (verdict_under accepts v sig_text message legacy) }
+
+    // **So of every text that reads as the key: 0 exactly when the two texts vouch for the message, otherwise the number
+    // of the first case that fails.**
+    ensures texts { (v : PublicKeyValue) (pk_text sig_text message : List ℕ) (legacy : Bool) (accepts : Verifier)
+        → HasAsked state.old v sig_text legacy → IsMarkedTold state.old → IsKeyText pk_text v → IsAnswer first → IsAnswer second
+        → Answers accepts v sig_text message (first == answer_yes) (second == answer_yes)
         → GivesNumber accepts pk_text sig_text message legacy result }
 
     // An answer is 7955827 for yes or 28271 for no, and no other number is taken; a verdict ends the state, and a wrong
@@ -175,48 +211,73 @@ pub extern "C" fn minisign_verdict(state: &mut State, first: u32, second: u32) -
     }
 }
 
-/// Asks for signatures: tells the secret of the key that the text gives, and the digest of the
-/// data.
+/// Opens the secret key of a text.
 #[unsafe(no_mangle)]
-pub extern "C" fn minisign_ask_signing(
+pub extern "C" fn minisign_open_secret_key(
     alloc: Global,
-    state: &mut State,
     sk_text: &[u8],
     with_password: u32,
     password: &[u8],
     keep_every: u64,
     greatest_work: u32,
-    questions: &mut SigningQuestions,
+    key: &mut SecretKeyValue,
 ) -> u32
-    // The secret and the identifier that are told are those of the key that the text gives; the digest is that of
-    // everything the state was fed; the state then keeps the identifier, and is fed and asked no more.
-    ensures asked { result ≡ 0 → (key : SecretKeyRecord)
-        × GivesSecretKey sk_text.now (passed_in with_password password.now) greatest_work key × TellsKey questions.new key }
-    ensures digest { result ≡ 0 → (m : List ℕ) → IsFedState state.old m → questions.new.digest ≡ blake2b_digest 64 m }
-    ensures begun { result ≡ 0 → IsMarkedFed state.old }
-    ensures told { result ≡ 0 → HasToldKey state.new questions.new.key_id }
+    // The secret and the key ID are those of the key that the text gives, with the mark of one that was opened.
+    ensures opened { result ≡ 0 → (k : SecretKeyRecord)
+        × GivesSecretKey sk_text.now (passed_in with_password password.now) greatest_work k × HoldsKey key.new k }
     ensures number { result ≡ 0 → with_password < 2 }
+    ensures flag { 1 < with_password → result ≡ misuse_number BadPasswordFlag }
 
-    // What is refused comes in this order: a number that is neither 0 nor 1, with no state looked at; a wrong use of
-    // the state, with no text read and no key opened; a text or a password that is not UTF-8; and the first reason for
-    // which the text gives no key within the greatest work; only behind the first three it may run out of memory. The
-    // state and the questions are then as they were.
-    ensures refused { 0 < result → IsSigningNumber state.old sk_text.now (passed_in with_password password.now) with_password greatest_work result }
-    ensures kept { 0 < result → (state.new ≡ state.old) × (questions.new ≡ questions.old) }
+    // What is refused comes in this order: a number that is neither 0 nor 1; a text or a password that is not UTF-8; and
+    // the first reason for which the text gives no key within the greatest work; only behind the first two it may run
+    // out of memory. The key is then as it was.
+    ensures refused { 0 < result → IsOpeningNumber sk_text.now (passed_in with_password password.now) with_password greatest_work result }
+    ensures kept { 0 < result → key.new ≡ key.old }
 {
     if with_password > 1 {
         return Misuse::BadPasswordFlag.number();
     }
-    match state.ask_signing(
+    match open_secret_key(
         alloc,
         sk_text,
         given(with_password, password),
         keep_every,
         greatest_work,
-        questions,
+        key,
     ) {
         Ok(()) => 0,
-        Err(refusal) => refusal.number(),
+        Err(fault) => Refusal::Refused(fault).number(),
+    }
+}
+
+/// Takes in a new secret key. Does not allocate.
+#[unsafe(no_mangle)]
+pub extern "C" fn minisign_take_secret_key(
+    key_id: &[u8; 8],
+    secret: &[u8; 64],
+    key: &mut SecretKeyValue,
+)
+    // The key has this key ID and this secret, and the mark of one that was opened.
+    ensures { key.new ≡ taken_key key_id.now secret.now }
+{
+    *key = SecretKeyValue::take(key_id, secret);
+}
+
+/// Tells the public key of a secret key. Does not allocate.
+#[unsafe(no_mangle)]
+pub extern "C" fn minisign_public_key_of(
+    key: &SecretKeyValue,
+    public_key: &mut PublicKeyValue,
+) -> u32
+    // The last 32 bytes and the key ID of a key that was opened; another is refused, and nothing is written.
+    ensures { (result, public_key.new) ≡ told_public_key (public_value_of key.now) public_key.old }
+{
+    match key.public_key() {
+        Ok(value) => {
+            *public_key = value;
+            0
+        }
+        Err(misuse) => misuse.number(),
     }
 }
 
@@ -231,12 +292,11 @@ fn given(with_password: u32, password: &[u8]) -> Option<&[u8]>
     }
 }
 
-/// Writes the text of a secret key of its parts, which is sealed where there is a password.
+/// Writes the text of a secret key, which is sealed where there is a password.
 #[unsafe(no_mangle)]
-pub extern "C" fn minisign_make_secret_key(
+pub extern "C" fn minisign_secret_key_text(
     alloc: Global,
-    key_id: &[u8; 8],
-    secret_key: &[u8; 64],
+    key: &SecretKeyValue,
     with_password: u32,
     password: &[u8],
     sealing: &Sealing,
@@ -246,13 +306,14 @@ pub extern "C" fn minisign_make_secret_key(
     text_len: &mut usize,
 ) -> u32
     // The text of the secret key stands at the front of the buffer, as `write_secret_key` says.
-    ensures text { result ≡ 0 → HoldsSecretKey key_id.now secret_key.now (passed_in with_password password.now) sealing.now comment.now text.new text_len.new }
-    ensures number { result ≡ 0 → with_password < 2 }
+    ensures text { result ≡ 0 → HoldsSecretKey key.now.key_id key.now.secret (passed_in with_password password.now) sealing.now comment.now text.new text_len.new }
+    ensures number { result ≡ 0 → (with_password < 2) × (is_opened key.now ≡ true) }
+    ensures flag { 1 < with_password → result ≡ misuse_number BadPasswordFlag }
 
-    // What is refused comes in this order: a number that is neither 0 nor 1; a comment or a password that is not UTF-8;
+    // What is refused comes in this order: a number that is neither 0 nor 1; a key that was not opened; a comment or a password that is not UTF-8;
     // a comment of two lines; one that Minisign does not read whole; too short a buffer; limits that sealing does not
     // allow; out of memory. Buffer and length are then as they were.
-    ensures refused { 0 < result → IsMakingNumber (passed_in with_password password.now) with_password sealing.now comment.now text.old result }
+    ensures refused { 0 < result → IsMakingNumber key.now (passed_in with_password password.now) with_password sealing.now comment.now text.old result }
     ensures kept { 0 < result → (text.new ≡ text.old) × (text_len.new ≡ text_len.old) }
 {
     if with_password >= 2 {
@@ -260,8 +321,7 @@ pub extern "C" fn minisign_make_secret_key(
     }
     match write_secret_key(
         alloc,
-        key_id,
-        secret_key,
+        key,
         given(with_password, password),
         sealing,
         keep_every,
@@ -276,24 +336,24 @@ pub extern "C" fn minisign_make_secret_key(
     }
 }
 
-/// Writes the text of the public key of a secret key's parts.
+/// Writes the text of the public key of a secret key.
 #[unsafe(no_mangle)]
-pub extern "C" fn minisign_make_public_key(
+pub extern "C" fn minisign_public_key_text(
     alloc: Global,
-    key_id: &[u8; 8],
-    secret_key: &[u8; 64],
+    key: &SecretKeyValue,
     comment: &[u8],
     text: &mut [u8],
     text_len: &mut usize,
 ) -> u32
     // The text of the public key stands at the front of the buffer, as `write_public_key` says.
-    ensures text { result ≡ 0 → HoldsPublicKey key_id.now secret_key.now comment.now text.new text_len.new }
+    ensures opened { result ≡ 0 → is_opened key.now ≡ true }
+    ensures text { result ≡ 0 → HoldsPublicKey key.now.key_id key.now.secret comment.now text.new text_len.new }
 
     // What is refused comes in the same order, less what concerns a password. Buffer and length are then as they were.
-    ensures refused { 0 < result → IsPublicKeyNumber comment.now text.old result }
+    ensures refused { 0 < result → IsPublicKeyNumber key.now comment.now text.old result }
     ensures kept { 0 < result → (text.new ≡ text.old) × (text_len.new ≡ text_len.old) }
 {
-    match write_public_key(alloc, key_id, secret_key, comment, text) {
+    match write_public_key(alloc, key, comment, text) {
         Ok(public_key_len) => {
             *text_len = public_key_len;
             0
@@ -322,11 +382,11 @@ pub extern "C" fn minisign_comment_message(
     }
 }
 
-/// Writes the text of the signature that the two signatures make, for a state that has told a key.
+/// Writes the text of the signature that the two signatures make, under the key ID of a key that was opened.
 #[unsafe(no_mangle)]
 pub extern "C" fn minisign_signed_text(
     alloc: Global,
-    state: &State,
+    key: &SecretKeyValue,
     first: &[u8; 64],
     second: &[u8; 64],
     trusted: &[u8],
@@ -334,21 +394,20 @@ pub extern "C" fn minisign_signed_text(
     text: &mut [u8],
     text_len: &mut usize,
 ) -> u32
-    // **The text of two signatures reads as the box with exactly the identifier of the key that the state has told,
-    // these comments and these signatures; for every scheme that answers the two questions so, that is the box that
+    // **The text of two signatures reads as the box with exactly the key ID of the key, which was opened, these comments and these signatures; for every scheme that answers the two questions so, that is the box that
     // signing makes; under every public key under which the signatures are accepted it vouches for the message, and for
     // a genuine key the headline's third part holds of it.**
-    ensures text { result ≡ 0 → HasToldKey state.now state.now.key_id
-        × HoldsText state.now.key_id (comments_of trusted.now untrusted.now) first.now second.now text.new text_len.new }
+    ensures text { result ≡ 0 → (is_opened key.now ≡ true)
+        × HoldsText key.now.key_id (comments_of trusted.now untrusted.now) first.now second.now text.new text_len.new }
     ensures readable { result ≡ 0 → AreReadByMinisign (comments_of trusted.now untrusted.now) }
 
-    // No text is written, in this order, for a state that has told no key, for comments that are not UTF-8, that would
+    // No text is written, in this order, for a key that was not opened, for comments that are not UTF-8, that would
     // not be read back, or that Minisign 0.11 would not read back, or where there is no room; for all others it is,
     // unless memory runs out. Buffer and length are then as they were.
-    ensures refused { 0 < result → IsWritingNumber state.now (comments_of trusted.now untrusted.now) first.now second.now text.old result }
+    ensures refused { 0 < result → IsWritingNumber key.now (comments_of trusted.now untrusted.now) first.now second.now text.old result }
     ensures kept { 0 < result → (text.new ≡ text.old) × (text_len.new ≡ text_len.old) }
 {
-    match write_signed_text(alloc, state, first, second, trusted, untrusted, text) {
+    match write_signed_text(alloc, key, first, second, trusted, untrusted, text) {
         Ok(len) => {
             *text_len = len;
             0
@@ -475,40 +534,35 @@ pub extern "C" fn minisign_install_piece(installation: &mut Installation, piece:
     }
 }
 
-/// Asks what Ed25519 has to answer before it is known whether the two texts vouch for what was read
+/// Asks what Ed25519 has to answer before it is known whether the key and the text vouch for what was read
 /// back, and judges the signed comment.
 #[unsafe(no_mangle)]
 pub extern "C" fn minisign_install_ask(
     installation: &mut Installation,
-    pk_text: &[u8],
+    key: &PublicKeyValue,
     sig_text: &[u8],
     file: &[u8],
     questions: &mut Questions,
     message: &mut [u8],
 ) -> u32
-    // The questions are those of what the texts read as, as `Installation::ask` says; they are then asked, and the
-    // comment of the second text is judged, against the number that was kept.
-    ensures asked { result ≡ 0 → (pk : PublicKeyRecord) × (x : SignatureBoxRecord) × (c : CommentsRecord)
-        × AreOpen pk_text.now sig_text.now false pk x c
-        × AreQuestions questions.new message.new pk x c }
+    // The questions are those of the key and of what the text reads as, as `Installation::ask` says; they are then asked,
+    // and the comment that was asked about is judged, against the number that was kept.
+    ensures asked { result ≡ 0 → (t : SignatureTextRecord) × (read_under key.now false sig_text.now ≡ Ok t)
+        × AreQuestions questions.new message.new key.now t }
     ensures digest { result ≡ 0 → (m : List ℕ) → IsFedState installation.old.state m → questions.new.digest ≡ blake2b_digest 64 m }
     ensures asking { result ≡ 0 → (kept : ℕ) × IsDue installation.old (Answer kept)
-        × IsAsking installation.new (wanted_by pk_text.now sig_text.now file.now (numbering_of installation.old)) kept }
+        × ((pk_text : List ℕ) → IsKeyText pk_text key.now
+        → IsAsking installation.new (wanted_by pk_text sig_text.now file.now (numbering_of installation.old)) kept) }
 
     // The field that the number stands in stays.
     ensures field { numbering_of installation.new ≡ numbering_of installation.old }
 
-    // The identifiers are answered as `Installation::ask` says.
-    ensures identifiers { (kept : ℕ) → IsDue installation.old (Answer kept) → (m : List ℕ) → IsFedState installation.old.state m
-        → IsUtf8 file.now → IsUtf8 pk_text.now → IsUtf8 sig_text.now
-        → TellsIdentifiers pk_text.now sig_text.now questions.new }
-
     // The number is that of the first reason of `Installation::ask`: a wrong use changes nothing, and for any other reason
     // the stage is to be removed. The message buffer is as it was.
-    ensures refused { 0 < result → IsAskNumber installation.old installation.new pk_text.now sig_text.now file.now message.old result }
+    ensures refused { 0 < result → IsAskNumber installation.old installation.new key.now sig_text.now file.now (length message.old) result }
     ensures kept { 0 < result → message.new ≡ message.old }
 {
-    match installation.ask(pk_text, sig_text, file, questions, message) {
+    match installation.ask(key, sig_text, file, questions, message) {
         Ok(()) => 0,
         Err(refusal) => refusal.number(),
     }

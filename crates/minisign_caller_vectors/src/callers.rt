@@ -4,7 +4,7 @@ use crate::folders::{folder_path, make_empty, path_of, put};
 use crate::passwords::sign_with_password;
 use minisign::{
     ErrorKind, Result, SecretKey, copy_verified, open_with_password, sign_bytes, verify_bytes,
-    verify_file,
+    verify_file, verify_in_place,
 };
 use minisign_base::devices::random_sources::FixedRandom;
 use minisign_base::devices::sinks::VecSink;
@@ -63,6 +63,52 @@ fn the_comment_of_bytes_is_returned(rt: HostRuntime) {
         (("", ""), b"abc", Refused(MissingPublicKeyComment)),
     ] {
         let right = is_told(rt.alloc(), texts, message, expected);
+        assert!(rt; right, "at {expected:?}");
+    }
+}
+
+// Whether this comes of verifying the bytes with two texts without memory, in a buffer as long as the text of the
+// signature.
+fn is_told_in_place(
+    alloc: Global,
+    (pk_text, sig_text): (&str, &str),
+    message: &[u8],
+    allow_legacy: bool,
+    expected: Outcome,
+) -> bool {
+    let Ok(mut room) = vec![in alloc; 0u8; sig_text.len()] else {
+        return false;
+    };
+    let scheme = ToyScheme::new();
+    let answer = verify_in_place(&scheme, pk_text, sig_text, message, allow_legacy, &mut room);
+    match answer {
+        Ok(comment) => expected == Accepted && comment == "t",
+        Err(_) => comes_to(&answer, expected),
+    }
+}
+
+#[test]
+fn the_comment_of_bytes_is_told_in_place(rt: HostRuntime) {
+    for (texts, message, allow_legacy, expected) in [
+        (WORKED, b"abc", false, Accepted),
+        (WORKED, b"abd", false, REFUSED),
+        (
+            (KEY_TEXT, LEGACY_TEXT),
+            b"abc",
+            false,
+            Refused(LegacyNotAccepted),
+        ),
+        ((KEY_TEXT, LEGACY_TEXT), b"abc", true, Accepted),
+        ((KEY_TEXT, LEGACY_TEXT), b"abd", true, REFUSED),
+        (
+            (KEY_TEXT, "untrusted comment: c"),
+            b"abc",
+            false,
+            Refused(MissingSignature),
+        ),
+        (("", ""), b"abc", false, Refused(MissingPublicKeyComment)),
+    ] {
+        let right = is_told_in_place(rt.alloc(), texts, message, allow_legacy, expected);
         assert!(rt; right, "at {expected:?}");
     }
 }

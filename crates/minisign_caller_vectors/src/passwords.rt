@@ -1,8 +1,8 @@
 //! A caller that signs with the text of a sealed key and its password. `callers` runs it.
 
-ghost use Rattle.std.specs.Prelude.{None, string_bytes, IfOk};
+ghost use Rattle.std.specs.Prelude.{◌≡◌, None, Ok, string_bytes, IfOk};
 ghost use Rattle.minisign.specs.Headline.{SigningHeadline};
-ghost use Rattle.minisign.specs.OpenedTexts.{IsOpened};
+ghost use Rattle.minisign.specs.OpenedTexts.{key_with_password};
 ghost use Rattle.minisign.specs.Records.{SecretKeyRecord};
 ghost use Rattle.minisign.specs.Signing.{given_comments};
 
@@ -25,7 +25,7 @@ pub fn sign_with_password<S: Scheme, Z: RandomSource>(
     random: &mut Z,
     moment: u64,
 ) -> Result<String>
-    ensures { (key : SecretKeyRecord) → IsOpened sk_text.now (string_bytes password) None key →
+    ensures { (key : SecretKeyRecord) → key_with_password sk_text.now (string_bytes password) ≡ Ok key →
         IfOk result (λ t. SigningHeadline (S.accepts scheme.now) (S.public_of scheme.now) key message.now
         (given_comments None None moment) (string_bytes t)) }
 {

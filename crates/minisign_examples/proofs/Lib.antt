@@ -1,3 +1,4 @@
 mod AskedAgain
 mod Refusals
 mod SignedPairs
+mod GivenKeys

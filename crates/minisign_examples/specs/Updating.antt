@@ -1,10 +1,9 @@
 -- An update that two texts vouch for under its name.
-use Rattle.std.specs.Prelude.{◌≡◌, ◌≢◌, ◌⊎◌, ℕ, false, List, codes}
+use Rattle.std.specs.Prelude.{◌≡◌, ◌≢◌, ◌⊎◌, ℕ, false, List, Ok, Err, codes}
 use Rattle.minisign.specs.Fault.{Fault, Worded}
 use Rattle.minisign.specs.ErrorKinds.{Verify}
 use Rattle.minisign.specs.Acceptance.{Verifier}
-use Rattle.minisign.specs.Calls.{TextsVouchWith}
-use Rattle.minisign.specs.Headline.{TextsRefuse}
+use Rattle.minisign.specs.Headline.{verdict}
 
 -- the fault of an update with another name
 unfoldable pub another_name : Fault
@@ -14,5 +13,5 @@ another_name = Worded Verify (codes "the update has another name")
 -- that was signed with it is another one than the name
 abbrev pub RefusesUpdate : Verifier → List ℕ → List ℕ → List ℕ → List ℕ → Fault → Type 0
 RefusesUpdate accepts pk_text sig_text update name e =
-    TextsRefuse accepts pk_text sig_text update false e
-    ⊎ ((e ≡ another_name) × ((comment : List ℕ) × (comment ≢ name) × TextsVouchWith accepts pk_text sig_text update false comment))
+    (verdict accepts pk_text sig_text update false ≡ Err e)
+    ⊎ ((e ≡ another_name) × ((comment : List ℕ) × (comment ≢ name) × (verdict accepts pk_text sig_text update false ≡ Ok comment)))

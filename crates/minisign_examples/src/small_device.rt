@@ -1,9 +1,8 @@
 //! A caller that opens a sealed key where memory is scarce.
 
-ghost use Rattle.std.specs.Prelude.{◌≡◌, ◌⊎◌, None, MatchResult};
-ghost use Rattle.minisign.specs.Fault.{Named};
-ghost use Rattle.minisign.specs.NamedFaults.{OutOfMemory};
-ghost use Rattle.minisign.specs.OpenedTexts.{IsOpened, RefusesOpening};
+ghost use Rattle.std.specs.Prelude.{None};
+ghost use Rattle.minisign.specs.OpenedTexts.{open_key};
+ghost use Rattle.minisign.specs.Texts.{IsReadOrNoMemory};
 
 use minisign::{Prompt, Result, SecretKey, SecretKeyBox};
 use std::alloc::Global;
@@ -15,8 +14,7 @@ const KEPT_EVERY: u64 = 8;
 /// otherwise: 4 MiB with the usual limits. What is opened and what is refused is the same.
 pub fn open_in_little_memory(alloc: Global, sk_text: &str, password: &str) -> Result<SecretKey>
     // A key opens in an eighth of the memory exactly when it opens.
-    ensures { MatchResult result (IsOpened sk_text.now password.now None)
-        (λ e. (e ≡ Named OutOfMemory) ⊎ RefusesOpening sk_text.now password.now None e) }
+    ensures { IsReadOrNoMemory result (open_key sk_text.now password.now None) }
 {
     let sk_box = SecretKeyBox::from_string(alloc, sk_text)?;
     let passed_in = Some(String::from_str(alloc, password)?);

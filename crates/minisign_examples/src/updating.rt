@@ -1,9 +1,9 @@
 //! A caller that installs what two texts vouch for under its name, and nothing else.
 
-ghost use Rattle.std.specs.Prelude.{◌≡◌, ◌⊎◌, false, MatchResult};
+ghost use Rattle.std.specs.Prelude.{◌≡◌, ◌⊎◌, false, Ok, MatchResult};
 ghost use Rattle.minisign.specs.Fault.{Named};
 ghost use Rattle.minisign.specs.NamedFaults.{OutOfMemory};
-ghost use Rattle.minisign.specs.Calls.{TextsVouchWith};
+ghost use Rattle.minisign.specs.Headline.{verdict};
 ghost use Rattle.minisign_examples.specs.Updating.{RefusesUpdate};
 
 use minisign::{ErrorKind, PError, Result, Scheme, verify_bytes};
@@ -20,7 +20,7 @@ pub fn check_update<S: Scheme>(
     update: &[u8],
     name: &str,
 ) -> Result<()>
-    ensures { MatchResult result (λ _. TextsVouchWith (S.accepts scheme.now) pk_text.now sig_text.now update.now false name.now)
+    ensures { MatchResult result (λ _. verdict (S.accepts scheme.now) pk_text.now sig_text.now update.now false ≡ Ok name.now)
         (λ e. (e ≡ Named OutOfMemory) ⊎ RefusesUpdate (S.accepts scheme.now) pk_text.now sig_text.now update.now name.now e) }
 {
     let comment = verify_bytes(alloc, scheme, pk_text, sig_text, update)?;

@@ -1,5 +1,4 @@
-pub mod Refusals
 pub mod AnsweredBoxes
+pub mod Verdicts
 pub mod UnsealedKeys
-pub mod Unread
 pub mod Utf8

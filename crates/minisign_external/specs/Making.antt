@@ -1,5 +1,5 @@
 -- Texts of keys that are made of their parts, at the front of a buffer.
-use Rattle.std.specs.Prelude.{◌≡◌, ◌⊎◌, ◌<◌, ◌≤◌, ◌+◌, ℕ, List, length, take, Option, Some, Ok, IfSome}
+use Rattle.std.specs.Prelude.{◌≡◌, ◌⊎◌, ◌<◌, ◌≤◌, ◌+◌, ℕ, true, false, List, length, take, Option, Some, Ok, IfSome}
 use Rattle.std.specs.Str.{IsUtf8}
 use Rattle.std.specs.Str.Iter.{LacksByte}
 use Rattle.minisign_base.specs.Fault.{Named}
@@ -12,7 +12,9 @@ use Rattle.minisign.specs.SecretKeyText.{secret_key_text}
 use Rattle.minisign.specs.declared.making.Sealing.{Sealing}
 use Rattle.minisign_external.specs.Numbers.{misuse_number, refusal_number}
 use Rattle.minisign_external.specs.declared.state.Misuse.{Misuse}
-use Rattle.minisign_external.specs.declared.state.Misuse.TheVariants.{BadComment, BadPasswordFlag, NoRoom, UnreadableComment}
+use Rattle.minisign_external.specs.declared.state.Misuse.TheVariants.{BadComment, BadPasswordFlag, KeyNotOpened, NoRoom, UnreadableComment}
+use Rattle.minisign_external.specs.Signing.{is_opened}
+use Rattle.minisign_external.specs.declared.secrets.SecretKeyValue.{SecretKeyValue}
 use Rattle.minisign_external.specs.declared.state.Refusal.{Refusal}
 use Rattle.minisign_external.specs.declared.state.Refusal.TheVariants.{WrongUse, Refused}
 
@@ -62,23 +64,27 @@ abbrev pub IsMadeRefusal : Option (List ℕ) → Sealing → List ℕ → List �
 IsMadeRefusal password s comment bytes (WrongUse m) = IsUnwritable comment 233 bytes m
 IsMadeRefusal password s comment bytes (Refused e) = IsWritable comment 233 bytes × IsMakingFault password s e
 
--- the text of a secret key was not written: a comment or a password that is not UTF-8, or else as above
-abbrev pub IsMakingRefusal : Option (List ℕ) → Sealing → List ℕ → List ℕ → Refusal → Type 0
-IsMakingRefusal password s comment bytes r =
-    ((r ≡ Refused (Named NotUtf8)) × ¬ (AreUtf8KeyTexts comment password))
-    ⊎ (AreUtf8KeyTexts comment password × IsMadeRefusal password s comment bytes r)
+-- the text of a secret key was not written: the key was not opened, a comment or a password is not UTF-8, or else as
+-- above
+abbrev pub IsMakingRefusal : SecretKeyValue → Option (List ℕ) → Sealing → List ℕ → List ℕ → Refusal → Type 0
+IsMakingRefusal v password s comment bytes r =
+    ((r ≡ WrongUse KeyNotOpened) × (is_opened v ≡ false))
+    ⊎ ((r ≡ Refused (Named NotUtf8)) × (is_opened v ≡ true) × ¬ (AreUtf8KeyTexts comment password))
+    ⊎ ((is_opened v ≡ true) × AreUtf8KeyTexts comment password × IsMadeRefusal password s comment bytes r)
 
 -- the text of a public key was not written, in the same order
-abbrev pub IsPublicKeyRefusal : List ℕ → List ℕ → Refusal → Type 0
-IsPublicKeyRefusal comment bytes (WrongUse m) = IsUtf8 comment × IsUnwritable comment 77 bytes m
-IsPublicKeyRefusal comment bytes (Refused e) =
-    ((e ≡ Named NotUtf8) × ¬ (IsUtf8 comment)) ⊎ (IsUtf8 comment × IsWritable comment 77 bytes × (e ≡ Named OutOfMemory))
+abbrev pub IsPublicKeyRefusal : SecretKeyValue → List ℕ → List ℕ → Refusal → Type 0
+IsPublicKeyRefusal v comment bytes (WrongUse m) =
+    ((m ≡ KeyNotOpened) × (is_opened v ≡ false)) ⊎ ((is_opened v ≡ true) × IsUtf8 comment × IsUnwritable comment 77 bytes m)
+IsPublicKeyRefusal v comment bytes (Refused e) =
+    (is_opened v ≡ true)
+    × (((e ≡ Named NotUtf8) × ¬ (IsUtf8 comment)) ⊎ (IsUtf8 comment × IsWritable comment 77 bytes × (e ≡ Named OutOfMemory)))
 
 -- the numbers of these refusals
-abbrev pub IsMakingNumber : Option (List ℕ) → ℕ → Sealing → List ℕ → List ℕ → ℕ → Type 0
-IsMakingNumber password with_password s comment bytes n =
+abbrev pub IsMakingNumber : SecretKeyValue → Option (List ℕ) → ℕ → Sealing → List ℕ → List ℕ → ℕ → Type 0
+IsMakingNumber v password with_password s comment bytes n =
     ((n ≡ misuse_number BadPasswordFlag) × (1 < with_password))
-    ⊎ ((with_password < 2) × (r : Refusal) × (n ≡ refusal_number r) × IsMakingRefusal password s comment bytes r)
+    ⊎ ((with_password < 2) × (r : Refusal) × (n ≡ refusal_number r) × IsMakingRefusal v password s comment bytes r)
 
-abbrev pub IsPublicKeyNumber : List ℕ → List ℕ → ℕ → Type 0
-IsPublicKeyNumber comment bytes n = (r : Refusal) × (n ≡ refusal_number r) × IsPublicKeyRefusal comment bytes r
+abbrev pub IsPublicKeyNumber : SecretKeyValue → List ℕ → List ℕ → ℕ → Type 0
+IsPublicKeyNumber v comment bytes n = (r : Refusal) × (n ≡ refusal_number r) × IsPublicKeyRefusal v comment bytes r

@@ -5,7 +5,7 @@ use Rattle.minisign_base.specs.Fault.{Fault, Named, Worded}
 use Rattle.minisign_base.specs.Faults.{fault_row}
 use Rattle.minisign_base.specs.declared.faults.NamedFault.{NamedFault}
 use Rattle.minisign_external.specs.declared.state.Misuse.{Misuse}
-use Rattle.minisign_external.specs.declared.state.Misuse.TheVariants.{NotBegun, AlreadyAsked, NotAsked, BadAnswer, NoRoom, BadLegacyFlag, BadComment, BadPasswordFlag, UnreadableComment, NotDue, BadFirstFlag, BadNumbering}
+use Rattle.minisign_external.specs.declared.state.Misuse.TheVariants.{NotBegun, AlreadyAsked, NotAsked, BadAnswer, NoRoom, BadLegacyFlag, BadComment, BadPasswordFlag, UnreadableComment, NotDue, BadFirstFlag, BadNumbering, KeyNotOpened}
 use Rattle.minisign_external.specs.declared.state.Refusal.{Refusal}
 use Rattle.minisign_external.specs.declared.state.Refusal.TheVariants.{WrongUse, Refused}
 
@@ -22,11 +22,12 @@ misuse_number UnreadableComment = 11
 misuse_number NotDue = 12
 misuse_number BadFirstFlag = 13
 misuse_number BadNumbering = 14
+misuse_number KeyNotOpened = 15
 
 abbrev pub misuse_text : Misuse → List ℕ
 misuse_text NotBegun = codes "the state was never begun"
-misuse_text AlreadyAsked = codes "the questions were asked before"
-misuse_text NotAsked = codes "the questions were not asked"
+misuse_text AlreadyAsked = codes "the questions were asked before, or the digest was told"
+misuse_text NotAsked = codes "the questions were not asked, or the digest was not told"
 misuse_text BadAnswer = codes "an answer is neither MINISIGN_ANSWER_YES nor MINISIGN_ANSWER_NO"
 misuse_text NoRoom = codes "the buffer is too short"
 misuse_text BadLegacyFlag = codes "allow_legacy is neither 0 nor 1"
@@ -36,6 +37,7 @@ misuse_text UnreadableComment = codes "a comment is too long for minisign, or ha
 misuse_text NotDue = codes "the call is not due, or cannot go so"
 misuse_text BadFirstFlag = codes "is_first is neither 0 nor 1"
 misuse_text BadNumbering = codes "numbering is neither MINISIGN_NUMBERING_TIMESTAMP nor MINISIGN_NUMBERING_VERSION"
+misuse_text KeyNotOpened = codes "the secret key was not opened"
 
 -- the numbers of the two answers of a signature scheme: the letters "yes" and "no", each letter a byte. They are neither 0 nor 1, nor the
 -- number of an error, so that no such number is taken for an answer

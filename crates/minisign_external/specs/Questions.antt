@@ -1,32 +1,43 @@
--- What a signature scheme has to be asked before it is known whether two texts vouch for a message, and
--- what its answers decide.
-use Rattle.std.specs.Prelude.{◌≡◌, ℕ, ◌≤◌, ◌||◌, Bool, IsTrue, nat_le, if◌then◌else◌, List, ◌++◌, length, replicate, take, Some, Ok}
+-- What a signature scheme has to be asked before it is known whether a public key and the text of a signature vouch for
+-- a message, and what its answers decide.
+use Rattle.std.specs.Prelude.{◌≡◌, ◌≤◌, ⊤, ℕ, ◌||◌, Bool, IsTrue, bytes_eq, nat_le, if◌then◌else◌, List, ◌++◌, length, replicate, take, Some, Result, Ok, Err}
 use Rattle.minisign_base.specs.Fault.{Fault}
+use Rattle.minisign_base.specs.declared.faults.NamedFault.TheVariants.{CommentSignatureRefused}
 use Rattle.minisign.specs.Records.{PublicKeyRecord, SignatureRecord, SignatureBoxRecord, CommentsRecord, is_prehashed}
-use Rattle.minisign.specs.InPlace.{SignatureViewRecord, IsViewOf}
-use Rattle.minisign.specs.Acceptance.{Verifier, signed_bytes}
+use Rattle.minisign.specs.Acceptance.{Verifier, accepts_comment, judge_answers, judge_key, signed_bytes}
 use Rattle.minisign.specs.PublicKeyText.{read_public_key}
-use Rattle.minisign.specs.SignatureText.{read_signature_box}
-use Rattle.minisign.specs.Headline.{TextsRefuse}
+use Rattle.minisign.specs.SignatureText.{SignatureTextRecord, box_of, read_signature, read_signature_box}
+use Rattle.minisign.specs.Texts.{and_then, require}
+use Rattle.minisign_external.specs.PublicKeys.{key_of, read_utf8, value_of}
+use Rattle.minisign_external.specs.declared.public_keys.PublicKeyValue.{PublicKeyValue}
 
--- a question: whether this signature of the message is accepted under the key
-pub record Question : Type 0 where
-  pub message : List ℕ
-  pub key : List ℕ
-  pub signature : List ℕ
+-- == What a key and the text of a signature decide ==
 
--- what a scheme answers
-abbrev pub answer_of : Verifier → Question → Bool
-answer_of accepts q = accepts q.message q.key q.signature
+-- what the bytes of a signature's text read as under a key, where nothing is refused that needs no scheme; otherwise
+-- the first case that fails
+abbrev pub read_under : PublicKeyValue → Bool → List ℕ → Result SignatureTextRecord Fault
+read_under v legacy sig_text =
+    and_then (read_utf8 read_signature sig_text) (λ t.
+    and_then (judge_key (key_of v) t.signature legacy) (λ _.
+    Ok t))
 
--- the first question: the box's signature, over the digest of the data or over the data itself
-abbrev pub data_question : PublicKeyRecord → SignatureBoxRecord → List ℕ → Question
-data_question pk x message = record { message = signed_bytes x message; key = pk.key; signature = x.signature.signature }
+-- the verdict on a key, the bytes of a signature's text and a message: the trusted comment, which was signed with the
+-- message; or the first case that fails
+abbrev pub verdict_under : Verifier → PublicKeyValue → List ℕ → List ℕ → Bool → Result (List ℕ) Fault
+verdict_under accepts v sig_text message legacy =
+    and_then (read_under v legacy sig_text) (λ t.
+    and_then (judge_answers (accepts (signed_bytes (box_of t) message) v.key t.signature.signature)
+    (accepts_comment accepts (key_of v) t.signature t.comments)) (λ _.
+    Ok t.comments.trusted))
 
--- the second question: the first 64 bytes of the comment signature, over that signature followed by the
--- trusted comment
-abbrev pub comment_question : PublicKeyRecord → SignatureRecord → CommentsRecord → Question
-comment_question pk s c = record { message = s.signature ++ c.trusted; key = pk.key; signature = take 64 c.signature }
+-- what the second answer decides by itself: the trusted comment, which was signed together with the first signature
+abbrev pub comment_verdict_under : Verifier → PublicKeyValue → List ℕ → Bool → Result (List ℕ) Fault
+comment_verdict_under accepts v sig_text legacy =
+    and_then (read_under v legacy sig_text) (λ t.
+    require (accepts_comment accepts (key_of v) t.signature t.comments) CommentSignatureRefused
+    (Ok t.comments.trusted))
+
+-- == The questions ==
 
 -- the second question can be asked: the comment signature has 64 bytes
 abbrev pub has_whole_signature : CommentsRecord → Bool
@@ -36,47 +47,40 @@ has_whole_signature c = nat_le 64 (length c.signature)
 abbrev pub told_signature : CommentsRecord → List ℕ
 told_signature c = if has_whole_signature c then take 64 c.signature else replicate 64 0
 
--- the two texts read as this key and this box
-pub record AreReadAs (pk_text sig_text : List ℕ) (pk : PublicKeyRecord) (x : SignatureBoxRecord) : Type 0 where
-  pub key_read : read_public_key pk_text ≡ Ok pk
-  pub box_read : read_signature_box sig_text ≡ Ok x
+-- the scheme answers the first question about the message so: whether the signature is accepted, over the digest of the
+-- data or over the data itself
+abbrev pub AnswersFirst : Verifier → PublicKeyValue → SignatureTextRecord → List ℕ → Bool → Type 0
+AnswersFirst accepts v t message first = accepts (signed_bytes (box_of t) message) v.key t.signature.signature ≡ first
 
--- the two texts read as this key and this box, and all conditions hold that need no scheme: what is left
--- is to ask the two questions
-pub record AreOpen (pk_text sig_text : List ℕ) (legacy : Bool) (pk : PublicKeyRecord) (x : SignatureBoxRecord) (c : CommentsRecord) : Type 0 where
-  pub read : AreReadAs pk_text sig_text pk x
-  pub comments : x.comments ≡ Some c
-  pub same_key : x.signature.keynum ≡ pk.keynum
-  pub allowed : IsTrue (is_prehashed x.signature || legacy)
+-- and the second so, where it can be asked: the first 64 bytes of the comment signature, over that signature followed by
+-- the trusted comment
+abbrev pub AnswersSecond : Verifier → PublicKeyValue → SignatureTextRecord → Bool → Type 0
+AnswersSecond accepts v t second =
+    IsTrue (has_whole_signature t.comments) → accepts (t.signature.signature ++ t.comments.trusted) v.key (take 64 t.comments.signature) ≡ second
 
--- the scheme answers the two questions about the message so; the second one where it can be asked
-pub record AnswersSo (accepts : Verifier) (pk : PublicKeyRecord) (x : SignatureBoxRecord) (c : CommentsRecord) (message : List ℕ) (first second : Bool) : Type 0 where
-  pub to_first : answer_of accepts (data_question pk x message) ≡ first
-  pub to_second : IsTrue (has_whole_signature c) → answer_of accepts (comment_question pk x.signature c) ≡ second
+-- the scheme answers the questions of the key and the text so
+pub record Answers (accepts : Verifier) (v : PublicKeyValue) (sig_text message : List ℕ) (first second : Bool) : Type 0 where
+  pub to_first : (t : SignatureTextRecord) → read_signature sig_text ≡ Ok t → AnswersFirst accepts v t message first
+  pub to_second : (t : SignatureTextRecord) → read_signature sig_text ≡ Ok t → AnswersSecond accepts v t second
 
--- the texts are refused before any scheme is asked: whatever a scheme accepts, and whatever the message
-abbrev pub IsRefusedUnasked : List ℕ → List ℕ → Bool → Fault → Type 0
-IsRefusedUnasked pk_text sig_text legacy e =
-    (accepts : Verifier) (message : List ℕ) → TextsRefuse accepts pk_text sig_text message legacy e
-
--- the scheme answers the questions of the two texts about the message so
-abbrev pub AnswersTexts : Verifier → List ℕ → List ℕ → List ℕ → Bool → Bool → Type 0
-AnswersTexts accepts pk_text sig_text message first second =
-    (pk : PublicKeyRecord) (x : SignatureBoxRecord) (c : CommentsRecord) → read_public_key pk_text ≡ Ok pk → read_signature_box sig_text ≡ Ok x
-    → x.comments ≡ Some c → AnswersSo accepts pk x c message first second
-
--- what is told of two texts that were read where they lie
-pub record TextsRecord : Type 0 where
-  pub key : PublicKeyRecord
-  pub view : SignatureViewRecord
-
--- it is what the two texts read as
-pub record AreTexts (pk_text sig_text : List ℕ) (t : TextsRecord) : Type 0 where
-  pub box : SignatureBoxRecord
-  pub read : AreReadAs pk_text sig_text t.key box
-  pub view : IsViewOf t.view box
+-- the same of the second question alone
+abbrev pub AnswersComment : Verifier → PublicKeyValue → List ℕ → Bool → Type 0
+AnswersComment accepts v sig_text second = (t : SignatureTextRecord) → read_signature sig_text ≡ Ok t → AnswersSecond accepts v t second
 
 -- the bytes begin with the message of the second question, which has this length
 pub record HoldsMessage (s : SignatureRecord) (trusted : List ℕ) (bytes : List ℕ) (len : ℕ) : Type 0 where
   pub fits : len ≤ length bytes
   pub message : take len bytes ≡ s.signature ++ trusted
+
+-- == The same of the text of a public key ==
+
+-- the text reads as a key of this value
+pub record IsKeyText (pk_text : List ℕ) (v : PublicKeyValue) : Type 0 where
+  pub key : PublicKeyRecord
+  pub read : read_public_key pk_text ≡ Ok key
+  pub same : v ≡ value_of key
+
+-- the scheme answers the questions of the two texts so
+abbrev pub AnswersTexts : Verifier → List ℕ → List ℕ → List ℕ → Bool → Bool → Type 0
+AnswersTexts accepts pk_text sig_text message first second =
+    (v : PublicKeyValue) → IsKeyText pk_text v → Answers accepts v sig_text message first second

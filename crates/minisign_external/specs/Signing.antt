@@ -1,5 +1,5 @@
 -- What a signature scheme has to be asked for a signature of a message, and the text that its answers make.
-use Rattle.std.specs.Prelude.{◌≡◌, ◌==◌, ◌⊎◌, ◌<◌, ◌≤◌, ℕ, true, if◌then◌else◌, List, ◌++◌, length, take, Option, None, Some, Ok, IfSome, replicate}
+use Rattle.std.specs.Prelude.{◌≡◌, ◌==◌, ◌⊎◌, ◌<◌, ◌≤◌, ◌&&◌, ℕ, Bool, true, false, if◌then◌else◌, bytes_eq, List, ◌++◌, length, take, drop, Option, None, Some, Result, Ok, Err, IfSome, replicate}
 use Rattle.std.specs.Str.{IsUtf8}
 use Rattle.std.specs.Str.Iter.{LacksByte}
 use Rattle.minisign_hash.specs.Blake2b.{blake2b_digest}
@@ -8,49 +8,64 @@ use Rattle.minisign_base.specs.declared.faults.NamedFault.TheVariants.{OutOfMemo
 use Rattle.minisign.specs.Records.{CommentsRecord, SecretKeyRecord, SignatureRecord, SignatureBoxRecord, prehashed_algorithm}
 use Rattle.minisign.specs.Acceptance.{Verifier, VouchesUnderEachKey}
 use Rattle.minisign.specs.Headline.{SigningHeadline}
-use Rattle.minisign.specs.Sealing.{IsUnencrypted, no_kdf}
-use Rattle.minisign.specs.SecretKeyText.{SecretKeyText}
+use Rattle.minisign.specs.Sealing.{no_kdf, unencrypted_key}
+use Rattle.minisign.specs.SecretKeyText.{read_secret_key}
+use Rattle.minisign.specs.Texts.{and_then}
 use Rattle.minisign.specs.Signing.{AreChosenReadBack, ChosenComments, IsGenuine, Signer, signed_box}
 use Rattle.minisign.specs.SignatureText.{read_signature_box, signature_text}
-use Rattle.minisign_external.specs.Numbers.{misuse_number, refusal_number}
-use Rattle.minisign_external.specs.States.{HasToldKey, IsMarkedFed, IsNotFed, IsNotTold}
-use Rattle.minisign_external.specs.declared.state.State.{State}
+use Rattle.minisign_external.specs.Numbers.{fault_number, misuse_number, refusal_number}
+use Rattle.minisign_external.specs.declared.public_keys.PublicKeyValue.{PublicKeyValue}
+use Rattle.minisign_external.specs.declared.secrets.SecretKeyValue.{SecretKeyValue}
 use Rattle.minisign_external.specs.declared.state.Misuse.{Misuse}
-use Rattle.minisign_external.specs.declared.state.Misuse.TheVariants.{BadComment, BadPasswordFlag, NoRoom, UnreadableComment}
+use Rattle.minisign_external.specs.declared.state.Misuse.TheVariants.{BadComment, BadPasswordFlag, KeyNotOpened, NoRoom, UnreadableComment}
 use Rattle.minisign_external.specs.declared.state.Refusal.{Refusal}
 use Rattle.minisign_external.specs.declared.state.Refusal.TheVariants.{WrongUse, Refused}
-use Rattle.minisign_external.specs.declared.secrets.SigningQuestions.{SigningQuestions}
-use Rattle.minisign.specs.OpenedTexts.{IsOpened, RefusesOpening, RefusesUnencrypted}
+use Rattle.minisign.specs.OpenedTexts.{open_key}
 
 -- a key that was never sealed, with 32 zeros in place of its checksum, as Minisign writes it
-pub record LacksChecksum (k : SecretKeyRecord) : Type 0 where
-  pub kdf : k.kdf ≡ no_kdf
-  pub checksum : k.checksum ≡ replicate 32 0
+abbrev pub lacks_checksum : SecretKeyRecord → Bool
+lacks_checksum k = bytes_eq k.kdf no_kdf && bytes_eq k.checksum (replicate 32 0)
 
--- the text reads as this key, which was never sealed, and whose checksum matches or is none
-abbrev pub GivesUnsealedKey : List ℕ → SecretKeyRecord → Type 0
-GivesUnsealedKey text key = SecretKeyText text key × (IsUnencrypted key ⊎ LacksChecksum key)
+-- the key that was never sealed, and that a text reads as: such a key as it stands, or one whose checksum matches
+abbrev pub unsealed_key : SecretKeyRecord → Result SecretKeyRecord Fault
+unsealed_key k = if lacks_checksum k then Ok k else unencrypted_key k
 
--- the text reads as no such key, and this is the first reason
-pub record RefusesUnsealed (text : List ℕ) (e : Fault) : Type 0 where
-  pub refused : RefusesUnencrypted text e
-  pub checked : (k : SecretKeyRecord) → SecretKeyText text k → ¬ (LacksChecksum k)
+unfoldable pub read_unsealed_key : List ℕ → Result SecretKeyRecord Fault
+read_unsealed_key text = and_then (read_secret_key text) unsealed_key
 
--- the text gives this key: without a password one that was never sealed, with one a sealed one that it opens within the
+-- what the text gives: without a password a key that was never sealed, with one a sealed one that it opens within the
 -- greatest work
+abbrev pub read_key_to_sign : List ℕ → Option (List ℕ) → ℕ → Result SecretKeyRecord Fault
+read_key_to_sign text None greatest_work = read_unsealed_key text
+read_key_to_sign text (Some password) greatest_work = open_key text password (Some greatest_work)
+
+-- the text gives this key
 abbrev pub GivesSecretKey : List ℕ → Option (List ℕ) → ℕ → SecretKeyRecord → Type 0
-GivesSecretKey text None greatest_work key = GivesUnsealedKey text key
-GivesSecretKey text (Some password) greatest_work key = IsOpened text password (Some greatest_work) key
+GivesSecretKey text password greatest_work key = read_key_to_sign text password greatest_work ≡ Ok key
 
--- the text gives no such key, and this is the first reason
-abbrev pub RefusesSecretKey : List ℕ → Option (List ℕ) → ℕ → Fault → Type 0
-RefusesSecretKey text None greatest_work e = RefusesUnsealed text e
-RefusesSecretKey text (Some password) greatest_work e = RefusesOpening text password (Some greatest_work) e
+-- the mark of a key that was opened or taken in: "minissec"
+abbrev pub opened_mark : ℕ
+opened_mark = 7162257721929918829
 
--- the questions tell the key: its secret, with which both messages are signed, and its identifier
-pub record TellsKey (q : SigningQuestions) (key : SecretKeyRecord) : Type 0 where
-  pub secret : q.secret_key ≡ key.secret
-  pub key_id : q.key_id ≡ key.keynum
+abbrev pub is_opened : SecretKeyValue → Bool
+is_opened v = v.mark == opened_mark
+
+-- a key that is taken in: of this key ID, and with these 64 secret bytes
+abbrev pub taken_key : List ℕ → List ℕ → SecretKeyValue
+taken_key key_id secret = record { mark = opened_mark; key_id = key_id; secret = secret }
+
+-- the value is that of the key, and has the mark of one that was opened
+abbrev pub HoldsKey : SecretKeyValue → SecretKeyRecord → Type 0
+HoldsKey v key = v ≡ taken_key key.keynum key.secret
+
+-- the public key of a key that was opened: the last 32 of its 64 secret bytes
+abbrev pub public_value_of : SecretKeyValue → Result PublicKeyValue Misuse
+public_value_of v = if is_opened v then Ok (record { key = drop 32 v.secret; key_id = v.key_id }) else Err KeyNotOpened
+
+-- the same as a number, and the public key that is told or stays
+abbrev pub told_public_key : Result PublicKeyValue Misuse → PublicKeyValue → ℕ × PublicKeyValue
+told_public_key (Ok v) old = (0, v)
+told_public_key (Err m) old = (misuse_number m, old)
 
 -- the text and the password are UTF-8
 abbrev pub AreKeyTexts : List ℕ → Option (List ℕ) → Type 0
@@ -60,12 +75,7 @@ AreKeyTexts text password = IsUtf8 text × IfSome password IsUtf8
 abbrev pub IsOpeningFault : List ℕ → Option (List ℕ) → ℕ → Fault → Type 0
 IsOpeningFault text password greatest_work e =
     ((e ≡ Named NotUtf8) × ¬ (AreKeyTexts text password))
-    ⊎ (AreKeyTexts text password × ((e ≡ Named OutOfMemory) ⊎ RefusesSecretKey text password greatest_work e))
-
--- the questions were not told: the state is used wrongly, or else the key is not told
-abbrev pub IsSigningRefusal : State → List ℕ → Option (List ℕ) → ℕ → Refusal → Type 0
-IsSigningRefusal s text password greatest_work (WrongUse m) = IsNotFed s m
-IsSigningRefusal s text password greatest_work (Refused e) = IsMarkedFed s × IsOpeningFault text password greatest_work e
+    ⊎ (AreKeyTexts text password × ((e ≡ Named OutOfMemory) ⊎ (read_key_to_sign text password greatest_work ≡ Err e)))
 
 -- the box of two answers, under a key's identifier and with these comments
 abbrev pub answered_signature : List ℕ → List ℕ → SignatureRecord
@@ -137,25 +147,26 @@ abbrev pub HasNoRoom : List ℕ → ChosenComments → List ℕ → List ℕ →
 HasNoRoom key_id chosen first second bytes =
     length bytes < length (signature_text (answered_signature key_id first) (answered_comments chosen second))
 
--- the text was not written, and this is the first reason: the state has told no key, a comment is not UTF-8, a comment
--- is refused, or the text has no room; or memory ran out, of comments that are not refused
-abbrev pub IsWritingRefusal : State → ChosenComments → List ℕ → List ℕ → List ℕ → Refusal → Type 0
-IsWritingRefusal s chosen first second bytes (WrongUse m) =
-    IsNotTold s m
-    ⊎ (HasToldKey s s.key_id × AreUtf8 chosen × IsCommentMisuse chosen m)
-    ⊎ ((m ≡ NoRoom) × HasToldKey s s.key_id × AreUtf8 chosen × AreChosenReadBack chosen × AreReadByMinisign chosen × HasNoRoom s.key_id chosen first second bytes)
-IsWritingRefusal s chosen first second bytes (Refused e) =
-    HasToldKey s s.key_id
+-- the text was not written, and this is the first reason: the key was not opened, a comment is not UTF-8, a comment is
+-- refused, or the text has no room; or memory ran out, of comments that are not refused
+abbrev pub IsWritingRefusal : SecretKeyValue → ChosenComments → List ℕ → List ℕ → List ℕ → Refusal → Type 0
+IsWritingRefusal v chosen first second bytes (WrongUse m) =
+    ((m ≡ KeyNotOpened) × (is_opened v ≡ false))
+    ⊎ ((is_opened v ≡ true) × AreUtf8 chosen × IsCommentMisuse chosen m)
+    ⊎ ((m ≡ NoRoom) × (is_opened v ≡ true) × AreUtf8 chosen × AreChosenReadBack chosen × AreReadByMinisign chosen × HasNoRoom v.key_id chosen first second bytes)
+IsWritingRefusal v chosen first second bytes (Refused e) =
+    (is_opened v ≡ true)
     × (((e ≡ Named OutOfMemory) × AreUtf8 chosen × AreChosenReadBack chosen × AreReadByMinisign chosen) ⊎ ((e ≡ Named NotUtf8) × ¬ (AreUtf8 chosen)))
 
--- the number of a refusal of asking for signatures, and of writing a text
-abbrev pub IsSigningNumber : State → List ℕ → Option (List ℕ) → ℕ → ℕ → ℕ → Type 0
-IsSigningNumber s text password with_password greatest_work n =
+-- the number of a refusal of opening: a number that is no flag, with nothing read, and only then the other reasons
+abbrev pub IsOpeningNumber : List ℕ → Option (List ℕ) → ℕ → ℕ → ℕ → Type 0
+IsOpeningNumber text password with_password greatest_work n =
     ((n ≡ misuse_number BadPasswordFlag) × (1 < with_password))
-    ⊎ ((with_password < 2) × (r : Refusal) × (n ≡ refusal_number r) × IsSigningRefusal s text password greatest_work r)
+    ⊎ ((with_password < 2) × (e : Fault) × (n ≡ fault_number e) × IsOpeningFault text password greatest_work e)
 
-abbrev pub IsWritingNumber : State → ChosenComments → List ℕ → List ℕ → List ℕ → ℕ → Type 0
-IsWritingNumber s chosen first second bytes n = (r : Refusal) × (n ≡ refusal_number r) × IsWritingRefusal s chosen first second bytes r
+-- the number of a refusal of writing a text
+abbrev pub IsWritingNumber : SecretKeyValue → ChosenComments → List ℕ → List ℕ → List ℕ → ℕ → Type 0
+IsWritingNumber v chosen first second bytes n = (r : Refusal) × (n ≡ refusal_number r) × IsWritingRefusal v chosen first second bytes r
 
 -- the password that a caller passes in by two arguments: none with 0, these bytes with 1
 abbrev pub passed_in : ℕ → List ℕ → Option (List ℕ)

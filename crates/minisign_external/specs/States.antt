@@ -1,16 +1,16 @@
 -- What a state that a program in another language holds tells: what it was fed, and what was asked of it.
-use Rattle.std.specs.Prelude.{◌≡◌, ◌==◌, ◌⊎◌, ◌<◌, ◌≤◌, ◌||◌, ℕ, Bool, if◌then◌else◌, List, ◌+◌, length, replicate, MatchResult, Result, Ok}
+use Rattle.std.specs.Prelude.{◌≡◌, ⊤, ◌==◌, ◌⊎◌, ◌<◌, ◌≤◌, ◌||◌, ◌&&◌, not, nat_le, ℕ, Bool, true, false, if◌then◌else◌, List, ◌+◌, length, replicate, MatchResult, Result, Ok, Err}
 use Rattle.std.specs.Str.{IsUtf8}
 use Rattle.minisign_hash.specs.Stored.{WasFed}
 use Rattle.minisign_base.specs.Fault.{Fault, Named}
-use Rattle.minisign_base.specs.declared.faults.NamedFault.TheVariants.{NotUtf8, SignatureRefused, CommentSignatureRefused}
-use Rattle.minisign.specs.Records.{PublicKeyRecord, SignatureBoxRecord, CommentsRecord, is_prehashed}
+use Rattle.minisign_base.specs.declared.faults.NamedFault.TheVariants.{SignatureRefused, CommentSignatureRefused}
+use Rattle.minisign.specs.Records.{is_prehashed}
 use Rattle.minisign.specs.Acceptance.{Verifier}
-use Rattle.minisign.specs.PublicKeyText.{read_public_key}
-use Rattle.minisign.specs.SignatureText.{read_signature_box}
-use Rattle.minisign.specs.Headline.{TextsRefuse, TextsVouchFor}
-use Rattle.minisign_external.specs.Questions.{AreOpen, HoldsMessage, IsRefusedUnasked, has_whole_signature, told_signature}
+use Rattle.minisign.specs.Headline.{TextsVouchFor, verdict}
+use Rattle.minisign.specs.SignatureText.{SignatureTextRecord}
+use Rattle.minisign_external.specs.Questions.{HoldsMessage, IsKeyText, has_whole_signature, read_under, told_signature}
 use Rattle.minisign_external.specs.Numbers.{IsAnswer, answer_yes, fault_number, misuse_number, refusal_number}
+use Rattle.minisign_external.specs.declared.public_keys.PublicKeyValue.{PublicKeyValue}
 use Rattle.minisign_external.specs.declared.state.Misuse.{Misuse}
 use Rattle.minisign_external.specs.declared.state.Misuse.TheVariants.{NotBegun, AlreadyAsked, NotAsked, BadAnswer, NoRoom, BadLegacyFlag}
 use Rattle.minisign_external.specs.declared.state.Refusal.{Refusal}
@@ -18,35 +18,53 @@ use Rattle.minisign_external.specs.declared.state.Refusal.TheVariants.{WrongUse,
 use Rattle.minisign_external.specs.declared.state.State.{State}
 use Rattle.minisign_external.specs.declared.state.Questions.{Questions}
 
--- the marks of a state that is being fed, of one whose questions were asked, and of one that has told a secret key: "minisign", "minisask"
--- and "minissig"
+-- the marks of a state that is being fed, of one that has told its digest, and of questions that were asked: "minisign",
+-- "minissum" and "minisask"
 abbrev pub fed_mark : ℕ
 fed_mark = 7955443211184269677
+
+abbrev pub told_mark : ℕ
+told_mark = 7887337261936568685
 
 abbrev pub asked_mark : ℕ
 asked_mark = 7742639332697991533
 
-abbrev pub told_mark : ℕ
-told_mark = 7451613997988473197
-
--- the state was begun and was fed the message, and nothing was asked yet
+-- the state was begun and was fed the message, and takes more
 pub record IsFedState (s : State) (m : List ℕ) : Type 0 where
   pub mark : s.mark ≡ fed_mark
   pub fed : WasFed s.hash m
 
--- the questions of the two texts were asked
-pub record HasAsked (s : State) (pk_text sig_text : List ℕ) (legacy : Bool) : Type 0 where
-  pub mark : s.mark ≡ asked_mark
-  pub key : PublicKeyRecord
-  pub box : SignatureBoxRecord
-  pub comments : CommentsRecord
-  pub asked : AreOpen pk_text sig_text legacy key box comments
-  pub whole : (s.whole == 1) ≡ has_whole_signature comments
-
--- the state has told the secret of a key with this identifier, and the digest of what it was fed
-pub record HasToldKey (s : State) (key_id : List ℕ) : Type 0 where
+-- the state has told the digest of the message, which it was fed
+pub record HasToldDigest (s : State) (m : List ℕ) : Type 0 where
   pub mark : s.mark ≡ told_mark
-  pub identifier : s.key_id ≡ key_id
+  pub fed : WasFed s.hash m
+
+-- the questions of the key and the text of the signature were asked
+pub record HasAsked (s : State) (v : PublicKeyValue) (sig_text : List ℕ) (legacy : Bool) : Type 0 where
+  pub asked : s.asked ≡ asked_mark
+  pub signed : SignatureTextRecord
+  pub read : read_under v legacy sig_text ≡ Ok signed
+  pub whole : (s.whole == 1) ≡ has_whole_signature signed.comments
+
+-- what was asked stays
+pub record KeepsAsked (old new : State) : Type 0 where
+  pub asked : new.asked ≡ old.asked
+  pub whole : new.whole ≡ old.whole
+
+-- the state is marked as one that is being fed, or as one that has told its digest
+abbrev pub IsMarkedFed : State → Type 0
+IsMarkedFed s = s.mark ≡ fed_mark
+
+abbrev pub IsMarkedTold : State → Type 0
+IsMarkedTold s = s.mark ≡ told_mark
+
+-- it was begun, and was not ended
+abbrev pub is_begun : State → Bool
+is_begun s = (s.mark == fed_mark) || (s.mark == told_mark)
+
+-- questions were asked
+abbrev pub is_asked : State → Bool
+is_asked s = s.asked == asked_mark
 
 -- no questions yet
 abbrev pub no_questions : Questions
@@ -62,101 +80,142 @@ no_questions = record {
   reserved = 0;
 }
 
--- the questions of the key and the box, of which the message of the second stands in these bytes
-pub record AreQuestions (q : Questions) (bytes : List ℕ) (pk : PublicKeyRecord) (x : SignatureBoxRecord) (c : CommentsRecord) : Type 0 where
-  pub key : q.public_key ≡ pk.key
-  pub legacy : q.legacy ≡ (if is_prehashed x.signature then 0 else 1)
-  pub signature : q.signature ≡ x.signature.signature
-  pub message : HoldsMessage x.signature c.trusted bytes q.message_len
-  pub comment_signature : q.comment_signature ≡ told_signature c
-  pub key_id : q.public_key_id ≡ pk.keynum
-  pub signature_id : q.signature_key_id ≡ x.signature.keynum
-  pub reserved : q.reserved ≡ 0
+-- the questions of the key and of what the text of the signature reads as, but for the digest
+abbrev pub questions_of : PublicKeyValue → SignatureTextRecord → Questions
+questions_of v t = record {
+  public_key = v.key;
+  digest = replicate 64 0;
+  signature = t.signature.signature;
+  comment_signature = told_signature t.comments;
+  message_len = 64 + length t.comments.trusted;
+  public_key_id = v.key_id;
+  signature_key_id = t.signature.keynum;
+  legacy = if is_prehashed t.signature then 0 else 1;
+  reserved = 0;
+}
 
--- why a state that ought to be fed is not: it was asked already, or was never begun
+-- why a state that ought to be fed is not: it has told its digest, or was never begun
 abbrev pub feeding_misuse : State → Misuse
-feeding_misuse s = if (s.mark == asked_mark) || (s.mark == told_mark) then AlreadyAsked else NotBegun
+feeding_misuse s = if s.mark == told_mark then AlreadyAsked else NotBegun
 
 -- the state was fed nothing, not even no bytes, and this is why
 abbrev pub IsNotFed : State → Misuse → Type 0
 IsNotFed s e = (e ≡ feeding_misuse s) × ((m : List ℕ) → ¬ (IsFedState s m))
 
--- why a state that ought to have asked has not: it is still fed or was asked for signatures, or was never begun
-abbrev pub verdict_misuse : State → Misuse
-verdict_misuse s = if (s.mark == fed_mark) || (s.mark == told_mark) then NotAsked else NotBegun
-
--- why a state that ought to have told a key has not: it is still fed or was asked for a verdict, or was never begun
-abbrev pub telling_misuse : State → Misuse
-telling_misuse s = if (s.mark == fed_mark) || (s.mark == asked_mark) then NotAsked else NotBegun
-
--- the state has told no key, and this is why
-abbrev pub IsNotTold : State → Misuse → Type 0
-IsNotTold s e = (e ≡ telling_misuse s) × ((key_id : List ℕ) → ¬ (HasToldKey s key_id))
-
--- what a new state holds beside what it was fed: nothing was asked of it, and no key was told
+-- what a new state holds beside what it was fed: nothing was asked of it
 pub record IsBlank (s : State) : Type 0 where
+  pub asked : s.asked ≡ 0
   pub whole : s.whole ≡ 0
-  pub key_id : s.key_id ≡ replicate 8 0
   pub reserved : s.reserved ≡ replicate 18 0
 
--- the state is marked as one that is being fed
-abbrev pub IsMarkedFed : State → Type 0
-IsMarkedFed s = s.mark ≡ fed_mark
+-- the questions of the key and of what the text reads as, whatever the digest, with the message of the second in these
+-- bytes
+pub record AreQuestions (q : Questions) (bytes : List ℕ) (v : PublicKeyValue) (t : SignatureTextRecord) : Type 0 where
+  pub questions : q ≡ record (questions_of v t) { digest = q.digest }
+  pub message : HoldsMessage t.signature t.comments.trusted bytes q.message_len
 
--- the texts leave nothing but the two questions, and the message of the second has no room; as many bytes as the text
--- of the signature has are always room enough
-pub record LacksRoom (pk_text sig_text : List ℕ) (legacy : Bool) (bytes : List ℕ) : Type 0 where
-  pub key : PublicKeyRecord
-  pub box : SignatureBoxRecord
-  pub comments : CommentsRecord
-  pub asked : AreOpen pk_text sig_text legacy key box comments
-  pub short : length bytes < 64 + length comments.trusted
-  pub enough : 64 + length comments.trusted ≤ length sig_text
+-- what asking answers, with room for so many bytes of the message: a state that is not being fed or was asked before is
+-- refused first, then what the text of the signature is refused for under the key, and then too little room
+abbrev pub room_for : SignatureTextRecord → ℕ → Result Unit Refusal
+room_for t room = if nat_le (64 + length t.comments.trusted) room then Ok tt else Err (WrongUse NoRoom)
 
--- asking was refused: the state is used wrongly; otherwise a text is not UTF-8; otherwise the texts are refused,
--- whatever the data and the scheme; otherwise a buffer is too short
-abbrev pub IsAskingRefusal : State → List ℕ → List ℕ → Bool → List ℕ → Refusal → Type 0
-IsAskingRefusal s pk_text sig_text legacy bytes (WrongUse m) =
-    IsNotFed s m
-    ⊎ ((m ≡ NoRoom) × IsMarkedFed s × IsUtf8 pk_text × IsUtf8 sig_text × LacksRoom pk_text sig_text legacy bytes)
-IsAskingRefusal s pk_text sig_text legacy bytes (Refused e) =
-    IsMarkedFed s × (((e ≡ Named NotUtf8) × ¬ (IsUtf8 pk_text × IsUtf8 sig_text))
-    ⊎ (IsUtf8 pk_text × IsUtf8 sig_text × IsRefusedUnasked pk_text sig_text legacy e))
+abbrev pub asked_of : Result SignatureTextRecord Fault → ℕ → Result Unit Refusal
+asked_of (Ok t) room = room_for t room
+asked_of (Err e) room = Err (Refused e)
 
--- where both texts read, their identifiers are told, whether the questions are asked or not
-abbrev pub TellsIdentifiers : List ℕ → List ℕ → Questions → Type 0
-TellsIdentifiers pk_text sig_text q =
-    (pk : PublicKeyRecord) (x : SignatureBoxRecord) → read_public_key pk_text ≡ Ok pk → read_signature_box sig_text ≡ Ok x
-    → (q.public_key_id ≡ pk.keynum) × (q.signature_key_id ≡ x.signature.keynum)
+-- why a state cannot be asked: it was asked before or has told its digest, or was never begun
+abbrev pub asking_misuse : State → Misuse
+asking_misuse s = if is_begun s then AlreadyAsked else NotBegun
+
+abbrev pub asking_result : State → PublicKeyValue → List ℕ → Bool → ℕ → Result Unit Refusal
+asking_result s v sig_text legacy room =
+    if (s.mark == fed_mark) && not (is_asked s) then asked_of (read_under v legacy sig_text) room
+    else Err (WrongUse (asking_misuse s))
+
+-- why a state gives no verdict: the questions were not asked or the digest was not told, or it was never begun
+abbrev pub verdict_misuse : State → Misuse
+verdict_misuse s = if is_begun s then NotAsked else NotBegun
 
 -- the refusal is a fault of the library, of this kind
 abbrev pub IsFaultOf : (Fault → Type 0) → Refusal → Type 0
 IsFaultOf holds (WrongUse m) = ⊥
 IsFaultOf holds (Refused e) = holds e
 
+-- asking about all that a state was fed was refused: it is not being fed; or else the text of the signature or the room is
+-- refused as above
+abbrev pub IsNotFedRefusal : State → Refusal → Type 0
+IsNotFedRefusal s (WrongUse m) = IsNotFed s m
+IsNotFedRefusal s (Refused e) = ⊥
+
+abbrev pub IsAskFedRefusal : State → PublicKeyValue → List ℕ → Bool → ℕ → Refusal → Type 0
+IsAskFedRefusal s v sig_text legacy room r =
+    IsNotFedRefusal s r ⊎ (IsMarkedFed s × (asked_of (read_under v legacy sig_text) room ≡ Err r))
+
+-- where it is a fault, every text that reads as the key and the text of the signature, which is UTF-8 then, refuse for
+-- it, whatever the scheme and the message; or the text of the signature is not UTF-8
+abbrev pub IsTextRefusal : PublicKeyValue → List ℕ → Bool → Refusal → Type 0
+IsTextRefusal v sig_text legacy (WrongUse m) = ⊤
+IsTextRefusal v sig_text legacy (Refused e) =
+    IsUtf8 sig_text → (pk_text message : List ℕ) (accepts : Verifier) → IsKeyText pk_text v → verdict accepts pk_text sig_text message legacy ≡ Err e
+
 -- the verdict on the texts and the message: success exactly where they vouch for it, otherwise the first case that
 -- fails
 abbrev pub GivesVerdict : {T : Type 0} → Verifier → List ℕ → List ℕ → List ℕ → Bool → Result T Refusal → Type 0
 GivesVerdict accepts pk_text sig_text message legacy r =
-    MatchResult r (λ _. TextsVouchFor accepts pk_text sig_text message legacy) (IsFaultOf (TextsRefuse accepts pk_text sig_text message legacy))
+    MatchResult r (λ _. TextsVouchFor accepts pk_text sig_text message legacy) (IsFaultOf (λ e. verdict accepts pk_text sig_text message legacy ≡ Err e))
 
--- a state that had asked was ended
-abbrev pub HasEnded : State → State → Type 0
-HasEnded old new = (old.mark ≡ asked_mark) × (new.mark ≡ 0)
+-- a verdict, of which the trusted comment is known already
+abbrev pub given_verdict : Result (List ℕ) Fault → Result Unit Refusal
+given_verdict (Ok trusted) = Ok tt
+given_verdict (Err e) = Err (Refused e)
 
--- no success: where the state has not asked, it stays as it was; where it has, the first question was answered
--- by no, or else the second
+-- a state that had asked and told its digest was ended
+pub record HasEnded (old new : State) : Type 0 where
+  pub asked : old.asked ≡ asked_mark
+  pub told : old.mark ≡ told_mark
+  pub ended : new.mark ≡ 0
+
+-- what the second answer is worth is not told, or is nothing: the state has not asked or was ended; or it has asked, and
+-- the comment signature is refused
+abbrev pub IsCommentRefusal : State → Refusal → Type 0
+IsCommentRefusal s (WrongUse m) = (m ≡ verdict_misuse s) × ((is_asked s && is_begun s) ≡ false)
+IsCommentRefusal s (Refused e) = (e ≡ Named CommentSignatureRefused) × (is_asked s ≡ true) × (is_begun s ≡ true)
+
+-- no success: where the state has not asked or not told its digest, it stays as it was; where it has, the first question
+-- was answered by no, or else the second
 abbrev pub IsVerdictRefusal : State → State → Bool → Refusal → Type 0
-IsVerdictRefusal old new first (WrongUse m) = (m ≡ verdict_misuse old) × (new ≡ old)
+IsVerdictRefusal old new first (WrongUse m) = (m ≡ verdict_misuse old) × (new ≡ old) × ((is_asked old && (old.mark == told_mark)) ≡ false)
 IsVerdictRefusal old new first (Refused e) =
     HasEnded old new × (e ≡ (if first then Named CommentSignatureRefused else Named SignatureRefused))
+
+-- == The same by numbers ==
+
+-- the number of a result: 0 of a success
+abbrev pub result_number : Result Unit Refusal → ℕ
+result_number (Ok t) = 0
+result_number (Err r) = refusal_number r
 
 -- the verdict on the texts and the message as a number: 0 exactly where they vouch for it, otherwise that of the first
 -- case that fails
 abbrev pub GivesNumber : Verifier → List ℕ → List ℕ → List ℕ → Bool → ℕ → Type 0
 GivesNumber accepts pk_text sig_text message legacy n =
     ((n ≡ 0) × TextsVouchFor accepts pk_text sig_text message legacy)
-    ⊎ ((0 < n) × (e : Fault) × (n ≡ fault_number e) × TextsRefuse accepts pk_text sig_text message legacy e)
+    ⊎ ((0 < n) × (e : Fault) × (n ≡ fault_number e) × (verdict accepts pk_text sig_text message legacy ≡ Err e))
+
+-- the number of what the second answer is not worth: it is no answer, or it is one
+abbrev pub IsCommentVerdictNumber : State → ℕ → ℕ → Type 0
+IsCommentVerdictNumber s second n =
+    ((n ≡ misuse_number BadAnswer) × ¬ (IsAnswer second)) ⊎ (IsAnswer second × (r : Refusal) × (n ≡ refusal_number r) × IsCommentRefusal s r)
+
+-- a number that is no flag is refused, and only then the other reasons come
+abbrev pub asking_number : State → PublicKeyValue → List ℕ → ℕ → ℕ → ℕ
+asking_number s v sig_text legacy room =
+    if nat_le 2 legacy then misuse_number BadLegacyFlag else result_number (asking_result s v sig_text (legacy == 1) room)
+
+-- the number of a verdict: 0, or that of the first case that fails
+abbrev pub verdict_number : Result (List ℕ) Fault → ℕ
+verdict_number (Ok trusted) = 0
+verdict_number (Err e) = fault_number e
 
 -- the number of a verdict that is no success: an answer is none, and the state stays as it was; or both are, and the
 -- number is that of the refusal
@@ -164,9 +223,3 @@ abbrev pub IsVerdictNumber : State → State → ℕ → ℕ → ℕ → Type 0
 IsVerdictNumber old new first second n =
     ((n ≡ misuse_number BadAnswer) × (¬ (IsAnswer first) ⊎ ¬ (IsAnswer second)) × (new ≡ old))
     ⊎ (IsAnswer first × IsAnswer second × (r : Refusal) × (n ≡ refusal_number r) × IsVerdictRefusal old new (first == answer_yes) r)
-
--- the number of a refusal of asking: a number that is no flag is refused, and only then the other reasons come
-abbrev pub IsAskingNumber : State → List ℕ → List ℕ → ℕ → List ℕ → ℕ → Type 0
-IsAskingNumber s pk_text sig_text legacy bytes n =
-    ((n ≡ misuse_number BadLegacyFlag) × (1 < legacy))
-    ⊎ ((legacy < 2) × (r : Refusal) × (n ≡ refusal_number r) × IsAskingRefusal s pk_text sig_text (legacy == 1) bytes r)

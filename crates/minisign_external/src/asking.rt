@@ -1,98 +1,183 @@
 //! Asking, and the verdict, over the state that a program in another language holds.
 
-ghost use Rattle.std.specs.Prelude.{◌≡◌, ◌⊎◌, ◌<◌, ◌≤◌, ◌+◌, ℕ, Bool, List, Some, Ok, OnOk, OnErr, IsOk, IfOk, IfErr, MatchResult, length};
+ghost use Rattle.std.specs.Prelude.{◌≡◌, ◌<◌, ◌≤◌, ◌+◌, ℕ, Bool, List, Ok, true, false, OnOk, OnErr, IfOk, IfErr, MatchResult, length};
 ghost use Rattle.minisign_hash.specs.Blake2b.{blake2b_digest};
-ghost use Rattle.minisign.specs.Records.{PublicKeyRecord, SignatureBoxRecord, CommentsRecord};
-ghost use Rattle.minisign.specs.InPlace.{IsViewOf};
-ghost use Rattle.minisign.specs.PublicKeyText.{read_public_key};
-ghost use Rattle.minisign.specs.SignatureText.{read_signature_box};
 ghost use Rattle.minisign.specs.Acceptance.{Verifier};
-ghost use Rattle.minisign_base.specs.Fault.{Named};
-ghost use Rattle.minisign_base.specs.declared.faults.NamedFault.TheVariants.{NotUtf8};
-ghost use Rattle.std.specs.Str.{IsUtf8};
-ghost use Rattle.minisign_external.specs.Questions.{AnswersTexts, AreOpen, AreTexts, IsRefusedUnasked, has_whole_signature};
-ghost use Rattle.minisign_external.specs.States.{AreQuestions, GivesVerdict, HasAsked, HasEnded, IsMarkedFed, IsAskingRefusal, IsFedState, IsVerdictRefusal, TellsIdentifiers};
+ghost use Rattle.minisign.specs.InPlace.{view_of};
+ghost use Rattle.minisign.specs.SignatureText.{SignatureTextRecord, read_signature};
+ghost use Rattle.minisign_external.specs.PublicKeys.{read_utf8};
+ghost use Rattle.minisign_external.specs.Questions.{Answers, AnswersComment, HoldsMessage, IsKeyText, comment_verdict_under, has_whole_signature, read_under, verdict_under};
+ghost use Rattle.minisign_external.specs.States.{AreQuestions, GivesVerdict, HasAsked, HasEnded, HasToldDigest, IsAskFedRefusal, IsCommentRefusal, IsFedState, IsMarkedTold, IsTextRefusal, IsVerdictRefusal, asked_of, asking_misuse, asking_result, fed_mark, given_verdict, is_asked, is_begun, questions_of, verdict_misuse};
+ghost use Rattle.minisign_external.specs.declared.public_keys.PublicKeyValue.{PublicKeyValue};
 ghost use Rattle.minisign_external.specs.declared.state.Misuse.TheVariants.{NoRoom};
+ghost use Rattle.minisign_external.specs.declared.state.Refusal.TheVariants.{WrongUse};
 
+use crate::public_keys::PublicKeyValue;
 use crate::state::{ASKED, FED, Misuse, Questions, Refusal, State, TOLD};
-use crate::texts::Texts;
+use crate::texts::{legacy_number, read_bytes, test, told_comment_signature, write_joined};
 use crate::verdict::verdict;
-use minisign::Result;
+use minisign::SignatureView;
 use minisign_base::NamedFault;
 
 impl State {
-    /// Asks: what a scheme has to answer before it is known whether the two texts vouch for what
-    /// the state was fed. The message of the second question is written to the front of `message`;
-    /// as many bytes as `sig_text` has are always room enough.
+    /// Asks, mostly before any data: what a scheme has to answer before it is known whether the key and the text of the
+    /// signature vouch for what the state is fed. The message of the second question is written to the front of
+    /// `message`; as many bytes as `sig_text` has are always room enough.
     ///
-    /// What is refused, and in which order, its clause `refused` says. After a refusal the two
-    /// identifiers are written to `questions` where both texts read. Takes no memory.
+    /// What is refused, and in which order, its clause `value` says. After a refusal the two key IDs are written to
+    /// `questions` where the text of the signature reads. Does not allocate.
     pub fn ask(
         &mut self,
-        pk_text: &[u8],
+        key: &PublicKeyValue,
         sig_text: &[u8],
         allow_legacy: bool,
         questions: &mut Questions,
         message: &mut [u8],
-    ) -> std::result::Result<(), Refusal>
-        // The questions are those of what the texts read as: key, signature, legacy or not, the message and the first
-        // 64 bytes of the signature of the second, or 64 zeros where it has fewer, both identifiers, and a reserved
-        // number of 0; the digest is that of everything the state was fed.
-        ensures asked { OnOk result ((pk : PublicKeyRecord) × (x : SignatureBoxRecord) × (c : CommentsRecord)
-            × AreOpen pk_text.now sig_text.now allow_legacy pk x c
-            × AreQuestions questions.new message.new pk x c) }
-        ensures digest { OnOk result ((m : List ℕ) → IsFedState self.old m → questions.new.digest ≡ blake2b_digest 64 m) }
+    ) -> Result<(), Refusal>
+        // What is answered is a function of the state, the key, the text, the flag and the room. The refusals come in one
+        // order: a state that was asked before, has told its digest or was never begun; a text that is not UTF-8; what
+        // is refused of the text; a key ID that differs, and a signature over the data itself where that will not do; and
+        // too short a buffer.
+        ensures value { result ≡ asking_result self.old key.now sig_text.now allow_legacy (length message.old) }
 
-        // The state has then asked the questions of these texts. They are asked of a state that is being fed alone, and
-        // of texts that are UTF-8.
-        ensures asking { OnOk result (HasAsked self.new pk_text.now sig_text.now allow_legacy) }
-        ensures begun { OnOk result (IsMarkedFed self.old) }
-        ensures utf8 { OnOk result (IsUtf8 pk_text.now × IsUtf8 sig_text.now) }
+        // The questions are those of the key and of what the text reads as, with zeros for the digest; the message of the
+        // second stands at the front of the buffer. They are then asked; what was fed stays.
+        ensures asked { OnOk result ((t : SignatureTextRecord) × (read_under key.now allow_legacy sig_text.now ≡ Ok t)
+            × (questions.new ≡ questions_of key.now t) × HoldsMessage t.signature t.comments.trusted message.new questions.new.message_len) }
+        ensures asking { OnOk result (HasAsked self.new key.now sig_text.now allow_legacy) }
+        ensures fed { (m : List ℕ) → IsFedState self.old m → IsFedState self.new m }
 
-        // Of a state that is being fed, texts that are UTF-8 and that both read tell their identifiers, each in its
-        // field, whether the questions are asked or refused.
-        ensures identifiers { (m : List ℕ) → IsFedState self.old m → IsUtf8 pk_text.now → IsUtf8 sig_text.now
-            → TellsIdentifiers pk_text.now sig_text.now questions.new }
+        // As many bytes as the text has are room enough.
+        ensures room { length sig_text.now ≤ length message.old → IfErr result (λ r. ¬ (r ≡ WrongUse NoRoom)) }
 
-        // The refusals come in one order, and asking takes no memory: a wrong use of the state; a text that is not
-        // UTF-8; what `verify_texts` refuses under every scheme and for every message, as the first case; and too short
-        // a buffer, only where the texts leave nothing but the two questions, and never with as many bytes as the
-        // signature text has. State and message buffer are then as they were.
-        ensures refused { IfErr result (IsAskingRefusal self.old pk_text.now sig_text.now allow_legacy message.old) }
+        // The texts refuse what is refused of them: of every text that reads as the key, under every scheme and for every
+        // message.
+        ensures texts { IfErr result (IsTextRefusal key.now sig_text.now allow_legacy) }
+
+        // After a refusal the state and the message buffer are as they were; of a state that may be asked, and a text that
+        // reads, both key IDs are told.
+        ensures kept { OnErr result ((self.new ≡ self.old) × (message.new ≡ message.old)) }
+        ensures key_ids { (self.old.mark ≡ fed_mark) → is_asked self.old ≡ false → (t : SignatureTextRecord) → read_utf8 read_signature sig_text.now ≡ Ok t
+            → (questions.new.public_key_id ≡ key.now.key_id) × (questions.new.signature_key_id ≡ t.signature.keynum) }
+    {
+        if self.mark != FED || self.is_asked() {
+            return Err(Refusal::WrongUse(self.asking_misuse()));
+        }
+        match self.open_questions(key, sig_text, allow_legacy, questions, message) {
+            Ok(_) => Ok(()),
+            Err(refusal) => Err(refusal),
+        }
+    }
+
+    /// The same about all that the state was fed, also where it was asked before: the digest is told as well, and the state
+    /// takes no more data. Returns the trusted comment, which nothing vouches for yet. A wrong use changes nothing.
+    pub fn ask_fed<'a>(
+        &mut self,
+        key: &PublicKeyValue,
+        sig_text: &'a [u8],
+        allow_legacy: bool,
+        questions: &mut Questions,
+        message: &mut [u8],
+    ) -> Result<&'a str, Refusal>
+        // The questions are those of the key and of what the text reads as; the digest is that of everything the state was
+        // fed, which it has then told; the comment is the one that was asked about.
+        ensures asked { IfOk result (λ c. (t : SignatureTextRecord) × (read_under key.now allow_legacy sig_text.now ≡ Ok t)
+            × AreQuestions questions.new message.new key.now t × (c.now ≡ t.comments.trusted)) }
+        ensures digest { OnOk result ((m : List ℕ) → IsFedState self.old m → (questions.new.digest ≡ blake2b_digest 64 m) × HasToldDigest self.new m) }
+        ensures asking { OnOk result (HasAsked self.new key.now sig_text.now allow_legacy × IsMarkedTold self.new) }
+
+        // A state that is not being fed is refused first, and then what `ask` refuses of the texts and the room. State and message buffer are then
+        // as they were.
+        ensures refused { IfErr result (IsAskFedRefusal self.old key.now sig_text.now allow_legacy (length message.old)) }
+        ensures room { length sig_text.now ≤ length message.old → IfErr result (λ r. ¬ (r ≡ WrongUse NoRoom)) }
+        ensures texts { IfErr result (IsTextRefusal key.now sig_text.now allow_legacy) }
         ensures kept { OnErr result ((self.new ≡ self.old) × (message.new ≡ message.old)) }
     {
-        let digest = self.digest()?;
-        let texts = read_bytes(pk_text, sig_text)?;
-        questions.public_key_id = *texts.public_key_id();
-        questions.signature_key_id = *texts.signature_id();
-        texts.test(allow_legacy)?;
-        let whole = write_questions(&texts, &digest, questions, message)?;
-        self.mark = ASKED;
+        let mut told = *self;
+        let mut digest = [0u8; 64];
+        told.digest(&mut digest)?;
+        let comment = self.open_questions(key, sig_text, allow_legacy, questions, message)?;
+        questions.digest = digest;
+        self.mark = TOLD;
+        Ok(comment)
+    }
+
+    // Asks, whatever the state is, and returns the trusted comment.
+    fn open_questions<'a>(
+        &mut self,
+        key: &PublicKeyValue,
+        sig_text: &'a [u8],
+        allow_legacy: bool,
+        questions: &mut Questions,
+        message: &mut [u8],
+    ) -> Result<&'a str, Refusal>
+        ensures asked { IfOk result (λ c. (t : SignatureTextRecord) × (read_under key.now allow_legacy sig_text.now ≡ Ok t)
+            × (questions.new ≡ questions_of key.now t) × HoldsMessage t.signature t.comments.trusted message.new questions.new.message_len
+            × (c.now ≡ t.comments.trusted) × (64 + length t.comments.trusted ≤ length message.old)) }
+        ensures asking { OnOk result (HasAsked self.new key.now sig_text.now allow_legacy) }
+        ensures fed { (m : List ℕ) → IsFedState self.old m → IsFedState self.new m }
+        ensures mark { self.new.mark ≡ self.old.mark }
+        ensures refused { IfErr result (λ r. asked_of (read_under key.now allow_legacy sig_text.now) (length message.old) ≡ Err r) }
+        ensures room { length sig_text.now ≤ length message.old → IfErr result (λ r. ¬ (r ≡ WrongUse NoRoom)) }
+        ensures kept { OnErr result ((self.new ≡ self.old) × (message.new ≡ message.old)) }
+        ensures key_ids { (t : SignatureTextRecord) → read_utf8 read_signature sig_text.now ≡ Ok t
+            → (questions.new.public_key_id ≡ key.now.key_id) × (questions.new.signature_key_id ≡ t.signature.keynum) }
+    {
+        let signature = read_bytes(sig_text)?;
+        questions.public_key_id = key.key_id;
+        questions.signature_key_id = signature.signature().keynum;
+        test(key, &signature, allow_legacy)?;
+        let whole = write_questions(key, &signature, questions, message)?;
+        self.asked = ASKED;
         self.whole = u64::from(whole);
+        Ok(signature.trusted_comment())
+    }
+
+    /// What the answer to the second question is worth by itself: success where the comment signature has its 64 bytes
+    /// and the scheme accepts it. Nothing is said of any data. A state that has not asked is refused. Does not allocate.
+    pub fn comment_verdict(&self, second: bool) -> Result<(), Refusal>
+        // For every relation that answers the second question so: success exactly when the trusted comment was signed,
+        // together with the first signature, by the key.
+        ensures verdict { (v : PublicKeyValue) (sig_text : List ℕ) (legacy : Bool) (accepts : Verifier)
+            → HasAsked self.now v sig_text legacy → AnswersComment accepts v sig_text second
+            → is_begun self.now ≡ true → result ≡ given_verdict (comment_verdict_under accepts v sig_text legacy) }
+
+        // A state that has not asked gives none.
+        ensures asked { OnOk result (is_asked self.now ≡ true) }
+        ensures refused { IfErr result (IsCommentRefusal self.now) }
+    {
+        if !self.is_begun() || !self.is_asked() {
+            return Err(Refusal::WrongUse(self.verdict_misuse()));
+        }
+        if self.whole != 1 || !second {
+            return Err(Refusal::Refused(NamedFault::CommentSignatureRefused.into()));
+        }
         Ok(())
     }
 
-    /// The verdict from the answers of the scheme, which ends the state.
+    /// The verdict from the answers of the scheme, once the digest was told; it ends the state.
     ///
-    /// Success exactly where the two texts vouch for what the state was fed under the scheme that
-    /// answered so, else the first condition that fails. A state that has not asked is refused, and
-    /// stays as it was. Takes no memory.
-    pub fn verdict(&mut self, first: bool, second: bool) -> std::result::Result<(), Refusal>
-        // For every relation that answers the two questions as the caller says, and every message: success exactly when
-        // the texts vouch for the message, and otherwise the first case that fails.
-        ensures verdict { (pk_text sig_text message : List ℕ) (legacy : Bool) (accepts : Verifier)
-            → HasAsked self.old pk_text sig_text legacy → AnswersTexts accepts pk_text sig_text message first second
+    /// Success exactly where the key and the text vouch for what the state was fed under the scheme that
+    /// answered so, else the first condition that fails. A state that has not asked or not told its digest is refused,
+    /// and stays as it was. Does not allocate.
+    pub fn verdict(&mut self, first: bool, second: bool) -> Result<(), Refusal>
+        // For every relation that answers the two questions as the caller says, and every message: the verdict on the
+        // key, the text and the message.
+        ensures verdict { (v : PublicKeyValue) (sig_text message : List ℕ) (legacy : Bool) (accepts : Verifier)
+            → HasAsked self.old v sig_text legacy → IsMarkedTold self.old → Answers accepts v sig_text message first second
+            → result ≡ given_verdict (verdict_under accepts v sig_text message legacy) }
+
+        // So for every text that reads as the key: success exactly where both texts vouch for the message.
+        ensures texts { (v : PublicKeyValue) (pk_text sig_text message : List ℕ) (legacy : Bool) (accepts : Verifier)
+            → HasAsked self.old v sig_text legacy → IsMarkedTold self.old → IsKeyText pk_text v → Answers accepts v sig_text message first second
             → GivesVerdict accepts pk_text sig_text message legacy result }
 
-        // A verdict ends the state; a state that has not asked gives none, and stays as it was.
+        // A verdict ends the state; a state that has not asked or not told its digest gives none, and stays as it was.
         ensures ended { OnOk result (HasEnded self.old self.new) }
         ensures refused { IfErr result (IsVerdictRefusal self.old self.new first) }
     {
-        if self.mark == FED || self.mark == TOLD {
-            return Err(Refusal::WrongUse(Misuse::NotAsked));
-        }
-        if self.mark != ASKED {
-            return Err(Refusal::WrongUse(Misuse::NotBegun));
+        if self.mark != TOLD || !self.is_asked() {
+            return Err(Refusal::WrongUse(self.verdict_misuse()));
         }
         self.mark = 0;
         match verdict(self.whole == 1, first, second) {
@@ -100,54 +185,60 @@ impl State {
             Err(fault) => Err(Refusal::Refused(fault)),
         }
     }
+
+    // Why a state cannot be asked: it was asked or has told its digest, or was never begun.
+    fn asking_misuse(&self) -> Misuse
+        ensures { result ≡ asking_misuse self.now }
+    {
+        if self.is_begun() {
+            Misuse::AlreadyAsked
+        } else {
+            Misuse::NotBegun
+        }
+    }
+
+    // Why a state gives no verdict: it has not asked or not told its digest, or was never begun.
+    fn verdict_misuse(&self) -> Misuse
+        ensures { result ≡ verdict_misuse self.now }
+    {
+        if self.is_begun() {
+            Misuse::NotAsked
+        } else {
+            Misuse::NotBegun
+        }
+    }
 }
 
-// Reads the two texts, each of which has to be UTF-8.
-fn read_bytes<'a>(pk_text: &[u8], sig_text: &'a [u8]) -> Result<Texts<'a>>
-    ensures read { IfOk result (AreTexts pk_text.now sig_text.now) }
-    ensures size { IfOk result (λ t. 64 + length t.view.trusted ≤ length sig_text.now) }
-    ensures utf8 { OnOk result (IsUtf8 pk_text.now × IsUtf8 sig_text.now) }
-    ensures exact { IsUtf8 pk_text.now → IsUtf8 sig_text.now → (k : PublicKeyRecord) (x : SignatureBoxRecord)
-        → read_public_key pk_text.now ≡ Ok k → read_signature_box sig_text.now ≡ Ok x → IsOk result }
-    ensures refused { IfErr result (λ e. ((e ≡ Named NotUtf8) × ¬ (IsUtf8 pk_text.now × IsUtf8 sig_text.now))
-        ⊎ (IsUtf8 pk_text.now × IsUtf8 sig_text.now × ((legacy : Bool) → IsRefusedUnasked pk_text.now sig_text.now legacy e))) }
-{
-    let Ok(pk_text) = str::from_utf8(pk_text) else {
-        return Err(NamedFault::NotUtf8.into());
-    };
-    let Ok(sig_text) = str::from_utf8(sig_text) else {
-        return Err(NamedFault::NotUtf8.into());
-    };
-    Texts::read(pk_text, sig_text)
-}
-
-// Writes the questions of the texts about data of this digest, and the message of the second:
-// returns whether it can be asked. Where there is no room for the message, nothing is written.
+// Writes the questions of a key and of what a text reads as, and the message of the second: returns whether it can be
+// asked. Where there is no room for the message, nothing is written.
 fn write_questions(
-    texts: &Texts<'_>,
-    digest: &[u8; 64],
+    key: &PublicKeyValue,
+    signature: &SignatureView<'_>,
     questions: &mut Questions,
     message: &mut [u8],
-) -> std::result::Result<bool, Misuse>
-    ensures questions { (x : SignatureBoxRecord) (c : CommentsRecord) → IsViewOf texts.now.view x → x.comments ≡ Some c →
-        MatchResult result (λ whole. AreQuestions questions.new message.new texts.now.key x c × (whole ≡ has_whole_signature c))
-        (λ m. (m ≡ NoRoom) × (length message.old < 64 + length c.trusted)) }
-    ensures digest { OnOk result (questions.new.digest ≡ digest.now) }
+) -> Result<bool, Misuse>
+    ensures questions { (t : SignatureTextRecord) → signature.now ≡ view_of t
+        → MatchResult result
+        (λ whole. (64 + length t.comments.trusted ≤ length message.old) × (questions.new ≡ questions_of key.now t)
+        × HoldsMessage t.signature t.comments.trusted message.new questions.new.message_len × (whole ≡ has_whole_signature t.comments))
+        (λ m. (m ≡ NoRoom) × (length message.old < 64 + length t.comments.trusted)) }
     ensures kept { OnErr result ((message.new ≡ message.old) × (questions.new ≡ questions.old)) }
 {
-    let Some(message_len) = texts.write_comment_message(message) else {
+    let of_signature = signature.signature();
+    let trusted = signature.trusted_comment();
+    let Some(message_len) = write_joined(message, &of_signature.sig, trusted.as_bytes()) else {
         return Err(Misuse::NoRoom);
     };
-    let (comment_signature, whole) = texts.told_comment_signature();
+    let (comment_signature, whole) = told_comment_signature(signature);
     *questions = Questions {
-        public_key: *texts.public_key(),
-        digest: *digest,
-        signature: *texts.signature(),
+        public_key: key.key,
+        digest: [0; 64],
+        signature: of_signature.sig,
         comment_signature,
         message_len: message_len as u64,
-        public_key_id: *texts.public_key_id(),
-        signature_key_id: *texts.signature_id(),
-        legacy: texts.legacy_number(),
+        public_key_id: key.key_id,
+        signature_key_id: of_signature.keynum,
+        legacy: legacy_number(signature),
         reserved: 0,
     };
     Ok(whole)

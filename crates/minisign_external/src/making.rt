@@ -1,4 +1,4 @@
-//! The texts of keys that are made of their parts, written to a buffer: so a key gets another
+//! The texts of keys that were opened or taken in, written to a buffer: so a key gets another
 //! password, or its public key is written again.
 
 ghost use Rattle.std.specs.Prelude.{◌≡◌, ◌⊎◌, ◌<◌, ◌≤◌, ◌+◌, List, ℕ, Some, length, true, false, OnOk, OnErr, IfOk, IfErr};
@@ -7,7 +7,9 @@ ghost use Rattle.minisign_base.specs.Fault.{Named};
 ghost use Rattle.minisign_base.specs.declared.faults.NamedFault.TheVariants.{OutOfMemory};
 ghost use Rattle.minisign.specs.Making.{IsMakingFault};
 ghost use Rattle.minisign_external.specs.Making.{HoldsPublicKey, HoldsSecretKey, IsMadeRefusal, IsMakingRefusal, IsPublicKeyRefusal, IsReadInKey, IsUnwritable, IsWritable};
+ghost use Rattle.minisign_external.specs.Signing.{is_opened};
 
+use crate::secrets::SecretKeyValue;
 use crate::signed_texts::write_front;
 use crate::state::{Misuse, Refusal};
 use minisign::{Sealing, make_public_key, make_secret_key};
@@ -22,9 +24,8 @@ const SECRET_KEY_BYTES: usize = 233;
 
 const PUBLIC_KEY_BYTES: usize = 77;
 
-/// Writes the text of a secret key of its parts to the front of `to`, and returns its length, which
-/// is 233 bytes more than that of the comment: an identifier, and 64 secret bytes, those of a seed
-/// and of its public key. With a password the key is sealed under it, with the salt and the limits
+/// Writes the text of a secret key to the front of `to`, and returns its length, which
+/// is 233 bytes more than that of the comment. With a password the key is sealed under it, with the salt and the limits
 /// of `sealing`; without one it is not sealed, and `sealing` is not looked at.
 ///
 /// `keep_every` is k, where every k-th of scrypt's rows is kept, 1 KiB each, of at most 2^20; 0 and
@@ -33,8 +34,7 @@ const PUBLIC_KEY_BYTES: usize = 77;
 /// What is refused, and in which order, its clause `refused` says.
 pub fn write_secret_key(
     alloc: Global,
-    key_id: &[u8; 8],
-    secret: &[u8; 64],
+    key: &SecretKeyValue,
     password: Option<&[u8]>,
     sealing: &Sealing,
     keep_every: u64,
@@ -43,21 +43,25 @@ pub fn write_secret_key(
 ) -> std::result::Result<usize, Refusal>
     // The text of a secret key stands at the front of the buffer, in 233 bytes more than the comment has, and is the
     // one by definition: it opens under the password, within each bound that its p is within, or reads without one, to
-    // the key with exactly this identifier and these 64 secret bytes, and to no other.
-    ensures text { IfOk result (HoldsSecretKey key_id.now secret.now (option_map (λ p. p.now) password.entry) sealing.now comment.now to.new) }
+    // the key with exactly this key ID and these 64 secret bytes, and to no other.
+    ensures opened { OnOk result (is_opened key.now ≡ true) }
+    ensures text { IfOk result (HoldsSecretKey key.now.key_id key.now.secret (option_map (λ p. p.now) password.entry) sealing.now comment.now to.new) }
 
-    // What is refused comes in this order: a comment or a password that is not UTF-8; a comment with a line feed; one
+    // What is refused comes in this order: a key that was not opened; a comment or a password that is not UTF-8; a comment with a line feed; one
     // with a carriage return or a zero byte, or of more than 1003 bytes, which Minisign does not read whole; too short
     // a buffer; with a password limits that sealing does not allow; out of memory. The buffer is then as it was.
-    ensures refused { IfErr result (IsMakingRefusal (option_map (λ p. p.now) password.entry) sealing.now comment.now to.old) }
+    ensures refused { IfErr result (IsMakingRefusal key.now (option_map (λ p. p.now) password.entry) sealing.now comment.now to.old) }
     ensures kept { OnErr result (to.new ≡ to.old) }
 {
+    if !key.is_opened() {
+        return Err(Refusal::WrongUse(Misuse::KeyNotOpened));
+    }
     let Ok(comment) = str::from_utf8(comment) else {
         return Err(Refusal::Refused(NamedFault::NotUtf8.into()));
     };
     let Some(password) = password else {
         return write_made(
-            alloc, *key_id, *secret, None, sealing, keep_every, comment, to,
+            alloc, key.key_id, key.secret, None, sealing, keep_every, comment, to,
         );
     };
     let Ok(password) = str::from_utf8(password) else {
@@ -65,8 +69,8 @@ pub fn write_secret_key(
     };
     write_made(
         alloc,
-        *key_id,
-        *secret,
+        key.key_id,
+        key.secret,
         Some(password),
         sealing,
         keep_every,
@@ -99,30 +103,33 @@ fn write_made(
     }
 }
 
-/// Writes the text of the public key of these parts to the front of `to`, and returns its length,
+/// Writes the text of the public key of a secret key to the front of `to`, and returns its length,
 /// which is 77 bytes more than that of the comment: the key is the last 32 of the secret bytes,
-/// under the identifier.
+/// under the key ID.
 pub fn write_public_key(
     alloc: Global,
-    key_id: &[u8; 8],
-    secret: &[u8; 64],
+    key: &SecretKeyValue,
     comment: &[u8],
     to: &mut [u8],
 ) -> std::result::Result<usize, Refusal>
     // The text of a public key stands at the front of the buffer, in 77 bytes more than the comment has, and reads as
     // the public key of every secret key of these parts.
-    ensures text { IfOk result (HoldsPublicKey key_id.now secret.now comment.now to.new) }
+    ensures opened { OnOk result (is_opened key.now ≡ true) }
+    ensures text { IfOk result (HoldsPublicKey key.now.key_id key.now.secret comment.now to.new) }
 
     // What is refused comes in the order of `write_secret_key`, less what concerns a password. The buffer is then as it
     // was.
-    ensures refused { IfErr result (IsPublicKeyRefusal comment.now to.old) }
+    ensures refused { IfErr result (IsPublicKeyRefusal key.now comment.now to.old) }
     ensures kept { OnErr result (to.new ≡ to.old) }
 {
+    if !key.is_opened() {
+        return Err(Refusal::WrongUse(Misuse::KeyNotOpened));
+    }
     let Ok(comment) = str::from_utf8(comment) else {
         return Err(Refusal::Refused(NamedFault::NotUtf8.into()));
     };
     test_writable(comment.as_bytes(), PUBLIC_KEY_BYTES, to)?;
-    let text = make_public_key(alloc, *key_id, *secret, comment)?.into_string();
+    let text = make_public_key(alloc, key.key_id, key.secret, comment)?.into_string();
     match write_front(text.as_bytes(), to) {
         Some(len) => Ok(len),
         None => Err(Refusal::WrongUse(Misuse::NoRoom)),

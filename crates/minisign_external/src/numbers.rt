@@ -52,7 +52,7 @@ pub fn number_of(fault: &PError) -> u32
 
 impl Misuse {
     /// All wrong uses.
-    pub const ALL: [Misuse; 12] = [
+    pub const ALL: [Misuse; 13] = [
         Misuse::NotBegun,
         Misuse::AlreadyAsked,
         Misuse::NotAsked,
@@ -65,9 +65,10 @@ impl Misuse {
         Misuse::NotDue,
         Misuse::BadFirstFlag,
         Misuse::BadNumbering,
+        Misuse::KeyNotOpened,
     ];
 
-    /// The number of the wrong use, from 1 to 14.
+    /// The number of the wrong use, from 1 to 15.
     pub fn number(&self) -> u32
         ensures { result ≡ misuse_number self.now }
     {
@@ -84,6 +85,7 @@ impl Misuse {
             Misuse::NotDue => 12,
             Misuse::BadFirstFlag => 13,
             Misuse::BadNumbering => 14,
+            Misuse::KeyNotOpened => 15,
         }
     }
 
@@ -93,8 +95,8 @@ impl Misuse {
     {
         match self {
             Misuse::NotBegun => "the state was never begun",
-            Misuse::AlreadyAsked => "the questions were asked before",
-            Misuse::NotAsked => "the questions were not asked",
+            Misuse::AlreadyAsked => "the questions were asked before, or the digest was told",
+            Misuse::NotAsked => "the questions were not asked, or the digest was not told",
             Misuse::BadAnswer => {
                 "an answer is neither MINISIGN_ANSWER_YES nor MINISIGN_ANSWER_NO"
             },
@@ -112,6 +114,7 @@ impl Misuse {
             Misuse::BadNumbering => {
                 "numbering is neither MINISIGN_NUMBERING_TIMESTAMP nor MINISIGN_NUMBERING_VERSION"
             }
+            Misuse::KeyNotOpened => "the secret key was not opened",
         }
     }
 }

@@ -1,4 +1,4 @@
-//! The bytes and the identifier of a public key, read from its text. None of it takes memory.
+//! A public key as a value, read from its text. None of it allocates.
 
 ghost use Rattle.std.specs.Prelude.{◌≡◌};
 ghost use Rattle.minisign.specs.PublicKeyText.{read_bare_public_key, read_public_key};
@@ -7,28 +7,37 @@ ghost use Rattle.minisign_external.specs.PublicKeys.{read_utf8, told_key};
 use minisign::{PublicKey, Result, read_bare_public_key, read_public_key};
 use minisign_base::NamedFault;
 
-/// Tells the 32 bytes and the identifier of the key that a text of two lines reads as.
-///
-/// Refused are, in this order: a text that is not UTF-8; what `minisign::read_public_key` refuses. Then both stay as
-/// they were.
-pub fn tell_public_key(text: &[u8], key: &mut [u8; 32], key_id: &mut [u8; 8]) -> Result<()>
-    // The 32 bytes and the identifier are told of the public key that a text of two lines, or its base64 alone, reads as:
-    // a function of the bytes, which have to be UTF-8. Otherwise the first case that fails is told, and both stay.
-    ensures { (result, key.new, key_id.new) ≡ told_key (read_utf8 read_public_key text.now) key.old key_id.old }
-{
-    tell(read(text), key, key_id)
+/// A public key, 40 bytes with the layout of C.
+#[repr(C)]
+#[derive(Clone, Copy)]
+pub struct PublicKeyValue {
+    /// Its 32 bytes.
+    pub key: [u8; 32],
+    /// Its key ID.
+    pub key_id: [u8; 8],
 }
 
-/// Tells the 32 bytes and the identifier of the key that a bare base64 reads as, 56 bytes.
+/// Tells the value of the key that a text of two lines reads as.
 ///
-/// Refused are, in this order: a text that is not UTF-8; what `minisign::read_bare_public_key` refuses. Then both stay
-/// as they were.
-pub fn tell_bare_public_key(text: &[u8], key: &mut [u8; 32], key_id: &mut [u8; 8]) -> Result<()>
-    // The 32 bytes and the identifier are told of the public key that a text of two lines, or its base64 alone, reads as:
-    // a function of the bytes, which have to be UTF-8. Otherwise the first case that fails is told, and both stay.
-    ensures { (result, key.new, key_id.new) ≡ told_key (read_utf8 read_bare_public_key text.now) key.old key_id.old }
+/// Refused are, in this order: a text that is not UTF-8; what `minisign::read_public_key` refuses. Then the value stays
+/// as it was.
+pub fn tell_public_key(text: &[u8], value: &mut PublicKeyValue) -> Result<()>
+    // The value is told of the public key that a text of two lines, or its base64 alone, reads as: a function of the
+    // bytes, which have to be UTF-8. Otherwise the first case that fails is told, and the value stays.
+    ensures { (result, value.new) ≡ told_key (read_utf8 read_public_key text.now) value.old }
 {
-    tell(read_bare(text), key, key_id)
+    tell(read(text), value)
+}
+
+/// Tells the value of the key that a bare base64 reads as, 56 bytes.
+///
+/// Refused are, in this order: a text that is not UTF-8; what `minisign::read_bare_public_key` refuses. Then the value
+/// stays as it was.
+pub fn tell_bare_public_key(text: &[u8], value: &mut PublicKeyValue) -> Result<()>
+    // The same is told of the base64 of a public key alone.
+    ensures { (result, value.new) ≡ told_key (read_utf8 read_bare_public_key text.now) value.old }
+{
+    tell(read_bare(text), value)
 }
 
 // The key that a text of two lines reads as.
@@ -52,13 +61,15 @@ fn read_bare(text: &[u8]) -> Result<PublicKey>
 }
 
 // Tells of a key that was read.
-fn tell(read: Result<PublicKey>, key: &mut [u8; 32], key_id: &mut [u8; 8]) -> Result<()>
-    ensures { (result, key.new, key_id.new) ≡ told_key read key.old key_id.old }
+fn tell(read: Result<PublicKey>, value: &mut PublicKeyValue) -> Result<()>
+    ensures { (result, value.new) ≡ told_key read value.old }
 {
     match read {
         Ok(pk) => {
-            *key = *pk.key();
-            *key_id = *pk.key_id();
+            *value = PublicKeyValue {
+                key: *pk.key(),
+                key_id: *pk.key_id(),
+            };
             Ok(())
         }
         Err(fault) => Err(fault),

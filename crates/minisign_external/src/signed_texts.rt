@@ -5,13 +5,13 @@ ghost use Rattle.minisign_base.specs.Fault.{Named};
 ghost use Rattle.minisign_base.specs.declared.faults.NamedFault.TheVariants.{OutOfMemory};
 ghost use Rattle.minisign.specs.Signing.{AreChosenReadBack};
 ghost use Rattle.minisign.specs.SignatureText.{read_signature_box, signature_text};
-ghost use Rattle.minisign_external.specs.Signing.{AreReadByMinisign, HoldsText, IsAnsweredText, IsCommentMisuse, IsWritingRefusal, answered_box, answered_comments, answered_signature, comments_of};
-ghost use Rattle.minisign_external.specs.States.{HasToldKey};
+ghost use Rattle.minisign_external.specs.Signing.{AreReadByMinisign, HoldsText, IsAnsweredText, IsCommentMisuse, IsWritingRefusal, answered_box, answered_comments, answered_signature, comments_of, is_opened};
 ghost use Rattle.minisign_external.specs.declared.state.Misuse.{Misuse};
 ghost use Rattle.minisign_external.specs.declared.state.Misuse.TheVariants.{NoRoom};
 ghost use Rattle.minisign_external.specs.declared.state.Refusal.TheVariants.{Refused, WrongUse};
 
-use crate::state::{Misuse, Refusal, State};
+use crate::secrets::SecretKeyValue;
+use crate::state::{Misuse, Refusal};
 use crate::texts::write_joined;
 use minisign::SignatureBox;
 use minisign_base::NamedFault;
@@ -47,36 +47,36 @@ pub fn signed_text(
     Ok(written(alloc, key_id, first, second, trusted, untrusted)?)
 }
 
-/// Writes that text, under the identifier of the key that the state has told, to the front of `to`,
-/// and returns its length. The state stays as it is.
+/// Writes that text, under the key ID of a key that was opened, to the front of `to`, and returns its length.
 pub fn write_signed_text(
     alloc: Global,
-    state: &State,
+    key: &SecretKeyValue,
     first: &[u8; 64],
     second: &[u8; 64],
     trusted: &[u8],
     untrusted: &[u8],
     to: &mut [u8],
 ) -> std::result::Result<usize, Refusal>
-    // The text is that of `signed_text`, under the identifier of the key that the state has told, at the front of the
-    // buffer.
-    ensures text { IfOk result (λ len. HasToldKey state.now state.now.key_id
-        × HoldsText state.now.key_id (comments_of trusted.now untrusted.now) first.now second.now to.new len) }
+    // The text is that of `signed_text`, under the key ID of the key, which was opened, at the front of the buffer.
+    ensures text { IfOk result (λ len. (is_opened key.now ≡ true)
+        × HoldsText key.now.key_id (comments_of trusted.now untrusted.now) first.now second.now to.new len) }
     ensures readable { OnOk result (AreReadByMinisign (comments_of trusted.now untrusted.now)) }
 
-    // Refused are, in this order: a state that has told no key, comments that are not UTF-8, what `signed_text`
+    // Refused are, in this order: a key that was not opened, comments that are not UTF-8, what `signed_text`
     // refuses, and too short a buffer, which is then as it was.
-    ensures refused { IfErr result (IsWritingRefusal state.now (comments_of trusted.now untrusted.now) first.now second.now to.old) }
+    ensures refused { IfErr result (IsWritingRefusal key.now (comments_of trusted.now untrusted.now) first.now second.now to.old) }
     ensures kept { OnErr result (to.new ≡ to.old) }
 {
-    let key_id = state.told_key_id()?;
+    if !key.is_opened() {
+        return Err(Refusal::WrongUse(Misuse::KeyNotOpened));
+    }
     let Ok(trusted) = str::from_utf8(trusted) else {
         return Err(Refusal::Refused(NamedFault::NotUtf8.into()));
     };
     let Ok(untrusted) = str::from_utf8(untrusted) else {
         return Err(Refusal::Refused(NamedFault::NotUtf8.into()));
     };
-    let text = signed_text(alloc, &key_id, first, second, trusted, untrusted)?;
+    let text = signed_text(alloc, &key.key_id, first, second, trusted, untrusted)?;
     match write_front(text.as_bytes(), to) {
         Some(len) => Ok(len),
         None => Err(Refusal::WrongUse(Misuse::NoRoom)),

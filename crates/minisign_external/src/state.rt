@@ -1,23 +1,23 @@
-//! A state of fixed size that a program in another language holds: it is fed the data in pieces,
-//! asks the questions of two texts, and gives the verdict.
+//! A state of fixed size that a program in another language holds: it is asked about a key and a signature, is fed the
+//! data in pieces, tells the digest, and gives the verdict.
 
-ghost use Rattle.std.specs.Prelude.{◌≡◌, ◌++◌, ℕ, List, [], false, Ok, OnOk, IfOk, IfErr, MatchResult, length};
+ghost use Rattle.std.specs.Prelude.{◌≡◌, ◌++◌, ℕ, List, [], false, true, Ok, OnOk, IfOk, IfErr, MatchResult, length};
 ghost use Rattle.minisign_hash.specs.Blake2b.{blake2b_digest};
 ghost use Rattle.minisign_hash.specs.Fed.{IsFed, has_finalized, output_length};
-ghost use Rattle.minisign_external.specs.States.{HasToldKey, IsBlank, IsFedState, IsMarkedFed, IsNotFed, IsNotTold, fed_mark, no_questions};
+ghost use Rattle.minisign_external.specs.States.{HasToldDigest, IsBlank, IsFedState, IsMarkedFed, IsMarkedTold, IsNotFed, KeepsAsked, fed_mark, is_asked, is_begun, no_questions};
 ghost use Rattle.minisign_external.specs.declared.state.Refusal.TheVariants.{Refused, WrongUse};
 
 use minisign_base::PError;
 use minisign_hash::blake2b::Blake2b;
 use minisign_hash::blake2b::stored::StoredBlake2b;
 
-// A state that is being fed begins with the letters `minisign`, one whose questions were asked with
-// `minisask`, one that has told a secret key with `minissig`.
+// A state that is being fed begins with the letters `minisign`, one that has told its digest with `minissum`. Questions
+// that were asked are marked by `minisask`.
 pub(crate) const FED: u64 = 7955443211184269677;
 
-pub(crate) const ASKED: u64 = 7742639332697991533;
+pub(crate) const TOLD: u64 = 7887337261936568685;
 
-pub(crate) const TOLD: u64 = 7451613997988473197;
+pub(crate) const ASKED: u64 = 7742639332697991533;
 
 /// A state, 512 bytes with the layout of C.
 #[repr(C)]
@@ -25,10 +25,10 @@ pub(crate) const TOLD: u64 = 7451613997988473197;
 pub struct State {
     pub(crate) mark: u64,
     hash: StoredBlake2b,
+    // Whether the questions were asked: `ASKED`, or anything else.
+    pub(crate) asked: u64,
     // Whether the second question could be asked: 1 or 0.
     pub(crate) whole: u64,
-    // The identifier of the key that was told.
-    pub(crate) key_id: [u8; 8],
     reserved: [u64; 18],
 }
 
@@ -38,7 +38,7 @@ pub struct State {
 pub struct Questions {
     /// The key of both questions.
     pub public_key: [u8; 32],
-    /// The digest of the data.
+    /// The digest of the data; zeros until it is told.
     pub digest: [u8; 64],
     /// The signature of the first question, whose message is the digest, or the data itself where
     /// `legacy` is 1.
@@ -62,9 +62,9 @@ pub struct Questions {
 pub enum Misuse {
     /// The state was never begun, or was ended by a verdict.
     NotBegun,
-    /// The questions were asked before.
+    /// The questions were asked before, or the digest was told.
     AlreadyAsked,
-    /// The questions were not asked.
+    /// The questions were not asked, or the digest was not told.
     NotAsked,
     /// An answer is neither `MINISIGN_ANSWER_YES` nor `MINISIGN_ANSWER_NO`.
     BadAnswer,
@@ -85,6 +85,8 @@ pub enum Misuse {
     BadFirstFlag,
     /// A numbering is neither `MINISIGN_NUMBERING_TIMESTAMP` nor `MINISIGN_NUMBERING_VERSION`.
     BadNumbering,
+    /// A secret key was neither opened nor taken in.
+    KeyNotOpened,
 }
 
 /// Why nothing was asked or signed.
@@ -115,7 +117,7 @@ impl From<Misuse> for Refusal {
 }
 
 impl Questions {
-    /// No questions yet: zeros, for asking to write over. Takes no memory.
+    /// No questions yet: zeros, for asking to write over. Does not allocate.
     pub fn none() -> Questions
         // Before anything was asked, each number is 0.
         ensures { result ≡ no_questions }
@@ -135,7 +137,7 @@ impl Questions {
 }
 
 impl State {
-    /// A state that was fed nothing. Takes no memory.
+    /// A state that was fed nothing. Does not allocate.
     pub fn new() -> State
         // A new state was fed nothing, and all else in it is 0.
         ensures fed { IsFedState result [] }
@@ -144,18 +146,19 @@ impl State {
         State {
             mark: FED,
             hash: StoredBlake2b::store(&Blake2b::new(64)),
+            asked: 0,
             whole: 0,
-            key_id: [0; 8],
             reserved: [0; 18],
         }
     }
 
-    /// Feeds the next bytes of the data. Takes no memory. A state that was never begun is refused,
-    /// and one whose questions were asked; then it stays as it was.
+    /// Feeds the next bytes of the data. Does not allocate. A state that was never begun is refused,
+    /// and one that has told its digest; then it stays as it was.
     pub fn update(&mut self, piece: &[u8]) -> Result<(), Misuse>
-        // Each update appends to what the state was fed. A state that is not being fed takes no data, and stays as it
-        // was.
+        // Each update appends to what the state was fed, and what was asked stays. A state that is not being fed takes no
+        // data, and stays as it was.
         ensures fed { (m : List ℕ) → IsFedState self.old m → MatchResult result (λ _. IsFedState self.new (m ++ piece.now)) (λ _. ⊥) }
+        ensures asked { KeepsAsked self.old self.new }
         ensures begun { OnOk result (IsMarkedFed self.old) }
         ensures refused { IfErr result (λ e. IsNotFed self.old e × (self.new ≡ self.old)) }
     {
@@ -165,33 +168,35 @@ impl State {
         Ok(())
     }
 
-    /// The digest of what the state was fed, 64 bytes. Refused as `update`.
-    pub fn digest(&self) -> Result<[u8; 64], Misuse>
-        // The digest of everything the state was fed; a state that is not being fed gives none.
-        ensures digest { (m : List ℕ) → IsFedState self.now m → result ≡ Ok (blake2b_digest 64 m) }
-        ensures begun { OnOk result (IsMarkedFed self.now) }
-        ensures refused { IfErr result (IsNotFed self.now) }
+    /// Tells the digest of what the state was fed, 64 bytes; the state then takes no more data.
+    /// Refused as `update`; then the state and the digest stay as they were.
+    pub fn digest(&mut self, digest: &mut [u8; 64]) -> Result<(), Misuse>
+        // The digest of everything the state was fed, which it has then told; what was asked stays. A state that is not
+        // being fed tells none, and stays as it was.
+        ensures digest { (m : List ℕ) → IsFedState self.old m
+            → MatchResult result (λ _. (digest.new ≡ blake2b_digest 64 m) × HasToldDigest self.new m) (λ _. ⊥) }
+        ensures asked { KeepsAsked self.old self.new }
+        ensures told { OnOk result (IsMarkedFed self.old × IsMarkedTold self.new) }
+        ensures refused { IfErr result (λ e. IsNotFed self.old e × (self.new ≡ self.old) × (digest.new ≡ digest.old)) }
     {
         let mut hasher = self.hasher()?;
-        let mut digest = [0u8; 64];
-        hasher.finalize(&mut digest);
-        Ok(digest)
+        hasher.finalize(digest);
+        self.mark = TOLD;
+        Ok(())
     }
 
-    /// The identifier of the key that the state has told, 8 bytes. A state that has told none is
-    /// refused.
-    pub fn told_key_id(&self) -> Result<[u8; 8], Misuse>
-        // The identifier of the key that the state has told; a state that has told none is refused.
-        ensures told { IfOk result (HasToldKey self.now) }
-        ensures refused { IfErr result (IsNotTold self.now) }
+    // Whether the state was begun, and was not ended.
+    pub(crate) fn is_begun(&self) -> bool
+        ensures { result ≡ is_begun self.now }
     {
-        if self.mark == FED || self.mark == ASKED {
-            return Err(Misuse::NotAsked);
-        }
-        if self.mark != TOLD {
-            return Err(Misuse::NotBegun);
-        }
-        Ok(self.key_id)
+        self.mark == FED || self.mark == TOLD
+    }
+
+    // Whether questions were asked.
+    pub(crate) fn is_asked(&self) -> bool
+        ensures { result ≡ is_asked self.now }
+    {
+        self.asked == ASKED
     }
 
     // The hash of what the state was fed.
@@ -202,7 +207,7 @@ impl State {
         ensures mark { OnOk result (self.now.mark ≡ fed_mark) }
         ensures refused { IfErr result (IsNotFed self.now) }
     {
-        if self.mark == ASKED || self.mark == TOLD {
+        if self.mark == TOLD {
             return Err(Misuse::AlreadyAsked);
         }
         if self.mark != FED {

@@ -5,11 +5,11 @@ use Rattle.minisign.specs.Acceptance.{Verifier}
 use Rattle.minisign_base.specs.Devices.{Rose}
 use Rattle.minisign_install.specs.Driving.{AreNamed, HasMade, IsNamed, Knows, MayCall, Names, setting}
 use Rattle.minisign_install.specs.Folders.{HasLocked, Run}
-use Rattle.minisign_install.specs.Hosts.{DeviceFails, Explains, FolderFails, Host, Setting}
+use Rattle.minisign_install.specs.Hosts.{DeviceFails, Explains, Host, Setting}
 use Rattle.minisign_install.specs.Installing.{HasInstalled, InstallsOnlyUpdates, IsVouched, Terms}
 use Rattle.minisign_install.specs.Names.{drawn_bytes}
 use Rattle.minisign_install.specs.Order.{has_ended, next}
-use Rattle.minisign_install.specs.Refusals.{Counts, IsCause, IsCallFault, IsDataCause, IsLibraryFault, IsRefusal, counts}
+use Rattle.minisign_install.specs.Refusals.{Counts, IsCause, IsCallFault, IsDataCause, IsLibraryFault, IsRefusal}
 use Rattle.minisign_install.specs.Runs.{OwnsNoMore}
 use Rattle.minisign_install.specs.declared.calls.Stage.{Stage}
 use Rattle.minisign_install.specs.declared.calls.Work.{Work}
@@ -18,11 +18,9 @@ use Rattle.minisign_install.specs.declared.order.Due.{Due}
 use Rattle.minisign_install.specs.declared.order.Due.TheVariants.{Lock, Clear, ReadRecord, Create, Copy, ReadBack, Answer, TakeRights, Settle, CreateRecord, WriteRecord, SettleRecord, RenameRecord, SettleRecordName, Rename, SettleName, RemoveRecord, Remove, Installed, Refused}
 use Rattle.minisign_install.specs.declared.order.Outcome.{Outcome}
 use Rattle.minisign_install.specs.declared.order.Outcome.TheVariants.{Done, More, Number, Failed}
-use Rattle.minisign_install.proofs.Counts.{run_fault, same_counts}
 use Rattle.minisign_install.proofs.Driving.{Goes}
 use Rattle.minisign_install.proofs.Orders.{Holds, from, refusing_own, still_staged}
-use Rattle.minisign_install.proofs.Reasons.{Reason, lasting_rise, why}
-use Rattle.minisign_install.proofs.Refused.{cause_lasts}
+use Rattle.minisign_install.proofs.Reasons.{Reason, why}
 use Rattle.minisign_install.proofs.Wants.{Wants, wants}
 
 -- a call that is due can be made: the run is still known, and the lock is held
@@ -67,14 +65,7 @@ module _ (accepts : Verifier) (terms : Terms) (first : Bool) where
   Counted before due after = after ≡ before
 
   device : (before : Counts) (h h' : Host) (e : InstallFault) → h.faults ≡ before → DeviceFails e h h' → IsDataCause accepts terms before h'.faults e
-  device before h h' e same fails = let (fault, is, call) = subst (λ f. IsLibraryFault (IsCallFault f h'.faults) e) same fails in inl (fault, is, run_fault before h'.faults fault call)
-
-  risen : (before : Counts) (h h' : Host) (e : InstallFault) → FolderFails h h' → IsDataCause accepts terms before h.faults e → IsDataCause accepts terms before h'.faults e
-  risen before h h' e (random, update, rose) cause =
-      let same : counts h.faults.random h.faults.update h'.faults.folder ≡ h'.faults =
-      sym (same_counts h.faults.random h'.faults.random h.faults.update h'.faults.update h'.faults.folder h'.faults.folder random update refl) in
-      subst (λ c. IsDataCause accepts terms before c e) same
-      (cause_lasts accepts terms before h.faults.random h.faults.update h.faults.folder h'.faults.folder e (lasting_rise h.faults.folder h'.faults.folder rose) cause)
+  device before h h' e same fails = inl (subst (λ f. IsLibraryFault (IsCallFault f h'.faults) e) same fails)
 
   same_cause : (before : Counts) (h h' : Host) (e : InstallFault) → h'.faults ≡ h.faults → IsDataCause accepts terms before h.faults e → IsDataCause accepts terms before h'.faults e
   same_cause before h h' e same cause = subst (λ c. IsDataCause accepts terms before c e) (sym same) cause
@@ -147,11 +138,11 @@ module _ (accepts : Verifier) (terms : Terms) (first : Bool) where
   count before names w (SettleName n) (Number k) h h' going why knows (same, vouched) = (why ∙ same, vouched)
   count before names w (SettleName n) (Failed e) h h' going (folder, rose) knows (same, vouched) = inr (inr (folder, subst (λ f. Rose f.folder h'.faults.folder) same rose))
   count before names w (RemoveRecord f) Done h h' going why knows cause = same_cause before h h' f why cause
-  count before names w (RemoveRecord f) (Failed e) h h' going why knows cause = risen before h h' f why cause
+  count before names w (RemoveRecord f) (Failed e) h h' going why knows cause = same_cause before h h' f why cause
   count before names w (RemoveRecord f) More h h' going why knows cause = same_cause before h h' f why cause
   count before names w (RemoveRecord f) (Number k) h h' going why knows cause = same_cause before h h' f why cause
   count before names w (Remove f) Done h h' going why knows cause = inr (inr (same_cause before h h' f why cause))
-  count before names w (Remove f) (Failed e) h h' going why knows cause = inr (inr (risen before h h' f why cause))
+  count before names w (Remove f) (Failed e) h h' going why knows cause = inr (inr (same_cause before h h' f why cause))
   count before names w (Remove f) More h h' going why knows cause = same_cause before h h' f why cause
   count before names w (Remove f) (Number k) h h' going why knows cause = same_cause before h h' f why cause
   count before names w Installed o h h' going why knows same = absurd (true≢false going)

@@ -356,21 +356,19 @@ module _ (accepts : Verifier) (terms : Terms) (first : Bool) {H : Type 0} (file_
   settle_name_goes n w h h' (Err e) has ahead read settled why no_new_fault = (has, tt, λ names named. (named, record { made = λ known may. (settled known, ahead, read); explained = why; memory = λ no. folder_wants _ e why }))
 
   pub remove_record_goes : (f : InstallFault) (w : Work H) (h h' : Host) (r : Result Unit InstallFault) → HasMade (RemoveRecord f) w → h'.ahead ≡ h.ahead → h'.read ≡ h.read
-      → h'.faults.random ≡ h.faults.random → h'.faults.update ≡ h.faults.update
       → IfSome w.record_stage (λ stage. h.run.known ≡ true → h.run.locked ≡ true → MatchResult r
       (λ _. Lets (drawn_bytes stage.name) (Removes (drawn_bytes stage.name)) h.run h'.run) (λ _. Lets (drawn_bytes stage.name) (Perhaps (Removes (drawn_bytes stage.name))) h.run h'.run))
-      → IfSome w.record_stage (λ _. IfErr r (λ e. (e ≡ Library (Named WritingFailed)) × Rose h.faults.folder h'.faults.folder)) → OnOk r (h'.faults ≡ h.faults) → Goes (RemoveRecord f) (done_or r) w w h h'
-  remove_record_goes f w h h' (Ok x) has ahead read random update removed why no_new_fault =
+      → IfSome w.record_stage (λ _. IfErr r (λ e. e ≡ Library (Named WritingFailed))) → h'.faults ≡ h.faults → Goes (RemoveRecord f) (done_or r) w w h h'
+  remove_record_goes f w h h' (Ok x) has ahead read removed why no_new_fault =
       with_record (RemoveRecord f) Done w h h' (λ name file. h.run.known ≡ true → h.run.locked ≡ true → Lets name (Removes name) h.run h'.run) (has.0, tt) tt has.1 removed (λ names known may fact. (fact known may, ahead, read)) (λ names. no_new_fault) tt
-  remove_record_goes f w h h' (Err e) has ahead read random update removed why no_new_fault =
-      with_record (RemoveRecord f) (Failed e) w h h' (λ name file. h.run.known ≡ true → h.run.locked ≡ true → Lets name (Perhaps (Removes name)) h.run h'.run) (has.0, tt) tt has.1 removed (λ names known may fact. (fact known may, ahead, read)) (λ names. (random, update, (at_any _ w.record_stage has.1 why).1)) (λ no. writing_wants _ e (at_any _ w.record_stage has.1 why))
+  remove_record_goes f w h h' (Err e) has ahead read removed why no_new_fault =
+      with_record (RemoveRecord f) (Failed e) w h h' (λ name file. h.run.known ≡ true → h.run.locked ≡ true → Lets name (Perhaps (Removes name)) h.run h'.run) (has.0, tt) tt has.1 removed (λ names known may fact. (fact known may, ahead, read)) (λ names. no_new_fault) (λ no. writing_wants Unit e (at_any _ w.record_stage has.1 why, tt))
 
   pub remove_goes : (f : InstallFault) (w : Work H) (h h' : Host) (r : Result Unit InstallFault) → HasMade (Remove f) w → h'.ahead ≡ h.ahead → h'.read ≡ h.read
-      → h'.faults.random ≡ h.faults.random → h'.faults.update ≡ h.faults.update
       → IfSome w.stage (λ stage. h.run.known ≡ true → h.run.locked ≡ true → MatchResult r
       (λ _. Lets (drawn_bytes stage.name) (Removes (drawn_bytes stage.name)) h.run h'.run) (λ _. Lets (drawn_bytes stage.name) (Perhaps (Removes (drawn_bytes stage.name))) h.run h'.run))
-      → IfSome w.stage (λ _. IfErr r (λ e. (e ≡ Library (Named WritingFailed)) × Rose h.faults.folder h'.faults.folder)) → OnOk r (h'.faults ≡ h.faults) → Goes (Remove f) (done_or r) w w h h'
-  remove_goes f w h h' (Ok x) has ahead read random update removed why no_new_fault =
+      → IfSome w.stage (λ _. IfErr r (λ e. e ≡ Library (Named WritingFailed))) → h'.faults ≡ h.faults → Goes (Remove f) (done_or r) w w h h'
+  remove_goes f w h h' (Ok x) has ahead read removed why no_new_fault =
       with_update (Remove f) Done w h h' (λ name file. h.run.known ≡ true → h.run.locked ≡ true → Lets name (Removes name) h.run h'.run) (tt, tt) tt has.0 removed (λ names known may fact. (fact known may, ahead, read)) (λ names. no_new_fault) tt
-  remove_goes f w h h' (Err e) has ahead read random update removed why no_new_fault =
-      with_update (Remove f) (Failed e) w h h' (λ name file. h.run.known ≡ true → h.run.locked ≡ true → Lets name (Perhaps (Removes name)) h.run h'.run) (tt, tt) tt has.0 removed (λ names known may fact. (fact known may, ahead, read)) (λ names. (random, update, (at_any _ w.stage has.0 why).1)) (λ no. writing_wants _ e (at_any _ w.stage has.0 why))
+  remove_goes f w h h' (Err e) has ahead read removed why no_new_fault =
+      with_update (Remove f) (Failed e) w h h' (λ name file. h.run.known ≡ true → h.run.locked ≡ true → Lets name (Perhaps (Removes name)) h.run h'.run) (tt, tt) tt has.0 removed (λ names known may fact. (fact known may, ahead, read)) (λ names. no_new_fault) (λ no. writing_wants Unit e (at_any _ w.stage has.0 why, tt))

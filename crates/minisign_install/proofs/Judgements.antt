@@ -1,7 +1,8 @@
 -- Whether what a state was fed is an update.
-use Rattle.std.proofs.Common.{◌≡◌, ◌⊎◌, inl, inr, ◌≤◌, ◌∙◌, ℕ, Bool, true, false, ◌||◌, List, Some, length, take, ap, sym, subst, refl, arith, IsTrue, MatchResult}
+use Rattle.std.proofs.Common.{◌≡◌, ◌⊎◌, inl, inr, ◌≤◌, ◌+◌, ◌++◌, ◌∙◌, if◌then◌else◌, nat_le, ℕ, Bool, true, false, List, Some, length, take, ap, sym, subst, refl, arith, IsTrue, MatchResult}
 use Rattle.std.proofs.lemmas.Bool.{true≢false}
 use Rattle.std.specs.Str.{IsUtf8}
+use Rattle.std.proofs.lemmas.Str.{is_utf8-from_IsUtf8}
 use Rattle.std.specs.declared.result.Result.{Result}
 use Rattle.std.specs.declared.result.Result.TheVariants.{Ok, Err}
 use Rattle.minisign_hash.specs.Blake2b.{blake2b_digest}
@@ -9,10 +10,16 @@ use Rattle.minisign_base.specs.Fault.{Fault, Named}
 use Rattle.minisign_base.specs.declared.faults.NamedFault.TheVariants.{OutOfMemory}
 use Rattle.minisign.specs.Acceptance.{Verifier, signed_bytes}
 use Rattle.minisign.specs.Calls.{TextsVouchWith}
-use Rattle.minisign.specs.Headline.{IsVerdict, TextsRefuse, TextsVouchFor}
+use Rattle.minisign.specs.Headline.{TextsVouchFor, verdict}
+use Rattle.minisign.specs.PublicKeyText.{read_public_key}
 use Rattle.minisign.specs.Records.{CommentsRecord, PublicKeyRecord, SignatureBoxRecord, is_prehashed}
-use Rattle.minisign_external.specs.Questions.{AnswersSo, AnswersTexts, AreOpen, has_whole_signature, told_signature}
-use Rattle.minisign_external.specs.States.{AreQuestions, IsAskingRefusal, IsFaultOf, IsFedState}
+use Rattle.minisign.specs.SignatureText.{SignatureTextRecord, box_of, read_signature}
+use Rattle.minisign_external.specs.PublicKeys.{read_utf8, told_key, value_of}
+use Rattle.minisign_external.specs.Questions.{Answers, AnswersTexts, IsKeyText, has_whole_signature, read_under, told_signature}
+use Rattle.minisign_external.specs.States.{AreQuestions, IsAskFedRefusal, IsFaultOf, IsFedState, IsTextRefusal, asked_of}
+use Rattle.minisign_external.specs.declared.public_keys.PublicKeyValue.{PublicKeyValue}
+use Rattle.minisign_external.specs.declared.state.Misuse.{Misuse}
+use Rattle.minisign_external.specs.declared.state.Misuse.TheVariants.{NoRoom}
 use Rattle.minisign_external.specs.declared.state.Questions.{Questions}
 use Rattle.minisign_external.specs.declared.state.Refusal.{Refusal}
 use Rattle.minisign_external.specs.declared.state.Refusal.TheVariants.{Refused, WrongUse}
@@ -21,91 +28,144 @@ use Rattle.minisign_install.specs.Comments.{Says}
 use Rattle.minisign_install.specs.Installing.{IsUpdate, Terms}
 use Rattle.minisign_install.specs.Refusals.{IsCommentRefused, IsDataRefused, IsLibraryFault}
 use Rattle.minisign_install.specs.declared.faults.InstallFault.{InstallFault}
-use Rattle.minisign_install.proofs.SignatureComments.{comments_in}
+use Rattle.minisign_install.proofs.SignatureComments.{comments_in, opened, trusted_in}
 
 -- == What the scheme answers ==
 
--- a signature over the data itself is not allowed: this one is over the digest
-over_digest : (is : Bool) → IsTrue (is || false) → is ≡ true
-over_digest true allowed = refl
-over_digest false allowed = absurd (true≢false (sym allowed))
-
-signed_digest : (x : SignatureBoxRecord) (m : List ℕ) → is_prehashed x.signature ≡ true → signed_bytes x m ≡ blake2b_digest 64 m
-signed_digest x m is = rw is refl
+signed_digest : (t : SignatureTextRecord) (m : List ℕ) → is_prehashed t.signature ≡ true → signed_bytes (box_of t) m ≡ blake2b_digest 64 m
+signed_digest t m is = rw is refl
 
 told_whole : (c : CommentsRecord) → IsTrue (has_whole_signature c) → told_signature c ≡ take 64 c.signature
 told_whole c whole = rw whole refl
 
-same_comments : (c d : CommentsRecord) → Some c ≡ Some d → c ≡ d
-same_comments c d e = cc
+same_text : (sig_text : List ℕ) (t s : SignatureTextRecord) → read_signature sig_text ≡ Ok t → read_signature sig_text ≡ Ok s → t ≡ s
+same_text sig_text t s one other = let both = sym one ∙ other in cc both
 
-module _ (accepts : Verifier) (pk_text sig_text m : List ℕ) (pk : PublicKeyRecord) (x : SignatureBoxRecord) (c : CommentsRecord)
-    (asked : AreOpen pk_text sig_text false pk x c) where
+-- a text reads as one key
+pub one_value : (pk_text : List ℕ) (v w : PublicKeyValue) → IsKeyText pk_text v → IsKeyText pk_text w → v ≡ w
+one_value pk_text v w one other =
+    let keys = sym one.read ∙ other.read in
+    let same : one.key ≡ other.key = cc keys in
+    one.same ∙ ap value_of same ∙ sym other.same
+
+module _ (accepts : Verifier) (v : PublicKeyValue) (sig_text m : List ℕ) (t : SignatureTextRecord) (opens : read_under v false sig_text ≡ Ok t)
+    (q : Questions) (bytes : List ℕ) (first second : Bool) (are : AreQuestions q bytes v t) (digest : q.digest ≡ blake2b_digest 64 m)
+    (one : first ≡ accepts q.digest q.public_key q.signature) (two : second ≡ accepts (take q.message_len bytes) q.public_key q.comment_signature) where
+  key_is : q.public_key ≡ v.key
+  key_is = ap (λ (x : Questions). x.public_key) are.questions
+
+  signature_is : q.signature ≡ t.signature.signature
+  signature_is = ap (λ (x : Questions). x.signature) are.questions
+
+  comment_signature_is : q.comment_signature ≡ told_signature t.comments
+  comment_signature_is = ap (λ (x : Questions). x.comment_signature) are.questions
+
   -- the scheme answered what it was asked
-  answers_so : (q : Questions) (bytes : List ℕ) (first second : Bool) → AreQuestions q bytes pk x c → q.digest ≡ blake2b_digest 64 m
-      → first ≡ accepts q.digest q.public_key q.signature → second ≡ accepts (take q.message_len bytes) q.public_key q.comment_signature
-      → AnswersSo accepts pk x c m first second
-  answers_so q bytes first second are digest one two = record {
-    to_first =
-        ap (λ b. accepts b pk.key x.signature.signature) (signed_digest x m (over_digest _ asked.allowed) ∙ sym digest)
-        ∙ ap (λ k. accepts q.digest k x.signature.signature) (sym are.key)
-        ∙ ap (λ s. accepts q.digest q.public_key s) (sym are.signature) ∙ sym one;
-    to_second = λ whole.
-        ap (λ b. accepts b pk.key (take 64 c.signature)) (sym are.message.message)
-        ∙ ap (λ k. accepts (take q.message_len bytes) k (take 64 c.signature)) (sym are.key)
-        ∙ ap (λ s. accepts (take q.message_len bytes) q.public_key s) (sym (are.comment_signature ∙ told_whole c whole)) ∙ sym two;
+  pub answers_so : Answers accepts v sig_text m first second
+  answers_so = record {
+    to_first = λ s read. subst (λ (u : SignatureTextRecord). accepts (signed_bytes (box_of u) m) v.key u.signature.signature ≡ first)
+        (same_text sig_text t s (opened v sig_text t opens).0 read)
+        (ap (λ b. accepts b v.key t.signature.signature) (signed_digest t m (opened v sig_text t opens).1 ∙ sym digest)
+        ∙ ap (λ k. accepts q.digest k t.signature.signature) (sym key_is)
+        ∙ ap (λ s. accepts q.digest q.public_key s) (sym signature_is) ∙ sym one);
+    to_second = λ s read. subst (λ (u : SignatureTextRecord). IsTrue (has_whole_signature u.comments) → accepts (u.signature.signature ++ u.comments.trusted) v.key (take 64 u.comments.signature) ≡ second)
+        (same_text sig_text t s (opened v sig_text t opens).0 read)
+        (λ whole.
+        ap (λ b. accepts b v.key (take 64 t.comments.signature)) (sym are.message.message)
+        ∙ ap (λ k. accepts (take q.message_len bytes) k (take 64 t.comments.signature)) (sym key_is)
+        ∙ ap (λ s. accepts (take q.message_len bytes) q.public_key s) (sym (comment_signature_is ∙ told_whole t.comments whole)) ∙ sym two);
   }
 
-  -- the texts read as no other key and no other box
-  pub answers_texts : (q : Questions) (bytes : List ℕ) (first second : Bool) → AreQuestions q bytes pk x c → q.digest ≡ blake2b_digest 64 m
-      → first ≡ accepts q.digest q.public_key q.signature → second ≡ accepts (take q.message_len bytes) q.public_key q.comment_signature
-      → AnswersTexts accepts pk_text sig_text m first second
-  answers_texts q bytes first second are digest one two = λ k y d key_read box_read both.
-      let keys = sym asked.read.key_read ∙ key_read in
-      let same_key : pk ≡ k = cc keys in
-      let boxes = sym asked.read.box_read ∙ box_read in
-      let same_box : x ≡ y = cc boxes in
-      let same : c ≡ d = same_comments c d (sym asked.comments ∙ ap (λ (b : SignatureBoxRecord). b.comments) same_box ∙ both) in
-      subst (λ d. AnswersSo accepts k y d m first second) same
-      (subst (λ y. AnswersSo accepts k y c m first second) same_box
-      (subst (λ k. AnswersSo accepts k x c m first second) same_key (answers_so q bytes first second are digest one two)))
+  -- the text of the public key reads as no other key
+  pub answers_texts : (pk_text : List ℕ) → IsKeyText pk_text v → AnswersTexts accepts pk_text sig_text m first second
+  answers_texts pk_text keyed = λ w other.
+      subst (λ (u : PublicKeyValue). Answers accepts u sig_text m first second) (one_value pk_text v w keyed other) answers_so
 
 -- what is said of a refusal that is no wrong use holds of its fault
 pub fault_is : (holds : Fault → Type 0) (r : Refusal) (f : Fault) → ((e : Fault) → r ≡ Refused e → f ≡ e) → IsFaultOf holds r → holds f
 fault_is holds (WrongUse w) f is none = absurd none
 fault_is holds (Refused e) f is held = subst holds (sym (is e refl)) held
 
--- of a state that was fed, and with room for as many bytes as the text of the signature has, asking is refused only for
--- the texts
-pub asking_refused : (accepts : Verifier) (s : State) (pk_text sig_text bytes m : List ℕ) (r : Refusal) → IsFedState s m → IsUtf8 pk_text → IsUtf8 sig_text
-    → length sig_text ≤ length bytes → IsAskingRefusal s pk_text sig_text false bytes r → IsFaultOf (TextsRefuse accepts pk_text sig_text m false) r
-asking_refused accepts s pk_text sig_text bytes m (WrongUse w) fed pk_utf8 sig_utf8 room (inl (why, unfed)) = unfed m fed
-asking_refused accepts s pk_text sig_text bytes m (WrongUse w) fed pk_utf8 sig_utf8 room (inr (why, marked, u, v, lacks)) = omega (arith, room, lacks.short, lacks.enough)
-asking_refused accepts s pk_text sig_text bytes m (Refused e) fed pk_utf8 sig_utf8 room (marked, (inl (why, none))) = absurd (none (pk_utf8, sig_utf8))
-asking_refused accepts s pk_text sig_text bytes m (Refused e) fed pk_utf8 sig_utf8 room (marked, (inr (u, v, refused))) = refused accepts m
+-- a wrong use behind reading is too little room
+abbrev fits : Bool → Result Unit Refusal
+fits b = if b then Ok tt else Err (WrongUse NoRoom)
+
+lacks_room : (b : Bool) (w : Misuse) → fits b ≡ Err (WrongUse w) → w ≡ NoRoom
+lacks_room true w h = cc h
+lacks_room false w h = cc h
+
+no_room : (r : Result SignatureTextRecord Fault) (room : ℕ) (w : Misuse) → asked_of r room ≡ Err (WrongUse w) → w ≡ NoRoom
+no_room (Ok t) room w h = lacks_room (nat_le (64 + length t.comments.trusted) room) w h
+no_room (Err e) room w h = cc h
+
+-- == What the text of a public key tells ==
+
+abbrev is_ok : Result Unit Fault → Bool
+is_ok (Ok u) = true
+is_ok (Err e) = false
+
+abbrev told_first : Result Unit Fault × PublicKeyValue → Result Unit Fault
+told_first p = p.0
+
+told_err : (r : Result PublicKeyRecord Fault) (e : Fault) (old new : PublicKeyValue) → (Err e, new) ≡ told_key r old → r ≡ Err e
+told_err (Ok k) e old new h = let no = ap told_first h in cc no
+told_err (Err f) e old new h = let same = ap told_first h in let one : f ≡ e = cc same in ap (λ x. Err x) one
+
+told_ok : (r : Result PublicKeyRecord Fault) (old new : PublicKeyValue) → (Ok tt, new) ≡ told_key r old → (k : PublicKeyRecord) × (r ≡ Ok k) × (new ≡ value_of k)
+told_ok (Ok k) old new h = (k, refl, ap (λ p. p.1) h)
+told_ok (Err f) old new h = absurd (true≢false (ap (λ (p : Result Unit Fault × PublicKeyValue). is_ok p.0) h))
+
+module _ (pk_text : List ℕ) (utf8 : IsUtf8 pk_text) (old new : PublicKeyValue) where
+  as_read : read_utf8 read_public_key pk_text ≡ read_public_key pk_text
+  as_read = rw (is_utf8-from_IsUtf8 pk_text utf8) refl
+
+  pub key_text : (Ok tt, new) ≡ told_key (read_utf8 read_public_key pk_text) old → IsKeyText pk_text new
+  key_text h =
+      let (k, read, same) = told_ok (read_utf8 read_public_key pk_text) old new h in
+      record { key = k; read = sym as_read ∙ read; same = same }
+
+  pub no_key : (accepts : Verifier) (sig_text m : List ℕ) (e : Fault) → (Err e, new) ≡ told_key (read_utf8 read_public_key pk_text) old
+      → verdict accepts pk_text sig_text m false ≡ Err e
+  unfolding verdict
+  no_key accepts sig_text m e h = rw (sym as_read ∙ told_err (read_utf8 read_public_key pk_text) e old new h) refl
+
+-- of a state that was fed, and where the room is not missed, asking is refused only for the texts
+pub asking_refused : (accepts : Verifier) (s : State) (pk_text sig_text m : List ℕ) (v : PublicKeyValue) (room : ℕ) (r : Refusal) → IsFedState s m → IsKeyText pk_text v
+    → IsUtf8 sig_text → IsAskFedRefusal s v sig_text false room r → ¬ (r ≡ WrongUse NoRoom) → IsTextRefusal v sig_text false r
+    → IsFaultOf (λ f. verdict accepts pk_text sig_text m false ≡ Err f) r
+asking_refused accepts s pk_text sig_text m v room (WrongUse w) fed keyed utf8 (inl unfed) roomy refused = unfed.1 m fed
+asking_refused accepts s pk_text sig_text m v room (WrongUse w) fed keyed utf8 (inr (marked, why)) roomy refused =
+    absurd (roomy (ap (λ (x : Misuse). WrongUse x) (no_room (read_under v false sig_text) room w why)))
+asking_refused accepts s pk_text sig_text m v room (Refused e) fed keyed utf8 why roomy refused = refused utf8 pk_text m accepts keyed
 
 -- memory may run out besides
-pub else_memory : {T : Type 0} (S : Type 0) (accepts : Verifier) (pk_text sig_text m : List ℕ) (r : Result T Fault) → IsVerdict accepts pk_text sig_text m false r
-    → MatchResult r (λ _. TextsVouchFor accepts pk_text sig_text m false) (λ e. ((e ≡ Named OutOfMemory) × S) ⊎ TextsRefuse accepts pk_text sig_text m false e)
-else_memory S accepts pk_text sig_text m (Ok t) vouched = vouched
-else_memory S accepts pk_text sig_text m (Err e) refused = inr refused
+pub else_memory : {T : Type 0} (S : Type 0) (accepts : Verifier) (pk_text sig_text m : List ℕ) (bytes : T → List ℕ) (r : Result T Fault)
+    → MatchResult r (λ t. TextsVouchWith accepts pk_text sig_text m false (bytes t)) (λ f. verdict accepts pk_text sig_text m false ≡ Err f)
+    → MatchResult r (λ t. TextsVouchWith accepts pk_text sig_text m false (bytes t)) (λ e. ((e ≡ Named OutOfMemory) × S) ⊎ (verdict accepts pk_text sig_text m false ≡ Err e))
+else_memory S accepts pk_text sig_text m bytes (Ok t) vouched = vouched
+else_memory S accepts pk_text sig_text m bytes (Err e) refused = inr refused
 
 -- == What comes of the comment ==
+
+-- the texts vouch for the data, and this is the comment of what was read
+pub vouched_comment : (accepts : Verifier) (pk_text sig_text m comment : List ℕ) (v : PublicKeyValue) (t : SignatureTextRecord) → read_under v false sig_text ≡ Ok t
+    → comment ≡ t.comments.trusted → TextsVouchFor accepts pk_text sig_text m false → TextsVouchWith accepts pk_text sig_text m false comment
+vouched_comment accepts pk_text sig_text m comment v t opens is vouched = record {
+  vouched = vouched;
+  comments = (comments_in sig_text vouched.box vouched.box_read).0;
+  both = (comments_in sig_text vouched.box vouched.box_read).1;
+  trusted = sym (is ∙ trusted_in sig_text t vouched.box (comments_in sig_text vouched.box vouched.box_read).0 (opened v sig_text t opens).0 vouched.box_read (comments_in sig_text vouched.box vouched.box_read).1);
+}
 
 -- the comment that was signed is the one of the text
 pub vouched_with : (accepts : Verifier) (pk_text sig_text message : List ℕ) (v : TextsVouchFor accepts pk_text sig_text message false)
     → TextsVouchWith accepts pk_text sig_text message false (comments_in sig_text v.box v.box_read).0.trusted
 vouched_with accepts pk_text sig_text message v = record { vouched = v; comments = (comments_in sig_text v.box v.box_read).0; both = (comments_in sig_text v.box v.box_read).1; trusted = refl }
 
-module _ (accepts : Verifier) (terms : Terms) (kept : ℕ) (m : List ℕ) where
+module _ (accepts : Verifier) (terms : Terms) (kept : ℕ) (m comment : List ℕ) where
   -- the texts vouch for the data: it is an update, or the comment is refused
-  pub judged_comment : (S : Type 0) (r : Result ℕ InstallFault) (v : TextsVouchFor accepts terms.pk_text terms.sig_text m false)
-      → MatchResult r (λ n. Says (comments_in terms.sig_text v.box v.box_read).0.trusted terms.file terms.numbering n × (kept ≤ n)) (IsCommentRefused terms kept (comments_in terms.sig_text v.box v.box_read).0.trusted)
+  pub judged_comment : (S : Type 0) (r : Result ℕ InstallFault) → TextsVouchWith accepts terms.pk_text terms.sig_text m false comment
+      → MatchResult r (λ n. Says comment terms.file terms.numbering n × (kept ≤ n)) (IsCommentRefused terms kept comment)
       → MatchResult r (IsUpdate accepts terms kept m) (λ e. IsLibraryFault (λ f. (f ≡ Named OutOfMemory) × S) e ⊎ IsDataRefused accepts terms kept m e)
-  judged_comment S (Ok n) v (says, newer) = record {
-    comment = (comments_in terms.sig_text v.box v.box_read).0.trusted;
-    vouched = vouched_with accepts terms.pk_text terms.sig_text m v;
-    says = says;
-    newer = newer;
-  }
-  judged_comment S (Err e) v refused = inr (inr (_, vouched_with accepts terms.pk_text terms.sig_text m v, refused))
+  judged_comment S (Ok n) vouched (says, newer) = record { comment = comment; vouched = vouched; says = says; newer = newer }
+  judged_comment S (Err e) vouched refused = inr (inr (comment, vouched, refused))

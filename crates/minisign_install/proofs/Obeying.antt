@@ -337,10 +337,12 @@ module _ (s : Setting) (i i' : Installation) (h h' : Host) where
   tells_answers : (t : TellsAnswers s i i' h h') → Stands s (Answer t.asking.0) i h → Goes s (Answer t.asking.0) i' h h'
   tells_answers t x =
       let (kept, due, asking) = t.asking in
-      let (pk, box, c, open_so, are) = t.open_texts in
+      let (signed, opens, are) = t.signed in
       let asked : IsAsking t.asked s.terms kept =
-      subst (λ (f : Numbering). IsAsking t.asked (wanted_by s.terms.pk_text s.terms.sig_text s.terms.file f) kept) x.field asking in
-      let answers = answers_texts s.accepts s.terms.pk_text s.terms.sig_text h.read pk box c open_so t.questions t.message t.first t.second are (t.digest h.read (x.fed refl)) t.to_first t.to_second in
+      subst (λ (f : Numbering). IsAsking t.asked (wanted_by s.terms.pk_text s.terms.sig_text s.terms.file f) kept) x.field (asking s.terms.pk_text t.keyed) in
+      let answers =
+      answers_texts s.accepts t.key s.terms.sig_text h.read signed opens t.questions t.message t.first t.second are (t.digest h.read (x.fed refl)) t.to_first t.to_second
+      s.terms.pk_text t.keyed in
       elim (t.told s.terms kept h.read s.accepts asked answers) [
         | inl (is, update, rights, so) ↦ (Number update, (t.still, so), record { due = rights; field = t.field ∙ t.asked_field ∙ x.field; first = λ e. no e; fed = λ e. no e })
         | inr (some, e, is, remove, why) ↦ fails s (Answer kept) i i' h h' x t.number t.still remove (t.field ∙ t.asked_field)

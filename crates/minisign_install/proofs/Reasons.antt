@@ -4,10 +4,10 @@ use Rattle.minisign.specs.Acceptance.{Verifier}
 use Rattle.minisign.specs.Reading.{IsAhead}
 use Rattle.minisign_base.specs.Devices.{Rose}
 use Rattle.minisign_install.specs.Folders.{HasStepped, IsBusy, IsStill, Run}
-use Rattle.minisign_install.specs.Hosts.{DeviceFails, Event, Explains, FolderFails, HasRun, Host, IsExplained, Makes, RunIsRefused, Setting}
+use Rattle.minisign_install.specs.Hosts.{DeviceFails, Event, Explains, HasRun, Host, IsExplained, Makes, RunIsRefused, Setting}
 use Rattle.minisign_install.specs.Installing.{IsBrought, IsRecordBrought, IsUpdate, Terms}
 use Rattle.minisign_install.specs.Order.{next}
-use Rattle.minisign_install.specs.Refusals.{Counts, HasNamed, IsCallFault, IsDataRefusal, IsLibraryFault, IsRunFault, counts}
+use Rattle.minisign_install.specs.Refusals.{Counts, HasNamed, IsCallFault, IsDataRefusal, IsLibraryFault}
 use Rattle.minisign_install.specs.Runs.{BringsNothing, BringsOnly}
 use Rattle.minisign_install.specs.declared.faults.InstallFault.{InstallFault}
 use Rattle.minisign_install.specs.declared.folders.Name.TheVariants.{Place, Record}
@@ -15,10 +15,9 @@ use Rattle.minisign_install.specs.declared.order.Due.{Due}
 use Rattle.minisign_install.specs.declared.order.Due.TheVariants.{Lock, Clear, ReadRecord, Create, Copy, ReadBack, Answer, TakeRights, Settle, CreateRecord, WriteRecord, SettleRecord, RenameRecord, SettleRecordName, Rename, SettleName, RemoveRecord, Remove, Installed, Refused}
 use Rattle.minisign_install.specs.declared.order.Outcome.{Outcome}
 use Rattle.minisign_install.specs.declared.order.Outcome.TheVariants.{Done, More, Number, Failed}
-use Rattle.minisign_install.proofs.Counts.{Lasts, rose_more, run_fault, same_counts}
 use Rattle.minisign_install.proofs.Installs.{found_first}
 use Rattle.minisign_install.proofs.Orders.{Front, Holds, Recording, Staging, begin_record, cleared_more, from, more_record, more_work, nothing_brings, part_works, place_goes, placing, record_brings, record_goes, recorded_brings, recording_nothing, removal_brings, staging_nothing, still_on_disk, still_staged}
-use Rattle.minisign_install.proofs.Refused.{data_after, data_more, named_after, refusal_lasts, unsettled}
+use Rattle.minisign_install.proofs.Refused.{data_after, data_more, named_after, unsettled}
 use Rattle.minisign_install.proofs.Works.{brings_nothing, brings_trans, brings_weaken, cleared_step, cleared_then, clearing, perhaps_renamed_goes, removed_brings, resting_brings, spoiling}
 
 -- why the data is not installed, by what was found to be kept
@@ -42,31 +41,15 @@ refusal_brings accepts terms kept ahead before after old new e (inr (inr (inl (b
 refusal_brings accepts terms kept ahead before after old new e (inr (inr (inr (inl (brings, writing, rose))))) = brings
 refusal_brings accepts terms kept ahead before after old new e (inr (inr (inr (inr (brings, placed, folder, rose))))) = brings
 
--- more faults of the folder
-pub lasting_rise : (mid new : ℕ) → Rose mid new → Lasts mid new
-lasting_rise mid new rose f before = rose_more f mid new before rose
-
-refusal_rises : (accepts : Verifier) (terms : Terms) (kept : ℕ) (ahead : Option (List ℕ)) (before : Counts) (old new : Run) (e : InstallFault) (h h' : Host) → FolderFails h h'
-    → IsDataRefusal accepts terms kept ahead before h.faults old new e → IsDataRefusal accepts terms kept ahead before h'.faults old new e
-refusal_rises accepts terms kept ahead before old new e h h' (random, update, rose) why =
-    let risen = refusal_lasts accepts terms kept ahead before h.faults.random h.faults.update h.faults.folder h'.faults.folder old new e
-    (lasting_rise h.faults.folder h'.faults.folder rose) why in
-    let same : counts h.faults.random h.faults.update h'.faults.folder ≡ h'.faults =
-    sym (same_counts h.faults.random h'.faults.random h.faults.update h'.faults.update h'.faults.folder h'.faults.folder random update refl) in
-    subst (λ c. IsDataRefusal accepts terms kept ahead before c old new e) same risen
-
 module _ (s : Setting) (a : Host) (known : a.run.known ≡ true) where
   device : (h h' : Host) (e : InstallFault) → h.faults ≡ a.faults → DeviceFails e h h' → DeviceFails e a h'
   device h h' e same fails = subst (λ f. IsLibraryFault (IsCallFault f h'.faults) e) same fails
-
-  run_device : (h h' : Host) (e : InstallFault) → h.faults ≡ a.faults → DeviceFails e h h' → IsLibraryFault (IsRunFault a.faults h'.faults) e
-  run_device h h' e same fails = let (fault, is, call) = device h h' e same fails in (fault, is, run_fault a.faults h'.faults fault call)
 
   rising : (h h' : Host) → h.faults ≡ a.faults → Rose h.faults.folder h'.faults.folder → Rose a.faults.folder h'.faults.folder
   rising h h' same rose = subst (λ f. Rose f.folder h'.faults.folder) same rose
 
   nothing_unfit : (kept : ℕ) (ready : Run) (h h' : Host) (e : InstallFault) → Front s a ready kept → BringsNothing ready h'.run → h.faults ≡ a.faults → DeviceFails e h h' → Unfit s a h' e
-  nothing_unfit kept ready h h' e front none same fails = (kept, ready, front, inl (none, run_device h h' e same fails))
+  nothing_unfit kept ready h h' e front none same fails = (kept, ready, front, inl (none, device h h' e same fails))
 
   staging_unfit : (kept : ℕ) (h h' : Host) (e : InstallFault) → Staging s a h'.run kept → h.faults ≡ a.faults → DeviceFails e h h' → Unfit s a h' e
   staging_unfit kept h h' e x same fails = nothing_unfit kept x.ready h h' e x.front (staging_nothing s a h'.run kept x) same fails
@@ -92,14 +75,6 @@ module _ (s : Setting) (a : Host) (known : a.run.known ≡ true) where
     ready,
     x,
     data_more s.accepts s.terms kept a.ahead a.faults h'.faults ready h.run h'.run e more (subst (λ c. IsDataRefusal s.accepts s.terms kept a.ahead a.faults c ready h.run e) (sym same) why),
-  )
-
-  risen_unfit : (h h' : Host) (e : InstallFault) → BringsNothing h.run h'.run → FolderFails h h' → Unfit s a h e → Unfit s a h' e
-  risen_unfit h h' e more fails (kept, ready, x, why) = (
-    kept,
-    ready,
-    x,
-    data_more s.accepts s.terms kept a.ahead a.faults h'.faults ready h.run h'.run e more (refusal_rises s.accepts s.terms kept a.ahead a.faults ready h.run e h h' fails why),
   )
 
   pub why : (due : Due InstallFault) (o : Outcome InstallFault) (h h' : Host) → Holds s a due h → Makes s due o h h' → Explains s due o h h' → Reason s a due h → Reason s a (next due o) h'
@@ -152,7 +127,7 @@ module _ (s : Setting) (a : Host) (known : a.run.known ≡ true) where
         kept,
         staging.ready,
         staging.front,
-        ⊎_elim (λ refused. inr (inl (none, (h.read, subst (IsAhead a.ahead) all given, refused)))) (λ fails. inl (none, run_device h h' e same fails)) blamed,
+        ⊎_elim (λ refused. inr (inl (none, (h.read, subst (IsAhead a.ahead) all given, refused)))) (λ fails. inl (none, device h h' e same fails)) blamed,
       )
   why (Answer kept) Done h h' x never no_new_fault same = absurd never
   why (Answer kept) More h h' x never no_new_fault same = absurd never
@@ -190,7 +165,7 @@ module _ (s : Setting) (a : Host) (known : a.run.known ≡ true) where
     x.staged.staging.front,
     inr (inr (inl (
       record_brings s a h.run h'.run n x holds (perhaps_renamed_goes s.record_name Record s.record_file h.run h'.run x.works.stage on_disk step own),
-      run_device h h' e same fails,
+      device h h' e same fails,
     ))),
   )
   why (RenameRecord n) More h h' x never no_new_fault same = absurd never
@@ -200,7 +175,7 @@ module _ (s : Setting) (a : Host) (known : a.run.known ≡ true) where
     x.staged.kept,
     x.staged.staging.ready,
     x.staged.staging.front,
-    inr (inr (inl (record_brings s a v h'.run n x holds (record_goes s a n v h.run h'.run x on_disk renamed (step, own)), run_device h h' e same fails))),
+    inr (inr (inl (record_brings s a v h'.run n x holds (record_goes s a n v h.run h'.run x on_disk renamed (step, own)), device h h' e same fails))),
   )
   why (SettleRecordName n) More h h' x never no_new_fault same = absurd never
   why (SettleRecordName n) (Number k) h h' x never no_new_fault same = absurd never
@@ -243,11 +218,11 @@ module _ (s : Setting) (a : Host) (known : a.run.known ≡ true) where
   why (SettleName n) More h h' x never no_new_fault same = absurd never
   why (SettleName n) (Number k) h h' x never no_new_fault same = absurd never
   why (RemoveRecord f) Done h h' x ((step, less), ahead, read) no_new_fault unfit = more_unfit h h' f (removed_brings (λ _ _. ⊥) s.record_name h.run h'.run step) no_new_fault unfit
-  why (RemoveRecord f) (Failed e) h h' x ((step, less), ahead, read) fails unfit = risen_unfit h h' f (removal_brings s.record_name h.run h'.run step) fails unfit
+  why (RemoveRecord f) (Failed e) h h' x ((step, less), ahead, read) no_new_fault unfit = more_unfit h h' f (removal_brings s.record_name h.run h'.run step) no_new_fault unfit
   why (RemoveRecord f) More h h' x never no_new_fault unfit = absurd never
   why (RemoveRecord f) (Number k) h h' x never no_new_fault unfit = absurd never
   why (Remove f) Done h h' x ((step, less), ahead, read) no_new_fault unfit = refused_so h' f (more_unfit h h' f (removed_brings (λ _ _. ⊥) s.name h.run h'.run step) no_new_fault unfit)
-  why (Remove f) (Failed e) h h' x ((step, less), ahead, read) fails unfit = refused_so h' f (risen_unfit h h' f (removal_brings s.name h.run h'.run step) fails unfit)
+  why (Remove f) (Failed e) h h' x ((step, less), ahead, read) no_new_fault unfit = refused_so h' f (more_unfit h h' f (removal_brings s.name h.run h'.run step) no_new_fault unfit)
   why (Remove f) More h h' x never no_new_fault unfit = absurd never
   why (Remove f) (Number k) h h' x never no_new_fault unfit = absurd never
   why Installed Done h h' x never no_new_fault same = absurd never

@@ -5,9 +5,8 @@ use Rattle.std.specs.declared.result.Result.TheVariants.{Ok, Err}
 use Rattle.minisign.specs.Acceptance.{Verifier}
 use Rattle.minisign_install.specs.Folders.{HasStepped, KeepsNames, Renames, Run, SettlesNames}
 use Rattle.minisign_install.specs.Installing.{IsBrought, IsRecordBrought, Terms}
-use Rattle.minisign_install.specs.Refusals.{Counts, IsDataCause, HasNamed, IsDataRefusal, counts}
+use Rattle.minisign_install.specs.Refusals.{Counts, HasNamed, IsDataRefusal}
 use Rattle.minisign_install.specs.Runs.{BringsNothing, BringsOnly, HasStage}
-use Rattle.minisign_install.proofs.Counts.{Lasts, device_lasts}
 use Rattle.minisign_install.specs.declared.faults.InstallFault.{InstallFault}
 use Rattle.minisign_install.specs.declared.folders.Name.{Name}
 use Rattle.minisign_install.proofs.Moments.{step}
@@ -88,21 +87,3 @@ module _ (accepts : Verifier) (terms : Terms) (kept : ℕ) (ahead : Option (List
         folder,
         rose,
       ))))
-
--- more calls on the folder
-pub refusal_lasts : (accepts : Verifier) (terms : Terms) (kept : ℕ) (ahead : Option (List ℕ)) (before : Counts) (random update mid after : ℕ) (old new : Run) (e : InstallFault) → Lasts mid after
-    → IsDataRefusal accepts terms kept ahead before (counts random update mid) old new e → IsDataRefusal accepts terms kept ahead before (counts random update after) old new e
-refusal_lasts accepts terms kept ahead before random update mid after old new e more (inl (none, (fault, is, why))) = inl (none, (fault, is, device_lasts before random update mid after fault more why))
-refusal_lasts accepts terms kept ahead before random update mid after old new e more (inr (inl refused)) = inr (inl refused)
-refusal_lasts accepts terms kept ahead before random update mid after old new e more (inr (inr (inl (brings, (fault, is, why))))) =
-    inr (inr (inl (brings, (fault, is, device_lasts before random update mid after fault more why))))
-refusal_lasts accepts terms kept ahead before random update mid after old new e more (inr (inr (inr (inl (brings, writing, rose))))) = inr (inr (inr (inl (brings, writing, more before.folder rose))))
-refusal_lasts accepts terms kept ahead before random update mid after old new e more (inr (inr (inr (inr (brings, placed, folder, rose))))) =
-    inr (inr (inr (inr (brings, placed, folder, more before.folder rose))))
-
--- the same of the causes alone
-pub cause_lasts : (accepts : Verifier) (terms : Terms) (before : Counts) (random update mid after : ℕ) (e : InstallFault) → Lasts mid after → IsDataCause accepts terms before (counts random update mid) e
-    → IsDataCause accepts terms before (counts random update after) e
-cause_lasts accepts terms before random update mid after e more (inl (fault, is, why)) = inl (fault, is, device_lasts before random update mid after fault more why)
-cause_lasts accepts terms before random update mid after e more (inr (inl refused)) = inr (inl refused)
-cause_lasts accepts terms before random update mid after e more (inr (inr (folder, rose))) = inr (inr (folder, more before.folder rose))

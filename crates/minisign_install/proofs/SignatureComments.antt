@@ -1,10 +1,18 @@
--- What a signature text reads as has comments, and a view of it tells them.
-use Rattle.std.proofs.Common.{◌≡◌, ◌∙◌, List, ℕ, Result, Ok, Err, Some, ap, refl, sym}
+-- What a signature text reads as has comments; and what is left where nothing is refused under a key.
+use Rattle.std.proofs.Common.{◌≡◌, ◌∙◌, List, ℕ, Bool, true, false, ◌||◌, bytes_eq, Result, Ok, Err, Some, ap, refl, subst, sym}
+use Rattle.std.specs.Prelude.{⊤}
+use Rattle.std.specs.Str.{is_utf8}
+use Rattle.minisign_base.specs.declared.faults.NamedFault.{NamedFault}
+use Rattle.minisign_base.specs.declared.faults.NamedFault.TheVariants.{NotUtf8}
 use Rattle.minisign_base.specs.Fault.{Fault}
-use Rattle.minisign.specs.InPlace.{SignatureViewRecord, view_of}
-use Rattle.minisign.specs.Records.{CommentsRecord, SignatureBoxRecord}
+use Rattle.minisign.specs.Records.{CommentsRecord, SignatureBoxRecord, is_prehashed}
 use Rattle.minisign.specs.SignatureText.{SignatureTextRecord, box_of, read_signature, read_signature_box}
-use Rattle.minisign.specs.Texts.{map_ok}
+use Rattle.minisign.specs.Texts.{map_ok, require}
+use Rattle.minisign_external.specs.PublicKeys.{key_of, read_utf8}
+use Rattle.minisign.specs.Acceptance.{judge_key}
+use Rattle.minisign.specs.Texts.{and_then}
+use Rattle.minisign_external.specs.Questions.{read_under}
+use Rattle.minisign_external.specs.declared.public_keys.PublicKeyValue.{PublicKeyValue}
 
 boxed : (r : Result SignatureTextRecord Fault) (x : SignatureBoxRecord) → map_ok box_of r ≡ Ok x → (c : CommentsRecord) × (x.comments ≡ Some c)
 boxed (Ok t) x h = let same : box_of t ≡ x = cc h in (t.comments, ap (λ (y : SignatureBoxRecord). y.comments) (sym same))
@@ -14,23 +22,51 @@ boxed (Err e) x h = cc h
 pub comments_in : (text : List ℕ) (x : SignatureBoxRecord) → read_signature_box text ≡ Ok x → (c : CommentsRecord) × (x.comments ≡ Some c)
 comments_in text x read = boxed (read_signature text) x read
 
--- of a text that reads as a box with these comments a view tells the trusted one
-pub viewed : (r : Result SignatureTextRecord Fault) (v : SignatureViewRecord) (x : SignatureBoxRecord) (c : CommentsRecord) → Ok v ≡ map_ok view_of r
-    → map_ok box_of r ≡ Ok x → x.comments ≡ Some c → v.trusted ≡ c.trusted
-viewed (Ok t) v x c seen read both =
-    let told : v ≡ view_of t = cc seen in
-    let same : box_of t ≡ x = cc read in
+same_trusted : (r : Result SignatureTextRecord Fault) (t : SignatureTextRecord) (x : SignatureBoxRecord) (c : CommentsRecord) → r ≡ Ok t
+    → map_ok box_of r ≡ Ok x → x.comments ≡ Some c → t.comments.trusted ≡ c.trusted
+same_trusted (Ok s) t x c is read both =
+    let told : s ≡ t = cc is in
+    let same : box_of s ≡ x = cc read in
     let comments = ap (λ (y : SignatureBoxRecord). y.comments) same ∙ both in
-    let of_text : t.comments ≡ c = cc comments in
-    ap (λ (w : SignatureViewRecord). w.trusted) told ∙ ap (λ (d : CommentsRecord). d.trusted) of_text
-viewed (Err e) v x c seen read both = cc seen
+    let of_text : s.comments ≡ c = cc comments in
+    ap (λ (u : SignatureTextRecord). u.comments.trusted) (sym told) ∙ ap (λ (d : CommentsRecord). d.trusted) of_text
+same_trusted (Err e) t x c is read both = cc is
 
-pub unviewed : (r : Result SignatureTextRecord Fault) (e : Fault) (x : SignatureBoxRecord) → Err e ≡ map_ok view_of r → map_ok box_of r ≡ Ok x → ⊥
-unviewed (Ok t) e x seen read = cc seen
-unviewed (Err f) e x seen read = cc read
+-- the trusted comment of what a text reads as is that of the box
+pub trusted_in : (text : List ℕ) (t : SignatureTextRecord) (x : SignatureBoxRecord) (c : CommentsRecord) → read_signature text ≡ Ok t
+    → read_signature_box text ≡ Ok x → x.comments ≡ Some c → t.comments.trusted ≡ c.trusted
+trusted_in text t x c is read both = same_trusted (read_signature text) t x c is read both
 
--- where a text gives a view, it reads as a box
-pub boxed_by_view : (r : Result SignatureTextRecord Fault) (v : SignatureViewRecord) → Ok v ≡ map_ok view_of r
-    → (x : SignatureBoxRecord) × (map_ok box_of r ≡ Ok x)
-boxed_by_view (Ok t) v seen = (box_of t, refl)
-boxed_by_view (Err e) v seen = cc seen
+-- == Reading under a key ==
+
+required : {V : Type 0} (b : Bool) (f : NamedFault) (r : Result V Fault) (v : V) → require b f r ≡ Ok v → (b ≡ true) × (r ≡ Ok v)
+required true f r v h = (refl, h)
+required false f r v h = cc h
+
+abbrev two_tests : Bool → Bool → NamedFault → NamedFault → Result ⊤ Fault
+two_tests a b f g = require a f (require b g (Ok tt))
+
+judged_of : (a b : Bool) (f g : NamedFault) (s t : SignatureTextRecord)
+    → and_then (two_tests a b f g) (λ _. Ok s) ≡ Ok t → (b ≡ true) × (s ≡ t)
+judged_of true true f g s t h = (refl, cc h)
+judged_of true false f g s t h = cc h
+judged_of false b f g s t h = cc h
+
+over_digest : (is : Bool) → (is || false) ≡ true → is ≡ true
+over_digest true h = refl
+over_digest false h = cc h
+
+opened_of : (r : Result SignatureTextRecord Fault) (v : PublicKeyValue) (t : SignatureTextRecord)
+    → and_then r (λ s. and_then (judge_key (key_of v) s.signature false) (λ _. Ok s)) ≡ Ok t → (r ≡ Ok t) × (is_prehashed t.signature ≡ true)
+opened_of (Ok s) v t h =
+    let (allowed, same) = judged_of (bytes_eq s.signature.keynum v.key_id) (is_prehashed s.signature || false) _ _ s t h in
+    (ap (λ x. Ok x) same, subst (λ (u : SignatureTextRecord). is_prehashed u.signature ≡ true) same (over_digest (is_prehashed s.signature) allowed))
+opened_of (Err e) v t h = cc h
+
+-- where nothing is refused under a key, and no signature over the data itself will do, the text reads so, and its signature
+-- is over the digest
+pub opened : (v : PublicKeyValue) (sig_text : List ℕ) (t : SignatureTextRecord) → read_under v false sig_text ≡ Ok t
+    → (read_signature sig_text ≡ Ok t) × (is_prehashed t.signature ≡ true)
+opened v sig_text t h =
+    let (read, over) = opened_of (read_utf8 read_signature sig_text) v t h in
+    ((required (is_utf8 sig_text) NotUtf8 (read_signature sig_text) t read).1, over)

@@ -8,17 +8,18 @@ use Rattle.minisign_base.specs.declared.faults.NamedFault.TheVariants.{OutOfMemo
 use Rattle.minisign.specs.Acceptance.{Verifier}
 use Rattle.minisign.specs.Calls.{TextsVouchWith}
 use Rattle.minisign.specs.Reading.{IsAhead}
+use Rattle.minisign.proofs.Laws.{refused_unvouched}
 use Rattle.minisign.specs.Records.{CommentsRecord, SignatureBoxRecord}
 use Rattle.minisign_install.specs.Comments.{IsNumberText, Says}
 use Rattle.minisign_install.specs.Folders.{HasLocked, IsFound, Run}
 use Rattle.minisign_install.specs.Installing.{HasInstalled, IsKeptNumber, Terms}
-use Rattle.minisign_install.specs.Refusals.{CanBeInstalled, CannotBeInstalled, Counts, HasFailed, InstallsExactly, IsCallFault, IsDataRefused, IsLibraryFault, IsLockedRefusal, IsRecordRefused, IsRefusal, IsRunFault}
+use Rattle.minisign_install.specs.Refusals.{CanBeInstalled, CannotBeInstalled, Counts, HasFailed, InstallsExactly, IsCallFault, IsDataRefused, IsLibraryFault, IsLockedRefusal, IsRecordRefused, IsRefusal}
 use Rattle.minisign_install.specs.RecordTexts.{IsNumberFor}
 use Rattle.minisign_install.specs.declared.comments.Numbering.{Numbering}
 use Rattle.minisign_install.specs.declared.faults.InstallFault.{InstallFault}
 use Rattle.minisign_install.specs.declared.faults.InstallFault.TheVariants.{Library}
 use Rattle.minisign_install.specs.declared.folders.Name.TheVariants.{Record}
-use Rattle.minisign_install.proofs.Counts.{not_failed, run_fault}
+use Rattle.minisign_install.proofs.Counts.{not_failed}
 use Rattle.minisign_install.proofs.Installs.{some_list}
 use Rattle.minisign_install.proofs.RecordTexts.{same_number}
 
@@ -57,7 +58,8 @@ said_once comment file numbering n k a b =
 module _ (accepts : Verifier) (terms : Terms) (first : Bool) where
   data_unfit : (found : Option (List ℕ)) (kept : ℕ) (message : List ℕ) (e : InstallFault) → IsKeptNumber terms.numbering first found kept → IsDataRefused accepts terms kept message e
       → ¬ (CanBeInstalled accepts terms first found message)
-  data_unfit found kept message e number (inl (fault, is, refused)) (least, n, held, update) = refused.unvouched update.vouched.vouched
+  data_unfit found kept message e number (inl (fault, is, refused)) (least, n, held, update) =
+      refused_unvouched accepts terms.pk_text terms.sig_text message false fault refused update.vouched.vouched
   data_unfit found kept message e number (inr (comment, vouched, why)) (least, n, held, update) =
       let same : update.comment ≡ comment = same_comment accepts terms.pk_text terms.sig_text message message update.comment comment update.vouched vouched in
       let says : Says comment terms.file terms.numbering n = subst (λ t. Says t terms.file terms.numbering n) same update.says in
@@ -72,18 +74,15 @@ module _ (accepts : Verifier) (terms : Terms) (first : Bool) where
   some_ahead None = ([], tt)
   some_ahead (Some xs) = (xs, refl)
 
-  memory_only : (before after : Counts) (e : InstallFault) (W : Type 0) → e ≢ Library (Named OutOfMemory) → ¬ (HasFailed before after) → IsLibraryFault (IsRunFault before after) e → W
+  memory_only : (before after : Counts) (e : InstallFault) (W : Type 0) → e ≢ Library (Named OutOfMemory) → ¬ (HasFailed before after) → IsLibraryFault (IsCallFault before after) e → W
   memory_only before after e W memory no_new_fault (fault, is, device) = absurd (memory (is ∙ ap (λ f. Library f) (not_failed before after fault no_new_fault device)))
-
-  call_memory : (before after : Counts) (e : InstallFault) (W : Type 0) → e ≢ Library (Named OutOfMemory) → ¬ (HasFailed before after) → IsLibraryFault (IsCallFault before after) e → W
-  call_memory before after e W memory no_new_fault (fault, is, call) = memory_only before after e W memory no_new_fault (fault, is, run_fault before after fault call)
 
   abbrev pub Verdict : Option (List ℕ) → Run → InstallFault → Type 0
   Verdict ahead locked e = (found : Option (List ℕ)) × IsFound locked.now Record found × ((message : List ℕ) × IsAhead ahead message × CannotBeInstalled accepts terms first found message e)
 
   locked_verdict : (ahead : Option (List ℕ)) (before after : Counts) (locked new : Run) (e : InstallFault) → e ≢ Library (Named OutOfMemory) → ¬ (HasFailed before after)
       → IsLockedRefusal accepts terms first ahead before after locked new e → Verdict ahead locked e
-  locked_verdict ahead before after locked new e memory no_new_fault (inl (none, device)) = call_memory before after e (Verdict ahead locked e) memory no_new_fault device
+  locked_verdict ahead before after locked new e memory no_new_fault (inl (none, device)) = memory_only before after e (Verdict ahead locked e) memory no_new_fault device
   locked_verdict ahead before after locked new e memory no_new_fault (inr (inl (cleared, none, (found, there, why)))) =
       let (message, given) = some_ahead ahead in
       (found, there, (message, given, record { reason = inl why; not_so = λ (kept, n, number, update). record_unfit terms.numbering first found kept e why number }))
@@ -97,7 +96,7 @@ module _ (accepts : Verifier) (terms : Terms) (first : Bool) where
   pub refused_exactly : (A : Type 0) (ahead : Option (List ℕ)) (before after : Counts) (old new : Run) (e : InstallFault) → IsRefusal accepts terms first ahead before after old new e
       → InstallsExactly {T = A} accepts terms first ahead before after old new (Err e)
   refused_exactly A ahead before after old new e (inl (busy, in_use)) = λ memory no_new_fault. inl (busy, in_use)
-  refused_exactly A ahead before after old new e (inr (inl (still, device))) = λ memory no_new_fault. call_memory before after e _ memory no_new_fault device
+  refused_exactly A ahead before after old new e (inr (inl (still, device))) = λ memory no_new_fault. memory_only before after e _ memory no_new_fault device
   refused_exactly A ahead before after old new e (inr (inr (locked, got, refusal))) = λ memory no_new_fault. inr (locked, got, locked_verdict ahead before after locked new e memory no_new_fault refusal)
 
   -- what is said of success and of refusals makes it exact

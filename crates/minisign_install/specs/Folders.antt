@@ -3,7 +3,6 @@
 -- system does from one moment to the next, and what other processes may do between two calls.
 use Rattle.std.specs.Prelude.{◌≡◌, ◌≢◌, ◌⊎◌, ℕ, ◌<◌, ◌≤◌, Bool, true, false, List, [], ◌∷◌, ◌++◌, length, take, drop, Option, Some, None, Result, IfOk, MatchResult, OnOk, OnErr}
 use Rattle.minisign_base.specs.Devices.{Rose}
-use Rattle.minisign_base.specs.declared.devices.DeviceFault.{DeviceFault}
 use Rattle.minisign_install.specs.declared.folders.Name.{Name}
 use Rattle.minisign_install.specs.declared.folders.Name.TheVariants.{Record}
 
@@ -265,12 +264,6 @@ pub record HasRenamed (name : List ℕ) (to : Name) (old new : Run) : Type 0 whe
 pub record HasRemoved {A E : Type 0} (name : List ℕ) (old new : Run) (answer : Result A E) : Type 0 where
   pub stepped : MatchResult answer (λ _. HasStepped old new (Removes name)) (λ _. HasStepped old new (Perhaps (Removes name)))
   pub own : OwnsLess name old new
-
--- the removal of a stage was tried, whatever came of it
-pub record HasTriedRemoving (name : List ℕ) (old new : Run) (faults faults_then : ℕ) : Type 0 where
-  pub answer : Result Unit DeviceFault
-  pub removed : Held old (HasRemoved name old new answer)
-  pub counted : HasCounted faults faults_then answer
 
 -- these are the bytes of a file from an offset on, at least one where there are any and there is room
 pub record HasReadAt {E : Type 0} (held : List ℕ) (at : ℕ) (buffer : List ℕ) (answer : Result ℕ E) : Type 0 where

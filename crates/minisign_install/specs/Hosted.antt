@@ -9,7 +9,9 @@ use Rattle.minisign.specs.Acceptance.{Verifier}
 use Rattle.minisign.specs.Records.{CommentsRecord, SignatureBoxRecord}
 use Rattle.minisign.specs.SignatureText.{read_signature_box}
 use Rattle.minisign_external.specs.Numbers.{IsAnswer, misuse_number}
-use Rattle.minisign_external.specs.States.{HasAsked, IsAskingRefusal, IsBlank, IsNotFed, verdict_misuse}
+use Rattle.minisign_external.specs.Questions.{IsKeyText}
+use Rattle.minisign_external.specs.States.{HasAsked, IsAskFedRefusal, IsBlank, IsMarkedTold, IsNotFed, verdict_misuse}
+use Rattle.minisign_external.specs.declared.public_keys.PublicKeyValue.{PublicKeyValue}
 use Rattle.minisign_external.specs.declared.state.Misuse.{Misuse}
 use Rattle.minisign_external.specs.declared.state.Misuse.TheVariants.{BadAnswer, BadNumbering, NotDue}
 use Rattle.minisign_external.specs.declared.state.Refusal.TheVariants as asking
@@ -230,24 +232,27 @@ abbrev pub IsTextJudged : ℕ → ℕ → Terms → ℕ → Type 0
 IsTextJudged judged n terms kept =
     (x : SignatureBoxRecord) (c : CommentsRecord) → read_signature_box terms.sig_text ≡ Ok x → x.comments ≡ Some c → IsJudged judged n terms kept c.trusted
 
--- The questions of the two texts were asked, where this number was kept, and the comment of the box that the second
--- one reads as was judged.
+-- The questions of the two texts were asked and the digest was told, where this number was kept, and the comment of the
+-- box that the second one reads as was judged.
 pub record IsAsking (i : Installation) (terms : Terms) (kept : ℕ) : Type 0 where
   pub due : IsDue i (Answer kept)
-  pub asked : HasAsked i.state terms.pk_text terms.sig_text false
+  pub key : PublicKeyValue
+  pub keyed : IsKeyText terms.pk_text key
+  pub asked : HasAsked i.state key terms.sig_text false
+  pub told : IsMarkedTold i.state
   pub judged : IsTextJudged i.comment i.update terms kept
 
 -- asking was refused: it is not due, or the state is used wrongly or has no room for the message, and nothing changes;
--- or the name of the file or a text is not UTF-8, or the texts are refused, whatever the data and the scheme: then the
--- stage is to be removed, for that
-abbrev pub IsAskRefusal : Installation → Installation → List ℕ → List ℕ → List ℕ → List ℕ → HostRefusal → Type 0
-IsAskRefusal old new pk_text sig_text file bytes (WrongUse m) =
+-- or the name of the file or the text of the signature is not UTF-8, or it is refused under the key: then the stage is to
+-- be removed, for that
+abbrev pub IsAskRefusal : Installation → Installation → PublicKeyValue → List ℕ → List ℕ → ℕ → HostRefusal → Type 0
+IsAskRefusal old new key sig_text file room (WrongUse m) =
     (new ≡ old) × (((m ≡ NotDue) × ((kept : ℕ) → ¬ (IsDue old (Answer kept))))
-    ⊎ IsAskingRefusal old.state pk_text sig_text false bytes (asking.WrongUse m))
-IsAskRefusal old new pk_text sig_text file bytes (Refused e) =
+    ⊎ IsAskFedRefusal old.state key sig_text false room (asking.WrongUse m))
+IsAskRefusal old new key sig_text file room (Refused e) =
     KeepsRest old new × (kept : ℕ) × IsDue old (Answer kept) × IsDue new (Remove (install_number e))
     × (fault : Fault) × (e ≡ Library fault)
-    × (((fault ≡ Named NotUtf8) × ¬ (IsUtf8 file)) ⊎ (IsUtf8 file × IsAskingRefusal old.state pk_text sig_text false bytes (asking.Refused fault)))
+    × (((fault ≡ Named NotUtf8) × ¬ (IsUtf8 file)) ⊎ (IsUtf8 file × IsAskFedRefusal old.state key sig_text false room (asking.Refused fault)))
 
 -- the number of a refusal
 abbrev pub host_number : HostRefusal → ℕ
@@ -280,8 +285,8 @@ IsCommentFault comment terms kept e =
 -- == The same by numbers ==
 
 -- asking was refused, by number
-abbrev pub IsAskNumber : Installation → Installation → List ℕ → List ℕ → List ℕ → List ℕ → ℕ → Type 0
-IsAskNumber old new pk_text sig_text file bytes n = (r : HostRefusal) × (n ≡ host_number r) × IsAskRefusal old new pk_text sig_text file bytes r
+abbrev pub IsAskNumber : Installation → Installation → PublicKeyValue → List ℕ → List ℕ → ℕ → ℕ → Type 0
+IsAskNumber old new key sig_text file room n = (r : HostRefusal) × (n ≡ host_number r) × IsAskRefusal old new key sig_text file room r
 
 -- what is read back is an update, and its rights are due; or it is none, and the stage is to be removed for the first
 -- reason, whose number this is

@@ -1,12 +1,13 @@
 -- A host in another language that does what include/minisign.h says: it makes the call that an installation says is due, as it
 -- is told there, and says how it went by the call that is there for it. Of each call of the header this cites what its clauses
 -- say where it is no wrong use.
-use Rattle.std.specs.Prelude.{◌≡◌, ◌==◌, ◌⊎◌, ◌++◌, ℕ, Bool, List, [], ◌∷◌, Option, false, take}
+use Rattle.std.specs.Prelude.{◌≡◌, ◌==◌, ◌⊎◌, ◌++◌, ℕ, Bool, List, [], ◌∷◌, Option, Ok, false, take}
 use Rattle.minisign_hash.specs.Blake2b.{blake2b_digest}
 use Rattle.minisign.specs.Acceptance.{Verifier}
-use Rattle.minisign.specs.Records.{CommentsRecord, PublicKeyRecord, SignatureBoxRecord}
-use Rattle.minisign_external.specs.Questions.{AnswersTexts, AreOpen}
+use Rattle.minisign.specs.SignatureText.{SignatureTextRecord}
+use Rattle.minisign_external.specs.Questions.{AnswersTexts, IsKeyText, read_under}
 use Rattle.minisign_external.specs.States.{AreQuestions, IsFedState}
+use Rattle.minisign_external.specs.declared.public_keys.PublicKeyValue.{PublicKeyValue}
 use Rattle.minisign_external.specs.declared.state.Questions.{Questions}
 use Rattle.minisign_install.specs.Folders.{Finds}
 use Rattle.minisign_install.specs.Hosted.{CallHasFailed, GivesUpdateNumber, HasGone, HasReadBack, HasReadRecord, IsAskRefusal, IsAsking, IsDue, failure, numbering_of, wanted_by}
@@ -62,16 +63,18 @@ pub record TellsPiece (s : Setting) (i i' : Installation) (h h' : Host) : Type 0
   pub more : h'.read ≡ h.read ++ piece
   pub end : piece ≡ [] → h.run.now.holds s.file ≡ h.read
 
--- minisign_install_ask, with the two texts and the name that are wanted; the signature scheme answered both questions; and
+-- minisign_install_ask, with the key that the wanted text reads as, and the text of the signature and the name that are wanted; the signature scheme answered both questions; and
 -- minisign_install_answer was told that, and answered this number
 pub record TellsAnswers (s : Setting) (i i' : Installation) (h h' : Host) : Type 0 where
   pub asked : Installation
   pub questions : Questions
   pub message : List ℕ
-  pub open_texts : (pk : PublicKeyRecord) × (x : SignatureBoxRecord) × (c : CommentsRecord)
-      × AreOpen s.terms.pk_text s.terms.sig_text false pk x c × AreQuestions questions message pk x c
+  pub key : PublicKeyValue
+  pub keyed : IsKeyText s.terms.pk_text key
+  pub signed : (t : SignatureTextRecord) × (read_under key false s.terms.sig_text ≡ Ok t) × AreQuestions questions message key t
   pub digest : (m : List ℕ) → IsFedState i.state m → questions.digest ≡ blake2b_digest 64 m
-  pub asking : (kept : ℕ) × IsDue i (Answer kept) × IsAsking asked (wanted_by s.terms.pk_text s.terms.sig_text s.terms.file (numbering_of i)) kept
+  pub asking : (kept : ℕ) × IsDue i (Answer kept)
+      × ((pk_text : List ℕ) → IsKeyText pk_text key → IsAsking asked (wanted_by pk_text s.terms.sig_text s.terms.file (numbering_of i)) kept)
   pub first : Bool
   pub second : Bool
   pub to_first : first ≡ s.accepts questions.digest questions.public_key questions.signature
@@ -83,11 +86,12 @@ pub record TellsAnswers (s : Setting) (i i' : Installation) (h h' : Host) : Type
   pub field : numbering_of i' ≡ numbering_of asked
   pub still : h'.run ≡ h.run
 
--- minisign_install_ask refused the name or the texts, and was no wrong use
+-- minisign_install_ask refused the name or the text of the signature, and was no wrong use
 pub record TellsRefusal (s : Setting) (i i' : Installation) (h h' : Host) : Type 0 where
-  pub bytes : List ℕ
+  pub key : PublicKeyValue
+  pub room : ℕ
   pub fault : InstallFault
-  pub refused : IsAskRefusal i i' s.terms.pk_text s.terms.sig_text s.terms.file bytes (Refused fault)
+  pub refused : IsAskRefusal i i' key s.terms.sig_text s.terms.file room (Refused fault)
   pub still : h'.run ≡ h.run
 
 -- the call that was due was made, and the installation was told how it went

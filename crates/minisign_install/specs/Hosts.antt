@@ -123,11 +123,8 @@ HasRun s due h (event ∷ more) due' h' = Makes s due event.outcome h event.host
 abbrev pub DeviceFails : InstallFault → Host → Host → Type 0
 DeviceFails e h h' = IsLibraryFault (IsCallFault h.faults h'.faults) e
 
--- only the folder failed
-abbrev pub FolderFails : Host → Host → Type 0
-FolderFails h h' = (h'.faults.random ≡ h.faults.random) × (h'.faults.update ≡ h.faults.update) × Rose h.faults.folder h'.faults.folder
-
--- The fault says why the call that was due failed: a device's, or what was found is refused.
+-- The fault says why the call that was due failed: a device's, or what was found is refused. A removal that fails is not
+-- counted.
 abbrev pub Blames : Setting → Due InstallFault → InstallFault → Host → Host → Type 0
 Blames s Lock e h h' = ((e ≡ PlaceInUse) × Known h.run (HasStepped h.run h'.run IsBusy)) ⊎ DeviceFails e h h'
 Blames s ReadRecord e h h' =
@@ -136,8 +133,8 @@ Blames s ReadRecord e h h' =
 Blames s (Answer kept) e h h' = IsDataRefused s.accepts s.terms kept h.read e ⊎ DeviceFails e h h'
 Blames s (Rename n) e h h' = (e ≡ Library (Named WritingFailed)) × Rose h.faults.folder h'.faults.folder
 Blames s (SettleName n) e h h' = (e ≡ FolderNotOnDisk) × Rose h.faults.folder h'.faults.folder
-Blames s (RemoveRecord first) e h h' = FolderFails h h'
-Blames s (Remove first) e h h' = FolderFails h h'
+Blames s (RemoveRecord first) e h h' = h'.faults ≡ h.faults
+Blames s (Remove first) e h h' = h'.faults ≡ h.faults
 Blames s due e h h' = DeviceFails e h h'
 
 -- devices count their faults, and what is said of a call that failed is why it did

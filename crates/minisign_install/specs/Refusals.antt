@@ -1,13 +1,13 @@
 -- Why an installation is refused, in the order of its steps, and what its run has brought to the place and to the
 -- record by then.
-use Rattle.std.specs.Prelude.{◌≡◌, ◌≢◌, ◌⊎◌, ℕ, ◌<◌, Bool, false, List, ◌∷◌, ◌++◌, Option, Some, None, IfErr, IsErrAnd, MatchResult}
+use Rattle.std.specs.Prelude.{◌≡◌, ◌≢◌, ◌⊎◌, ℕ, ◌<◌, Bool, false, List, ◌∷◌, ◌++◌, Option, Some, None, Err, IfErr, IsErrAnd, MatchResult}
 use Rattle.std.specs.declared.result.Result.{Result}
 use Rattle.minisign_base.specs.Devices.{Rose}
 use Rattle.minisign_base.specs.Fault.{Fault, Named}
 use Rattle.minisign_base.specs.declared.faults.NamedFault.TheVariants.{OutOfMemory, RandomSourceFailed, ReadingFailed, WritingFailed}
 use Rattle.minisign.specs.Acceptance.{Verifier}
 use Rattle.minisign.specs.Calls.{TextsVouchWith}
-use Rattle.minisign.specs.Headline.{TextsRefuse}
+use Rattle.minisign.specs.Headline.{verdict}
 use Rattle.minisign.specs.Reading.{IsAhead}
 use Rattle.minisign_install.specs.Comments.{Says, file_label, value_of}
 use Rattle.minisign_install.specs.Folders.{HasLocked, HasStepped, IsBusy, IsFound, IsStill, Run, Stands, RunStep}
@@ -20,7 +20,8 @@ use Rattle.minisign_install.specs.declared.faults.InstallFault.TheVariants.{Libr
 use Rattle.minisign_install.specs.declared.folders.Name.{Name}
 use Rattle.minisign_install.specs.declared.folders.Name.TheVariants.{Place, Record}
 
--- how many faults there were: of the random source, of the source of the data, and of the folder
+-- how many faults there were: of the random source, of the source of the data, and of the folder, whose removals of
+-- stages are not counted
 pub record Counts : Type 0 where
   pub random : ℕ
   pub update : ℕ
@@ -40,15 +41,9 @@ IsDeviceFault before after e =
     ⊎ ((e ≡ Named WritingFailed) × Rose before.folder after.folder)
     ⊎ ((e ≡ Named RandomSourceFailed) × Rose before.random after.random)
 
--- why one call failed: memory ran out, and no device failed; or the device that the fault speaks of
+-- why a call failed, or a run: memory ran out, and no device failed; or the device did that the fault speaks of
 abbrev pub IsCallFault : Counts → Counts → Fault → Type 0
 IsCallFault before after e = ((e ≡ Named OutOfMemory) × (after ≡ before)) ⊎ IsDeviceFault before after e
-
--- why a run failed that has made a stage: the same, but where memory ran out the folder may have failed behind that, in
--- removing the stage
-abbrev pub IsRunFault : Counts → Counts → Fault → Type 0
-IsRunFault before after e =
-    ((e ≡ Named OutOfMemory) × (after.random ≡ before.random) × (after.update ≡ before.update)) ⊎ IsDeviceFault before after e
 
 -- the device failed that a stage is read from; or memory ran out, and none failed
 abbrev pub IsReadingFault : ℕ → ℕ → Fault → Type 0
@@ -76,7 +71,7 @@ IsCommentRefused terms kept comment e =
 -- the texts do not vouch for this data, or they do and the comment that was signed with it is refused
 abbrev pub IsDataRefused : Verifier → Terms → ℕ → List ℕ → InstallFault → Type 0
 IsDataRefused accepts terms kept message e =
-    IsLibraryFault (TextsRefuse accepts terms.pk_text terms.sig_text message false) e
+    IsLibraryFault (λ f. verdict accepts terms.pk_text terms.sig_text message false ≡ Err f) e
     ⊎ ((comment : List ℕ) × TextsVouchWith accepts terms.pk_text terms.sig_text message false comment × IsCommentRefused terms kept comment e)
 
 -- with one of the run's calls since then the name led to a file of these bytes, on the disk
@@ -97,9 +92,9 @@ HasPlaced accepts terms kept old new = (bytes : List ℕ) × (n : ℕ) × IsUpda
 -- at the place, and a crash may still bring back what stood there.
 abbrev pub IsDataRefusal : Verifier → Terms → ℕ → Option (List ℕ) → Counts → Counts → Run → Run → InstallFault → Type 0
 IsDataRefusal accepts terms kept ahead before after old new e =
-    (BringsNothing old new × IsLibraryFault (IsRunFault before after) e)
+    (BringsNothing old new × IsLibraryFault (IsCallFault before after) e)
     ⊎ (BringsNothing old new × ((message : List ℕ) × IsAhead ahead message × IsDataRefused accepts terms kept message e))
-    ⊎ (BringsOnly (IsRecordBrought accepts terms kept) old new × IsLibraryFault (IsRunFault before after) e)
+    ⊎ (BringsOnly (IsRecordBrought accepts terms kept) old new × IsLibraryFault (IsCallFault before after) e)
     ⊎ (BringsOnly (IsBrought accepts terms kept) old new × (e ≡ Library (Named WritingFailed)) × Rose before.folder after.folder)
     ⊎ (BringsOnly (IsBrought accepts terms kept) old new × HasPlaced accepts terms kept old new × (e ≡ FolderNotOnDisk) × Rose before.folder after.folder)
 
@@ -153,7 +148,7 @@ InstallsExactly accepts terms first ahead before after old new answer =
 -- why some data is not installed
 abbrev pub IsDataCause : Verifier → Terms → Counts → Counts → InstallFault → Type 0
 IsDataCause accepts terms before after e =
-    IsLibraryFault (IsRunFault before after) e ⊎ ((message : List ℕ) × (kept : ℕ) × IsDataRefused accepts terms kept message e)
+    IsLibraryFault (IsCallFault before after) e ⊎ ((message : List ℕ) × (kept : ℕ) × IsDataRefused accepts terms kept message e)
     ⊎ ((e ≡ FolderNotOnDisk) × Rose before.folder after.folder)
 
 -- the record is refused, which it never is at the first installation

@@ -328,13 +328,13 @@ fn settle_names<F: Folder>(folder: &mut F, fault: InstallFault) -> Result<(), In
     }
 }
 
-// Removes the stage. Where it cannot be removed, it is left to `clear` of a later run.
+// Removes the stage. Where it cannot be removed, it is left to `clear` of a later run, and no fault is counted.
 fn remove<F: Folder>(folder: &mut F, stage: &Option<Stage<F::Handle>>) -> Result<(), InstallFault>
     ensures removed { IfSome stage.now (λ made. Held (F.run folder.old) (MatchResult result
         (λ _. Lets (drawn_bytes made.name) (Removes (drawn_bytes made.name)) (F.run folder.old) (F.run folder.new))
         (λ _. Lets (drawn_bytes made.name) (Perhaps (Removes (drawn_bytes made.name))) (F.run folder.old) (F.run folder.new)))) }
-    ensures refused { IfSome stage.now (λ _. IfErr result (λ e. (e ≡ Library (Named WritingFailed)) × Rose (F.folder_faults folder.old) (F.folder_faults folder.new))) }
-    ensures no_new_fault { OnOk result (F.folder_faults folder.new ≡ F.folder_faults folder.old) }
+    ensures refused { IfSome stage.now (λ _. IfErr result (λ e. e ≡ Library (Named WritingFailed))) }
+    ensures uncounted { F.folder_faults folder.new ≡ F.folder_faults folder.old }
 {
     match stage {
         Some(made) => match folder.remove(&made.name) {

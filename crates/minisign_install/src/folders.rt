@@ -35,7 +35,8 @@ pub trait Folder {
     // The run so far, which says whether it is known.
     ghost run: { Self → Run };
 
-    // How many faults there were, which each folder counts, also one whose run is not known.
+    // How many faults there were, which each folder counts, also one whose run is not known: those of all calls but
+    // `remove`. A removal that fails ends no run, and none is told of it.
     ghost folder_faults: { Self → ℕ };
 
     // Whether a call of `read_at` can fail at all.
@@ -112,10 +113,10 @@ pub trait Folder {
         ensures counted { HasCounted (folder_faults self.old) (folder_faults self.new) result };
 
     /// Removes a stage's name. Only who holds the lock may. Where that fails, the name is left to
-    /// `clear` of a later run.
+    /// `clear` of a later run, and no fault is counted.
     fn remove(&mut self, name: &StageName) -> Result<(), DeviceFault>
         ensures removed { Held (run self.old) (HasRemoved (drawn_bytes name.now) (run self.old) (run self.new) result) }
-        ensures counted { HasCounted (folder_faults self.old) (folder_faults self.new) result };
+        ensures uncounted { folder_faults self.new ≡ folder_faults self.old };
 
     /// What the record holds, where there is one.
     fn read_record(&mut self, alloc: Global) -> Result<Option<Vec<u8>>, DeviceFault>

@@ -1,19 +1,18 @@
 //! Asking a signature scheme about what a host has read back, and judging the signed comment. None of it takes memory.
 
-ghost use Rattle.std.specs.Prelude.{◌≡◌, ◌≤◌, ℕ, Bool, List, Some, false, OnOk, OnErr, Err, IfErr, IfOk, IfSome, MatchOption, MatchResult, [], true, Ok};
+ghost use Rattle.std.specs.Prelude.{◌≡◌, ◌≤◌, ℕ, Bool, List, false, OnOk, OnErr, IfErr, IfOk, MatchResult, [], true, Ok, length};
 ghost use Rattle.std.specs.Str.{IsUtf8};
 ghost use Rattle.minisign_hash.specs.Blake2b.{blake2b_digest};
-ghost use Rattle.minisign.specs.Records.{CommentsRecord, PublicKeyRecord, SignatureBoxRecord};
 ghost use Rattle.minisign.specs.Acceptance.{Verifier};
-ghost use Rattle.minisign.specs.SignatureText.{read_signature_box};
-ghost use Rattle.minisign_external.specs.Questions.{AnswersTexts, AreOpen};
-ghost use Rattle.minisign_external.specs.States.{AreQuestions, HasEnded, IsFedState, TellsIdentifiers};
+ghost use Rattle.minisign.specs.SignatureText.{SignatureTextRecord};
+ghost use Rattle.minisign_external.specs.Questions.{AnswersTexts, IsKeyText, read_under};
+ghost use Rattle.minisign_external.specs.States.{AreQuestions, HasEnded, IsFedState};
 ghost use Rattle.minisign_install.specs.Comments.{Says};
 ghost use Rattle.minisign_install.specs.HostNumbers.{install_number};
-ghost use Rattle.minisign_install.specs.Hosted.{GivesUpdate, IsAnswerRefusal, IsAskRefusal, IsAsking, IsCommentFault, IsJudged, IsTextJudged, KeepsRest, IsDue, numbering_of, wanted_by};
+ghost use Rattle.minisign_install.specs.Hosted.{GivesUpdate, IsAnswerRefusal, IsAskRefusal, IsAsking, IsCommentFault, IsJudged, KeepsRest, IsDue, numbering_of, wanted_by};
 ghost use Rattle.minisign_install.specs.Installing.{Terms};
 ghost use Rattle.minisign_install.specs.Refusals.{IsCommentRefused};
-ghost use Rattle.minisign_install.specs.declared.faults.InstallFault.TheVariants.{Library, OtherFile};
+ghost use Rattle.minisign_install.specs.declared.faults.InstallFault.TheVariants.{Library};
 ghost use Rattle.minisign_install.specs.declared.hosted.HostRefusal.TheVariants.{Refused};
 ghost use Rattle.minisign_install.specs.declared.order.Due.TheVariants.{Answer, Remove, TakeRights};
 
@@ -21,48 +20,44 @@ use crate::comments::{Numbering, check_comment};
 use crate::faults::InstallFault;
 use crate::hosted::{HostRefusal, Installation};
 use crate::order::Due;
-use minisign::read_signature;
 use minisign_base::NamedFault;
+use minisign_external::public_keys::PublicKeyValue;
 use minisign_external::state::{Misuse, Questions, Refusal};
 
 // What is kept of a signed comment that says that this is an update.
 const IS_UPDATE: u32 = 1;
 
 impl Installation {
-    /// Asks what the scheme has to answer before it is known whether the two texts vouch for what was
-    /// read back, as `State::ask` does, and judges the signed comment, which is told only behind the
+    /// Asks what the scheme has to answer before it is known whether the key and the text vouch for what was
+    /// read back, as `State::ask_fed` does, and judges the signed comment, which is told only behind the
     /// verdict. Signatures over the data itself are never taken.
     pub fn ask(
         &mut self,
-        pk_text: &[u8],
+        key: &PublicKeyValue,
         sig_text: &[u8],
         file: &[u8],
         questions: &mut Questions,
         message: &mut [u8],
     ) -> Result<(), HostRefusal>
-        // The questions are those of what the texts read as; the digest is that of everything that was read back.
-        ensures asked { OnOk result ((pk : PublicKeyRecord) × (x : SignatureBoxRecord) × (c : CommentsRecord)
-            × AreOpen pk_text.now sig_text.now false pk x c
-            × AreQuestions questions.new message.new pk x c) }
+        // The questions are those of the key and of what the text reads as; the digest is that of everything that was read
+        // back.
+        ensures asked { OnOk result ((t : SignatureTextRecord) × (read_under key.now false sig_text.now ≡ Ok t)
+            × AreQuestions questions.new message.new key.now t) }
         ensures digest { OnOk result ((m : List ℕ) → IsFedState self.old.state m → questions.new.digest ≡ blake2b_digest 64 m) }
 
-        // They are then asked, and the comment of the second text is judged, against the number that was kept; the
+        // They are then asked, and the comment that was asked about is judged, against the number that was kept; the
         // answers are due before and behind.
         ensures asking { OnOk result ((kept : ℕ) × IsDue self.old (Answer kept)
-            × IsAsking self.new (wanted_by pk_text.now sig_text.now file.now (numbering_of self.old)) kept) }
+            × ((pk_text : List ℕ) → IsKeyText pk_text key.now
+            → IsAsking self.new (wanted_by pk_text sig_text.now file.now (numbering_of self.old)) kept)) }
 
         // The field that the number stands in stays.
         ensures field { numbering_of self.new ≡ numbering_of self.old }
 
-        // Where the answers are due, and texts and name are UTF-8, both identifiers are told where both texts read.
-        ensures identifiers { (kept : ℕ) → IsDue self.old (Answer kept) → (m : List ℕ) → IsFedState self.old.state m
-            → IsUtf8 file.now → IsUtf8 pk_text.now → IsUtf8 sig_text.now
-            → TellsIdentifiers pk_text.now sig_text.now questions.new }
-
-        // The refusals come in one order: answers that are not due; a name that is not UTF-8; what `State::ask` refuses,
-        // in its order. A wrong use and a buffer without room change nothing. For any other the stage is to be removed,
-        // and the run is refused for that. The message buffer is as it was.
-        ensures refused { IfErr result (IsAskRefusal self.old self.new pk_text.now sig_text.now file.now message.old) }
+        // The refusals come in one order: answers that are not due; a name that is not UTF-8; what `State::ask_fed`
+        // refuses, in its order. A wrong use and a buffer without room change nothing. For any other the stage is to be
+        // removed, and the run is refused for that. The message buffer is as it was.
+        ensures refused { IfErr result (IsAskRefusal self.old self.new key.now sig_text.now file.now (length message.old)) }
         ensures kept { OnErr result (message.new ≡ message.old) }
     {
         if !self.is_answer_due() {
@@ -73,9 +68,9 @@ impl Installation {
             self.remove_for(&fault);
             return Err(HostRefusal::Refused(fault));
         };
-        match self.state.ask(pk_text, sig_text, false, questions, message) {
-            Ok(()) => {
-                self.keep_judgement(sig_text, file);
+        match self.state.ask_fed(key, sig_text, false, questions, message) {
+            Ok(comment) => {
+                self.keep_judgement(comment, file);
                 Ok(())
             }
             Err(Refusal::WrongUse(misuse)) => Err(HostRefusal::WrongUse(misuse)),
@@ -147,16 +142,16 @@ impl Installation {
         self.set(Due::Remove(fault.number()));
     }
 
-    // Keeps what comes of the comment that the text of the signature has.
-    fn keep_judgement(&mut self, sig_text: &[u8], file: &str)
-        ensures judged { (pk_text : List ℕ) (kept : ℕ) → IsDue self.old (Answer kept) → IsUtf8 sig_text.now
-            → IsTextJudged self.new.comment self.new.update (wanted_by pk_text sig_text.now file.now (numbering_of self.old)) kept }
+    // Keeps what comes of the comment that was asked about.
+    fn keep_judgement(&mut self, comment: &str, file: &str)
+        ensures judged { (pk_text sig_text : List ℕ) (kept : ℕ) → IsDue self.old (Answer kept)
+            → IsJudged self.new.comment self.new.update (wanted_by pk_text sig_text file.now (numbering_of self.old)) kept comment.now }
         ensures due { (kept : ℕ) → IsDue self.old (Answer kept) → IsDue self.new (Answer kept) }
         ensures state { self.new.state ≡ self.old.state }
         ensures numbering { self.new.numbering ≡ self.old.numbering }
     {
         let kept = self.kept();
-        match judge_text(sig_text, file, self.numbering(), kept) {
+        match check_comment(comment, file, self.numbering(), kept) {
             Ok(number) => {
                 self.comment = IS_UPDATE;
                 self.update = number;
@@ -185,42 +180,6 @@ impl Installation {
         let fault = comment_fault(self.comment);
         self.remove_for(&fault);
         Err(HostRefusal::Refused(fault))
-    }
-}
-
-// Judges the comment that the text of a signature has. A text that reads as no signature names no file.
-pub(crate) fn judge_text(
-    sig_text: &[u8],
-    file: &str,
-    numbering: Numbering,
-    kept: u64,
-) -> Result<u64, InstallFault>
-    ensures judged { IsUtf8 sig_text.now → (x : SignatureBoxRecord) (c : CommentsRecord) → read_signature_box sig_text.now ≡ Ok x → x.comments ≡ Some c
-        → (pk_text : List ℕ) → MatchResult result (λ n. Says c.trusted file.now numbering n × (kept ≤ n))
-        (IsCommentRefused (wanted_by pk_text sig_text.now file.now numbering) kept c.trusted) }
-    ensures unread { ((x : SignatureBoxRecord) → ¬ (read_signature_box sig_text.now ≡ Ok x)) → result ≡ Err OtherFile }
-{
-    match comment_of(sig_text) {
-        Some(comment) => match check_comment(comment, file, numbering, kept) {
-            Ok(number) => Ok(number),
-            Err(fault) => Err(fault),
-        },
-        None => Err(InstallFault::OtherFile),
-    }
-}
-
-// The trusted comment of the text of a signature, where it reads as one.
-fn comment_of(sig_text: &[u8]) -> Option<&str>
-    ensures comment { IsUtf8 sig_text.now → (x : SignatureBoxRecord) (c : CommentsRecord) → read_signature_box sig_text.now ≡ Ok x → x.comments ≡ Some c
-        → MatchOption result ⊥ (λ t. t.now ≡ c.trusted) }
-    ensures reads { IfSome result (λ _. (x : SignatureBoxRecord) × (read_signature_box sig_text.now ≡ Ok x)) }
-{
-    let Ok(text) = str::from_utf8(sig_text) else {
-        return None;
-    };
-    match read_signature(text) {
-        Ok(signature) => Some(signature.trusted_comment()),
-        Err(_refused) => None,
     }
 }
 

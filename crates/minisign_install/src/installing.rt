@@ -30,10 +30,11 @@ use std::alloc::Global;
 /// is kept for it counts all the same). While it has the lock the number that the record has for the
 /// field never falls. It copies the data into a new file and verifies what that file holds (the
 /// first failing case of `verify_texts`; legacy signatures are never taken). It tests the signed
-/// comment: `OtherFile`; `NoNumber`, below 2^64; `OlderUpdate`, where the number is below the kept
-/// one. The same number may be installed again. Then it gives the file the rights of the one at the
-/// place and brings it to the disk, keeps the number, on the disk, and last gives the file the
-/// place's name and brings the folder to the disk.
+/// comment: `OtherFile`, where it does not name the wanted file; `NoNumber`, where it has no number
+/// below 2^64 in the wanted field; `OlderUpdate`, where the number is below the kept one. The same
+/// number may be installed again. Then it gives the file the rights of the one at the place and
+/// brings it to the disk, keeps the number, on the disk, and last gives the file the place's name
+/// and brings the folder to the disk.
 ///
 /// A device that fails is `ReadingFailed`, `WritingFailed` or `RandomSourceFailed`, and memory
 /// may run out in copying, reading back and judging (a record that is read without memory is
@@ -78,8 +79,8 @@ pub fn install_update<S: Scheme, Z: RandomSource, R: Source, F: Folder>(
     // the lock held by another run; or a device's fault, where its count of faults rose, or the
     // record's, with nothing brought: the record was absent, or held no number for the field, when
     // the lock was got, and it is not the first installation (`IsLockedRefusal`, `IsDeviceFault`, `IsRecordRefused`).
-    // Or out of memory, where no count rose, but for the folder's, where the stage could not be
-    // removed behind that (`IsCallFault`, `IsRunFault`).
+    // Or out of memory, where no count rose (`IsCallFault`). A removal of a stage that fails behind
+    // a refusal is not counted.
     //
     // Or, with the number that the record held when the lock was got: the first failing case of the
     // texts over the data ahead, or what the vouched-for comment lacks, with nothing brought; a
@@ -104,15 +105,12 @@ pub fn install_update<S: Scheme, Z: RandomSource, R: Source, F: Folder>(
     ensures vouched { OnOk result (IsVouched (S.accepts scheme.now) (terms_of wanted.entry)) }
 
     // Why a fault may come: a device's only where its count of faults rose; out of memory only where
-    // neither the random source nor the source of the data has failed; the record is refused
-    // only where it is not the first installation, and all that is said of the data only where some
-    // data has it.
+    // no count rose; the record is refused only where it is not the first installation, and all that
+    // is said of the data only where some data has it.
     ensures causes { IfErr result (IsCause (S.accepts scheme.now) (terms_of wanted.entry) is_first (counts (Z.random_faults random.old) (R.faults update.old) (F.folder_faults folder.old)) (counts (Z.random_faults random.new) (R.faults update.new) (F.folder_faults folder.new))) }
 
     // Memory runs out only with the lock held, and before anything is brought to the place or to the
-    // record. A run that says so may have given up there, or have met a fault of the folder before it
-    // removed the stage: no clause of the whole run tells these apart, and that of each call does the
-    // latter.
+    // record. A run that says so may have given up there.
     ensures memory { IfErr result (λ e. e ≡ Library (Named OutOfMemory) → Known (F.run folder.old) (LocksAlone (F.run folder.old) (F.run folder.new))) }
 
     // On success no device failed.

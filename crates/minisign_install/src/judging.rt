@@ -4,22 +4,24 @@ ghost use Rattle.std.specs.Prelude.{◌≡◌, ◌⊎◌, ◌<◌, ◌≤◌, �
 ghost use Rattle.std.specs.Str.{IsUtf8};
 ghost use Rattle.minisign_base.specs.Fault.{Fault, Named};
 ghost use Rattle.minisign_base.specs.declared.faults.NamedFault.TheVariants.{OutOfMemory};
-ghost use Rattle.minisign.specs.Headline.{IsVerdict, TextsRefuse, TextsVouchFor};
+ghost use Rattle.minisign.specs.Calls.{TextsVouchWith};
+ghost use Rattle.minisign.specs.Headline.{verdict};
 ghost use Rattle.minisign_external.specs.States.{IsFedState};
 ghost use Rattle.minisign_external.specs.declared.state.Refusal.TheVariants.{Refused};
 ghost use Rattle.minisign_install.specs.Folders.{Known};
 ghost use Rattle.minisign_install.specs.Installing.{IsUpdate, terms_of};
 ghost use Rattle.minisign_install.specs.Refusals.{IsDataRefused, IsLibraryFault, IsReadingFault};
 
+use crate::comments::check_comment;
 use crate::faults::InstallFault;
 use crate::folders::{Folder, Handle};
-use crate::hosted_judging::judge_text;
 use crate::staging::{PIECE, zeros};
 use crate::wanted::Wanted;
 use minisign::PError;
 use minisign_base::NamedFault;
 use minisign_base::devices::DeviceFault;
 use minisign_base::scheme::Scheme;
+use minisign_external::public_keys::{PublicKeyValue, tell_public_key};
 use minisign_external::state::{Questions, Refusal, State};
 use std::alloc::Global;
 
@@ -81,27 +83,26 @@ pub(crate) fn judge<S: Scheme>(
         (λ e. IsLibraryFault (λ f. (f ≡ Named OutOfMemory) × (state.new ≡ state.old)) e ⊎ IsDataRefused (S.accepts scheme.now) (terms_of wanted.entry) kept m e) }
 {
     match vouch(alloc, scheme, wanted.pk_text, wanted.sig_text, state) {
-        Ok(()) => judge_text(
-            wanted.sig_text.as_bytes(),
-            wanted.file,
-            wanted.numbering,
-            kept,
-        ),
+        Ok(comment) => match check_comment(comment, wanted.file, wanted.numbering, kept) {
+            Ok(number) => Ok(number),
+            Err(fault) => Err(fault),
+        },
         Err(fault) => Err(InstallFault::Library(fault)),
     }
 }
 
-// Whether the two texts vouch for what the state was fed, not by a signature over the data itself.
-fn vouch<S: Scheme>(
+// Whether the two texts vouch for what the state was fed, not by a signature over the data itself: the comment that was
+// signed with it.
+fn vouch<'a, S: Scheme>(
     alloc: Global,
     scheme: &S,
     pk_text: &str,
-    sig_text: &str,
+    sig_text: &'a str,
     state: &mut State,
-) -> Result<(), PError>
+) -> Result<&'a str, PError>
     ensures { (m : List ℕ) → IsFedState state.old m
-        → MatchResult result (λ _. TextsVouchFor (S.accepts scheme.now) pk_text.now sig_text.now m false)
-        (λ e. ((e ≡ Named OutOfMemory) × (state.new ≡ state.old)) ⊎ TextsRefuse (S.accepts scheme.now) pk_text.now sig_text.now m false e) }
+        → MatchResult result (λ c. TextsVouchWith (S.accepts scheme.now) pk_text.now sig_text.now m false c.now)
+        (λ e. ((e ≡ Named OutOfMemory) × (state.new ≡ state.old)) ⊎ (verdict (S.accepts scheme.now) pk_text.now sig_text.now m false ≡ Err e)) }
 {
     let mut message = zeros(alloc, sig_text.len())?;
     decide(
@@ -113,24 +114,30 @@ fn vouch<S: Scheme>(
     )
 }
 
-// Asks the questions of the texts, has the scheme answer them, and gives the verdict. The message of
-// the second question is written to `message`.
-fn decide<S: Scheme>(
+// Reads the key, asks its questions, has the scheme answer them, and gives the verdict, with the comment that was signed.
+// The message of the second question is written to `message`.
+fn decide<'a, S: Scheme>(
     scheme: &S,
     pk_text: &[u8],
-    sig_text: &[u8],
+    sig_text: &'a [u8],
     state: &mut State,
     message: &mut [u8],
-) -> Result<(), PError>
+) -> Result<&'a str, PError>
     ensures { (m : List ℕ) → IsFedState state.old m → IsUtf8 pk_text.now → IsUtf8 sig_text.now → length sig_text.now ≤ length message.old
-        → IsVerdict (S.accepts scheme.now) pk_text.now sig_text.now m false result }
+        → MatchResult result (λ c. TextsVouchWith (S.accepts scheme.now) pk_text.now sig_text.now m false c.now)
+        (λ f. verdict (S.accepts scheme.now) pk_text.now sig_text.now m false ≡ Err f) }
 {
+    let mut key = PublicKeyValue {
+        key: [0; 32],
+        key_id: [0; 8],
+    };
+    tell_public_key(pk_text, &mut key)?;
     let mut questions = Questions::none();
-    match state.ask(pk_text, sig_text, false, &mut questions, message) {
-        Ok(()) => {
+    match state.ask_fed(&key, sig_text, false, &mut questions, message) {
+        Ok(comment) => {
             let (first, second) = answers(scheme, &questions, message);
             match state.verdict(first, second) {
-                Ok(()) => Ok(()),
+                Ok(()) => Ok(comment),
                 Err(refusal) => Err(fault_of(refusal)),
             }
         }

@@ -115,6 +115,16 @@ impl MemoryFolder {
         DeviceFault
     }
 
+    // Notes a removal that failed and changed nothing, which is not counted.
+    fn spare(&mut self) -> DeviceFault
+        ensures noted { past_of self.new ≡ rested 1 (past_of self.old) }
+        ensures no_new_fault { self.new.faults ≡ self.old.faults }
+        ensures own { self.new.owned ≡ self.old.owned }
+    {
+        self.stills.raise();
+        DeviceFault
+    }
+
     // The file of a stage.
     fn stage(&self, name: &StageName) -> Option<usize>
         ensures { result ≡ (past_of self.now).now.stages (drawn_bytes name.now) }
@@ -227,10 +237,10 @@ impl Folder for MemoryFolder {
         self.owned.let_go(name);
         match self.stage(name) {
             Some(_) => match name.as_bytes().to_vec(self.alloc) {
-                Ok(drawn) => self.note(Call::Removed(drawn)),
-                Err(_) => Err(self.fail()),
+                Ok(drawn) => note(&mut self.entries, &mut self.stills, Call::Removed(drawn)),
+                Err(_) => Err(self.spare()),
             },
-            None => Err(self.fail()),
+            None => Err(self.spare()),
         }
     }
 

@@ -701,8 +701,7 @@ impl Folder for FileFolder<'_> {
     }
 
     fn remove(&mut self, name: &StageName) -> Result<(), DeviceFault> {
-        let answer = self.remove_stage(name);
-        self.counted(answer)
+        self.remove_stage(name)
     }
 
     fn read_record(&mut self, alloc: Global) -> Result<Option<Vec<u8>>, DeviceFault> {

@@ -1,6 +1,6 @@
 //! How far a long work is, shown where the error stream is a terminal.
 
-use minisign::base::devices::sinks::{WriterSink, put_all};
+use minisign::base::devices::sinks::{WriterSink, write_all};
 use std::cell::Cell;
 use std::io::IsTerminal;
 
@@ -72,7 +72,7 @@ impl Progress {
             None => format!(in self.rt.alloc(); "{work} {done} MiB{end}"),
         };
         if let Ok(line) = line {
-            let _ = put_all(&mut WriterSink::new(self.rt.stderr()), line.as_bytes());
+            let _ = write_all(&mut WriterSink::new(self.rt.stderr()), line.as_bytes());
         }
     }
 }

@@ -8,7 +8,7 @@ use crate::files::FileFolder;
 use crate::inputs::Unread;
 use crate::requests::{Asked, Misuse};
 use crate::troubles::Trouble;
-use minisign::base::devices::sinks::{WriterSink, put_all};
+use minisign::base::devices::sinks::{WriterSink, write_all};
 use minisign::in_place::read_public_key;
 use minisign::{NamedFault, PError};
 use minisign_install::{InstallFault, Numbering};
@@ -78,8 +78,8 @@ fn show(rt: &HostRuntime, first: &str, second: &str) -> Ending
 {
     let mut output = WriterSink::new(rt.stdout());
     match (
-        put_all(&mut output, first.as_bytes()),
-        put_all(&mut output, second.as_bytes()),
+        write_all(&mut output, first.as_bytes()),
+        write_all(&mut output, second.as_bytes()),
     ) {
         (Ok(()), Ok(())) => Ending::Shown,
         _ => Ending::Failed,
@@ -255,7 +255,7 @@ impl Report {
     }
 
     fn say(&self, line: &str) {
-        let _ = put_all(&mut WriterSink::new(self.rt.stderr()), line.as_bytes());
+        let _ = write_all(&mut WriterSink::new(self.rt.stderr()), line.as_bytes());
     }
 }
 

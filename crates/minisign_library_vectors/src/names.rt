@@ -3,8 +3,8 @@
 //! is called, and gives the worked values.
 
 use minisign::minisign_base::{
-    Identifier, fill_from, get_password, load_u64_le, put_all, put_and_flush, put_line,
-    raw_scrypt_params, store_u64_le, unix_timestamp,
+    Identifier, fill_from, get_password, load_u64_le, put_and_flush, put_line, raw_scrypt_params,
+    store_u64_le, unix_timestamp, write_all,
 };
 use minisign::minisign_hash::{
     BLAKE2B_BLOCKBYTES, BLAKE2B_KEYBYTES, BLAKE2B_OUTBYTES, BLAKE2B_PERSONALBYTES,
@@ -232,7 +232,7 @@ fn is_asked(alloc: Global) -> Result<bool> {
     let mut prompt = Prompt::new(SliceSource::new(b"p\n"), VecSink::new(alloc));
     let password = get_password(alloc, &mut prompt, "Password: ")?;
     let (_, mut asked) = prompt.into_parts();
-    let put = put_all(&mut asked, b"a").is_ok() && put_and_flush(&mut asked, b"b").is_ok();
+    let put = write_all(&mut asked, b"a").is_ok() && put_and_flush(&mut asked, b"b").is_ok();
     put_line(alloc, &mut asked, b"c", b"d")?;
     Ok(put && password.as_str() == "p" && asked.as_slice() == b"Password: abcd\n".as_slice())
 }

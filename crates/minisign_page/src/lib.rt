@@ -1,21 +1,21 @@
 //! What the page that verifies a download calls, built for WebAssembly: the calls of `minisign_c` that verify, under their
-//! contracts and with their numbers. `page/page.js` calls them, and says what a caller owes. None of it takes memory.
+//! contracts and with their numbers. `bindings/javascript/calls.js` calls them, and says what a caller owes. None of it allocates.
 
 #![tactic(auto)]
 
-ghost use Rattle.std.specs.Prelude.{◌≡◌, ◌==◌, ◌<◌, ◌++◌, ℕ, Bool, List, [], length};
-ghost use Rattle.std.specs.Str.{IsUtf8};
+ghost use Rattle.std.specs.Prelude.{◌≡◌, ◌==◌, ◌<◌, ◌++◌, ℕ, Bool, List, [], Ok, false, length};
 ghost use Rattle.minisign_hash.specs.Blake2b.{blake2b_digest};
 ghost use Rattle.minisign.specs.PublicKeyText.{read_bare_public_key, read_public_key};
-ghost use Rattle.minisign.specs.Records.{PublicKeyRecord, SignatureBoxRecord, CommentsRecord};
+ghost use Rattle.minisign.specs.SignatureText.{SignatureTextRecord, read_signature};
 ghost use Rattle.minisign.specs.Acceptance.{Verifier};
-ghost use Rattle.minisign_external.specs.Questions.{AnswersTexts, AreOpen};
+ghost use Rattle.minisign_external.specs.Questions.{Answers, HoldsMessage, IsKeyText, read_under, verdict_under};
 ghost use Rattle.minisign_external.specs.Numbers.{IsAnswer, IsMeaning, WritesCut, answer_yes, misuse_number, refusal_number};
 ghost use Rattle.minisign_external.specs.PublicKeys.{read_utf8, told_key_number};
-ghost use Rattle.minisign_external.specs.States.{AreQuestions, GivesNumber, HasAsked, HasEnded, IsAskingNumber, IsFedState, IsMarkedFed, IsVerdictNumber, TellsIdentifiers, feeding_misuse};
+ghost use Rattle.minisign_external.specs.States.{GivesNumber, HasAsked, HasEnded, HasToldDigest, IsFedState, IsMarkedFed, IsMarkedTold, IsVerdictNumber, KeepsAsked, asking_number, feeding_misuse, is_asked, questions_of, verdict_number};
+ghost use Rattle.minisign_external.specs.declared.public_keys.PublicKeyValue.{PublicKeyValue};
 
 use minisign_external::numbers::{ANSWER_YES, is_answer, write_error_text};
-use minisign_external::public_keys::{tell_bare_public_key, tell_public_key};
+use minisign_external::public_keys::{PublicKeyValue, tell_bare_public_key, tell_public_key};
 use minisign_external::state::{Misuse, Questions, Refusal, State};
 use std::mem::forget;
 
@@ -50,83 +50,83 @@ pub extern "C" fn page_update(state: &mut State, piece: &[u8]) -> u32
     }
 }
 
-/// Reads the text of a public key, two lines: tells its 32 bytes and its identifier. Takes no
-/// memory.
+/// Tells the digest of the data that was fed. The state then takes no more.
 #[unsafe(no_mangle)]
-pub extern "C" fn page_read_public_key(
-    pk_text: &[u8],
-    public_key: &mut [u8; 32],
-    key_id: &mut [u8; 8],
-) -> u32
-    ensures { (result, public_key.new, key_id.new) ≡ told_key_number (read_utf8 read_public_key pk_text.now) public_key.old key_id.old }
+pub extern "C" fn page_digest(state: &mut State, digest: &mut [u8; 64]) -> u32
+    ensures digest { (m : List ℕ) → IsFedState state.old m
+        → (result ≡ 0) × (digest.new ≡ blake2b_digest 64 m) × HasToldDigest state.new m }
+    ensures asked { KeepsAsked state.old state.new }
+    ensures told { result ≡ 0 → IsMarkedFed state.old × IsMarkedTold state.new }
+    ensures refused { 0 < result → (result ≡ misuse_number (feeding_misuse state.old)) × (state.new ≡ state.old) × (digest.new ≡ digest.old) }
 {
-    match tell_public_key(pk_text, public_key, key_id) {
+    match state.digest(digest) {
+        Ok(()) => 0,
+        Err(misuse) => misuse.number(),
+    }
+}
+
+/// Reads the text of a public key, two lines. Does not allocate.
+#[unsafe(no_mangle)]
+pub extern "C" fn page_read_public_key(pk_text: &[u8], key: &mut PublicKeyValue) -> u32
+    ensures { (result, key.new) ≡ told_key_number (read_utf8 read_public_key pk_text.now) key.old }
+{
+    match tell_public_key(pk_text, key) {
         Ok(()) => 0,
         Err(fault) => number_of(Refusal::Refused(fault)),
     }
 }
 
-/// Reads the bare base64 of a public key, as updaters embed it: tells its 32 bytes and its
-/// identifier. Takes no memory.
+/// Reads the bare base64 of a public key, as updaters embed it. Does not allocate.
 #[unsafe(no_mangle)]
-pub extern "C" fn page_read_bare_public_key(
-    base64: &[u8],
-    public_key: &mut [u8; 32],
-    key_id: &mut [u8; 8],
-) -> u32
-    ensures { (result, public_key.new, key_id.new) ≡ told_key_number (read_utf8 read_bare_public_key base64.now) public_key.old key_id.old }
+pub extern "C" fn page_read_bare_public_key(base64: &[u8], key: &mut PublicKeyValue) -> u32
+    ensures { (result, key.new) ≡ told_key_number (read_utf8 read_bare_public_key base64.now) key.old }
 {
-    match tell_bare_public_key(base64, public_key, key_id) {
+    match tell_bare_public_key(base64, key) {
         Ok(()) => 0,
         Err(fault) => number_of(Refusal::Refused(fault)),
     }
 }
 
-/// Asks what Ed25519 has to answer before it is known whether the two texts vouch for the data.
-/// Takes no memory.
+/// Asks what Ed25519 has to answer before it is known whether the key and the text of the signature vouch for the data.
+/// Does not allocate.
 #[unsafe(no_mangle)]
 pub extern "C" fn page_ask(
     state: &mut State,
-    pk_text: &[u8],
+    key: &PublicKeyValue,
     sig_text: &[u8],
     allow_legacy: u32,
     questions: &mut Questions,
     message: &mut [u8],
 ) -> u32
-    // The questions of what the texts read as, about what the state was fed.
-    ensures asked { result ≡ 0 → (pk : PublicKeyRecord) × (x : SignatureBoxRecord) × (c : CommentsRecord)
-        × AreOpen pk_text.now sig_text.now (allow_legacy == 1) pk x c
-        × AreQuestions questions.new message.new pk x c }
-    ensures digest { result ≡ 0 → (m : List ℕ) → IsFedState state.old m → questions.new.digest ≡ blake2b_digest 64 m }
-    ensures asking { result ≡ 0 → HasAsked state.new pk_text.now sig_text.now (allow_legacy == 1) }
-
-    ensures begun { result ≡ 0 → IsMarkedFed state.old }
-    ensures number { result ≡ 0 → allow_legacy < 2 }
-
-    // The identifiers of texts that read, asked or refused.
-    ensures identifiers { allow_legacy < 2 → (m : List ℕ) → IsFedState state.old m → IsUtf8 pk_text.now → IsUtf8 sig_text.now
-        → TellsIdentifiers pk_text.now sig_text.now questions.new }
-
-    // Why they were not asked: first a number that is neither 0 nor 1.
-    ensures refused { 0 < result → IsAskingNumber state.old pk_text.now sig_text.now allow_legacy message.old result }
+    ensures number { result ≡ asking_number state.old key.now sig_text.now allow_legacy (length message.old) }
+    ensures asked { result ≡ 0 → (t : SignatureTextRecord) × (read_under key.now (allow_legacy == 1) sig_text.now ≡ Ok t)
+        × (questions.new ≡ questions_of key.now t) × HoldsMessage t.signature t.comments.trusted message.new questions.new.message_len }
+    ensures asking { result ≡ 0 → HasAsked state.new key.now sig_text.now (allow_legacy == 1) }
+    ensures fed { (m : List ℕ) → IsFedState state.old m → IsFedState state.new m }
     ensures kept { 0 < result → (state.new ≡ state.old) × (message.new ≡ message.old) }
+    ensures key_ids { allow_legacy < 2 → IsMarkedFed state.old → is_asked state.old ≡ false
+        → (t : SignatureTextRecord) → read_utf8 read_signature sig_text.now ≡ Ok t
+        → (questions.new.public_key_id ≡ key.now.key_id) × (questions.new.signature_key_id ≡ t.signature.keynum) }
 {
     if allow_legacy > 1 {
         return Misuse::BadLegacyFlag.number();
     }
-    match state.ask(pk_text, sig_text, allow_legacy == 1, questions, message) {
+    match state.ask(key, sig_text, allow_legacy == 1, questions, message) {
         Ok(()) => 0,
         Err(refusal) => number_of(refusal),
     }
 }
 
-/// The verdict from what Ed25519 answered to the two questions, `ANSWER_YES` or `ANSWER_NO`. It
-/// ends the state.
+/// The verdict from what Ed25519 answered to the two questions, `ANSWER_YES` or `ANSWER_NO`. It ends the state.
 #[unsafe(no_mangle)]
 pub extern "C" fn page_verdict(state: &mut State, first: u32, second: u32) -> u32
-    ensures verdict { (pk_text sig_text message : List ℕ) (legacy : Bool) (accepts : Verifier)
-        → HasAsked state.old pk_text sig_text legacy → IsAnswer first → IsAnswer second
-        → AnswersTexts accepts pk_text sig_text message (first == answer_yes) (second == answer_yes)
+    ensures verdict { (v : PublicKeyValue) (sig_text message : List ℕ) (legacy : Bool) (accepts : Verifier)
+        → HasAsked state.old v sig_text legacy → IsMarkedTold state.old → IsAnswer first → IsAnswer second
+        → Answers accepts v sig_text message (first == answer_yes) (second == answer_yes)
+        → result ≡ verdict_number (verdict_under accepts v sig_text message legacy) }
+    ensures texts { (v : PublicKeyValue) (pk_text sig_text message : List ℕ) (legacy : Bool) (accepts : Verifier)
+        → HasAsked state.old v sig_text legacy → IsMarkedTold state.old → IsKeyText pk_text v → IsAnswer first → IsAnswer second
+        → Answers accepts v sig_text message (first == answer_yes) (second == answer_yes)
         → GivesNumber accepts pk_text sig_text message legacy result }
     ensures ended { result ≡ 0 → HasEnded state.old state.new × IsAnswer first × IsAnswer second }
     ensures refused { 0 < result → IsVerdictNumber state.old state.new first second result }

@@ -6,8 +6,6 @@ ghost use Rattle.minisign_programs.specs.Rights.{KeepsRights, LosesGroup};
 pub const ALL_RIGHTS: u32 = 0o777;
 /// Those of the owner.
 pub const RIGHTS_OF_THE_OWNER: u32 = 0o700;
-/// Those of the group.
-pub const RIGHTS_OF_THE_GROUP: u32 = 0o070;
 /// Those of all others.
 pub const RIGHTS_OF_OTHERS: u32 = 0o007;
 

@@ -5,7 +5,7 @@ use Rattle.minisign.specs.DeviceCalls.{RereaderCall, SinkCall, unused}
 use Rattle.minisign.specs.Acceptance.{Verifier}
 use Rattle.minisign.specs.Records.{PublicKeyRecord, SignatureBoxRecord}
 use Rattle.minisign.specs.Verifying.{VerifyingFails}
-use Rattle.minisign.specs.VerifyingLaws.{fails_without_output}
+use Rattle.minisign.proofs.Laws.{fails_without_output}
 use Rattle.minisign.specs.VerifyingTexts.{VerifyingTextsFails}
 use Rattle.minisign_tool.specs.Verify.{VerifyFails, says_only}
 

@@ -8,7 +8,7 @@ ghost use Rattle.minisign.specs.Lines.{line};
 ghost use Rattle.minisign_tool.specs.Report.{TakesOrFails, ShowsFault, usage_line, warning_line};
 
 use minisign::base::devices::DeviceFault;
-use minisign::base::devices::sinks::{Sink, put_all};
+use minisign::base::devices::sinks::{Sink, write_all};
 use minisign::base::faults::TEXT_ROOM;
 use minisign::base::helpers::joined;
 use minisign::base::{PError, Result};
@@ -19,7 +19,7 @@ pub fn warn<W: Sink>(errors: &mut W)
     // The warning is written whole, or the error stream failed and took a beginning.
     ensures { TakesOrFails W.Sink errors.old errors.new warning_line }
 {
-    let _ = put_all(errors, b"warning: insecure toy scheme, for tests only\n");
+    let _ = write_all(errors, b"warning: insecure toy scheme, for tests only\n");
 }
 
 /// Shows the arguments that there are, and returns the exit status of arguments that are none of
@@ -31,7 +31,7 @@ pub fn usage<W: Sink>(errors: &mut W) -> u8
     ensures status { result ≡ 2 }
     ensures said { TakesOrFails W.Sink errors.old errors.new usage_line }
 {
-    let _ = put_all(
+    let _ = write_all(
         errors,
         b"usage: minisign_tool keygen PK SK | sign SK FILE SIG | verify PK FILE SIG | verify-raw PK SIG | cat PK FILE SIG\n",
     );
@@ -69,7 +69,7 @@ pub fn end<W: Sink>(errors: &mut W, answer: Result<u8>) -> u8
     }
 }
 
-// Puts the line of a fault with this text: in one call of `put_all` where the text takes at most
+// Puts the line of a fault with this text: in one call of `write_all` where the text takes at most
 // 504 bytes, as that of every named fault does, and otherwise in three.
 fn put_fault<W: Sink>(errors: &mut W, text: &[u8]) -> std::result::Result<(), DeviceFault>
     ensures bytes { OnOk result (Appends (W.taken errors.old) (W.taken errors.new) (codes "error: " ++ line text.now)) }
@@ -79,10 +79,10 @@ fn put_fault<W: Sink>(errors: &mut W, text: &[u8]) -> std::result::Result<(), De
 {
     let mut room = [0; 512];
     if text.len() <= 504 {
-        put_all(errors, joined(&mut room, b"error: ", text, b"\n", b""))
+        write_all(errors, joined(&mut room, b"error: ", text, b"\n", b""))
     } else {
-        put_all(errors, b"error: ")?;
-        put_all(errors, text)?;
-        put_all(errors, b"\n")
+        write_all(errors, b"error: ")?;
+        write_all(errors, text)?;
+        write_all(errors, b"\n")
     }
 }

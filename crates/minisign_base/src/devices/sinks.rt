@@ -162,7 +162,7 @@ impl<W: Write> Sink for WriterSink<W> {
     }
 }
 
-/// Writes a label, a text and a line feed in one call of `put_all`, so that programs that run side
+/// Writes a label, a text and a line feed in one call of `write_all`, so that programs that run side
 /// by side do not mix their lines: a sink that takes all that it is given gets one write.
 ///
 /// Memory is wanted for the line. Where it runs out, that is `out_of_memory`, and the sink is as it
@@ -185,7 +185,7 @@ pub fn put_line<S: Sink>(
     ensures unflushed { S.flushed sink.new ≡ S.flushed sink.old }
 {
     let line = line_of(alloc, label, text)?;
-    match put_all(sink, &line) {
+    match write_all(sink, &line) {
         Ok(()) => Ok(()),
         Err(_) => Err(NamedFault::WritingFailed.into()),
     }
@@ -204,7 +204,7 @@ pub fn put_and_flush<S: Sink>(sink: &mut S, bytes: &[u8]) -> Result<(), DeviceFa
     ensures refused { OnErr result (Rose (S.sink_faults sink.old) (S.sink_faults sink.new)) }
     ensures front { OnErr result (AppendsFront (S.taken sink.old) (S.taken sink.new) bytes.now) }
 {
-    put_all(sink, bytes)?;
+    write_all(sink, bytes)?;
     match sink.flush() {
         Ok(()) => Ok(()),
         Err(fault) => Err(fault),
@@ -212,7 +212,7 @@ pub fn put_and_flush<S: Sink>(sink: &mut S, bytes: &[u8]) -> Result<(), DeviceFa
 }
 
 /// Writes all of `bytes`, and flushes nothing. After a fault the sink took a beginning of them.
-pub fn put_all<S: Sink>(sink: &mut S, bytes: &[u8]) -> Result<(), DeviceFault>
+pub fn write_all<S: Sink>(sink: &mut S, bytes: &[u8]) -> Result<(), DeviceFault>
     // The whole of a text is written; or a beginning of it, with a fault of the sink.
     ensures bytes { OnOk result (Appends (S.taken sink.old) (S.taken sink.new) bytes.now) }
 

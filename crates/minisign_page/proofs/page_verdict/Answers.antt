@@ -1,10 +1,11 @@
-use Rattle.std.proofs.Common.{◌≡◌, ◌==◌, ◌<◌, if◌then◌else◌, ℕ, List, Bool, true, false, inr, lit<, subst, sym}
+use Rattle.std.proofs.Common.{◌≡◌, ◌∙◌, ◌==◌, ◌<◌, if◌then◌else◌, ℕ, List, Bool, Result, Ok, Err, true, false, ap, inl, inr, lit<, refl, subst, sym}
 use Rattle.minisign_base.specs.Fault.{Fault, Named}
 use Rattle.minisign_base.specs.declared.faults.NamedFault.TheVariants.{CommentSignatureRefused, SignatureRefused}
 use Rattle.minisign.specs.Acceptance.{Verifier}
-use Rattle.minisign.specs.Headline.{TextsRefuse}
+use Rattle.minisign.specs.Headline.{verdict}
 use Rattle.minisign_external.specs.Numbers.{answer_yes, fault_number, refusal_number}
-use Rattle.minisign_external.specs.States.{GivesNumber, IsFaultOf, IsVerdictRefusal}
+use Rattle.minisign_external.specs.Questions.{verdict_under}
+use Rattle.minisign_external.specs.States.{GivesNumber, IsFaultOf, IsVerdictRefusal, given_verdict, verdict_number}
 use Rattle.minisign_external.specs.declared.state.Refusal.{Refusal}
 use Rattle.minisign_external.specs.declared.state.Refusal.TheVariants.{Refused, WrongUse}
 use Rattle.minisign_external.specs.declared.state.State.{State}
@@ -16,12 +17,33 @@ positive false e is = subst (λ x. 0 < fault_number x) (sym is) (lit< tt)
 
 -- a verdict that is no success has the number of its fault
 given_number : (accepts : Verifier) (pk_text sig_text message : List ℕ) (legacy first : Bool) (old new : State) (r : Refusal) (n : ℕ) → n ≡ refusal_number r
-    → IsFaultOf (TextsRefuse accepts pk_text sig_text message legacy) r → IsVerdictRefusal old new first r → GivesNumber accepts pk_text sig_text message legacy n
+    → IsFaultOf (λ f. verdict accepts pk_text sig_text message legacy ≡ Err f) r → IsVerdictRefusal old new first r → GivesNumber accepts pk_text sig_text message legacy n
 given_number accepts pk_text sig_text message legacy first old new (WrongUse m) n is refuses refused = absurd refuses
 given_number accepts pk_text sig_text message legacy first old new (Refused e) n is refuses refused =
     inr (subst (λ k. 0 < k) (sym is) (positive first e refused.1), e, is, refuses)
 
+-- the number of a verdict
+refused_number : (v : Result (List ℕ) Fault) (r : Refusal) → Err r ≡ given_verdict v → refusal_number r ≡ verdict_number v
+refused_number (Ok t) r h = cc h
+refused_number (Err e) r h = let same : r ≡ Refused e = cc h in ap refusal_number same
+
+success_number : (v : Result (List ℕ) Fault) → Ok tt ≡ given_verdict v → 0 ≡ verdict_number v
+success_number (Ok t) h = refl
+success_number (Err e) h = cc h
+
+pub returns-in-Ok-clause-verdict : goal.returns-in-Ok-clause-verdict
+returns-in-Ok-clause-verdict c = λ v sig_text message legacy accepts has told one two answers.
+    success_number (verdict_under accepts v sig_text message legacy) (c.in-Ok.ensures.verdict v sig_text message legacy accepts has told answers)
+
 pub returns-in-Err-clause-verdict : goal.returns-in-Err-clause-verdict
-returns-in-Err-clause-verdict c = λ pk_text sig_text message legacy accepts has one two answers.
+returns-in-Err-clause-verdict c = λ v sig_text message legacy accepts has told one two answers.
+    c.number_of.ensures ∙ refused_number (verdict_under accepts v sig_text message legacy) c.in-Err.refusal (c.in-Err.ensures.verdict v sig_text message legacy accepts has told answers)
+
+pub returns-in-Err-clause-texts : goal.returns-in-Err-clause-texts
+returns-in-Err-clause-texts c = λ v pk_text sig_text message legacy accepts has told keyed one two answers.
     given_number accepts pk_text sig_text message legacy (c.args.first == answer_yes) c.args.state.now c.verdict.new.self c.in-Err.refusal _ c.number_of.ensures
-    (c.in-Err.ensures.verdict pk_text sig_text message legacy accepts has answers) c.in-Err.ensures.refused
+    (c.in-Err.ensures.texts v pk_text sig_text message legacy accepts has told keyed answers) c.in-Err.ensures.refused
+
+pub returns-in-Ok-clause-texts : goal.returns-in-Ok-clause-texts
+returns-in-Ok-clause-texts c = λ v pk_text sig_text message legacy accepts has told keyed one two answers.
+    inl (refl, c.in-Ok.ensures.texts v pk_text sig_text message legacy accepts has told keyed answers)

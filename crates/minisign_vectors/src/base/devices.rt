@@ -3,7 +3,7 @@
 use super::reading::Call::{FailsToRead, GoesBack, Marks, Reads};
 use super::reading::follows;
 use minisign_base::devices::random_sources::{FixedRandom, RandomSource, SourceRandom};
-use minisign_base::devices::sinks::{Sink, VecSink, WriterSink, put_all};
+use minisign_base::devices::sinks::{Sink, VecSink, WriterSink, write_all};
 use minisign_base::devices::sources::{ReaderSource, SliceSource};
 use std::io;
 use std::io::{Read, Write};
@@ -80,7 +80,7 @@ fn readers_go_on_behind_a_fault(rt: HostRuntime) {
 // Whether the sink takes each of the parts, and is flushed.
 fn takes<S: Sink>(sink: &mut S, parts: &[&[u8]]) -> bool {
     for part in parts {
-        if put_all(sink, part).is_err() {
+        if write_all(sink, part).is_err() {
             return false;
         }
     }
@@ -106,7 +106,7 @@ fn writers_take_all_that_is_put(rt: HostRuntime) -> Result<(), Fail> {
 #[test]
 fn a_writer_that_takes_nothing_is_a_fault(rt: HostRuntime) {
     let mut nothing = WriterSink::new(TakesNothing);
-    assert!(rt; put_all(&mut nothing, b"a").is_err());
+    assert!(rt; write_all(&mut nothing, b"a").is_err());
     assert!(rt; nothing.write(b"") == Ok(0));
     assert!(rt; nothing.flush().is_err());
 }

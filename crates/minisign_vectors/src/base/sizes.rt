@@ -1,7 +1,7 @@
 //! Every adapter over every byte, and over sizes around each power of two up to 2^17, with ample
 //! memory.
 
-use minisign_base::devices::sinks::{Sink, VecSink, WriterSink, put_all, put_line};
+use minisign_base::devices::sinks::{Sink, VecSink, WriterSink, put_line, write_all};
 use minisign_base::devices::sources::{FileSource, ReaderSource, Rereader, SliceSource, Source};
 use minisign_fixtures::outcomes::front;
 use std::alloc::{AllocError, Global};
@@ -21,7 +21,7 @@ fn bytes(alloc: Global, size: usize) -> Result<Vec<u8>, AllocError> {
 
 // Whether the sink takes these bytes.
 fn takes<S: Sink>(sink: &mut S, data: &[u8]) -> bool {
-    put_all(sink, data).is_ok()
+    write_all(sink, data).is_ok()
 }
 
 // Whether a sink over a vector takes these bytes, and holds them.

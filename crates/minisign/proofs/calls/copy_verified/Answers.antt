@@ -1,12 +1,10 @@
-use Rattle.std.proofs.Common.{arith, string_bytes, false}
-use Rattle.minisign.proofs.Commented.{comment_verdict, copied_with, copy_refused}
+use Rattle.std.proofs.Common.{arith, string_bytes}
+use Rattle.minisign.proofs.Commented.{copied_with, copy_refused}
 use Rattle.minisign.proofs.calls.copy_verified.Goals as goal
 
 pub returns-clause-headline : goal.returns-clause-headline
-returns-clause-headline g c = λ message told no_new_fault out_no_new_fault steady.
-    comment_verdict string_bytes (g.S.Scheme.accepts c.args.scheme.now) c.args.pk_text.now c.args.sig_text.now message false c.verify_with.result
-    (λ memory. c.verify_with.ensures.headline message told memory no_new_fault (λ rose. omega (arith, rose)) out_no_new_fault (λ wanted. steady))
-    c.verify_with.ensures.comment
+returns-clause-headline g c = λ message told no_new_fault status_no_new_fault out_no_new_fault again.
+    c.verify_with.ensures.headline message told no_new_fault (λ rose. omega (arith, rose)) out_no_new_fault again
 
 pub returns-clause-copied : goal.returns-clause-copied
 returns-clause-copied g c =

@@ -1,14 +1,10 @@
-use Rattle.std.proofs.Common.{arith, string_bytes, false, sym}
-use Rattle.std.proofs.lemmas.Bool.{true≢false}
-use Rattle.minisign.proofs.Commented.{ahead_refused, ahead_vouched, comment_verdict, reader_refused}
+use Rattle.std.proofs.Common.{arith, string_bytes}
+use Rattle.minisign.proofs.Commented.{ahead_refused, ahead_vouched, reader_refused}
 use Rattle.minisign.proofs.calls.verify_reader.Goals as goal
 
 pub returns-clause-headline : goal.returns-clause-headline
-returns-clause-headline g c = λ message told no_new_fault.
-    comment_verdict string_bytes (g.S.Scheme.accepts c.args.scheme.now) c.args.pk_text.now c.args.sig_text.now message false c.verify_with.result
-    (λ memory. c.verify_with.ensures.headline message told memory no_new_fault (λ rose. omega (arith, rose)) (λ rose. omega (arith, rose))
-    (λ wanted. absurd (true≢false (sym wanted))))
-    c.verify_with.ensures.comment
+returns-clause-headline g c = λ message told no_new_fault status_no_new_fault out_no_new_fault again.
+    c.verify_with.ensures.headline message told no_new_fault (λ rose. omega (arith, rose)) (λ rose. omega (arith, rose)) again
 
 pub returns-clause-vouched : goal.returns-clause-vouched
 returns-clause-vouched g c =

@@ -3,7 +3,7 @@ use Rattle.std.proofs.lemmas.Result.{IfErr-weaker}
 use Rattle.minisign_base.specs.DeviceCalls.{prompt_call}
 use Rattle.minisign_base.specs.PromptLaws.{second_ended, stopped_first}
 use Rattle.minisign.proofs.Beginnings.{passed_up}
-use Rattle.minisign.specs.NewPassword.{choosing, sealing}
+use Rattle.minisign.specs.NewPassword.{choosing_steps, sealing_steps}
 use Rattle.minisign.proofs.keypair.ask_and_seal.Goals as goal
 
 -- what holds of an answer, with a fact about the prompt
@@ -18,7 +18,7 @@ returns-in_err-password-clause-refused g c =
       first,
       second,
       tt,
-      stopped_first (prompt_call g.R.Source g.W.Sink c.args.prompt.now c.choose_password.new.prompt) (choosing first second) sealing _ stopped,
+      stopped_first (prompt_call g.R.Source g.W.Sink c.args.prompt.now c.choose_password.new.prompt) (choosing_steps first second) sealing_steps _ stopped,
     )
 
 pub returns-clause-typed : goal.returns-clause-typed
@@ -27,7 +27,7 @@ returns-clause-typed g c =
     let p = prompt_call g.R.Source g.W.Sink c.args.prompt.now c.seal_aloud.new.prompt in
     told_of c.seal_aloud.result _ _ _ (λ pair told sealed. (
       string_bytes c.in_ok-password.password,
-      (first, second, (typed, again), second_ended p c.choose_password.new.prompt (choosing first second) sealing (Ok tt) chosen told),
+      (first, second, (typed, again), second_ended p c.choose_password.new.prompt (choosing_steps first second) sealing_steps (Ok tt) chosen told),
       rw (c.as_bytes.ensures.value) at sealed,
     )) c.seal_aloud.ensures.told c.seal_aloud.ensures.sealed
 
@@ -35,5 +35,5 @@ pub returns-clause-refused : goal.returns-clause-refused
 returns-clause-refused g c =
     let (first, second, typed, again, chosen) = c.in_ok-password.ensures.chosen in
     let p = prompt_call g.R.Source g.W.Sink c.args.prompt.now c.seal_aloud.new.prompt in
-    IfErr-weaker c.seal_aloud.result _ _ (λ e stopped. (first, second, tt, second_ended p c.choose_password.new.prompt (choosing first second) sealing (Err e) chosen stopped))
+    IfErr-weaker c.seal_aloud.result _ _ (λ e stopped. (first, second, tt, second_ended p c.choose_password.new.prompt (choosing_steps first second) sealing_steps (Err e) chosen stopped))
     c.seal_aloud.ensures.refused

@@ -2,8 +2,8 @@ use Rattle.std.proofs.Common.{Ok, Err, Bool, true, false, not, ◌≡◌, ◌∷
 use Rattle.std.proofs.lemmas.Slice.Eq.{bytes_eq-Decides}
 use Rattle.minisign_base.specs.DeviceCalls.{prompt_call}
 use Rattle.minisign_base.specs.PromptLaws.{second_ended, stopped_first, typed_is}
-use Rattle.minisign_base.specs.Prompts.{Test, asking}
-use Rattle.minisign_base.specs.Passwords.{typed}
+use Rattle.minisign_base.specs.Prompts.{Test, asking_steps}
+use Rattle.minisign_base.specs.Passwords.{typed_password}
 use Rattle.minisign.proofs.Beginnings.{passed_up}
 use Rattle.minisign.specs.NewPassword.{difference}
 use Rattle.minisign.specs.PromptTexts.{asking_text, purpose_line, second_question}
@@ -25,7 +25,7 @@ returns-in_err-password-clause-refused g c =
       inr (
         c.say.new.self,
         c.in_ok-say.ensures.ended,
-        stopped_first p (asking asking_text first) (asking second_question [] ++ Test (difference (typed first) (typed [])) ∷ []) _ stopped,
+        stopped_first p (asking_steps asking_text first) (asking_steps second_question [] ++ Test (difference (typed_password first) (typed_password [])) ∷ []) _ stopped,
       ),
     )
 
@@ -36,15 +36,15 @@ returns-in_err-again-clause-refused g c =
     let (second, stopped) = c.in_err-again.ensures.refused in
     let both = prompt_call g.R.Source g.W.Sink c.say.new.self c.get_password-2.new.prompt in
     let p = prompt_call g.R.Source g.W.Sink c.get_password.new.prompt c.get_password-2.new.prompt in
-    let test = Test (difference (typed first) (typed second)) ∷ [] in
+    let test = Test (difference (typed_password first) (typed_password second)) ∷ [] in
     passed_up c.from_residual-in_err-again.result c.in_err-again.field-0.0 _ c.from_residual-in_err-again.ensures.1 (
       first,
       second,
       inr (
         c.say.new.self,
         c.in_ok-say.ensures.ended,
-        second_ended both c.get_password.new.prompt (asking asking_text first) (asking second_question second ++ test) (Err _) asked
-            (stopped_first p (asking second_question second) test _ stopped),
+        second_ended both c.get_password.new.prompt (asking_steps asking_text first) (asking_steps second_question second ++ test) (Err _) asked
+            (stopped_first p (asking_steps second_question second) test _ stopped),
       ),
     )
 
@@ -56,14 +56,14 @@ returns-then-ne-clause-refused g c =
     let end = c.get_password-2.new.prompt in
     let both = prompt_call g.R.Source g.W.Sink c.say.new.self end in
     let p = prompt_call g.R.Source g.W.Sink c.get_password.new.prompt end in
-    let test = Test (difference (typed first) (typed second)) ∷ [] in (
+    let test = Test (difference (typed_password first) (typed_password second)) ∷ [] in (
       first,
       second,
       inr (
         c.say.new.self,
         c.in_ok-say.ensures.ended,
-        second_ended both c.get_password.new.prompt (asking asking_text first) (asking second_question second ++ test) (Err _) asked
-            (second_ended p end (asking second_question second) test (Err _) asked_again
+        second_ended both c.get_password.new.prompt (asking_steps asking_text first) (asking_steps second_question second ++ test) (Err _) asked
+            (second_ended p end (asking_steps second_question second) test (Err _) asked_again
             (inl (two_differ first second _ _ _ (typed_is first _ answered) (typed_is second _ answered_again) c.if-ne.ensures c.into.ensures, refl))),
       ),
     )
@@ -77,7 +77,7 @@ returns-clause-chosen g c =
     let end = c.get_password-2.new.prompt in
     let both = prompt_call g.R.Source g.W.Sink c.say.new.self end in
     let p = prompt_call g.R.Source g.W.Sink c.get_password.new.prompt end in
-    let test = Test (difference (typed first) (typed second)) ∷ [] in (
+    let test = Test (difference (typed_password first) (typed_password second)) ∷ [] in (
       first,
       second,
       answered,
@@ -85,8 +85,8 @@ returns-clause-chosen g c =
       (
         c.say.new.self,
         c.in_ok-say.ensures.ended,
-        second_ended both c.get_password.new.prompt (asking asking_text first) (asking second_question second ++ test) (Ok tt) asked
-            (second_ended p end (asking second_question second) test (Ok tt) asked_again
+        second_ended both c.get_password.new.prompt (asking_steps asking_text first) (asking_steps second_question second ++ test) (Ok tt) asked
+            (second_ended p end (asking_steps second_question second) test (Ok tt) asked_again
             (end, (two_agree first second _ _ (typed_is first _ answered) (typed_is second _ answered_again) c.if-ne.ensures, refl), refl)),
       ),
     )

@@ -3,14 +3,7 @@ use Rattle.std.specs.Option.{option_map}
 use Rattle.std.proofs.lemmas.Result.{IfOk-weaker}
 use Rattle.minisign_base.specs.DeviceCalls.{prompt_call}
 use Rattle.minisign.proofs.GivenKeys.{key_of_given}
-use Rattle.minisign.proofs.SecretKeyTexts.{one_key_text}
 use Rattle.minisign.proofs.signing_texts.sign_texts.Goals as goal
-
-pub returns-in_err-sk-clause-one_reading : goal.returns-in_err-sk-clause-one_reading
-returns-in_err-sk-clause-one_reading g c = λ k l read again. one_key_text _ l k again read
-
-pub returns-clause-one_reading : goal.returns-clause-one_reading
-returns-clause-one_reading g c = λ k l read again. one_key_text _ l k again read
 
 pub returns-clause-headline : goal.returns-clause-headline
 returns-clause-headline g c =

@@ -1,7 +1,7 @@
 use Rattle.std.proofs.Common.{[], Ok, Err, inl, inr, refl, sym, ap, subst, ⊎_elim}
 use Rattle.std.specs.Result.{result_err}
 use Rattle.minisign_base.specs.DeviceCalls.{prompt_call}
-use Rattle.minisign_base.specs.Prompts.{ConversationEnds, marking}
+use Rattle.minisign_base.specs.Prompts.{ConversationEnds, marking_steps}
 use Rattle.minisign_base.specs.PromptLaws.{typed_is}
 use Rattle.minisign_base.proofs.HandedOn.{handed_on}
 use Rattle.minisign_base.proofs.helpers.get_password.Goals as goal
@@ -41,7 +41,7 @@ returns-in_err-mark_empty-clause-refused g c =
             inr (
               heard,
               (ap result_err answered, refl),
-              subst (λ password. ConversationEnds (prompt_call g.R.Source g.W.Sink heard c.mark_empty.new.self) (marking password) (Err c.in_err-mark_empty.field-0.0))
+              subst (λ password. ConversationEnds (prompt_call g.R.Source g.W.Sink heard c.mark_empty.new.self) (marking_steps password) (Err c.in_err-mark_empty.field-0.0))
                   (sym (typed_is bytes _ answered)) failed,
             ),
           ),
@@ -68,7 +68,7 @@ returns-clause-asked g c =
             (
               heard,
               (ap result_err answered, refl),
-              subst (λ password. ConversationEnds (prompt_call g.R.Source g.W.Sink heard c.mark_empty.new.self) (marking password) (Ok tt)) (sym (typed_is bytes _ answered)) marked,
+              subst (λ password. ConversationEnds (prompt_call g.R.Source g.W.Sink heard c.mark_empty.new.self) (marking_steps password) (Ok tt)) (sym (typed_is bytes _ answered)) marked,
             ),
           ),
         ),

@@ -122,12 +122,12 @@ pub returns-in-RemoveRecord-clause-went : goal.returns-in-RemoveRecord-clause-we
 returns-in-RemoveRecord-clause-went g c = rw (c.in-RemoveRecord.is, c.done_or-in-RemoveRecord.ensures) (λ going read made knows.
     let h = host (g.F.Folder.run c.args.folder.now) (g.R.Source.ahead c.args.update.now) read (counts (g.Z.RandomSource.random_faults c.args.random.now) (g.R.Source.faults c.args.update.now) (g.F.Folder.folder_faults c.args.folder.now)) in
     let then = host (g.F.Folder.run c.remove.new.folder) (g.R.Source.ahead c.args.update.now) read (counts (g.Z.RandomSource.random_faults c.args.random.now) (g.R.Source.faults c.args.update.now) (g.F.Folder.folder_faults c.remove.new.folder)) in
-    let (has, known, went) = remove_record_goes (g.S.Scheme.accepts c.args.scheme.now) (terms_of c.args.wanted) c.args.is_first g.F.Handle.Handle.file c.in-RemoveRecord.field-0 c.args.work.now h then c.remove.result made refl refl refl refl c.remove.ensures.removed c.remove.ensures.refused (map_ok c.remove.result (λ no_new_fault. same_counts _ _ _ _ _ _ refl refl no_new_fault) c.remove.ensures.no_new_fault) in
+    let (has, known, went) = remove_record_goes (g.S.Scheme.accepts c.args.scheme.now) (terms_of c.args.wanted) c.args.is_first g.F.Handle.Handle.file c.in-RemoveRecord.field-0 c.args.work.now h then c.remove.result made refl refl c.remove.ensures.removed c.remove.ensures.refused (same_counts _ _ _ _ _ _ refl refl c.remove.ensures.uncounted) in
     (has, (read, known, went)))
 
 pub returns-in-Remove-clause-went : goal.returns-in-Remove-clause-went
 returns-in-Remove-clause-went g c = rw (c.in-Remove.is, c.done_or-in-Remove.ensures) (λ going read made knows.
     let h = host (g.F.Folder.run c.args.folder.now) (g.R.Source.ahead c.args.update.now) read (counts (g.Z.RandomSource.random_faults c.args.random.now) (g.R.Source.faults c.args.update.now) (g.F.Folder.folder_faults c.args.folder.now)) in
     let then = host (g.F.Folder.run c.remove-in-Remove.new.folder) (g.R.Source.ahead c.args.update.now) read (counts (g.Z.RandomSource.random_faults c.args.random.now) (g.R.Source.faults c.args.update.now) (g.F.Folder.folder_faults c.remove-in-Remove.new.folder)) in
-    let (has, known, went) = remove_goes (g.S.Scheme.accepts c.args.scheme.now) (terms_of c.args.wanted) c.args.is_first g.F.Handle.Handle.file c.in-Remove.field-0 c.args.work.now h then c.remove-in-Remove.result made refl refl refl refl c.remove-in-Remove.ensures.removed c.remove-in-Remove.ensures.refused (map_ok c.remove-in-Remove.result (λ no_new_fault. same_counts _ _ _ _ _ _ refl refl no_new_fault) c.remove-in-Remove.ensures.no_new_fault) in
+    let (has, known, went) = remove_goes (g.S.Scheme.accepts c.args.scheme.now) (terms_of c.args.wanted) c.args.is_first g.F.Handle.Handle.file c.in-Remove.field-0 c.args.work.now h then c.remove-in-Remove.result made refl refl c.remove-in-Remove.ensures.removed c.remove-in-Remove.ensures.refused (same_counts _ _ _ _ _ _ refl refl c.remove-in-Remove.ensures.uncounted) in
     (has, (read, known, went)))

@@ -1,6 +1,7 @@
 use Rattle.std.proofs.Common.{subst, sym}
 use Rattle.minisign.specs.Sealing.{IsUnencrypted}
 use Rattle.minisign.proofs.GeneratedKeys.{seed_and_keynum, unsealed_is_unencrypted, unsealed_pair}
+use Rattle.minisign.proofs.Openings.{unencrypted_taken, unencrypted_text}
 use Rattle.minisign.proofs.keypair.KeyPair.generate_unencrypted_keypair.Goals as goal
 
 pub returns-clause-made : goal.returns-clause-made
@@ -21,4 +22,4 @@ pub returns-clause-unencrypted : goal.returns-clause-unencrypted
 returns-clause-unencrypted g c = subst IsUnencrypted (sym c.make_pair.ensures.secret) (unsealed_is_unencrypted _ _)
 
 pub returns-clause-texts : goal.returns-clause-texts
-returns-clause-texts g c = λ text read. record { read = read; unencrypted = returns-clause-unencrypted g c }
+returns-clause-texts g c = λ text read. unencrypted_text text _ _ read (unencrypted_taken _ (returns-clause-unencrypted g c))

@@ -1,8 +1,10 @@
+use Rattle.std.proofs.Common.{sym}
 use Rattle.minisign.proofs.RecordFields.{joined_fields}
+use Rattle.minisign.proofs.SecretKeyTexts.{bytes_are_read}
 use Rattle.minisign.proofs.secret_key.SecretKey.from_bytes.Goals as goal
 
 pub returns : goal.returns
-returns c = record {
+returns c = sym (bytes_are_read c.args.bytes.now _ (record {
   algorithm_length = c.in_ok-sig_alg.ensures.first;
   kdf_length = c.in_ok-sig_alg.ensures.second;
   checksum_algorithm_length = c.in_ok-sig_alg.ensures.third;
@@ -13,4 +15,4 @@ returns c = record {
   secret_length = c.in_ok-keynum.ensures.second;
   checksum_length = c.in_ok-keynum.ensures.third;
   front = (_, joined_fields _ _ _ _ _ _ _ c.in_ok-sig_alg.ensures.cut c.in_ok-kdf_salt.ensures.cut c.in_ok-keynum.ensures.cut);
-}
+}))

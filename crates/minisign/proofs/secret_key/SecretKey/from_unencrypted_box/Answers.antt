@@ -1,10 +1,20 @@
-use Rattle.minisign.proofs.Openings.{unencrypted_outcome}
+use Rattle.std.proofs.lemmas.Result.{err_from_is_err_and}
+use Rattle.minisign.proofs.Openings.{unencrypted_refused, unencrypted_value, unread_outcome}
+use Rattle.minisign.proofs.ReadTexts.{read_value}
 use Rattle.minisign.proofs.secret_key.SecretKey.from_unencrypted_box.Goals as goal
 
-pub returns-clause-outcome : goal.returns-clause-outcome
-returns-clause-outcome c =
-    let made = unencrypted_outcome c.as_str.result.now c.unencrypted_from_text.result c.unencrypted_from_text.ensures.unencrypted c.unencrypted_from_text.ensures.refused in
-    rw (c.as_str.ensures) at made
+pub returns-in_err-sk : goal.returns-in_err-sk
+returns-in_err-sk c =
+    let p = err_from_is_err_and c.from_residual.result c.from_residual.ensures.1 in
+    rw (p.1, p.2) (unread_outcome c.args.sk_box _ (rw c.as_str.ensures at c.in_err-sk.ensures))
 
-pub returns-clause-one_reading : goal.returns-clause-one_reading
-returns-clause-one_reading c = rw (c.as_str.ensures) at c.unencrypted_from_text.ensures.one_reading
+pub returns-in_err-test_unencrypted : goal.returns-in_err-test_unencrypted
+returns-in_err-test_unencrypted c =
+    let read = read_value _ _ (rw c.as_str.ensures at c.in_ok-sk.ensures) in
+    let p = err_from_is_err_and c.from_residual-in_err-test_unencrypted.result c.from_residual-in_err-test_unencrypted.ensures.1 in
+    rw (p.1, p.2) (unencrypted_refused c.args.sk_box c.in_ok-sk.sk _ read c.in_err-test_unencrypted.ensures)
+
+pub returns : goal.returns
+returns c =
+    let read = read_value _ _ (rw c.as_str.ensures at c.in_ok-sk.ensures) in
+    unencrypted_value c.args.sk_box c.in_ok-sk.sk read c.in_ok-test_unencrypted.ensures

@@ -1,10 +1,10 @@
 use Rattle.std.proofs.Common.{arith, append-nil, []}
 use Rattle.std.proofs.lemmas.Grind.{common_steps}
-use Rattle.minisign.proofs.RecordFields.{one_secret_key}
+use Rattle.minisign.proofs.SecretKeyTexts.{bytes_are_read}
 use Rattle.minisign.proofs.secret_key.SecretKey.to_bytes.Goals as goal
 
 pub returns-clause-reads_back : goal.returns-clause-reads_back
-returns-clause-reads_back c = record {
+returns-clause-reads_back c = bytes_are_read c.push_three-3.new.bytes.items c.args.self.now (record {
   algorithm_length = grind (arith, common_steps);
   kdf_length = grind (arith, common_steps);
   checksum_algorithm_length = grind (arith, common_steps);
@@ -15,8 +15,4 @@ returns-clause-reads_back c = record {
   secret_length = grind (arith, common_steps);
   checksum_length = grind (arith, common_steps);
   front = ([], rw append-nil (grind (arith, common_steps)));
-}
-
-pub returns-clause-one_reading : goal.returns-clause-one_reading
-returns-clause-one_reading c = λ other read.
-    one_secret_key c.push_three-3.new.bytes.items other c.args.self.now read (returns-clause-reads_back c)
+})

@@ -4,11 +4,11 @@ use Rattle.std.proofs.lemmas.Bool.{eqb-true}
 use Rattle.std.proofs.lemmas.List.{nil_from_length}
 use Rattle.minisign_base.specs.Fault.{Fault}
 use Rattle.minisign_base.specs.DeviceCalls.{PromptCall, prompt_call}
-use Rattle.minisign_base.specs.Prompts.{ConversationEnds, Say, StepEnds, empty_mark, marking}
+use Rattle.minisign_base.specs.Prompts.{ConversationEnds, Say, StepEnds, empty_mark, marking_steps}
 use Rattle.minisign_base.proofs.prompt.Prompt.mark_empty.Goals as goal
 
 -- a conversation of one step ends as that step does
-marked : {R W : Type 0} (p : PromptCall R W) (answer : Result ⊤ Fault) → StepEnds p (Say empty_mark) answer → ConversationEnds p (marking []) answer
+marked : {R W : Type 0} (p : PromptCall R W) (answer : Result ⊤ Fault) → StepEnds p (Say empty_mark) answer → ConversationEnds p (marking_steps []) answer
 marked p (Ok _) said = (p.new, said, refl)
 marked p (Err e) said = inl said
 

@@ -3,7 +3,7 @@ use Rattle.std.specs.declared.result.Result.{Result}
 use Rattle.std.specs.declared.result.Result.TheVariants.{Ok, Err}
 use Rattle.minisign.specs.Acceptance.{Verifier}
 use Rattle.minisign.specs.Calls.{TextsVouchWith}
-use Rattle.minisign.specs.Headline.{TextsRefuse}
+use Rattle.minisign.specs.Headline.{verdict}
 use Rattle.minisign_external.specs.States.{IsFaultOf}
 use Rattle.minisign_install.specs.Comments.{Says}
 use Rattle.minisign_install.specs.HostNumbers.{install_number}
@@ -33,7 +33,7 @@ known {T} accepts terms kept message comment new (Err q) vouched (e, is, due, re
 
 pub returns-in-Ok-clause-answer : goal.returns-in-Ok-clause-answer
 returns-in-Ok-clause-answer c = λ terms kept message accepts asking answers.
-    let v = c.in-Ok.ensures.verdict terms.pk_text terms.sig_text message false accepts asking.asked answers in
+    let v = c.in-Ok.ensures.texts asking.key terms.pk_text terms.sig_text message false accepts asking.asked asking.told asking.keyed (answers asking.key asking.keyed) in
     let (comments, both) = comments_in terms.sig_text v.box v.box_read in
     let judged = asking.judged v.box comments v.box_read both in
     known accepts terms kept message comments.trusted c.take_judgement.new.self c.take_judgement.result
@@ -41,8 +41,8 @@ returns-in-Ok-clause-answer c = λ terms kept message accepts asking answers.
 
 pub returns-in-Err-WrongUse-clause-answer : goal.returns-in-Err-WrongUse-clause-answer
 returns-in-Err-WrongUse-clause-answer c = λ terms kept message accepts asking answers.
-    absurd (subst (IsFaultOf (TextsRefuse accepts terms.pk_text terms.sig_text message false)) c.in-Err-WrongUse.field-0-is
-    (c.in-Err-WrongUse.ensures.verdict terms.pk_text terms.sig_text message false accepts asking.asked answers))
+    absurd (subst (IsFaultOf (λ f. verdict accepts terms.pk_text terms.sig_text message false ≡ Err f)) c.in-Err-WrongUse.field-0-is
+    (c.in-Err-WrongUse.ensures.texts asking.key terms.pk_text terms.sig_text message false accepts asking.asked asking.told asking.keyed (answers asking.key asking.keyed)))
 
 pub returns-in-Err-Refused-clause-answer : goal.returns-in-Err-Refused-clause-answer
 returns-in-Err-Refused-clause-answer c = λ terms kept message accepts asking answers. (
@@ -50,7 +50,7 @@ returns-in-Err-Refused-clause-answer c = λ terms kept message accepts asking an
   inl (
     _,
     refl,
-    subst (IsFaultOf (TextsRefuse accepts terms.pk_text terms.sig_text message false)) c.in-Err-Refused.field-0-is
-        (c.in-Err-Refused.ensures.verdict terms.pk_text terms.sig_text message false accepts asking.asked answers),
+    subst (IsFaultOf (λ f. verdict accepts terms.pk_text terms.sig_text message false ≡ Err f)) c.in-Err-Refused.field-0-is
+        (c.in-Err-Refused.ensures.texts asking.key terms.pk_text terms.sig_text message false accepts asking.asked asking.told asking.keyed (answers asking.key asking.keyed)),
   ),
 )

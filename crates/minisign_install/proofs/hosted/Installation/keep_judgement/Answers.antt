@@ -6,22 +6,21 @@ use Rattle.minisign_install.specs.declared.comments.Numbering.{Numbering}
 use Rattle.minisign_install.proofs.hosted.Installation.keep_judgement.Goals as goal
 
 pub returns-in-Ok-clause-judged : goal.returns-in-Ok-clause-judged
-returns-in-Ok-clause-judged c = λ pk_text kept due utf8 x d read both.
-    let (says, newer) = c.in-Ok.ensures.judged utf8 x d read both pk_text in
+returns-in-Ok-clause-judged c = λ pk_text sig_text kept due.
     inl (
       refl,
-      subst (λ (f : Numbering). Says d.trusted c.args.file.now f c.in-Ok.number) c.numbering.ensures says,
-      subst (λ (k : ℕ). k ≤ c.in-Ok.number) (c.kept-kept.ensures kept due) newer,
+      subst (λ (f : Numbering). Says c.args.comment.now c.args.file.now f c.in-Ok.number) c.numbering.ensures c.in-Ok.ensures.says,
+      subst (λ (k : ℕ). k ≤ c.in-Ok.number) (c.kept-kept.ensures kept due) c.in-Ok.ensures.newer,
     )
 
 pub returns-in-Err-clause-judged : goal.returns-in-Err-clause-judged
-returns-in-Err-clause-judged c = λ pk_text kept due utf8 x d read both.
+returns-in-Err-clause-judged c = λ pk_text sig_text kept due.
     let a = c.args in
     inr (
       _,
       c.number-self.ensures,
-      subst (λ (k : ℕ). IsCommentRefused (wanted_by pk_text a.sig_text.now a.file.now (numbering_of a.self.now)) k d.trusted c.in-Err.fault)
+      subst (λ (k : ℕ). IsCommentRefused (wanted_by pk_text sig_text a.file.now (numbering_of a.self.now)) k a.comment.now c.in-Err.fault)
           (c.kept-kept.ensures kept due)
-          (subst (λ (f : Numbering). IsCommentRefused (wanted_by pk_text a.sig_text.now a.file.now f) c.kept-kept.result d.trusted c.in-Err.fault) c.numbering.ensures
-          (c.in-Err.ensures.judged utf8 x d read both pk_text)),
+          (subst (λ (f : Numbering). IsCommentRefused (wanted_by pk_text sig_text a.file.now f) c.kept-kept.result a.comment.now c.in-Err.fault) c.numbering.ensures
+          c.in-Err.ensures.refused),
     )

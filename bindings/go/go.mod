@@ -1,0 +1,3 @@
+module proved/minisign
+
+go 1.19

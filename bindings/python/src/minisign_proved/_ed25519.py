@@ -1,0 +1,95 @@
+# SPDX-License-Identifier: MIT
+"""Ed25519 by what is there: libsodium, or the package `cryptography`."""
+
+import ctypes
+import ctypes.util
+import os
+from typing import Callable, Dict, Optional, Union
+
+from ._calls import Secret
+
+# The prime of the field and the order of the group (RFC 8032, section 5.1), and the second coordinates of the eight points of
+# small order. A key or a first half that is such a point could belong to a signature of every message.
+PRIME, ORDER = 2**255 - 19, 2**252 + 27742317777372353535851937790883648493
+SMALL_ORDER = (0, 1, PRIME - 1, 0x7a03ac9277fdc74ec6cc392cfa53202a0f67100d760b3cba4fd84d3d706a17c7,
+               0x5fc536d880238b13933c6d305acdfd5f098eff289f4c345b027b2c28f95e826)
+
+
+def is_refused(point: bytes) -> bool:
+    """Whether libsodium refuses 32 bytes as a point: for their second coordinate, before the bit of the sign, or for their order."""
+    second = int.from_bytes(point, "little") % 2**255
+    return second >= PRIME or second in SMALL_ORDER
+
+
+class Sodium:
+    """libsodium, by its shared library."""
+
+    def __init__(self) -> None:
+        self._library = ctypes.CDLL(ctypes.util.find_library("sodium") or "libsodium.so.23")
+        if self._library.sodium_init() < 0:
+            raise OSError("libsodium could not be started")
+
+    def accepts(self, signature: bytes, message: bytes, key: bytes) -> bool:
+        answer: int = self._library.crypto_sign_verify_detached(signature, message, ctypes.c_ulonglong(len(message)), key)
+        return answer == 0
+
+    def sign(self, message: bytes, secret: Secret) -> bytes:
+        signature = ctypes.create_string_buffer(64)
+        if self._library.crypto_sign_detached(signature, None, message, ctypes.c_ulonglong(len(message)), secret) != 0:
+            raise OSError("libsodium did not sign")
+        return signature.raw
+
+    def pair(self) -> Secret:
+        pair = (ctypes.c_ubyte * 64)()
+        if self._library.crypto_sign_keypair((ctypes.c_ubyte * 32)(), pair) != 0:
+            raise OSError("libsodium made no key")
+        return pair
+
+
+class Cryptography:
+    """The package `cryptography`, behind checks that make its verdict that of libsodium."""
+
+    def __init__(self) -> None:
+        from cryptography.hazmat.primitives.asymmetric import ed25519
+        self._of = ed25519
+
+    def accepts(self, signature: bytes, message: bytes, key: bytes) -> bool:
+        from cryptography.exceptions import InvalidSignature
+        if is_refused(key) or is_refused(signature[:32]) or int.from_bytes(signature[32:], "little") >= ORDER:
+            return False
+        try:
+            self._of.Ed25519PublicKey.from_public_bytes(key).verify(signature, message)
+        except (InvalidSignature, ValueError):
+            return False
+        return True
+
+    def sign(self, message: bytes, secret: Secret) -> bytes:
+        return self._of.Ed25519PrivateKey.from_private_bytes(bytes(secret)[:32]).sign(message)
+
+    def pair(self) -> Secret:
+        from cryptography.hazmat.primitives.serialization import Encoding, PublicFormat
+        seed = os.urandom(32)
+        key = self._of.Ed25519PrivateKey.from_private_bytes(seed).public_key().public_bytes(Encoding.Raw, PublicFormat.Raw)
+        return (ctypes.c_ubyte * 64)(*seed, *key)
+
+
+_chosen: Optional[Union[Sodium, Cryptography]] = None
+
+
+def use_ed25519(name: str) -> None:
+    """Takes Ed25519 from `libsodium` or from `cryptography`; otherwise it is the first of them that is there. ImportError or
+    OSError where that one is not."""
+    global _chosen
+    kinds: Dict[str, Callable[[], Union[Sodium, Cryptography]]] = {"libsodium": Sodium, "cryptography": Cryptography}
+    _chosen = kinds[name]()
+
+
+def ed25519() -> Union[Sodium, Cryptography]:
+    """The Ed25519 that was chosen, or the first that is there."""
+    if _chosen is None:
+        try:
+            use_ed25519("libsodium")
+        except OSError:
+            use_ed25519("cryptography")
+    assert _chosen is not None
+    return _chosen

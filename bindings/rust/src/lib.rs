@@ -1,0 +1,250 @@
+// SPDX-License-Identifier: MIT
+#![doc = include_str!("../README.md")]
+#![deny(unsafe_code, missing_docs)]
+
+mod raw;
+mod signing;
+
+pub use signing::{SecretKey, Signer, Work};
+use std::{fmt, fs, io, path::Path};
+
+/// Why something was refused, as `minisign.h` numbers it. It is shown in the words of `minisign_error_text`.
+#[derive(Clone, Copy, Debug, Eq, PartialEq, Hash)]
+pub struct Reason(pub u32);
+
+impl fmt::Display for Reason {
+    fn fmt(&self, f: &mut fmt::Formatter) -> fmt::Result {
+        f.write_str(&raw::error_text(self.0))
+    }
+}
+
+/// Why a call failed: the errors of `minisign-verify`, and one for all else.
+#[derive(Debug)]
+pub enum Error {
+    /// The text of a public key or of a signature is not well formed.
+    InvalidEncoding,
+    /// The signature of the data, or that of the trusted comment, is not accepted.
+    InvalidSignature,
+    /// A file could not be read, or is not UTF-8.
+    IoError(io::Error),
+    /// A signature is over the data itself, which was not allowed.
+    UnexpectedAlgorithm,
+    /// A signature was made with another key.
+    UnexpectedKeyId,
+    /// The algorithm of a signature is none of Minisign's.
+    UnsupportedAlgorithm,
+    /// A signature is over the data itself, and cannot be verified in pieces.
+    UnsupportedLegacyMode,
+    /// What `minisign-verify` has no name for: of signing, of keys, of wrong use.
+    Refused(Reason),
+}
+
+impl From<Reason> for Error {
+    fn from(reason: Reason) -> Error {
+        let is_between = |first: Reason, last: Reason| (first.0..=last.0).contains(&reason.0);
+        match reason {
+            Reason::SIGNATURE_REFUSED | Reason::COMMENT_SIGNATURE_REFUSED => Error::InvalidSignature,
+            Reason::LEGACY_NOT_ACCEPTED => Error::UnexpectedAlgorithm,
+            Reason::DIFFERENT_KEY_IDS => Error::UnexpectedKeyId,
+            Reason::UNSUPPORTED_ALGORITHM => Error::UnsupportedAlgorithm,
+            _ if is_between(Reason::MISSING_PUBLIC_KEY_COMMENT, Reason::TRUSTED_COMMENT_PREFIX)
+                || is_between(Reason::BARE_PUBLIC_KEY_LENGTH, Reason::BARE_PUBLIC_KEY_NOT_BASE64) =>
+            {
+                Error::InvalidEncoding
+            }
+            _ => Error::Refused(reason),
+        }
+    }
+}
+
+impl From<io::Error> for Error {
+    fn from(error: io::Error) -> Error {
+        Error::IoError(error)
+    }
+}
+
+impl fmt::Display for Error {
+    fn fmt(&self, f: &mut fmt::Formatter) -> fmt::Result {
+        match self {
+            Error::InvalidEncoding => f.write_str("a public key or a signature is not well formed"),
+            Error::InvalidSignature => Reason::SIGNATURE_REFUSED.fmt(f),
+            Error::IoError(error) => error.fmt(f),
+            Error::UnexpectedAlgorithm | Error::UnsupportedLegacyMode => Reason::LEGACY_NOT_ACCEPTED.fmt(f),
+            Error::UnexpectedKeyId => Reason::DIFFERENT_KEY_IDS.fmt(f),
+            Error::UnsupportedAlgorithm => Reason::UNSUPPORTED_ALGORITHM.fmt(f),
+            Error::Refused(reason) => reason.fmt(f),
+        }
+    }
+}
+
+impl std::error::Error for Error {}
+
+/// An Ed25519, whose answers are taken as they are: one that accepts keys or signatures of small order accepts files that nobody
+/// signed, so it has to refuse them, as libsodium does. One that only verifies leaves the other calls as they stand here.
+pub trait Ed25519: Sync {
+    /// Whether the signature is one of the message under the public key.
+    fn accepts(&self, signature: &[u8; 64], message: &[u8], public_key: &[u8; 32]) -> bool;
+    /// The signature of the message under a secret key: the 32 bytes of the seed, and the 32 of its public key.
+    fn sign(&self, _message: &[u8], _secret_key: &[u8; 64]) -> Option<[u8; 64]> {
+        None
+    }
+    /// Writes the secret key of a seed, and answers whether it did.
+    fn expand(&self, _seed: &[u8; 32], _secret_key: &mut [u8; 64]) -> bool {
+        false
+    }
+    /// Writes random bytes that nobody can guess, and answers whether it did.
+    fn random(&self, _bytes: &mut [u8]) -> bool {
+        false
+    }
+}
+
+/// The Ed25519 of libsodium.
+#[cfg(feature = "sodium")]
+pub struct Sodium;
+
+/// A public key.
+#[derive(Clone, Debug, Eq, PartialEq, Ord, PartialOrd, Hash)]
+pub struct PublicKey {
+    untrusted_comment: Option<String>,
+    key: raw::PublicKey,
+}
+
+impl PublicKey {
+    /// Reads both lines of a file such as `minisign.pub`.
+    pub fn decode(lines: &str) -> Result<Self, Error> {
+        let key = raw::PublicKey::read(lines, false)?;
+        Ok(PublicKey { untrusted_comment: lines.lines().next().map(String::from), key })
+    }
+
+    /// Reads the base64 of a public key alone: its 56 letters.
+    pub fn from_base64(public_key: &str) -> Result<Self, Error> {
+        Ok(PublicKey { untrusted_comment: None, key: raw::PublicKey::read(public_key, true)? })
+    }
+
+    /// Reads a file such as `minisign.pub`.
+    pub fn from_file<P: AsRef<Path>>(path: P) -> Result<Self, Error> {
+        Self::decode(&fs::read_to_string(path).map_err(Error::IoError)?)
+    }
+
+    /// The first line of the key's text, for which nobody vouches.
+    pub fn untrusted_comment(&self) -> Option<&str> {
+        self.untrusted_comment.as_deref()
+    }
+
+    /// Verifies data at once. With `allow_legacy` signatures over the data itself will do, which Minisign made before version 0.10.
+    #[cfg(feature = "sodium")]
+    pub fn verify(&self, data: &[u8], signature: &Signature, allow_legacy: bool) -> Result<(), Error> {
+        self.verify_with(&Sodium, data, signature, allow_legacy)
+    }
+
+    /// Verifies data at once, by this Ed25519.
+    pub fn verify_with(
+        &self,
+        ed25519: &dyn Ed25519,
+        data: &[u8],
+        signature: &Signature,
+        allow_legacy: bool,
+    ) -> Result<(), Error> {
+        let mut verifier = StreamVerifier::begin(ed25519, self, signature, allow_legacy)?;
+        verifier.update(data);
+        verifier.end(data)
+    }
+
+    /// Begins to verify data that comes in pieces. All that is wrong with the signature's text is told here.
+    #[cfg(feature = "sodium")]
+    pub fn verify_stream<'a>(&'a self, signature: &'a Signature) -> Result<StreamVerifier<'a>, Error> {
+        self.verify_stream_with(&Sodium, signature)
+    }
+
+    /// Begins to verify data that comes in pieces, by this Ed25519.
+    pub fn verify_stream_with<'a>(
+        &'a self,
+        ed25519: &'a dyn Ed25519,
+        signature: &'a Signature,
+    ) -> Result<StreamVerifier<'a>, Error> {
+        StreamVerifier::begin(ed25519, self, signature, false).map_err(|error| match error {
+            Error::UnexpectedAlgorithm => Error::UnsupportedLegacyMode,
+            error => error,
+        })
+    }
+}
+
+/// A signature, which vouches for nothing before it was verified.
+#[derive(Clone, Debug)]
+pub struct Signature {
+    text: String,
+    trusted_comment: String,
+}
+
+impl Signature {
+    /// Reads the four lines of a file such as `data.minisig`.
+    pub fn decode(lines: &str) -> Result<Self, Error> {
+        // Asked under a key of no key ID, and then under one of the signature's, the library tells what is in the text.
+        let mut key = raw::PublicKey { key: [0; 32], key_id: [0; 8] };
+        let (mut asked, questions, mut message) = raw::State::new().ask(&key, lines, true);
+        if asked == Err(Reason::DIFFERENT_KEY_IDS) {
+            key.key_id = questions.signature_key_id;
+            (asked, _, message) = raw::State::new().ask(&key, lines, true);
+        }
+        asked?;
+        Ok(Signature { text: lines.into(), trusted_comment: String::from_utf8_lossy(&message[64..]).into_owned() })
+    }
+
+    /// Reads a file such as `data.minisig`.
+    pub fn from_file<P: AsRef<Path>>(path: P) -> Result<Self, Error> {
+        Self::decode(&fs::read_to_string(path).map_err(Error::IoError)?)
+    }
+
+    /// The trusted comment, which was signed with the data: trust it only once the signature was verified.
+    pub fn trusted_comment(&self) -> &str {
+        &self.trusted_comment
+    }
+
+    /// The first line of the text, for which nobody vouches.
+    pub fn untrusted_comment(&self) -> &str {
+        self.text.lines().next().unwrap_or_default()
+    }
+}
+
+/// The text of the signature, as it was read or made.
+impl fmt::Display for Signature {
+    fn fmt(&self, f: &mut fmt::Formatter) -> fmt::Result {
+        f.write_str(&self.text)
+    }
+}
+
+/// Verifies data that comes in pieces.
+pub struct StreamVerifier<'a> {
+    ed25519: &'a dyn Ed25519,
+    state: raw::State,
+    questions: raw::Questions,
+    message: Vec<u8>,
+}
+
+impl<'a> StreamVerifier<'a> {
+    fn begin(ed25519: &'a dyn Ed25519, key: &PublicKey, signature: &Signature, allow_legacy: bool) -> Result<Self, Error> {
+        let mut state = raw::State::new();
+        let (asked, questions, message) = state.ask(&key.key, &signature.text, allow_legacy);
+        asked?;
+        Ok(StreamVerifier { ed25519, state, questions, message })
+    }
+
+    /// Takes in the next piece of the data, of any length.
+    pub fn update(&mut self, piece: &[u8]) {
+        // (only once the verdict was asked for is it refused, and then so is another verdict)
+        let _ = self.state.update(piece);
+    }
+
+    /// Whether the signature vouches for all of the pieces. It is asked once: after that each call refuses.
+    pub fn finalize(&mut self) -> Result<(), Error> {
+        self.end(&[])
+    }
+
+    fn end(&mut self, data: &[u8]) -> Result<(), Error> {
+        let (digest, asked) = (self.state.digest()?, &self.questions);
+        let first = if asked.legacy == 1 { data } else { &digest };
+        let accepts = |signature, message| self.ed25519.accepts(signature, message, &asked.public_key);
+        let answers = [accepts(&asked.signature, first), accepts(&asked.comment_signature, &self.message)];
+        Ok(self.state.verdict(answers)?)
+    }
+}

@@ -1,0 +1,125 @@
+// SPDX-License-Identifier: MIT
+//! Signing, and making keys.
+
+use crate::{raw, Ed25519, Error, PublicKey, Reason, Signature};
+use std::{fmt, fs, path::Path};
+
+/// How much memory and time a sealed key may take, and takes.
+#[derive(Clone, Copy, Debug)]
+pub struct Work {
+    /// Of scrypt's rows each one of so many is kept in memory, and the others are made again: 1 keeps all, 16 takes 65 MiB at most.
+    pub keep_every: u64,
+    /// How often all rows may be made for a key that is opened (scrypt's parallelization).
+    pub greatest_work: u32,
+    /// How much work a key that is made asks for, as libsodium counts it.
+    pub operations_limit: u64,
+    /// How many bytes a key that is made asks for, at most 2^30.
+    pub memory_limit: u64,
+}
+
+impl Work {
+    /// That of `minisign -G`: 1 GiB, and a few seconds.
+    pub const USUAL: Work = Work {
+        keep_every: raw::KEEP_EVERY_ROW as u64,
+        greatest_work: raw::USUAL_WORK as u32,
+        operations_limit: raw::OPERATIONS_LIMIT as u64,
+        memory_limit: raw::MEMORY_LIMIT as u64,
+    };
+}
+
+/// A secret key, opened. Its bytes are cleared at its end.
+pub struct SecretKey(Box<raw::SecretKey>);
+
+impl SecretKey {
+    /// A new key of random bytes.
+    pub fn generate(ed25519: &dyn Ed25519) -> Result<SecretKey, Error> {
+        let (mut id, mut seed, mut secret) = ([0; 8], [0; 32], [0; 64]);
+        let made = ed25519.random(&mut id) && ed25519.random(&mut seed) && ed25519.expand(&seed, &mut secret);
+        let key = raw::SecretKey::take(&id, &secret);
+        raw::clear(&mut seed);
+        raw::clear(&mut secret);
+        Some(SecretKey(key)).filter(|_| made).ok_or_else(|| Reason::RANDOM_SOURCE_FAILED.into())
+    }
+
+    /// Reads both lines of a file such as `minisign.key`. A password opens a sealed key, and no other one.
+    pub fn decode(lines: &str, password: Option<&str>, work: &Work) -> Result<SecretKey, Error> {
+        Ok(SecretKey(raw::SecretKey::open(lines, password, work.keep_every, work.greatest_work)?))
+    }
+
+    /// Reads a file such as `minisign.key`.
+    pub fn from_file<P: AsRef<Path>>(path: P, password: Option<&str>, work: &Work) -> Result<SecretKey, Error> {
+        let text = fs::read_to_string(path).map_err(Error::IoError)?;
+        let key = Self::decode(&text, password, work);
+        raw::clear(&mut text.into_bytes());
+        key
+    }
+
+    /// The text of the key, both lines of a file such as `minisign.key`, sealed under a password where there is one.
+    pub fn encode(&self, ed25519: &dyn Ed25519, password: Option<&str>, work: &Work) -> Result<String, Error> {
+        let Work { operations_limit, memory_limit, .. } = *work;
+        let mut sealing = raw::Sealing { salt: [0; 32], operations_limit, memory_limit };
+        if password.is_some() && !ed25519.random(&mut sealing.salt) {
+            return Err(Reason::RANDOM_SOURCE_FAILED.into());
+        }
+        Ok(self.0.text(password, &sealing, work.keep_every, raw::SECRET_KEY_COMMENT)?)
+    }
+
+    /// The text of its public key, both lines of a file such as `minisign.pub`.
+    pub fn public_key_text(&self) -> Result<String, Error> {
+        Ok(self.0.public_text(&format!("{}{:X}", raw::PUBLIC_KEY_COMMENT, u64::from_le_bytes(self.0.key_id)))?)
+    }
+
+    /// Its public key.
+    pub fn public_key(&self) -> Result<PublicKey, Error> {
+        Ok(PublicKey { untrusted_comment: None, key: self.0.public_key()? })
+    }
+
+    /// Signs data at once. The comments are one line each; whoever verifies can trust the first one.
+    pub fn sign(&self, ed25519: &dyn Ed25519, data: &[u8], trusted: &str, untrusted: &str) -> Result<Signature, Error> {
+        let mut signer = self.sign_stream(ed25519);
+        signer.update(data);
+        signer.finalize(trusted, untrusted)
+    }
+
+    /// Begins to sign data that comes in pieces.
+    pub fn sign_stream<'a>(&'a self, ed25519: &'a dyn Ed25519) -> Signer<'a> {
+        Signer { ed25519, key: &self.0, state: raw::State::new() }
+    }
+}
+
+/// Shows the key ID alone.
+impl fmt::Debug for SecretKey {
+    fn fmt(&self, f: &mut fmt::Formatter) -> fmt::Result {
+        write!(f, "SecretKey({:X})", u64::from_le_bytes(self.0.key_id))
+    }
+}
+
+/// Signs data that comes in pieces.
+pub struct Signer<'a> {
+    ed25519: &'a dyn Ed25519,
+    key: &'a raw::SecretKey,
+    state: raw::State,
+}
+
+impl Signer<'_> {
+    /// Takes in the next piece of the data, of any length.
+    pub fn update(&mut self, piece: &[u8]) {
+        // (a state that was begun refuses nothing before its digest was told, which ends this)
+        let _ = self.state.update(piece);
+    }
+
+    /// The signature of all pieces.
+    pub fn finalize(mut self, trusted: &str, untrusted: &str) -> Result<Signature, Error> {
+        let digest = self.state.digest()?;
+        let first = self.signed(&digest)?;
+        let second = self.signed(&raw::comment_message(&first, trusted)?)?;
+        Signature::decode(&self.key.signed_text([&first, &second], trusted, untrusted)?)
+    }
+
+    /// A signature that was verified: one of a damaged key, whose halves do not belong together, would give the secret half away.
+    fn signed(&self, message: &[u8]) -> Result<[u8; 64], Error> {
+        let (key, ed25519) = (self.key.public_key()?.key, self.ed25519);
+        let signature = ed25519.sign(message, &self.key.secret).filter(|it| ed25519.accepts(it, message, &key));
+        signature.ok_or(Error::InvalidSignature)
+    }
+}

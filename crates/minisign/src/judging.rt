@@ -1,0 +1,117 @@
+//! The conditions of acceptance in their order, of data in memory and a signature text that is read where it lies: none
+//! of it takes memory.
+
+ghost use Rattle.std.specs.Prelude.{◌≡◌, ◌+◌, ◌≤◌, ◌++◌, if◌then◌else◌, length, take};
+ghost use Rattle.minisign_hash.specs.Blake2b.{blake2b_digest};
+ghost use Rattle.minisign.specs.Acceptance.{accepts_comment, judge, judge_key};
+ghost use Rattle.minisign.specs.InPlace.{view_of};
+ghost use Rattle.minisign.specs.Records.{is_prehashed};
+ghost use Rattle.minisign.specs.SignatureText.{SignatureTextRecord, box_of};
+
+use crate::constants::SIGALG_PREHASHED;
+use crate::in_place::SignatureView;
+use crate::public_key::PublicKey;
+use crate::signature::Signature;
+use minisign_base::scheme::Scheme;
+use minisign_base::{NamedFault, Result};
+use minisign_hash::blake2b::Blake2b;
+
+// What key and signature alone decide.
+pub(crate) fn judge_key(pk: &PublicKey, signature: &Signature, allow_legacy: bool) -> Result<()>
+    ensures { result ≡ judge_key pk.now signature.now allow_legacy }
+{
+    let keynum = &pk.keynum_pk.keynum;
+    if signature.keynum != *keynum {
+        return Err(NamedFault::DifferentKeyIds {
+            signature: signature.keynum,
+            key: *keynum,
+        }
+        .into());
+    }
+    if signature.sig_alg != SIGALG_PREHASHED && !allow_legacy {
+        return Err(NamedFault::LegacyNotAccepted.into());
+    }
+    Ok(())
+}
+
+// Whether a signature text that was read where it lies vouches for the message; `room` takes what the comment signature
+// is over.
+pub(crate) fn judge_view<S: Scheme>(
+    scheme: &S,
+    pk: &PublicKey,
+    view: &SignatureView<'_>,
+    message: &[u8],
+    allow_legacy: bool,
+    room: &mut [u8],
+) -> Result<()>
+    requires { 64 + length view.now.trusted ≤ length room.old }
+    ensures { (t : SignatureTextRecord) → view.now ≡ view_of t
+        → result ≡ judge (S.accepts scheme.now) pk.now (box_of t) message.now allow_legacy }
+{
+    judge_key(pk, view.signature(), allow_legacy)?;
+    if !accepts_message(scheme, pk, view.signature(), message) {
+        return Err(NamedFault::SignatureRefused.into());
+    }
+    if !accepts_told_comment(scheme, pk, view, room) {
+        return Err(NamedFault::CommentSignatureRefused.into());
+    }
+    Ok(())
+}
+
+// Whether the signature is accepted, over the digest of the message or over the message itself.
+fn accepts_message<S: Scheme>(
+    scheme: &S,
+    pk: &PublicKey,
+    signature: &Signature,
+    message: &[u8],
+) -> bool
+    ensures { result ≡ S.accepts scheme.now (if is_prehashed signature.now then blake2b_digest 64 message.now else message.now)
+        pk.now.key signature.now.signature }
+{
+    let key = &pk.keynum_pk.pk;
+    if signature.sig_alg == SIGALG_PREHASHED {
+        let mut digest = [0u8; 64];
+        Blake2b::blake2b(&mut digest, message);
+        scheme.verify(&digest, key, &signature.sig)
+    } else {
+        scheme.verify(message, key, &signature.sig)
+    }
+}
+
+// Whether the comment signature has at least 64 bytes, and the first 64 are accepted for the signature followed by the
+// trusted comment.
+fn accepts_told_comment<S: Scheme>(
+    scheme: &S,
+    pk: &PublicKey,
+    view: &SignatureView<'_>,
+    room: &mut [u8],
+) -> bool
+    requires { 64 + length view.now.trusted ≤ length room.old }
+    ensures { (t : SignatureTextRecord) → view.now ≡ view_of t
+        → result ≡ accepts_comment (S.accepts scheme.now) pk.now t.signature t.comments }
+{
+    match view.comment_signature() {
+        Some(comment_signature) => {
+            let trusted = view.trusted_comment().as_bytes();
+            write_joined(room, &view.signature().sig, trusted);
+            scheme.verify(
+                &room[..64 + trusted.len()],
+                &pk.keynum_pk.pk,
+                &comment_signature,
+            )
+        }
+        None => false,
+    }
+}
+
+// Writes the two to the front of `to`.
+fn write_joined(to: &mut [u8], left: &[u8; 64], right: &[u8])
+    requires { 64 + length right.now ≤ length to.old }
+    ensures size { length to.new ≡ length to.old }
+    ensures written { take (64 + length right.now) to.new ≡ left.now ++ right.now }
+{
+    let (front, rest) = to.split_at_mut(64);
+    let (back, _) = rest.split_at_mut(right.len());
+    front.copy_from_slice(left);
+    back.copy_from_slice(right);
+}

@@ -1,0 +1,206 @@
+#!/usr/bin/env python3
+"""The module of `bindings/go` as its user has it: a copy of its folder, and of what it says it needs, built by Debian's Go without a
+network, by a program of another module.
+
+    tests/bindings/go.py
+    tests/bindings/go.py --errors    writes the list of errors of the package, from the header
+
+Its own tests and examples run under `go vet` and under the race detector, over each copy of the calls for x86-64, and for AArch64 in
+an emulator. What that program answers to kept keys and signatures, to damaged ones, to data in pieces and in files, and to signatures
+that implementations of Ed25519 differ in is compared with `c/minisign` and with libsodium; why it refuses, with the numbers of the
+header. Many calls take no more memory, and threads get the same answers, under the race detector too. The program of README.md is
+built. It prints a line for each failure; the last line is `N passed, M failed`.
+
+Needs Python 3.9 or later, golang-go, make, a C compiler, binutils and libsodium with its header, and of Debian gcc-aarch64-linux-gnu,
+libc6-dev-arm64-cross and qemu-user-static, and installs what is not there where it may.
+"""
+
+import base64
+import os
+import re
+import shutil
+import subprocess
+import sys
+import tempfile
+
+HERE = os.path.dirname(os.path.realpath(__file__))
+sys.path += [HERE, os.path.join(HERE, "..", "shared")]
+
+import needs
+import shared_cases
+import static_library
+from shared_cases import TOP, Checks, run, write
+
+PACKAGE = os.path.join(TOP, "bindings", "go")
+ERRORS = os.path.join(PACKAGE, "errors.go")
+NEEDED = ["c/allocation.c", "dist", "include"]
+LINES = 300
+CALLS = 100_000
+# How many pages of 4 KiB may be in memory after all calls that were not after a tenth of them.
+PAGES = 512
+
+# What README.md tells a user to do, once there is a module.
+USED = ["-require=proved/minisign@v0.0.0", "-replace=proved/minisign=../bindings/go"]
+
+
+def errors_text():
+    """What stands in errors.go: the errors of the header."""
+    name_of = lambda name: "Err" + "".join(map(str.capitalize, name.split("_")))
+    names = [name for name in shared_cases.error_numbers() if name != "OK"]
+    width = max(len(name_of(name)) for name in names)
+    lines = [f"\t{name_of(name):{width}} = Error(C.MINISIGN_{name})" for name in names]
+    return "\n".join(["// SPDX-License-Identifier: MIT", "", "//go:build cgo && linux && (amd64 || arm64)", "", "package minisign", "", "// #include <minisign.h>", 'import "C"', "",
+                      "// The errors of minisign.h, made by tests/bindings/go.py. Verifying answers those of texts and signatures.",
+                      "const (", *lines, ")", ""])
+
+
+class Go:
+    """Runs go with what it keeps in a folder of its own, and no network."""
+
+    def __init__(self, room):
+        self.go = needs.program("go", "golang-go")
+        self.environment = {"GOPROXY": "off", "GOFLAGS": "", "GOCACHE": f"{room}/cache", "GOPATH": f"{room}/path",
+                            "GOTOOLCHAIN": "local", "CGO_ENABLED": "1", "CC": needs.c_compiler(),
+                            "PATH": static_library.path_without_kit()}
+
+    def run(self, folder, *words, environment=None):
+        status, said, why = run([self.go, *words], folder, {**self.environment, **(environment or {})})
+        if status != 0:
+            raise static_library.NotBuilt(f"go {' '.join(words)}: {said.decode(errors='replace')[-1500:]}{why[-1500:]}")
+        return said.decode(errors="replace")
+
+
+def check_sources(checks):
+    """The package is small, calls C in one file alone, and has the errors of the header."""
+    lines = 0
+    for name in sorted(os.listdir(PACKAGE)):
+        if not name.endswith(".go") or name.endswith("_test.go"):
+            continue
+        text = shared_cases.read(os.path.join(PACKAGE, name)).decode()
+        if name == "errors.go":
+            checks.check(text == errors_text(), "errors.go is not what the header says: run tests/bindings/go.py --errors")
+            continue
+        lines += sum(1 for line in text.splitlines() if line.strip() and not line.strip().startswith("//"))
+        checks.check(name == "raw.go" or 'import "C"' not in text and '"unsafe"' not in text, f"{name}: it calls C")
+    checks.check(lines <= LINES, f"the package has {lines} lines")
+
+
+def check_answers(checks, program, room, minisign):
+    """The program answers kept and damaged texts as `c/minisign` does."""
+    cases = shared_cases.corpus() + shared_cases.damaged() + shared_cases.large(minisign, room)
+    any_kind, strict = (shared_cases.answers_of(minisign, room, cases, allow) for allow in (True, False))
+    checks.check(60 <= sum(it is not None for it in any_kind) <= 200, "of the cases too few, or too many, are accepted")
+    checks.check(strict[-2:] == [b"large", None], f"c/minisign answers {strict[-2:]} to the large data")
+    runs = [("at once", ["verify"], any_kind), ("from files", ["files", room], any_kind)]
+    runs += [(f"in pieces of {length}", ["pieces", str(length)], strict) for length in (1, 128, 1000, 0)]
+    for what, words, wanted in runs:
+        status, said, why = run([program, *words], data=shared_cases.lines_of(cases))
+        checks.check(status == 0, f"{what}: the program ended with {status}: {why}")
+        shared_cases.compare(checks, what, cases, said, wanted)
+
+
+def check_vectors(checks, program):
+    """Its Ed25519 answers as libsodium does: which of the two signatures of a text is refused tells what it answered to the first."""
+    cases, numbers = shared_cases.vector_cases(), shared_cases.error_numbers()
+    wanted = [it[-1] for it in shared_cases.vectors()] + [False] * 3
+    said = run([program, "verify"], data=shared_cases.lines_of(cases))[1].decode().splitlines()
+    checks.check(len(said) == len(cases) == 296, f"{len(said)} answers to {len(cases)} vectors")
+    for case, line, accepted in zip(cases, said, wanted):
+        number = numbers["COMMENT_SIGNATURE_REFUSED" if accepted else "SIGNATURE_REFUSED"]
+        checks.check(line.startswith(f"refused {number} "), f"the vector {case.name}: {line}")
+
+
+def check_refusals(checks, program):
+    """What is refused is so for the reason that the header names, told by its number."""
+    numbers, cases = shared_cases.error_numbers(), list(shared_cases.refusals())
+    said = run([program, "pieces", "7"], data=shared_cases.lines_of([case for case, _ in cases]))[1].decode().splitlines()
+    checks.check(len(said) == len(cases), f"{len(said)} answers to {len(cases)} refusals")
+    for (case, name), line in zip(cases, said):
+        checks.check(line.startswith(f'refused {numbers[name]} "minisign: '), f"{case.name}: {line} in place of {name}")
+    bare = shared_cases.read(os.path.join(shared_cases.CORPUS, "published.pub")).decode().split("\n")[1]
+    record = base64.b64decode(bare)
+    said = run([program, "bare", bare])[1].decode()
+    checks.check(said == f"{record[2:10].hex()} {record[10:].hex()} <nil>\n", f"a key alone: {said}")
+    for text in (bare[:-1], bare[:-1] + "!", f"x\n{bare}"):
+        said = run([program, "bare", text])[1].decode()
+        checks.check("minisign: base64 conversion failed" in said, f"the key {text!r} alone: {said}")
+
+
+def check_readme(checks, go, room, package):
+    """The program of README.md accepts a file that its key has signed, and no other one."""
+    folder = os.path.join(room, "readme")
+    os.makedirs(folder)
+    block = re.search(r"```go\n(.*?)```", shared_cases.read(os.path.join(package, "README.md")).decode(), re.S)[1]
+    write(folder, "verify.go", block.encode())
+    write(folder, "main.go", b'package main\n\nimport "fmt"\n\nfunc main() {\n\tfmt.Println(verify("app"), verify("other"))\n}\n')
+    go.run(folder, "mod", "init", "readme")
+    go.run(folder, "mod", "edit", *USED)
+    go.run(folder, "build", "-o", "readme")
+    for name, of in (("app", "test"), ("app.minisig", "published.minisig"), ("other", "hello"), ("other.minisig", "published.minisig")):
+        shutil.copy(os.path.join(shared_cases.CORPUS, of), os.path.join(folder, name))
+    said = run([os.path.join(folder, "readme")], folder)[1]
+    checks.check(said == b"<nil> minisign: Signature verification failed\n", f"the program of README.md: {said!r}")
+
+
+def check_arm(checks, go, package):
+    """The package's own tests, built for AArch64 and run in an emulator."""
+    compiler, emulator = needs.program("aarch64-linux-gnu-gcc", "gcc-aarch64-linux-gnu"), needs.program("qemu-aarch64-static", "qemu-user-static")
+    root = "/usr/aarch64-linux-gnu"
+    needs.need(lambda: os.path.exists(f"{root}/lib/libc.so.6") or None, "the C library for AArch64", "libc6-dev-arm64-cross")
+    said = go.run(package, "test", "-count=1", "-v", "-exec", f"{emulator} -L {root}", "./...",
+                  environment={"GOARCH": "arm64", "CC": compiler})
+    checks.check(said.count("--- PASS: ") >= 4, f"go test for AArch64: {said[-500:]}")
+
+
+def check_many(checks, program, racing):
+    """Many calls take no more memory, and threads get the answers that one gets."""
+    lines = shared_cases.lines_of([it for it in shared_cases.corpus() + shared_cases.damaged(60) if len(it.data) < 20_000])
+    status, said, why = run([program, "growth", str(CALLS)], data=lines)
+    checks.check(status == 0 and int(said) <= PAGES, f"after {CALLS} calls {said!r} pages more are in memory: {why}")
+    for what, of in (("threads", program), ("threads under the race detector", racing)):
+        status, said, why = run([of, "threads"], data=lines)
+        checks.check((status, said, why) == (0, b"true\n", ""), f"{what}: {said!r}, {why[-1000:]}")
+
+
+def check_all(checks, room):
+    minisign = shared_cases.c_minisign(room)
+    package, go = shared_cases.copy_of("go", room, *NEEDED), Go(room)
+    checks.check(go.run(package, "vet", "./...") == "", "go vet has words")
+    formatted = run([shutil.which("gofmt") or os.path.join(os.path.dirname(go.go), "gofmt"), "-l", package])[1]
+    checks.check(formatted == b"", f"gofmt would change {formatted}")
+    for words in (["-race"], ["-tags", "amd64.v3"]):
+        said = go.run(package, "test", "-count=1", "-v", *words, "./...")
+        checks.check(said.count("--- PASS: ") >= 4 and "--- SKIP" not in said, f"go test {words}: {said[-500:]}")
+    folder = os.path.join(room, "answers")
+    os.makedirs(folder)
+    go.run(folder, "mod", "init", "answers")
+    go.run(folder, "mod", "edit", *USED)
+    shutil.copy(os.path.join(HERE, "go", "answers.go"), folder)
+    checks.check(go.run(folder, "vet", "./...") == "", "go vet has words of the program")
+    go.run(folder, "build", "-o", "answers")
+    go.run(folder, "build", "-race", "-o", "racing")
+    program, racing = (os.path.join(folder, name) for name in ("answers", "racing"))
+    check_answers(checks, program, room, minisign)
+    check_vectors(checks, program)
+    check_refusals(checks, program)
+    check_many(checks, program, racing)
+    check_readme(checks, go, room, package)
+    check_arm(checks, go, package)
+
+
+def main():
+    if sys.argv[1:] == ["--errors"]:
+        write(PACKAGE, "errors.go", errors_text().encode())
+        return 0
+    checks = Checks()
+    with tempfile.TemporaryDirectory(prefix="bindings-go-") as room:
+        try:
+            check_sources(checks)
+            check_all(checks, room)
+        except (needs.Missing, static_library.NotBuilt, OSError, ValueError, subprocess.SubprocessError) as why:
+            checks.check(False, f"it did not go on: {why!r}")
+    return checks.end()
+
+
+if __name__ == "__main__":
+    sys.exit(main())

@@ -1,0 +1,138 @@
+// What the package answers, as a program of its user: it stands in a folder beside `node_modules`.
+//
+//     node answers.mjs cases [legacy]    the cases of standard input, one on each line, in an order that they answer
+//     node answers.mjs pieces            the same, whose data comes in pieces in each way that there is
+//     node answers.mjs vectors           the vectors of Ed25519 of standard input, as JSON: a list of answers
+//     node answers.mjs threads           the same cases in four threads: what all of them answer, if it is the same
+//     node answers.mjs calls COUNT       so many calls: the memory in bytes after a tenth of them, and after all
+//     node answers.mjs wrong             what it says of arguments of other types
+
+import {Readable} from "node:stream";
+import {setFlagsFromString} from "node:v8";
+import {runInNewContext} from "node:vm";
+import {isMainThread, parentPort, Worker, workerData} from "node:worker_threads";
+
+import {ERRORS, MinisignError, verify} from "minisign-proved";
+
+const PIECE_LENGTHS = [1, 7, 127, 128, 129, 4096, 65536];
+const THREADS = 4;
+
+const hexOf = text => Buffer.from(text).toString("hex") || "-";
+const bytesOf = digits => new Uint8Array(Buffer.from(digits === "-" ? "" : digits, "hex"));
+
+async function textOfInput() {
+  const chunks = [];
+  for await (const chunk of process.stdin) {
+    chunks.push(chunk);
+  }
+  return Buffer.concat(chunks).toString();
+}
+
+const casesOf = text => text.split("\n").filter(line => line).map(line => line.split(" ").map(bytesOf));
+
+async function answerOf(data, signature, key, options) {
+  try {
+    return `accepted ${hexOf((await verify(data, signature, key, options)).trustedComment)}`;
+  } catch (why) {
+    if (!(why instanceof MinisignError) || ERRORS[why.code] !== why.number || !why.message) {
+      throw why;
+    }
+    return `refused ${why.code}`;
+  }
+}
+
+async function answersOf(cases, options) {
+  const answers = [];
+  for (const [key, data, signature] of cases) {
+    answers.push(await answerOf(data, signature, key, options));
+  }
+  return answers;
+}
+
+function* cut(data, lengths) {
+  for (let at = 0, turn = 0; at < data.length; turn += 1) {
+    const length = lengths[turn % lengths.length];
+    yield data.subarray(at, at + length);
+    at += length;
+  }
+}
+
+const streamOf = pieces => new ReadableStream({
+  pull(controller) {
+    const {done, value} = pieces.next();
+    done ? controller.close() : controller.enqueue(value.slice());
+  },
+});
+
+// The ways in which data comes, and a text as a string where it is one.
+async function answersInPieces(cases) {
+  const answers = [];
+  for (const [key, data, signature] of cases) {
+    const ways = [
+      data, data.slice().buffer, new DataView(data.buffer, data.byteOffset, data.length), new Blob([data]), cut(data, PIECE_LENGTHS),
+      streamOf(cut(data, PIECE_LENGTHS)), Readable.from(cut(Buffer.from(data), [1000])), streamOf(cut(data, [1])),
+      (async function* () { yield* cut(data, [300, 0, 1]); })(),
+    ];
+    const found = new Set(await Promise.all(ways.map(way => answerOf(way, signature, key))));
+    answers.push([...found].join(" and "));
+  }
+  return answers;
+}
+
+async function vectorAnswers(vectors) {
+  const {accepts} = await import(new URL("node_modules/minisign-proved/ed25519.js", import.meta.url));
+  return Promise.all(vectors.map(it => accepts(...[it.A, it.sig, it.msg].map(bytesOf))));
+}
+
+async function answersInThreads(text) {
+  const run = () => new Promise((resolve, reject) => {
+    const thread = new Worker(new URL(import.meta.url), {workerData: text});
+    thread.on("message", resolve);
+    thread.on("error", reject);
+  });
+  const found = await Promise.all(Array.from({length: THREADS}, run));
+  return found.every(it => it.join() === found[0].join()) ? found[0] : ["different answers"];
+}
+
+async function memoryOf(count, [[key, data, signature], [, other]]) {
+  setFlagsFromString("--expose-gc");
+  const collect = runInNewContext("gc");
+  const called = async () => {
+    if (await answerOf(data, signature, key) === await answerOf(other, signature, key)) {
+      throw new Error("the same answer to different data");
+    }
+  };
+  const some = async times => {
+    for (let at = 0; at < times; at += 50) {
+      await Promise.all(Array.from({length: 25}, called));
+    }
+    collect();
+    return process.memoryUsage().rss;
+  };
+  return [await some(count / 10), await some(count - count / 10)];
+}
+
+async function wrongAnswers([[key, data, signature]]) {
+  const tried = [
+    ["text", signature, key], [7, signature, key], [null, signature, key], [undefined, signature, key], [{}, signature, key],
+    [["text"], signature, key], [data, 7, key], [data, null, key], [data, signature, undefined], [data, new Uint8Array(65536), key],
+    [data, signature, "x".repeat(65536)],
+  ];
+  return Promise.all(tried.map(it => verify(...it).then(() => "accepted", why => why.name)));
+}
+
+if (isMainThread) {
+  const [what, word] = process.argv.slice(2);
+  const text = await textOfInput();
+  const run = {
+    cases: () => answersOf(casesOf(text), {allowLegacy: word === "legacy"}),
+    pieces: () => answersInPieces(casesOf(text)),
+    vectors: () => vectorAnswers(JSON.parse(text)),
+    threads: () => answersInThreads(text),
+    calls: () => memoryOf(Number(word), casesOf(text)),
+    wrong: () => wrongAnswers(casesOf(text)),
+  }[what];
+  process.stdout.write((await run()).map(it => `${it}\n`).join(""));
+} else {
+  parentPort.postMessage(await answersOf(casesOf(workerData)));
+}

@@ -1,0 +1,336 @@
+#!/usr/bin/env python3
+"""Builds the wheel of bindings/python from a copy of its folder and of what its README names, installs it into fresh environments
+without a network, and uses it as its user would, by libsodium and by the package `cryptography`.
+
+    tests/bindings/python.py
+
+Its answers are compared with those of `c/minisign`: the kept corpus, 500 damaged texts, data in pieces; and with those of libsodium:
+the signatures of Ed25519 that implementations answer differently. Also: the exceptions and structs are those of the header; the
+types hold; calls take no memory in the end; threads; keys and signatures of Minisign's own program; the examples of the README; the
+cases of tests/installer for `install`; and each of some planted bugs is noticed. It prints a line for each case that failed or was
+skipped; the last line is `N passed, M failed`.
+
+Needs Debian's Python with pip, venv, setuptools, wheel and cryptography, mypy, make, binutils, a C compiler, libsodium with its
+header, minisign and setfacl, and installs what is not there where it may.
+"""
+
+import base64
+import glob
+import os
+import re
+import shutil
+import subprocess
+import sys
+import tempfile
+import zipfile
+
+HERE = os.path.dirname(os.path.realpath(__file__))
+sys.path.append(os.path.join(HERE, "..", "shared"))
+
+import needs
+import python_installs
+import shared_cases as shared
+import static_library
+
+PYTHON = "/usr/bin/python3"
+USER = os.path.join(HERE, "python_user.py")
+PACKAGE = "minisign_proved"
+KINDS = ("libsodium", "cryptography")
+# (another test may have the processor for long)
+SECONDS = 1800
+
+
+def python_with(*modules):
+    """Debian's Python, where it has these modules."""
+    if not os.path.exists(PYTHON):
+        return None
+    look = f"import importlib.util, sys; sys.exit(any(importlib.util.find_spec(it) is None for it in {modules}))"
+    return PYTHON if subprocess.run([PYTHON, "-c", look]).returncode == 0 else None
+
+
+def python():
+    """The path of Debian's Python with all that the package is built and tried with."""
+    return needs.need(lambda: python_with("pip", "venv", "ensurepip", "setuptools", "wheel", "cryptography"),
+                      "Debian's Python with pip, venv, setuptools, wheel and cryptography", "python3-pip", "python3-venv",
+                      "python3-setuptools", "python3-wheel", "python3-cryptography")
+
+
+def build_wheel(checks, room):
+    """The wheel, built from a copy of the package's folder and what its README names; None where it was not built."""
+    package = shared.copy_of("python", os.path.join(room, "copy"), "c", "include", "dist")
+    command = [python(), "-m", "pip", "wheel", "-q", "--no-index", "--no-build-isolation", "--no-deps", "-w", room, package]
+    status, _, why = shared.run(command, environment={"PATH": static_library.path_without_kit()}, seconds=SECONDS)
+    wheels = glob.glob(os.path.join(room, "*.whl"))
+    if status != 0 or len(wheels) != 1:
+        checks.check(False, f"the wheel was not built: {why[-2000:]}")
+        return None
+    with zipfile.ZipFile(wheels[0]) as wheel:
+        names = {it.partition("/")[2] for it in wheel.namelist() if it.startswith(PACKAGE + "/")}
+        told = [wheel.read(it).decode() for it in wheel.namelist() if it.endswith("METADATA")][0]
+    sources = {os.path.basename(it) for it in glob.glob(os.path.join(package, "src", PACKAGE, "*.p*"))}
+    checks.check(names == sources | {"libminisign.so", "py.typed"}, f"the wheel has {sorted(names)}")
+    version = re.search(r'VERSION_TEXT "([^"]+)"', shared.read(shared.HEADER).decode())[1]
+    checks.check(f"\nVersion: {version}\n" in told, f"the header is of version {version}, and the wheel says {told[:200]}")
+    checks.check("Requires-Dist" not in told and "Name: minisign-proved\n" in told, f"the wheel says {told[:300]}")
+    checks.check(re.search(r"-py3-none-linux_(x86_64|aarch64)\.whl$", wheels[0]) is not None, f"the wheel is {wheels[0]}")
+    return wheels[0]
+
+
+def environment(room, name, wheel, *words):
+    """A fresh environment that has the wheel: its Python."""
+    path = os.path.join(room, name)
+    for command in ([python(), "-m", "venv", *words, path], [f"{path}/bin/pip", "install", "-q", "--no-index", wheel]):
+        status, _, why = shared.run(command, seconds=SECONDS)
+        if status != 0:
+            raise static_library.NotBuilt(f"{command}: {why[-1000:]}")
+    return os.path.join(path, "bin", "python")
+
+
+class User:
+    """Runs the program of a user, by one kind of Ed25519."""
+
+    def __init__(self, python_path, kind, changed=""):
+        self.kind = kind
+        self.python, self.environment = python_path, {"PYTHONPATH": changed, "PYTHONDONTWRITEBYTECODE": "1"}
+
+    def run(self, word, *rest, data=b""):
+        return shared.run([self.python, USER, word, self.kind, *rest], environment=self.environment, data=data, seconds=SECONDS)
+
+    def checks(self, checks, word, room):
+        """What the program checks itself."""
+        status, said, why = self.run(word, room)
+        lines = said.decode(errors="replace").splitlines()
+        last = re.fullmatch(r"(\d+) passed, (\d+) failed", lines[-1] if lines else "")
+        if last is None or status not in (0, 1):
+            checks.check(False, f"{word}, {self.kind}: it ended with status {status}: {why[-500:]}")
+            return
+        for _ in range(int(last[1])):
+            checks.check(True, word)
+        for line in lines[:-1]:
+            checks.check(False, f"{word}, {self.kind}: {line.removeprefix('FAILED: ')}")
+
+
+# ---- What is compared ----
+
+
+def check_header(checks, room, python_path):
+    """The exceptions, the numbers, the structs and their fields are the header's."""
+    made = os.path.join(shared.TOP, "bindings", "python", "make_header.py")
+    sources = os.path.join(shared.TOP, "bindings", "python", "src", PACKAGE)
+    status, said, why = shared.run([python_path, made, "--check", shared.HEADER, sources])
+    checks.check(status == 0, f"made from the header: {said.decode()}{why}")
+    told = f"""
+import ctypes
+from {PACKAGE} import _header, errors
+for number, kind in errors.BY_NUMBER.items():
+    print("error", number, kind.__name__)
+for name, struct in vars(_header).items():
+    if isinstance(struct, type) and issubclass(struct, ctypes.Structure) and struct is not ctypes.Structure:
+        print("place", name, ctypes.sizeof(struct))
+        for field, _ in struct._fields_:
+            print("place", f"{{name}}.{{field}}", getattr(struct, field).offset)
+"""
+    _, said, why = shared.run([python_path, "-c", told])
+    lines = [line.split() for line in said.decode().splitlines()]
+    errors = {int(it[1]): it[2] for it in lines if it[0] == "error"}
+    wanted = {number: class_name(name) for name, number in shared.error_numbers().items() if number != 0}
+    checks.check(errors == wanted, f"the exceptions are {errors}: {why}")
+    places = {it[1]: int(it[2]) for it in lines if it[0] == "place"}
+    layout = {class_name(name.partition(".")[0].removeprefix("minisign_")) + "".join(name.partition(".")[1:]): at
+              for name, at in shared.layout(room).items()}
+    checks.check(places == layout, f"the structs are {places}, and in C {layout}")
+
+
+def class_name(name):
+    return "".join(word.capitalize() for word in name.split("_"))
+
+
+def check_types(checks, python_path):
+    mypy = needs.program("mypy", "mypy")
+    installed = glob.glob(os.path.join(os.path.dirname(python_path), "..", "lib", "python3*", "site-packages", PACKAGE))[0]
+    for what in (installed, USER):
+        status, said, why = shared.run([mypy, "--strict", "--cache-dir=/dev/null", "--python-executable", python_path, what])
+        checks.check(status == 0, f"types of {os.path.basename(what)}: {said.decode()[-1000:]}{why[-300:]}")
+
+
+def wanted_answers(program, room):
+    """What `c/minisign` answers: to the corpus, to damaged texts, to vectors of Ed25519 as cases, and to large data, with legacy
+    signatures or without."""
+    kinds = (("corpus", shared.corpus()), ("damaged", shared.damaged()), ("vectors as texts", shared.vector_cases()),
+             ("large", shared.large(program, room)))
+    return [(what, cases, word, shared.answers_of(program, room, cases, word == "allow")) for what, cases in kinds
+            for word in ("allow", "refuse")]
+
+
+def check_answers(checks, user, answered):
+    """The corpus, the damaged texts, data in pieces, and each refusal by its name."""
+    for what, cases, word, wanted in answered:
+        _, said, why = user.run("answers", word, data=shared.lines_of(cases))
+        shared.compare(checks, f"{what}, {user.kind}, {word} {why[-300:]}", cases, said, wanted)
+        if what in ("corpus", "large") and word == "allow":
+            _, said, why = user.run("pieces", data=shared.lines_of(cases))
+            shared.compare(checks, f"pieces, {user.kind} {why[-300:]}", cases, said, wanted)
+    refused = list(shared.refusals())
+    _, said, why = user.run("answers", "refuse", data=shared.lines_of([case for case, _ in refused]))
+    for (case, name), line in zip(refused, said.decode().splitlines()):
+        checks.check(line == f"refused {class_name(name)}", f"{user.kind}, {case.name}: {line} in place of {name}")
+    checks.check(said.count(b"\n") == len(refused), f"{user.kind}: not an answer to each refusal: {why[-300:]}")
+
+
+def check_vectors(checks, user):
+    vectors = shared.vectors()
+    lines = "".join(f"{key.hex()} {message.hex() or '-'} {signature.hex()}\n" for _, key, signature, message, _ in vectors)
+    _, said, why = user.run("vectors", data=lines.encode())
+    answers = said.decode().splitlines()
+    checks.check(len(answers) == len(vectors) >= 293, f"vectors, {user.kind}: {len(answers)} answers: {why[-500:]}")
+    for (name, *_, is_accepted), line in zip(vectors, answers):
+        checks.check(line == ("yes" if is_accepted else "no"), f"vectors, {user.kind}, {name}: {line}")
+
+
+# ---- Keys ----
+
+
+def prepare_keys(room):
+    """What the checks of keys find: a key and a signature of Minisign's own program, a damaged one, and one that asks for much."""
+    minisign = needs.minisign()
+    shared.write(room, "data", b"what is signed")
+    for words in (["-G", "-W", "-p", "theirs.pub", "-s", "theirs.key"],
+                  ["-S", "-s", "theirs.key", "-m", "data", "-x", "theirs.minisig", "-t", "by Minisign"]):
+        if shared.run([minisign, *words], folder=room)[0] != 0:
+            raise static_library.NotBuilt(f"minisign {words}")
+    first, second = shared.read(os.path.join(room, "theirs.key")).splitlines()
+    record = bytearray(base64.b64decode(second))
+    record[94] ^= 1
+    shared.write(room, "damaged.key", first + b"\n" + base64.b64encode(record) + b"\n")
+    # (the limits of a derivation that is made many times)
+    sealed = b"EdScB2" + bytes(32) + (2**40).to_bytes(8, "little") + (2**24).to_bytes(8, "little") + bytes(104)
+    shared.write(room, "many.key", first + b"\n" + base64.b64encode(sealed) + b"\n")
+
+
+def check_keys(checks, user, room):
+    """The checks of keys; then Minisign's own program looks at what they have made."""
+    os.mkdir(room)
+    prepare_keys(room)
+    user.checks(checks, "keys", room)
+    minisign = needs.minisign()
+    for key, signature in (("theirs.pub", "ours-by-theirs.minisig"), ("theirs-again.pub", "ours-by-theirs.minisig"), ("ours.pub", "data.minisig")):
+        status, _, why = shared.run([minisign, "-V", "-q", "-p", key, "-m", "data", "-x", signature], folder=room)
+        checks.check(status == 0, f"keys, {user.kind}: Minisign refuses {signature} under {key}: {why}")
+    status, _, why = shared.run([minisign, "-S", "-s", "ours.key", "-m", "data", "-x", "theirs-by-ours.minisig"], folder=room)
+    checks.check(status == 0, f"keys, {user.kind}: Minisign does not sign with our key: {why}")
+    status, _, why = shared.run([minisign, "-V", "-p", "ours.pub", "-m", "data", "-x", "theirs-by-ours.minisig"], folder=room)
+    checks.check(status == 0, f"keys, {user.kind}: Minisign refuses what it has signed with our key: {why}")
+
+
+# ---- The README ----
+
+
+def check_examples(checks, python_path, room):
+    """The examples of the README, one behind the other, in a folder with what they name."""
+    text = shared.read(os.path.join(shared.TOP, "bindings", "python", "README.md")).decode()
+    examples = "\n".join(re.findall(r"^```python\n(.*?)^```$", text, re.M | re.S))
+    os.makedirs(os.path.join(room, "there"))
+    minisign = needs.minisign()
+    for name, data in (("app-2", b"version 2"), ("app-3", b"version 3"), ("data", b"data")):
+        shared.write(room, name, data)
+    shared.run([minisign, "-G", "-W", "-p", "app.pub", "-s", "app.key"], folder=room)
+    for name, comment in (("app-2", "version:2\tfile:app"), ("data", "data")):
+        shared.run([minisign, "-S", "-s", "app.key", "-m", name, "-t", comment], folder=room)
+    status, _, why = shared.run([python_path, "-c", examples], folder=room)
+    checks.check(status == 0 and shared.read(os.path.join(room, "there", "app")) == b"version 2", f"the examples of the README: {why[-500:]}")
+    status, _, why = shared.run([minisign, "-V", "-p", "new.pub", "-m", "app-3"], folder=room)
+    checks.check(status == 0, f"what the example has signed: {why}")
+
+
+# ---- Planted bugs ----
+
+# The file, what is changed in it, and the checks of the user's program that have to notice it.
+BUGS = [
+    ("_calls.py", "if it is True else h.ANSWER_NO for it in both", "if it is not None else h.ANSWER_NO for it in both", "answers"),
+    ("_calls.py", "self.message, key)\n", "self.message, key) or True\n", "answers"),
+    ("_calls.py", "1 if allow_legacy else 0", "1", "answers"),
+    ("_calls.py", "    Verification(self._key.public_key()", "    False and Verification(self._key.public_key()", "keys"),
+    ("_ed25519.py", "second >= PRIME or second in SMALL_ORDER", "second in SMALL_ORDER", "vectors"),
+    ("_ed25519.py", "second >= PRIME or second in SMALL_ORDER", "second >= PRIME", "vectors"),
+    ("_ed25519.py", "is_refused(key) or is_refused(signature[:32]) or", "is_refused(key) or", "vectors"),
+    ("_verifying.py", "                self._held.append(piece)", "                self._held = [piece]", "pieces"),
+    ("_verifying.py", "        with self._turn:\n            self._verification.update(piece)", "        if True:\n            self._verification.update(piece)",
+     "threads"),
+    ("_verifying.py", "    if len(text) > TEXT_BYTES:", "    if len(text) > 2 * TEXT_BYTES:", "keys"),
+    ("_calls.py", "            ctypes.memset(pair, 0, ctypes.sizeof(pair))", "            pass", "keys"),
+    ("_verifying.py", "bytes(memoryview(piece))", "bytes(piece)", "keys"),
+    ("_signing.py", "        os.replace(fresh, path)", "        pass", "keys"),
+    ("_signing.py", "    path = os.path.realpath(path)", "    path = os.fspath(path)", "keys"),
+    ("installing.py", "isinstance(why, TROUBLES)", "isinstance(why, errors.MinisignError)", "installing"),
+    ("_signing.py", "os.O_EXCL | os.O_CLOEXEC, 0o600", "os.O_TRUNC | os.O_CLOEXEC, 0o644", "keys"),
+    ("installing.py", "            os.closerange(fd, fd + 1)", "            pass", "installing"),
+    ("installing.py", "        except BaseException as why:", "        except OSError as why:", "installing"),
+    ("installing.py", "numbering: str = \"timestamp\"", "numbering: str = \"version\"", "installing"),
+]
+
+
+def is_noticed(user, word, room):
+    """Whether a check fails over a changed package."""
+    checks = shared.Checks()
+    if word == "answers":
+        refused = list(shared.refusals())
+        said = user.run("answers", "refuse", data=shared.lines_of([case for case, _ in refused]))[1].decode().splitlines()
+        return said != [f"refused {class_name(name)}" for _, name in refused]
+    if word == "pieces":
+        return b"differs" in user.run("pieces", data=shared.lines_of(shared.corpus()))[1]
+    if word == "vectors":
+        check_vectors(checks, user)
+    elif word == "keys":
+        check_keys(checks, user, os.path.join(room, "keys"))
+    else:
+        user.checks(checks, word, room)
+    return bool(checks.failures)
+
+
+def check_planted(checks, python_path, room):
+    installed = glob.glob(os.path.join(os.path.dirname(python_path), "..", "lib", "python3*", "site-packages", PACKAGE))[0]
+    for file, old, new, word in BUGS:
+        with tempfile.TemporaryDirectory(dir=room) as own:
+            shutil.copytree(installed, os.path.join(own, PACKAGE))
+            path = os.path.join(own, PACKAGE, file)
+            text = shared.read(path).decode()
+            shared.write(os.path.dirname(path), file, text.replace(old, new).encode())
+            found = text.count(old) == 1 and is_noticed(User(python_path, "cryptography", own), word, own)
+            checks.check(found, f"planted in {file}, and not noticed by {word}: {new.strip()[:80]}")
+
+
+def main():
+    checks = shared.Checks()
+    with tempfile.TemporaryDirectory(prefix="bindings-python-") as room:
+        # (some runs are made as nobody)
+        os.chmod(room, 0o711)
+        try:
+            program = shared.c_minisign(room)
+            wheel = build_wheel(checks, room)
+            if wheel is None:
+                return checks.end()
+            alone = environment(room, "alone", wheel)
+            beside = environment(room, "beside", wheel, "--system-site-packages")
+            check_header(checks, room, alone)
+            check_types(checks, beside)
+            check_examples(checks, alone, os.path.join(room, "examples"))
+            answered = wanted_answers(program, room)
+            for kind, python_path in zip(KINDS, (alone, beside)):
+                user, own = User(python_path, kind), os.path.join(room, kind)
+                os.mkdir(own)
+                check_vectors(checks, user)
+                check_answers(checks, user, answered)
+                for word in ("memory", "threads", "installing", *(["passwords"] if kind == KINDS[0] else [])):
+                    user.checks(checks, word, own)
+                check_keys(checks, user, os.path.join(own, "keys"))
+            check_planted(checks, beside, room)
+            inside = os.path.join(room, "installs")
+            os.mkdir(inside)
+            python_installs.run_all(checks.check, alone, inside)
+        except (needs.Missing, static_library.NotBuilt, OSError, ValueError, subprocess.SubprocessError) as why:
+            checks.check(False, f"it did not go on: {why!r}")
+    return checks.end()
+
+
+if __name__ == "__main__":
+    sys.exit(main())

@@ -1,0 +1,66 @@
+"""The cases of tests/installer for `install` of the Python package, by the program `python_installing.py`.
+
+Needs Python 3.9 or later, minisign, a C compiler and setfacl, which are installed where that is allowed.
+"""
+
+import os
+import subprocess
+import sys
+
+HERE = os.path.dirname(os.path.realpath(__file__))
+sys.path += [os.path.join(HERE, "..", it) for it in ("shared", "tool", "installer")]
+
+from installers import RECORD, RealInstaller
+from installing import Installing, cases, word_cases
+from running import Failure, Skip
+
+PROGRAM = os.path.join(HERE, "python_installing.py")
+
+
+class PythonInstaller(RealInstaller):
+    """`install` of the Python package, with a key that Minisign's own program makes in this folder."""
+
+    name = "minisign-install"
+    # (files are closed by a call that ignores failures)
+    failing = ("open", "openat", "write", "fsync", "renameat", "pread", "flock", "readdir", "fchmod", "fstat", "fstatat", "getrandom",
+               "fgetxattr", "fremovexattr")
+    # (Python itself makes interrupted calls again)
+    interrupted = ()
+    # The listing of the folder opens nothing, and that the record is read back is told as that.
+    calls = RealInstaller.calls.replace(f"open .\nopen {RECORD}\n", f"open {RECORD}\n")
+
+
+# What needs the words or the messages of a program, and not of a function.
+LEFT_OUT = ("progress at a terminal", "a closed error stream", "memory that is refused")
+
+
+def installer(python, room):
+    """The runs of the program by a Python that has the package."""
+    program = os.path.join(room, "installing.py")
+    with open(PROGRAM, encoding="utf-8") as file:
+        text = file.read()
+    with open(program, "w", encoding="utf-8") as file:
+        file.write(f"#!{python}\n{text}")
+    os.chmod(program, 0o755)
+    it = Installing(program, PythonInstaller(room), room)
+    # (its calls are broken and traced by the program itself)
+    it.preload = it.trace = ""
+    return it
+
+
+def chosen_cases(it):
+    words = {name for name, _ in word_cases(it)} | set(LEFT_OUT)
+    kept = {"a name that begins with a dash", "another name than the signed one"}
+    return [(name, case) for name, case in cases(it) if name not in words - kept]
+
+
+def run_all(check, python, room):
+    """Runs the cases, each of which is checked."""
+    for name, case in chosen_cases(installer(python, room)):
+        try:
+            case()
+            check(True, name)
+        except Skip as why:
+            print(f"skipped: installing: {name}: {why}")
+        except (Failure, subprocess.SubprocessError) as why:
+            check(False, f"installing: {name}: {why}")

@@ -1,0 +1,343 @@
+"""What a user of the Python package does, in a Python that has it installed: `python.py` runs it. With the word `answers`, `pieces` or
+`vectors` it answers a line for each case that it reads; with another one it checks, and its last line is `N passed, M failed`.
+
+Needs Python 3.9 or later.
+"""
+
+import io
+import os
+import random
+import sys
+import threading
+from typing import IO, Callable, Iterator, List, Tuple, Type, cast
+
+import minisign_proved as minisign
+from minisign_proved import PublicKey, SecretKey, Signature, Verifier, _calls, _ed25519
+
+# What so many calls may take more memory than the first ones, in KiB.
+CALLS, FIRST_CALLS, MOST_GROWTH = {"libsodium": 100_000, "cryptography": 10_000}, 5_000, 512
+passed, failures = 0, []  # type: int, List[str]
+
+
+def check(holds: bool, what: str) -> None:
+    global passed
+    passed += holds
+    if not holds:
+        failures.append(what)
+
+
+def refuses(kind: Type[BaseException], call: Callable[[], object], what: str) -> None:
+    """Checks that a call raises an exception of just this kind."""
+    try:
+        call()
+    except BaseException as why:
+        check(type(why) is kind, f"{what}: {why!r} in place of {kind.__name__}")
+    else:
+        check(False, f"{what}: it is not refused")
+
+
+# ---- Cases that are read ----
+
+
+def read_cases() -> Iterator[Tuple[bytes, bytes, bytes]]:
+    for line in sys.stdin:
+        key, data, signature = (bytes.fromhex(it.strip("-\n")) for it in line.split(" "))
+        yield key, data, signature
+
+
+def answer(verify: Callable[[], str]) -> str:
+    try:
+        return f"accepted {verify().encode().hex() or '-'}"
+    except minisign.MinisignError as why:
+        return f"refused {type(why).__name__}"
+
+
+def answers(allow_legacy: bool) -> None:
+    for key, data, signature in read_cases():
+        print(answer(lambda: PublicKey(key).verify(data, Signature(signature), allow_legacy)))
+
+
+def cut(data: bytes, choose: random.Random) -> Iterator[bytes]:
+    """The data in pieces of any length, also of none."""
+    at = 0
+    while at < len(data):
+        length = choose.choice((0, 1, 63, 64, 65, 127, 128, 129, choose.randrange(1, 70000)))
+        yield data[at:at + length]
+        at += length
+
+
+def pieces() -> None:
+    """Answers once where all ways to feed the data have the same answer."""
+    choose = random.Random(3)
+    for key, data, text in read_cases():
+        signature = Signature(text)
+
+        def in_pieces(kind: Callable[[bytes], bytes]) -> str:
+            verifier = Verifier(PublicKey(key), signature, True)
+            for piece in cut(data, choose):
+                verifier.update(kind(piece))
+            return verifier.finish()
+
+        ways: List[Callable[[], str]] = [
+            lambda: PublicKey(key).verify(data, signature, True),
+            lambda: PublicKey(key).verify(io.BytesIO(data), signature, True),
+            lambda: PublicKey(key).verify(cut(data, choose), signature, True),
+            lambda: in_pieces(bytes), lambda: in_pieces(bytearray), lambda: in_pieces(memoryview)]
+        found = {answer(it) for it in ways}
+        print(found.pop() if len(found) == 1 else f"differs {found}")
+
+
+def vectors() -> None:
+    kind = _ed25519.ed25519()
+    for key, message, signature in read_cases():
+        print("yes" if kind.accepts(signature, message, key) is True else "no")
+
+
+# ---- Memory and threads ----
+
+
+def resident() -> int:
+    with open("/proc/self/statm", encoding="ascii") as file:
+        return int(file.read().split()[1]) * os.sysconf("SC_PAGESIZE") // 1024
+
+
+def memory(room: str) -> None:
+    key = SecretKey.generate()
+    path = os.path.join(room, "data")
+    with open(path, "wb") as file:
+        file.write(b"data" * 500)
+    signature, public = key.sign(path), key.public_bytes()
+    calls: List[Callable[[], object]] = [
+        lambda: PublicKey(public).verify(b"data" * 500, signature), lambda: key.public_key.verify(b"other", signature),
+        lambda: minisign.verify(path, key.public_key, signature), lambda: PublicKey(b"no key"),
+        lambda: Verifier(key.public_key, Signature(b"no signature")), lambda: key.public_bytes(),
+        lambda: PublicKey.from_base64(public.split(b"\n")[1].decode()), lambda: key.sign(path) if random.random() < 0.1 else None]
+    grown, count = 0, CALLS[sys.argv[2]]
+    for number in range(FIRST_CALLS + count):
+        if number == FIRST_CALLS:
+            grown = resident()
+        try:
+            calls[number % len(calls)]()
+        except minisign.MinisignError:
+            pass
+    grown = resident() - grown
+    check(grown <= MOST_GROWTH, f"{count} calls took {grown} KiB")
+
+
+def threads(room: str) -> None:
+    key, piece, wrong = SecretKey.generate(), os.urandom(400_000), []
+    path = write(room, "data", piece)
+    signature = key.sign(path, trusted_comment="in threads")
+    for_all = key.sign(write(room, "all", piece * 160), trusted_comment="by all")
+
+    def run(own: int) -> None:
+        data = bytes([own]) * 50_000
+        mine = os.path.join(room, f"data-{own}")
+        with open(mine, "wb") as file:
+            file.write(data)
+        for number in range(20):
+            made = key.sign(mine, trusted_comment=f"{own} {number}")
+            if key.public_key.verify(data, made) != f"{own} {number}" or minisign.verify(path, key.public_key, signature) != "in threads":
+                wrong.append(own)
+
+    def feed(verifier: Verifier) -> None:
+        for _ in range(20):
+            verifier.update(piece)
+
+    shared = Verifier(key.public_key, for_all)
+    started = [threading.Thread(target=run, args=(it,)) for it in range(8)]
+    started += [threading.Thread(target=feed, args=(shared,)) for _ in range(8)]
+    for thread in started:
+        thread.start()
+    for thread in started:
+        thread.join()
+    check(not wrong, f"threads: {wrong} verified something else")
+    check(answer(shared.finish) == f"accepted {b'by all'.hex()}", "threads: one verifier that eight fed")
+    refuses(minisign.NotBegun, shared.finish, "a verifier that was finished before")
+
+
+# ---- Keys and signing ----
+
+
+def write(room: str, name: str, data: bytes) -> str:
+    path = os.path.join(room, name)
+    with open(path, "wb") as file:
+        file.write(data)
+    return path
+
+
+def keys(room: str) -> None:
+    """Keys and signatures, also those that Minisign's own program has made in this folder and will look at."""
+    data = write(room, "data", b"what is signed")
+    theirs = SecretKey.from_file(os.path.join(room, "theirs.key"))
+    check(theirs.public_key == PublicKey.from_file(os.path.join(room, "theirs.pub")), "the public key of Minisign's key")
+    check(minisign.verify(data, theirs.public_key, Signature.from_file(os.path.join(room, "theirs.minisig"))) == "by Minisign", "Minisign's signature")
+    write(room, "theirs-again.pub", theirs.public_bytes())
+    write(room, "ours-by-theirs.minisig", theirs.sign(data, trusted_comment="by Python").text)
+    refuses(minisign.KeyNotSealed, lambda: SecretKey.from_file(os.path.join(room, "theirs.key"), "pw"), "a password for a key without one")
+
+    key = SecretKey.generate()
+    check(key.public_key.key_id == PublicKey(key.public_bytes()).key_id and len(key.public_key.key) == 32, "the parts of a public key")
+    check(key.public_key == PublicKey.from_base64(key.public_bytes().split(b"\n")[1].decode()), "a key from its base64 alone")
+    check(key.public_key != SecretKey.generate().public_key and key.public_key != 1, "another key")
+    check(len({key.public_key, PublicKey(key.public_bytes())}) == 1, "keys in a set")
+    write(room, "ours.pub", key.public_bytes())
+    write(room, "ours.key", key.to_bytes(None))
+    check(SecretKey.from_file(os.path.join(room, "ours.key")).public_key == key.public_key, "a key that was not sealed")
+    made = minisign.sign(data, key, trusted_comment="by Python \u00e9", untrusted_comment="another comment")
+    check(Signature.from_file(data + ".minisig").text == made.text, "the file of a signature")
+    seen: List[Tuple[int, int]] = []
+    check(minisign.verify(data, key.public_key, progress=lambda done, size: seen.append((done, size))) == "by Python \u00e9", "our own signature")
+    check(seen == [(14, 14)], f"progress: {seen}")
+    default = key.public_key.verify(b"what is signed", key.sign(data))
+    check(default.startswith("timestamp:") and default.endswith("\tfile:data\thashed"), f"the comment by default: {default}")
+    check(made.text.startswith(b"untrusted comment: another comment\n"), "the untrusted comment")
+    for kind, comment in ((minisign.BadComment, "a\nb"), (minisign.BadComment, " a"), (minisign.UnreadableComment, "a\0b"),
+                          (minisign.UnreadableComment, "x" * 9000), (minisign.NotUtf8, "\udcff")):
+        refuses(kind, lambda comment=comment: key.sign(data, trusted_comment=comment), f"the comment {comment[:9]!r}")  # type: ignore[misc]
+
+    minisign.change_password(os.path.join(room, "ours.key"), None, None)
+    check(os.stat(os.path.join(room, "ours.key")).st_mode & 0o777 == 0o600, "the mode of a key that was written again")
+    with SecretKey.from_file(os.path.join(room, "ours.key")) as opened:
+        check(opened.public_key == key.public_key, "a key that was written again")
+    refuses(minisign.KeyNotOpened, lambda: opened.sign(data), "a key that was cleared")
+    other = write(room, "many.key", open(os.path.join(room, "many.key"), "rb").read())
+    refuses(minisign.WorkTooHigh, lambda: SecretKey.from_file(other, "x"), "a key that asks for much work")
+
+    damaged = write(room, "damaged.key", open(os.path.join(room, "damaged.key"), "rb").read())
+    refuses(minisign.SignatureRefused, lambda: SecretKey.from_file(damaged).sign(data), "a key whose halves do not belong together")
+    link, away = os.path.join(room, "link.key"), os.path.join(room, "away")
+    os.symlink("ours.key", link)
+    minisign.change_password(link, None, None)
+    check(os.path.islink(link) and SecretKey.from_file(link).public_key == key.public_key, "a key that a link leads to, written again")
+    os.mkdir(away)
+    write(away, "app.key", key.to_bytes(None))
+    replace, found = os.replace, os.listdir(away)
+    os.replace = lambda *_: (_ for _ in ()).throw(PermissionError())
+    refuses(PermissionError, lambda: minisign.change_password(os.path.join(away, "app.key"), None, None), "a key that cannot be replaced")
+    os.replace = replace
+    check(os.listdir(away) == found, f"beside a key that was not replaced: {os.listdir(away)}")
+    opening = os.open
+    os.open = lambda *_: (_ for _ in ()).throw(PermissionError())
+    refuses(PermissionError, lambda: minisign.change_password(os.path.join(away, "app.key"), None, None), "a folder that nothing is written into")
+    os.open = opening
+    pair = _ed25519.ed25519().pair()
+    taken = _calls.SecretKey(pair)
+    check(bytes(pair) == bytes(64) and any(taken._key.secret), "the pair that a key was made of is not cleared")
+    taken.clear()
+    check(not any(taken._key.secret), "a key that was cleared has its secret")
+
+    fresh = os.path.join(room, "fresh.key")
+    minisign.write_new(fresh, b"text")
+    check(os.stat(fresh).st_mode & 0o777 == 0o600, "the mode of a new file")
+    refuses(FileExistsError, lambda: minisign.write_new(fresh, b"other"), "a file that is there")
+
+    for wrong in (3, "text", None):
+        refuses(TypeError, lambda wrong=wrong: Verifier(key.public_key, made).update(wrong), f"a piece that is {wrong!r}")  # type: ignore[misc]
+        refuses(TypeError, lambda wrong=wrong: key.public_key.verify([wrong], made), f"data that has {wrong!r}")  # type: ignore[misc]
+    check(key.public_key.verify(b"", key.sign(write(room, "empty", b""), trusted_comment="empty")) == "empty", "an empty file")
+
+    refuses(minisign.TooLong, lambda: PublicKey.from_file(write(room, "long", bytes(1 << 20 | 1))), "a text of more than 1 MiB")
+    refuses(FileNotFoundError, lambda: minisign.verify(os.path.join(room, "none"), key.public_key), "a file that is not there")
+    check(issubclass(minisign.WrongPassword, minisign.MinisignError) and minisign.WrongPassword.number > 0, "the kinds of errors")
+
+
+def passwords(room: str) -> None:
+    """A sealed key, and another password for it: each derivation takes a second or more."""
+    key = SecretKey.generate()
+    sealed = write(room, "sealed.key", key.to_bytes("pass \u00e9", low_memory=True))
+    for password, wrong in ((None, minisign.KeySealed), ("pass", minisign.WrongPassword)):
+        refuses(wrong, lambda password=password: SecretKey.from_file(sealed, password), f"the password {password}")  # type: ignore[misc]
+    before = open(sealed, "rb").read()
+    refuses(minisign.WrongPassword, lambda: minisign.change_password(sealed, "old", "newer"), "a change with a wrong password")
+    check(open(sealed, "rb").read() == before, "a key whose password was not changed")
+    minisign.change_password(sealed, "pass \u00e9", "new")
+    check(os.stat(sealed).st_mode & 0o777 == 0o600, "the mode of a key whose password was changed")
+    check(not [it for it in os.listdir(room) if it.startswith("sealed.key.")], "a file beside the key is left")
+    check(SecretKey.from_file(sealed, "new").public_key == key.public_key, "a key whose password was changed")
+
+
+def installing(room: str) -> None:
+    """What the cases of tests/installer cannot say: files of other kinds, and what stops a run from within Python."""
+    key, folder = SecretKey.generate(), os.path.join(room, "there")
+    os.mkdir(folder)
+    place = os.path.join(folder, "app")
+
+    def signed(data: bytes, comment: str) -> Signature:
+        return key.sign(write(room, "update", data), trusted_comment=comment)
+
+    def state() -> Tuple[object, object, List[str]]:
+        read = [open(it, "rb").read() if os.path.exists(it) else None for it in (place, os.path.join(folder, ".app.number"))]
+        return read[0], read[1], [it for it in os.listdir(folder) if "stage" in it]
+
+    one, two = signed(b"one", "version:1\tfile:app"), signed(b"two", "version:2\tfile:app")
+    seen: List[Tuple[int, int]] = []
+    minisign.install(key.public_key, io.BytesIO(b"one"), one, place, first=True, numbering="version", progress=lambda done, size: seen.append((done, size)))
+    check(state() == (b"one", b"version:1", []), f"data in memory: {state()}")
+    check(bool(seen), "progress of an installation")
+
+    class Stops(Exception):
+        pass
+
+    def stop(done: int, size: int) -> None:
+        raise Stops()
+
+    path = write(room, "update", b"two")
+    refuses(Stops, lambda: minisign.install(key.public_key, path, two, place, numbering="version", progress=stop), "what progress raises")
+    check(state() == (b"one", b"version:1", []), f"after progress raised: {state()}")
+
+    def refuse(done: int, size: int) -> None:
+        raise minisign.SignatureRefused()
+
+    refuses(minisign.WritingFailed, lambda: minisign.install(key.public_key, path, two, place, numbering="version", progress=refuse),
+            "an error of the package that progress raises")
+    check(state() == (b"one", b"version:1", []), f"after progress raised an error of the package: {state()}")
+    waits, end = os.pipe()
+    os.set_blocking(waits, False)
+    with open(waits, "rb", buffering=0) as pipe:
+        refuses(minisign.ReadingFailed, lambda: minisign.install(key.public_key, pipe, two, place, numbering="version"), "a pipe that has nothing yet")
+    os.close(end)
+    check(state() == (b"one", b"version:1", []), f"after a pipe that had nothing yet: {state()}")
+
+    class Interrupted(io.RawIOBase):
+        def fileno(self) -> int:
+            return file.fileno()
+
+        def read(self, size: int = -1) -> bytes:
+            raise KeyboardInterrupt()
+
+    with open(path, "rb") as file:
+        refuses(KeyboardInterrupt, lambda: minisign.install(key.public_key, cast("IO[bytes]", Interrupted()), two, place, numbering="version"),
+                "a run that is interrupted")
+    check(state() == (b"one", b"version:1", []), f"after an interruption: {state()}")
+    with open(path, "rb") as file:
+        minisign.install(key.public_key, file, two, place, numbering="version", mode=0o755)
+    check(state() == (b"two", b"version:2", []) and os.stat(place).st_mode & 0o777 == 0o755, f"a file that is open: {state()}")
+    refuses(minisign.OlderUpdate, lambda: minisign.install(key.public_key, io.BytesIO(b"one"), one, place, numbering="version"), "an older update")
+    refuses(minisign.KeptByVersion, lambda: minisign.install(key.public_key, path, two, place), "the other field")
+    for wrong in ("", ".", "..", folder + "/"):
+        refuses(ValueError, lambda wrong=wrong: minisign.install(key.public_key, path, two, wrong), f"the place {wrong!r}")  # type: ignore[misc]
+    refuses(KeyError, lambda: minisign.install(key.public_key, path, two, place, numbering="date"), "a field that there is not")
+    refuses(FileNotFoundError, lambda: minisign.install(key.public_key, path, two, os.path.join(room, "none", "app")), "no folder")
+    opened = len(os.listdir("/proc/self/fd"))
+    for _ in range(20):
+        minisign.install(key.public_key, path, two, place, numbering="version")
+    check(len(os.listdir("/proc/self/fd")) == opened, "descriptors stay open")
+
+
+def main() -> int:
+    word, kind, *rest = sys.argv[1:]
+    if kind != "default":
+        minisign.use_ed25519(kind)
+    if word in ("answers", "pieces", "vectors"):
+        {"answers": lambda: answers(rest == ["allow"]), "pieces": pieces, "vectors": vectors}[word]()
+        return 0
+    {"memory": memory, "threads": threads, "keys": keys, "passwords": passwords, "installing": installing}[word](rest[0])
+    for failure in failures:
+        print(f"FAILED: {failure}")
+    print(f"{passed} passed, {len(failures)} failed")
+    return 1 if failures else 0
+
+
+if __name__ == "__main__":
+    sys.exit(main())

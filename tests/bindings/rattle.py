@@ -1,0 +1,123 @@
+#!/usr/bin/env python3
+"""Builds the caller of examples/rattle in a copy, beside the crates that it stands on, and verifies files with keys of Minisign's own
+program: what was signed is accepted, and what was changed is refused.
+
+    tests/bindings/rattle.py
+
+It prints a line for each failure; the last line is `N passed, M failed`.
+
+Needs Python 3.9 or later, the Rattle kit, a C compiler, libsodium with its header and archive, and minisign, and installs what is not
+there where it may, but for the kit.
+"""
+
+import glob
+import os
+import re
+import shutil
+import subprocess
+import sys
+import tempfile
+
+HERE = os.path.dirname(os.path.realpath(__file__))
+sys.path.append(os.path.join(HERE, "..", "shared"))
+
+import needs
+import shared_cases as shared
+import static_library
+
+NAME = "verify_with_sodium"
+SECONDS = 3600
+
+
+def needed_crates(lines, names):
+    """The crates of this repository that these stand on, and themselves."""
+    found = []
+    for name in names:
+        if name in lines and name not in found:
+            found += [it for it in needed_crates(lines, lines[name]) if it not in found] + [name]
+    return found
+
+
+def read_lines(path):
+    """The crates of a crates.txt, and what each stands on."""
+    rows = [line.split("#")[0].partition(":") for line in shared.read(path).decode().splitlines()]
+    return {name.split()[0]: rest.split() for name, colon, rest in rows if colon}
+
+
+def build(room, libsodium):
+    """The program, proved and built in a copy: its path, and what was said."""
+    example = os.path.join(shared.TOP, "examples", "rattle")
+    shutil.copytree(example, room, dirs_exist_ok=True, ignore=shutil.ignore_patterns("out", "*.a"))
+    for path in glob.glob(os.path.join(room, "**", "*.txt"), recursive=True):
+        os.rename(path, path.removesuffix(".txt"))
+    ours, lines = read_lines(os.path.join(room, "crates.txt")), read_lines(os.path.join(shared.TOP, "crates.txt"))
+    crates = needed_crates(lines, ours[NAME])
+    for name in crates:
+        shutil.copytree(os.path.join(shared.TOP, "crates", name), os.path.join(room, "crates", name), ignore=shutil.ignore_patterns("out"))
+    with open(os.path.join(room, "crates.txt"), "a", encoding="ascii") as file:
+        file.writelines(f"{name}: {' '.join(lines[name])}\n" for name in crates)
+    shutil.copy(os.path.join(shared.TOP, "HANDLES"), room)
+    folder = os.path.join(room, "crates", NAME)
+    shutil.copy(libsodium, os.path.join(folder, "c"))
+    status, said, why = shared.run(["rt", "run"], folder=folder, environment={"RT_ALLOW_C": NAME}, seconds=SECONDS)
+    return os.path.join(folder, "out", NAME), said.decode(errors="replace") + why
+
+
+def find_archive():
+    found = glob.glob("/usr/lib/*/libsodium.a") + glob.glob("/usr/lib/libsodium.a") + glob.glob("/usr/local/lib/libsodium.a")
+    return found[0] if found else None
+
+
+def check_files(checks, program, room):
+    """A file that was signed, and what is not what was signed."""
+    minisign = needs.minisign()
+    for name in ("one", "two"):
+        if shared.run([minisign, "-G", "-W", "-p", f"{name}.pub", "-s", f"{name}.key"], folder=room)[0] != 0:
+            raise static_library.NotBuilt("no key was made")
+    shared.write(room, "data", os.urandom(300_000))
+    shared.run([minisign, "-S", "-s", "one.key", "-m", "data", "-t", "version:1\tfile:data"], folder=room)
+    text = shared.read(os.path.join(room, "data.minisig"))
+    shared.write(room, "changed", b"x" + shared.read(os.path.join(room, "data")))
+    shared.write(room, "comment.minisig", text.replace(b"version:1", b"version:2"))
+    shared.run([minisign, "-S", "-l", "-s", "one.key", "-m", "data", "-x", "legacy.minisig"], folder=room)
+    status, said, why = shared.run([program, "one.pub", "data.minisig", "data"], folder=room)
+    checks.check((status, said) == (0, b"version:1\tfile:data\n"), f"a file that was signed: {status}, {said}, {why}")
+    for words, reason in ((("one.pub", "data.minisig", "changed"), "Signature verification failed"),
+                          (("one.pub", "comment.minisig", "data"), "Comment signature verification failed"),
+                          (("two.pub", "data.minisig", "data"), "key"), (("one.pub", "legacy.minisig", "data"), "Legacy"),
+                          (("data.minisig", "data.minisig", "data"), ""), (("one.pub", "data.minisig", "none"), ""),
+                          (("none", "data.minisig", "data"), "")):
+        status, said, why = shared.run([program, *words], folder=room)
+        checks.check(status == 1 and said == b"" and reason in why, f"{words}: {status}, {said}, {why}")
+    status, said, _ = shared.run([program], folder=room)
+    checks.check(status == 2 and said == b"", f"no words: {status}, {said}")
+
+
+def check_every_file(checks, program, room):
+    """The signature that fits every file where small orders are accepted: as it is over the data itself, it is refused before
+    libsodium is asked."""
+    key, signature = shared.edges.texts_for_every_file()
+    shared.write(room, "every.pub", key)
+    shared.write(room, "every.minisig", signature)
+    status, said, why = shared.run([program, "every.pub", "every.minisig", "data"], folder=room)
+    checks.check(status == 1 and said == b"", f"a signature for every file: {status}, {said}, {why}")
+
+
+def main():
+    checks = shared.Checks()
+    with tempfile.TemporaryDirectory(prefix="bindings-rattle-") as room:
+        try:
+            needs.libsodium()
+            archive = needs.need(find_archive, "the archive of libsodium", "libsodium-dev")
+            program, said = build(os.path.join(room, "copy"), archive)
+            checks.check(os.path.exists(program) and re.search(r"logic=proved", said) is not None, f"the example was not built: {said[-1500:]}")
+            if os.path.exists(program):
+                check_files(checks, program, room)
+                check_every_file(checks, program, room)
+        except (needs.Missing, static_library.NotBuilt, OSError, ValueError, subprocess.SubprocessError) as why:
+            checks.check(False, f"it did not go on: {why!r}")
+    return checks.end()
+
+
+if __name__ == "__main__":
+    sys.exit(main())

@@ -1,0 +1,327 @@
+#!/usr/bin/env python3
+"""The crate of `bindings/rust` as its user has it: a copy of its folder, and of the folders that it says it needs, built by cargo
+without a network and without a registry, by a program of another crate that names it `minisign-verify`.
+
+    tests/bindings/rust.py
+
+The examples of its documentation run. What that program answers to kept keys and signatures, to damaged ones, to data in pieces and
+to signatures that implementations of Ed25519 differ in is compared with `c/minisign` and with libsodium; why it refuses, with the
+names of the header. It makes keys and signatures that `c/minisign` reads, and reads those of `c/minisign`. Many calls take no more
+memory, and threads get the same answers. Structs and calls are declared as the header has them; there is no `unsafe` outside one
+module; without its feature `sodium` nothing of libsodium is linked. It prints a line for each failure; the last line is
+`N passed, M failed`.
+
+Needs Python 3.9 or later, cargo, rustc, make, a C compiler, binutils and libsodium with its header, and installs what is not there
+where it may. Debian's cargo is tried too where another one comes first in PATH.
+"""
+
+import base64
+import os
+import re
+import shutil
+import subprocess
+import sys
+import tempfile
+
+HERE = os.path.dirname(os.path.realpath(__file__))
+sys.path += [HERE, os.path.join(HERE, "..", "shared")]
+
+import needs
+import shared_cases
+import static_library
+from shared_cases import TOP, Checks, run, write
+
+CRATE = os.path.join(TOP, "bindings", "rust")
+NEEDED = ["c", "dist", "include"]
+CALLS = 100_000
+# How many pages of 4 KiB may be in memory after all calls that were not after a tenth of them.
+PAGES = 64
+COMMENT = "version:2\tfile:app \u00e9"
+
+PROGRAM = """[package]
+name = "{name}"
+version = "1.0.0"
+edition = "2021"
+
+[dependencies]
+{dependency}
+"""
+RENAMED = 'minisign-verify = {{ package = "minisign-proved", path = "{crate}" }}'
+ALONE = 'minisign-proved = {{ path = "{crate}", default-features = false }}'
+
+# The structs of the header, as the crate names them.
+STRUCTS = {"minisign_state": "State", "minisign_public_key": "PublicKey", "minisign_questions": "Questions",
+           "minisign_secret_key": "SecretKey", "minisign_sealing": "Sealing"}
+
+# What the crate makes of the header's errors, where it has the name that minisign-verify has.
+KNOWN = {
+    "UNSUPPORTED_ALGORITHM": "UnsupportedAlgorithm",
+    "DIFFERENT_KEY_IDS": "UnexpectedKeyId",
+    "LEGACY_NOT_ACCEPTED": "UnexpectedAlgorithm",
+    "SIGNATURE_REFUSED": "InvalidSignature",
+    "COMMENT_SIGNATURE_REFUSED": "InvalidSignature",
+    "NOT_UTF8": "IoError",
+}
+
+
+def toolchains():
+    """The cargo and the rustc that come first in PATH, and Debian's where these are others."""
+    found = [(needs.program("cargo", "cargo"), needs.rust_compiler())]
+    debian = ("/usr/bin/cargo", "/usr/bin/rustc")
+    if all(map(os.path.exists, debian)) and found[0][0] != debian[0]:
+        found.append(debian)
+    return found
+
+
+class Cargo:
+    """Runs cargo with what it keeps in a folder of its own, and no network."""
+
+    def __init__(self, room, cargo, rustc):
+        self.cargo = cargo
+        self.target = os.path.join(room, "target")
+        self.environment = {"CARGO_NET_OFFLINE": "true", "CARGO_TARGET_DIR": self.target, "RUSTC": rustc, "RUSTFLAGS": "-D warnings",
+                            "RUSTDOC": os.path.join(os.path.dirname(rustc), "rustdoc"), "PATH": static_library.path_without_kit()}
+        # (rustup finds its toolchains by the home folder)
+        if os.path.dirname(cargo) == "/usr/bin":
+            self.environment["CARGO_HOME"] = os.path.join(room, "home")
+
+    def run(self, folder, *words):
+        status, said, why = run([self.cargo, *words], folder, self.environment)
+        if status != 0:
+            raise static_library.NotBuilt(f"cargo {' '.join(words)}: {said.decode(errors='replace')[-1500:]}{why[-1500:]}")
+        return said.decode(errors="replace") + why
+
+    def program(self, room, name, dependency, source):
+        """The path of a program of a crate of its own, over this one."""
+        folder = os.path.join(room, name)
+        os.makedirs(os.path.join(folder, "src"))
+        write(folder, "Cargo.toml", PROGRAM.format(name=name, dependency=dependency).encode())
+        shutil.copy(os.path.join(HERE, "rust", source), os.path.join(folder, "src", "main.rs"))
+        self.run(folder, "build", "--release")
+        return os.path.join(self.target, "release", name)
+
+
+def check_sources(checks):
+    """The crate is unsafe in one module alone."""
+    for name in ("build.rs", "src/lib.rs", "src/raw.rs", "src/signing.rs"):
+        text = shared_cases.read(os.path.join(CRATE, name)).decode()
+        code = [line for line in text.splitlines() if line.strip() and not line.strip().startswith("//")]
+        words = re.sub(r"unsafe_code", "", "\n".join(code))
+        checks.check(name == "src/raw.rs" or "unsafe" not in words, f"{name}: it has `unsafe`")
+
+
+def check_declarations(checks):
+    """Each call is declared with the kinds of parameters that the header has."""
+    kinds = {"size_t": "usize", "uint32_t": "u32", "uint64_t": "u64", "uint8_t": "u8", "char": "u8", **STRUCTS}
+    header, raw = shared_cases.header_text(), shared_cases.read(os.path.join(CRATE, "src", "raw.rs")).decode()
+
+    def kind_of(parameter):
+        """As Rust writes the kind of a parameter in C."""
+        constant, kind, star, array = re.fullmatch(r"(const )?(?:enum )?(\w+) (\*?)\w*(\[\d+\])?", parameter.strip()).groups()
+        kind = "u32" if kind in ("minisign_answer", "minisign_error") else kinds[kind]
+        return f"*{'const' if constant else 'mut'} {kind}" if star or array else kind
+
+    declared = re.findall(r"fn (minisign_\w+)\((.*?)\)(?: -> (\w+))?;", raw, re.S)
+    checks.check(len(declared) >= 10, f"the crate declares only {len(declared)} calls")
+    for name, parameters, answer in declared:
+        found = re.search(rf"(\w+) {name}\((.*?)\)", header, re.S)
+        wanted = [kind_of(re.sub(r"\s+", " ", it)) for it in found[2].split(",")]
+        told = [it.partition(":")[2].strip() for it in parameters.split(",")]
+        checks.check(told == wanted, f"{name}: declared with {told} in place of {wanted}")
+        result = {"void": "", "size_t": "usize"}.get(found[1], "u32")
+        checks.check(answer == result, f"{name}: declared with the answer {answer!r} in place of {result}")
+
+
+# What is tested inside of the module that calls C: a key is cleared at its end.
+INSIDE = """
+#[cfg(test)]
+mod inside {
+    use super::*;
+    use std::mem::{size_of, ManuallyDrop, MaybeUninit};
+    #[test]
+    fn a_key_is_cleared() {
+        let mut key = ManuallyDrop::new(SecretKey { mark: 1, key_id: [2; 8], secret: [3; 64] });
+        unsafe { ManuallyDrop::drop(&mut key) };
+        assert_eq!(key.secret, [0; 64]);
+    }
+    #[test]
+    fn structs_are_those_of_the_header() {
+LINES
+    }
+}
+"""
+SIZE = '        assert_eq!(size_of::<{of}>(), {number}, "{place}");'
+OFFSET = """        let it = MaybeUninit::<{of}>::uninit();
+        let at = unsafe {{ std::ptr::addr_of!((*it.as_ptr()).{field}) }} as usize - it.as_ptr() as usize;
+        assert_eq!(at, {number}, "{place}");"""
+
+
+def check_inside(checks, cargo, crate, room):
+    """The structs are laid out as a C compiler lays out those of the header, and secret keys are cleared."""
+    lines = []
+    for place, number in shared_cases.layout(room).items():
+        struct, _, field = place.partition(".")
+        if struct in STRUCTS:
+            lines.append((OFFSET if field else SIZE).format(of=STRUCTS[struct], field=field, number=number, place=place))
+    path = os.path.join(crate, "src", "raw.rs")
+    source = shared_cases.read(path)
+    write(crate, "src/raw.rs", source + INSIDE.replace("LINES", "\n".join(lines)).encode())
+    try:
+        said = cargo.run(crate, "test", "--lib")
+        checks.check("2 passed; 0 failed" in said and len(lines) >= 15, f"inside, {len(lines)} places: {said[-300:]}")
+    except static_library.NotBuilt as why:
+        checks.check(False, f"inside: {why}")
+    write(crate, "src/raw.rs", source)
+
+
+def check_answers(checks, program, room, minisign):
+    """The program answers kept and damaged texts as `c/minisign` does."""
+    kept, damaged, edges = shared_cases.corpus(), shared_cases.damaged(), shared_cases.vector_cases()
+    cases = kept + damaged + shared_cases.large(minisign, room)
+    any_kind, strict = (shared_cases.answers_of(minisign, room, cases, allow) for allow in (True, False))
+    checks.check(60 <= sum(it is not None for it in any_kind) <= 200, "of the cases too few, or too many, are accepted")
+    checks.check(strict[-2:] == [b"large", None], f"c/minisign answers {strict[-2:]} to the large data")
+    runs = [("at once", ["verify"], any_kind), ("without legacy signatures", ["strict"], strict)]
+    runs += [(f"in pieces of {length}", ["pieces", str(length)], strict) for length in (1, 128, 1000, 0)]
+    for what, words, wanted in runs:
+        status, said, why = run([program, *words], data=shared_cases.lines_of(cases))
+        checks.check(status == 0, f"{what}: the program ended with {status}: {why}")
+        shared_cases.compare(checks, what, cases, said, wanted)
+    status, said, why = run([program, "verify"], data=shared_cases.lines_of(edges))
+    shared_cases.compare(checks, "a vector as a file", edges, said, [None] * len(edges))
+
+
+def check_vectors(checks, program):
+    """The Ed25519 that is there by default answers as libsodium does."""
+    vectors = shared_cases.vectors()
+    asked = "".join(f"{key.hex()} {message.hex() or '-'} {signature.hex()}\n" for _, key, signature, message, _ in vectors)
+    answers = run([program, "accepts"], data=asked.encode())[1].decode().split()
+    checks.check(len(answers) == len(vectors) == 293, f"{len(answers)} answers to {len(vectors)} vectors")
+    for (name, *_, wanted), answer in zip(vectors, answers):
+        checks.check(answer == str(wanted).lower(), f"the vector {name}: {answer}")
+
+
+def check_refusals(checks, program):
+    """What is refused is so for the reason that the header names."""
+    cases = list(shared_cases.refusals())
+    for words, other in ((["strict"], {}), (["pieces", "7"], {"LEGACY_NOT_ACCEPTED": "UnsupportedLegacyMode"})):
+        said = run([program, *words], data=shared_cases.lines_of([case for case, _ in cases]))[1].decode().splitlines()
+        checks.check(len(said) == len(cases), f"{len(said)} answers to {len(cases)} refusals")
+        for (case, name), line in zip(cases, said):
+            wanted = {**KNOWN, **other}.get(name, "InvalidEncoding")
+            checks.check(re.match(rf"refused {wanted}\b", line), f"{case.name}: {line} in place of {wanted}")
+    bare = shared_cases.read(os.path.join(shared_cases.CORPUS, "published.pub")).decode().split("\n")[1]
+    for text, wanted in ((bare, "Ok(None)"), (bare[:-1], "Err(InvalidEncoding)"), (bare[:-1] + "!", "Err(InvalidEncoding)"),
+                         (f"x\n{bare}", "Err(InvalidEncoding)")):
+        said = run([program, "bare", text])[1].decode().strip()
+        checks.check(said == wanted, f"the key {text!r} alone: {said} in place of {wanted}")
+
+
+def check_signing(checks, program, room, minisign):
+    """The program and `c/minisign` read each other's keys and signatures."""
+    numbers = shared_cases.error_numbers()
+    data = write(room, "data", b"some data\n" * 500)
+    folders = {}
+    for name, password in (("open", []), ("sealed", ["pass word"])):
+        folders[name] = folder = os.path.join(room, name)
+        os.mkdir(folder)
+        said = run([program, "make", folder, *password])[1]
+        checks.check(said == b"Ok(())\n", f"a key, {name}: {said!r}")
+        key, public, sig = (os.path.join(folder, it) for it in ("secret", "public", "sig"))
+        run([minisign, "-S", "-s", key, "-m", data, "-x", sig, "-t", "t"], data=b"pass word\n")
+        status, said, why = run([minisign, "-V", "-Q", "-p", public, "-m", data, "-x", sig])
+        checks.check((status, said) == (0, b"t\n"), f"c/minisign with a key, {name}: {status}, {why}")
+        run([minisign, "-R", "-s", key, "-p", f"{folder}/again"], data=b"pass word\n")
+        checks.check(shared_cases.read(public) == shared_cases.read(f"{folder}/again"), f"c/minisign writes another public key, {name}")
+    records = [base64.b64decode(shared_cases.read(f"{room}/{name}/public").split(b"\n")[1]) for name in folders]
+    checks.check(all(records[0][at:at + 8] != records[1][at:at + 8] for at in (2, 10)), "two keys have one key ID, or are the same")
+    made = os.path.join(room, "by-c")
+    os.mkdir(made)
+    run([minisign, "-G", "-W", "-s", f"{made}/secret", "-p", f"{made}/public"])
+    folders["of c/minisign"] = made
+    refused = lambda name: f"Err(Refused(Reason({numbers[name]})))"
+    cases = [("open", COMMENT, [], "Ok(())"), ("sealed", COMMENT, ["pass word"], "Ok(())"), ("of c/minisign", "", [], "Ok(())"),
+             ("open", "a\nb", [], refused("BAD_COMMENT")), ("open", "a\rb", [], refused("UNREADABLE_COMMENT")),
+             ("open", "a", ["pass word"], refused("KEY_NOT_SEALED")), ("sealed", "a", [], refused("KEY_SEALED")),
+             ("sealed", "a", ["password"], refused("WRONG_PASSWORD"))]
+    for name, comment, password, wanted in cases:
+        sig = os.path.join(room, "signature")
+        if os.path.exists(sig):
+            os.remove(sig)
+        status, said, why = run([program, "sign", f"{folders[name]}/secret", data, sig, comment, *password])
+        checks.check(said.decode().strip() == wanted, f"signing, {name}, {comment!r}: {said!r} {why} in place of {wanted}")
+        if wanted == "Ok(())":
+            status, said, why = run([minisign, "-V", "-H", "-Q", "-p", f"{folders[name]}/public", "-m", data, "-x", sig])
+            checks.check((status, said.decode()) == (0, comment + "\n"), f"c/minisign of a signature, {name}: {status}, {said!r}, {why}")
+        else:
+            checks.check(not os.path.exists(sig), f"signing, {name}, {comment!r}: a file was written")
+    # (a key with a byte of its public half changed, which would give its secret away)
+    text = shared_cases.read(f"{made}/secret").split(b"\n")
+    record = bytearray(base64.b64decode(text[1]))
+    record[100] ^= 1
+    record[126:158] = bytes(32)
+    write(room, "damaged", text[0] + b"\n" + base64.b64encode(record) + b"\n")
+    said = run([program, "sign", f"{room}/damaged", data, f"{room}/none", "a"])[1].decode().strip()
+    checks.check(said == "Err(InvalidSignature)" and not os.path.exists(f"{room}/none"), f"a key of two halves that do not fit: {said}")
+
+
+def check_many(checks, program):
+    """Many calls take no more memory, and threads get the answers that one gets."""
+    lines = shared_cases.lines_of([it for it in shared_cases.corpus() + shared_cases.damaged(60) if len(it.data) < 20_000])
+    status, said, why = run([program, "growth", str(CALLS)], data=lines)
+    checks.check(status == 0 and int(said) <= PAGES, f"after {CALLS} calls {said!r} pages more are in memory: {why}")
+    status, said, why = run([program, "threads"], data=lines)
+    checks.check((status, said) == (0, b"true\n"), f"threads: {said!r}, {why}")
+
+
+def check_own(checks, cargo, room, crate):
+    """A program with an Ed25519 of its own gets its answers, and is linked with no libsodium."""
+    program = cargo.program(room, "own", ALONE.format(crate=crate), "own.rs")
+    key, signature = (os.path.join(shared_cases.CORPUS, it) for it in ("published.pub", "published.minisig"))
+    for answers, wanted in (("yy", "Ok(())"), ("yn", "Err(InvalidSignature)"), ("ny", "Err(InvalidSignature)")):
+        said = run([program, answers, key, signature])[1].decode().strip()
+        checks.check(said == wanted, f"an Ed25519 that answers {answers}: {said}")
+    needed = run([needs.program("readelf", "binutils"), "-d", program])[1]
+    checks.check(b"libsodium" not in needed and b"libc" in needed, "a program without libsodium is linked with it")
+
+
+def check_toolchain(checks, room, toolchain, minisign):
+    """All of it with one cargo."""
+    cargo = Cargo(room, *toolchain)
+    crate = shared_cases.copy_of("rust", room, *NEEDED)
+    said = cargo.run(crate, "test", "--doc")
+    checks.check(re.search(r"test result: ok\. [2-9] passed; 0 failed; 0 ignored", said), f"the examples: {said[-500:]}")
+    check_inside(checks, cargo, crate, room)
+    program = cargo.program(room, "answers", RENAMED.format(crate=crate), "answers.rs")
+    check_answers(checks, program, room, minisign)
+    check_vectors(checks, program)
+    check_refusals(checks, program)
+    check_signing(checks, program, room, minisign)
+    check_many(checks, program)
+    check_own(checks, cargo, room, crate)
+    shutil.rmtree(os.path.join(room, "c"))
+    try:
+        cargo.run(crate, "build", "--profile", "bench")
+        checks.check(False, "the crate is built without what it needs")
+    except static_library.NotBuilt:
+        checks.check(True, "")
+
+
+def main():
+    checks = Checks()
+    with tempfile.TemporaryDirectory(prefix="bindings-rust-") as room:
+        try:
+            minisign = shared_cases.c_minisign(room)
+            check_sources(checks)
+            check_declarations(checks)
+            for number, toolchain in enumerate(toolchains()):
+                folder = os.path.join(room, str(number))
+                os.mkdir(folder)
+                check_toolchain(checks, folder, toolchain, minisign)
+        except (needs.Missing, static_library.NotBuilt, OSError, ValueError, subprocess.SubprocessError) as why:
+            checks.check(False, f"it did not go on: {why!r}")
+    return checks.end()
+
+
+if __name__ == "__main__":
+    sys.exit(main())

@@ -1,0 +1,156 @@
+//! What a program that was written for `minisign-verify` answers to the lines on its standard input, and what the calls beside
+//! those do. `tests/bindings/rust.py` says what each word asks.
+
+use minisign_verify::{Ed25519, Error, PublicKey, SecretKey, Signature, Sodium, Work};
+use std::{env, fs, io, thread};
+
+fn bytes(digits: &str) -> Vec<u8> {
+    let digits = digits.trim_matches('-');
+    (0..digits.len()).step_by(2).map(|at| u8::from_str_radix(&digits[at..at + 2], 16).unwrap()).collect()
+}
+
+fn hex(bytes: &[u8]) -> String {
+    let digits: String = bytes.iter().map(|byte| format!("{byte:02x}")).collect();
+    if digits.is_empty() { "-".into() } else { digits }
+}
+
+fn lines() -> Vec<Vec<Vec<u8>>> {
+    io::stdin().lines().map(|line| line.unwrap().split(' ').map(bytes).collect()).collect()
+}
+
+/// As a file is read, whose bytes are no UTF-8.
+fn text(bytes: &[u8]) -> Result<&str, Error> {
+    std::str::from_utf8(bytes).map_err(|_| Error::IoError(io::ErrorKind::InvalidData.into()))
+}
+
+fn verify(case: &[Vec<u8>], allow_legacy: bool) -> Result<String, Error> {
+    let (key, signature) = (PublicKey::decode(text(&case[0])?)?, Signature::decode(text(&case[2])?)?);
+    key.verify(&case[1], &signature, allow_legacy)?;
+    Ok(signature.trusted_comment().into())
+}
+
+/// In pieces of one length, or of lengths that grow.
+fn verify_in_pieces(case: &[Vec<u8>], len: usize) -> Result<String, Error> {
+    let (key, signature) = (PublicKey::decode(text(&case[0])?)?, Signature::decode(text(&case[2])?)?);
+    let mut verifier = key.verify_stream(&signature)?;
+    let (mut rest, mut next) = (&case[1][..], len.max(1));
+    while !rest.is_empty() {
+        let (piece, behind) = rest.split_at(next.min(rest.len()));
+        verifier.update(piece);
+        rest = behind;
+        next += usize::from(len == 0);
+    }
+    let verdict = verifier.finalize();
+    verifier.update(b"more");
+    assert!(verifier.finalize().is_err(), "a verifier that has ended answers once more");
+    verdict.map(|()| signature.trusted_comment().into())
+}
+
+fn answer(verdict: Result<String, Error>) -> String {
+    match verdict {
+        Ok(comment) => format!("accepted {}", hex(comment.as_bytes())),
+        Err(error) => format!("refused {error:?}: {error}").replace('\n', " "),
+    }
+}
+
+/// How many pages of this program are in memory.
+fn pages() -> i64 {
+    fs::read_to_string("/proc/self/statm").unwrap().split(' ').nth(1).unwrap().parse().unwrap()
+}
+
+/// Verifies good and bad cases at once and in pieces, and signs, so many times: how many more pages are in memory than after a tenth.
+fn growth(cases: &[Vec<Vec<u8>>], count: usize) -> i64 {
+    let key = SecretKey::generate(&Sodium).unwrap();
+    let mut early = 0;
+    for number in 0..count {
+        let case = &cases[number / 3 % cases.len()];
+        let _ = match number % 3 {
+            0 => verify(case, true),
+            1 => verify_in_pieces(case, 7000),
+            _ => key.sign(&Sodium, &case[1], "a comment", "another").map(|signature| signature.to_string()),
+        };
+        if number == count / 10 {
+            early = pages();
+        }
+    }
+    pages() - early
+}
+
+/// Has threads answer all cases at once over the same keys and signatures: whether each answers as one alone.
+fn is_same_in_threads(cases: &[Vec<Vec<u8>>]) -> bool {
+    let read = |case: &Vec<Vec<u8>>| Some((PublicKey::decode(text(&case[0]).ok()?).ok()?, Signature::decode(text(&case[2]).ok()?).ok()?));
+    let shared: Vec<_> = cases.iter().filter_map(|case| read(case).map(|(key, signature)| (key, signature, &case[1]))).collect();
+    let answers = || -> Vec<String> {
+        let verdict = |it: &(PublicKey, Signature, &Vec<u8>)| it.0.verify(it.2, &it.1, true).map(|()| it.1.trusted_comment().into());
+        shared.iter().map(|it| answer(verdict(it))).collect()
+    };
+    let alone = answers();
+    let secret = SecretKey::generate(&Sodium).unwrap();
+    thread::scope(|scope| {
+        let threads: Vec<_> = (0..8)
+            .map(|number| {
+                let (secret, answers, alone) = (&secret, &answers, &alone);
+                scope.spawn(move || {
+                    let signature = secret.sign(&Sodium, &[number], "c", "u").unwrap();
+                    secret.public_key().unwrap().verify(&[number], &signature, false).is_ok() && (0..20).all(|_| answers() == *alone)
+                })
+            })
+            .collect();
+        threads.into_iter().all(|it| it.join().unwrap())
+    })
+}
+
+/// Makes a pair of keys in a folder; with a password it is sealed by little work.
+fn make(folder: &str, password: Option<&str>) -> Result<(), Error> {
+    let key = SecretKey::generate(&Sodium)?;
+    let work = Work { operations_limit: 32768, memory_limit: 1 << 20, ..Work::USUAL };
+    let text = key.encode(&Sodium, password, &work)?;
+    assert_eq!(password.is_some(), text != key.encode(&Sodium, password, &work)?, "of a sealed key each text has a salt of its own");
+    fs::write(format!("{folder}/secret"), text).unwrap();
+    fs::write(format!("{folder}/public"), key.public_key_text()?).unwrap();
+    Ok(())
+}
+
+/// Signs a file with a key, and reads back what was written.
+fn sign(key: &str, data: &str, to: &str, comment: &str, password: Option<&str>) -> Result<(), Error> {
+    let key = SecretKey::from_file(key, password, &Work { keep_every: 16, ..Work::USUAL })?;
+    let data = fs::read(data)?;
+    let mut signer = key.sign_stream(&Sodium);
+    data.chunks(1000).for_each(|piece| signer.update(piece));
+    let signature = signer.finalize(comment, "from a program in Rust")?;
+    let whole = key.sign(&Sodium, &data, comment, "from a program in Rust")?;
+    assert_eq!(signature.to_string(), whole.to_string(), "in pieces another signature is made");
+    fs::write(to, signature.to_string())?;
+    let read = Signature::from_file(to)?;
+    assert_eq!((read.trusted_comment(), read.untrusted_comment()), (comment, "untrusted comment: from a program in Rust"));
+    key.public_key()?.verify(&data, &read, false)
+}
+
+fn main() {
+    let words: Vec<String> = env::args().skip(1).collect();
+    let words: Vec<&str> = words.iter().map(String::as_str).collect();
+    match words[..] {
+        ["verify"] => lines().iter().for_each(|case| println!("{}", answer(verify(case, true)))),
+        ["strict"] => lines().iter().for_each(|case| println!("{}", answer(verify(case, false)))),
+        ["pieces", len] => {
+            let len = len.parse().unwrap();
+            lines().iter().for_each(|case| println!("{}", answer(verify_in_pieces(case, len))));
+        }
+        ["accepts"] => {
+            for it in lines() {
+                println!("{}", Sodium.accepts(&it[2][..].try_into().unwrap(), &it[1], &it[0][..].try_into().unwrap()));
+            }
+        }
+        ["growth", count] => println!("{}", growth(&lines(), count.parse().unwrap())),
+        ["threads"] => println!("{}", is_same_in_threads(&lines())),
+        ["bare", base64] => {
+            let key = PublicKey::from_base64(base64);
+            println!("{:?}", key.map(|key| key.untrusted_comment().map(String::from)));
+        }
+        ["make", folder] => println!("{:?}", make(folder, None)),
+        ["make", folder, password] => println!("{:?}", make(folder, Some(password))),
+        ["sign", key, data, to, comment] => println!("{:?}", sign(key, data, to, comment, None)),
+        ["sign", key, data, to, comment, password] => println!("{:?}", sign(key, data, to, comment, Some(password))),
+        _ => panic!("no such words"),
+    }
+}

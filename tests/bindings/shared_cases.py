@@ -1,0 +1,280 @@
+"""What the tests of the packages in bindings/ share: the cases that each package has to answer, what `c/minisign` answers to
+them, and what the header says of numbers and structs.
+
+A case is a public key, data and a signature, each as bytes. A package's test hands the cases to a program in the package's
+language, one on each line (`lines_of`), and compares what comes back with `c/minisign` (`answers_of`).
+
+Needs Python 3.9 or later, make, a C compiler and libsodium with its header, and installs what is not there where it may.
+"""
+
+import concurrent.futures
+import json
+import os
+import random
+import re
+import shutil
+import subprocess
+import sys
+from typing import NamedTuple
+
+HERE = os.path.dirname(os.path.realpath(__file__))
+TOP = os.path.realpath(os.path.join(HERE, "..", ".."))
+sys.path.append(os.path.join(HERE, "..", "shared"))
+
+import edges
+import needs
+import static_library
+
+CORPUS = os.path.join(TOP, "tests", "corpus")
+HEADER = os.path.join(TOP, "include", "minisign.h")
+SECONDS = 300
+# The damage is the same at each run.
+SEED = 7
+DAMAGED = 500
+
+BASE64 = b"ABCDEFGHIJKLMNOPQRSTUVWXYZabcdefghijklmnopqrstuvwxyz0123456789+/="
+
+
+class Case(NamedTuple):
+    """What is verified together."""
+
+    name: str
+    key: bytes
+    data: bytes
+    signature: bytes
+
+
+class Checks:
+    """The count of what holds, and what does not."""
+
+    def __init__(self):
+        self.passed, self.failures = 0, []
+
+    def check(self, holds, what):
+        if holds:
+            self.passed += 1
+        else:
+            self.failures.append(what)
+
+    def end(self):
+        """Prints the failures and the last line: the exit status."""
+        for failure in self.failures:
+            print(f"FAILED: {failure}")
+        print(f"{self.passed} passed, {len(self.failures)} failed")
+        return 1 if self.failures else 0
+
+
+def read(path):
+    """The bytes of a file."""
+    with open(path, "rb") as file:
+        return file.read()
+
+
+def write(room, name, data):
+    """Writes a file; its path."""
+    path = os.path.join(room, name)
+    with open(path, "wb") as file:
+        file.write(data)
+    return path
+
+
+def run(command, folder=None, environment=None, data=b"", seconds=SECONDS):
+    """Runs a command: its status, its output, and what it said."""
+    ran = subprocess.run(command, cwd=folder, env=dict(os.environ, **(environment or {})), input=data, stdout=subprocess.PIPE,
+                         stderr=subprocess.PIPE, timeout=seconds)
+    return ran.returncode, ran.stdout, ran.stderr.decode(errors="replace")
+
+
+def copy_of(package, room, *needed):
+    """A copy of a package's folder, and of what it says that it needs, with nothing else beside it: the folder's path there."""
+    for name in (f"bindings/{package}", *needed):
+        of, to = os.path.join(TOP, name), os.path.join(room, name)
+        if os.path.isdir(of):
+            left_out = shutil.ignore_patterns("out", "target", "__pycache__", "node_modules", "*.egg-info", "build")
+            shutil.copytree(of, to, ignore=left_out, dirs_exist_ok=True)
+        else:
+            os.makedirs(os.path.dirname(to), exist_ok=True)
+            shutil.copy(of, to)
+    return os.path.join(room, "bindings", package)
+
+
+def c_minisign(room):
+    """Builds `c/` over `dist/`: the path of the program minisign, beside which the library stands."""
+    compiler = needs.libsodium()
+    static_library.run_make(f"OUT={room}/c", f"CC={compiler}")
+    return os.path.join(room, "c", "minisign")
+
+
+# ---- Cases ----
+
+
+def corpus():
+    """The kept keys, data and signatures of Minisign's own program."""
+    with open(os.path.join(CORPUS, "cases.json"), encoding="utf-8") as file:
+        cases = json.load(file)
+    name_of = lambda it: f"{it['key']}, {it['data']}, {it['signature']}"
+    return [Case(name_of(it), *(read(os.path.join(CORPUS, it[part])) for part in ("key", "data", "signature"))) for it in cases]
+
+
+def vectors():
+    """The signatures of Ed25519 that implementations answer differently: a name, a key of 32 bytes, a signature of 64, a message,
+    and whether libsodium accepts it."""
+    of = bytes.fromhex
+    return [(it["name"], of(it["A"]), of(it["sig"]), of(it["msg"]), it["sodium"]) for it in edges.vectors()]
+
+
+def vector_cases():
+    """The same signatures as cases of the older kind. A host that accepts one refuses the comment's signature, and so all of them
+    are refused: which of the two was refused tells the answer. Another case fits every file where small orders are accepted."""
+    cases = [Case(it["name"], edges.legacy_texts(it)[0], bytes.fromhex(it["msg"]), edges.legacy_texts(it)[1]) for it in edges.vectors()]
+    key, signature = edges.texts_for_every_file()
+    return cases + [Case("a signature for every file", key, data, signature) for data in (b"", b"data", bytes(100_000))]
+
+
+def damaged(count=DAMAGED):
+    """Kept cases of which the key, the signature or the data was changed, at most in three places: the same at each run."""
+    choose = random.Random(SEED)
+    good = [it for it in corpus() if len(it.data) < 100_000]
+    cases = []
+    while len(cases) < count:
+        of = choose.choice(good)
+        part = choose.choice(("key", "signature", "signature", "signature", "data"))
+        changed = getattr(of, part)
+        for _ in range(choose.choice((1, 1, 1, 2, 3))):
+            changed = damage(choose, changed)
+        if changed != getattr(of, part):
+            cases.append(of._replace(name=f"{len(cases)}: {of.name}, another {part}", **{part: changed}))
+    return cases
+
+
+def damage(choose, text):
+    """Bytes that were changed in one way."""
+    at = choose.randrange(len(text) + 1)
+    lines = text.split(b"\n")
+    line = choose.randrange(len(lines))
+    ways = [
+        lambda: text[:at] + text[at + 1:],
+        lambda: text[:at] + bytes([choose.randrange(256)]) + text[at:],
+        lambda: text[:at] + bytes([choose.choice(BASE64)]) + text[at + 1:],
+        lambda: text[:at] + bytes([text[at] ^ 1 << choose.randrange(8)]) + text[at + 1:] if at < len(text) else text + b"\n",
+        lambda: text[:at],
+        lambda: b"\n".join(lines[:line] + lines[line + 1:]),
+        lambda: b"\n".join(lines[:line] + [lines[line]] + lines[line:]),
+        lambda: b"\n".join(lines[:line] + lines[line + 1:] + [lines[line]]),
+        lambda: text.replace(b"\n", b"\r\n"),
+        lambda: text + choose.choice((b"\n", b" ", b"\r\n", b"more\n", b"\x00")),
+        lambda: b"\n".join(it + choose.choice((b"", b" ", b"\t", b"\r")) for it in lines),
+    ]
+    return choose.choice(ways)()
+
+
+def refusals():
+    """Cases that are refused, each with the header's name of why: no legacy signatures are allowed."""
+    key, data, signature = (read(os.path.join(CORPUS, name)) for name in ("published.pub", "test", "published.minisig"))
+    lines, rows = signature.split(b"\n"), key.split(b"\n")
+    text_of = lambda number, line: b"\n".join(lines[:number] + [line] + lines[number + 1:])
+    with_comment = text_of(2, lines[2] + b"2")
+    yield Case("no key", b"", data, signature), "MISSING_PUBLIC_KEY_COMMENT"
+    yield Case("a key of one line", rows[0] + b"\n", data, signature), "MISSING_PUBLIC_KEY"
+    yield Case("a short key", key[:-5], data, signature), "PUBLIC_KEY_LENGTH"
+    yield Case("a key that is no base64", key.replace(b"RWQ", b"RW!"), data, signature), "PUBLIC_KEY_NOT_BASE64"
+    yield Case("no signature", key, data, b""), "MISSING_UNTRUSTED_COMMENT"
+    for count, name in ((1, "MISSING_SIGNATURE"), (2, "MISSING_TRUSTED_COMMENT"), (3, "MISSING_COMMENT_SIGNATURE")):
+        yield Case(f"a signature of {count} lines", key, data, b"\n".join(lines[:count]) + b"\n"), name
+    yield Case("another first line", key, data, b"x" + signature), "UNTRUSTED_COMMENT_PREFIX"
+    yield Case("another third line", key, data, text_of(2, b"x" + lines[2])), "TRUSTED_COMMENT_PREFIX"
+    yield Case("a signature that is no base64", key, data, text_of(1, b"!" + lines[1][1:])), "SIGNATURE_NOT_BASE64"
+    yield Case("a short signature", key, data, text_of(1, b"RUQf")), "RECORD_TOO_SHORT"
+    yield Case("another algorithm", key, data, read(os.path.join(CORPUS, "other-algorithm.minisig"))), "UNSUPPORTED_ALGORITHM"
+    yield Case("another key", read(os.path.join(CORPUS, "second.pub")), data, signature), "DIFFERENT_KEY_IDS"
+    yield Case("a legacy signature", key, data, read(os.path.join(CORPUS, "published-legacy.minisig"))), "LEGACY_NOT_ACCEPTED"
+    yield Case("other data", key, data + b"2", signature), "SIGNATURE_REFUSED"
+    yield Case("another comment", key, data, with_comment), "COMMENT_SIGNATURE_REFUSED"
+    yield Case("a text that is no UTF-8", key, data, signature.replace(b"signature", b"\xff", 1)), "NOT_UTF8"
+
+
+# ---- What c/minisign answers ----
+
+
+def answer_of(program, room, number, case, allow_legacy):
+    """The trusted comment where `c/minisign` accepts a case, otherwise None."""
+    paths = [write(room, f"{number}{part}", data) for part, data in zip("kds", case[1:])]
+    allowed = [] if allow_legacy else ["-H"]
+    status, said, _ = run([program, "-V", "-Q", *allowed, "-p", paths[0], "-m", paths[1], "-x", paths[2]])
+    for path in paths:
+        os.remove(path)
+    if status not in (0, 1, 2):
+        raise static_library.NotBuilt(f"{program} ended with {status} of {case.name}")
+    return said[:-1] if status == 0 else None
+
+
+def answers_of(program, room, cases, allow_legacy=True):
+    """What `c/minisign` answers to each case: the trusted comment, or None where it refuses."""
+    with concurrent.futures.ThreadPoolExecutor(4) as pool:
+        return list(pool.map(lambda it: answer_of(program, room, it[0], it[1], allow_legacy), enumerate(cases)))
+
+
+def large(program, room):
+    """Data of 300,000 bytes that `c/minisign` has signed, and with its last byte changed."""
+    data = bytes(at * at % 251 for at in range(300_000))
+    path, key, signature = write(room, "large", data), os.path.join(room, "large.pub"), os.path.join(room, "large.minisig")
+    run([program, "-G", "-f", "-W", "-p", key, "-s", f"{room}/large.key"])
+    run([program, "-S", "-s", f"{room}/large.key", "-m", path, "-x", signature, "-t", "large"])
+    case = Case("large data", read(key), data, read(signature))
+    return [case, case._replace(name="large data, changed", data=data[:-1] + b"x")]
+
+
+# ---- The lines that a program is given, and answers ----
+
+
+def lines_of(cases):
+    """The cases for a program to read: on each line a key, data and a signature in hexadecimal digits, `-` where there are none."""
+    return "".join(" ".join(part.hex() or "-" for part in case[1:]) + "\n" for case in cases).encode()
+
+
+def compare(checks, what, cases, said, wanted):
+    """Checks what a program answered, one line a case: `accepted` with the trusted comment in hexadecimal digits, `-` where it is
+    empty; or `refused` and what it likes to say of it."""
+    lines = said.decode(errors="replace").splitlines()
+    checks.check(len(lines) == len(cases), f"{what}: {len(lines)} answers to {len(cases)} cases")
+    for case, line, comment in zip(cases, lines, wanted):
+        if comment is None:
+            checks.check(line.split(" ")[0] == "refused", f"{what}, {case.name}: {line} in place of a refusal")
+        else:
+            told = f"accepted {comment.hex() or '-'}"
+            checks.check(line == told, f"{what}, {case.name}: {line} in place of {told}")
+
+
+# ---- What the header says ----
+
+
+def header_text():
+    """The header without its comments."""
+    return re.sub(r"/\*.*?\*/", "", read(HEADER).decode(), flags=re.S)
+
+
+def numbers_of(name):
+    """The names of an enum of the header, without `MINISIGN_`, and their numbers."""
+    body = re.search(rf"enum {name} \{{(.*?)\}}", header_text(), re.S)[1]
+    return {name: int(number, 0) for name, number in re.findall(r"MINISIGN_(\w+) = (\w+)", body)}
+
+
+def error_numbers():
+    """The errors of the header: their names, without `MINISIGN_`, and their numbers."""
+    return numbers_of("minisign_error")
+
+
+def layout(room):
+    """The sizes of the header's structs, and where their fields stand: `name` or `name.field`, and a number of bytes."""
+    places = []
+    for body, name in re.findall(r"typedef struct \w+ \{(.*?)\} (\w+);", header_text(), re.S):
+        places.append((name, f"sizeof({name})"))
+        places += [(f"{name}.{field}", f"offsetof({name}, {field})") for field in re.findall(r"\w+ (\w+)(?:\[\w+\])*;", body)]
+    source = "#include <stddef.h>\n#include <stdio.h>\n#include \"minisign.h\"\nint main(void) {\n" + "".join(
+        f'printf("{name} %zu\\n", (size_t) {place});\n' for name, place in places) + "return 0; }\n"
+    path = write(room, "layout.c", source.encode())
+    status, _, why = run([needs.c_compiler(), "-I", os.path.dirname(HEADER), "-o", f"{room}/layout", path])
+    if status != 0:
+        raise static_library.NotBuilt(f"the program of sizes was not built: {why[-1000:]}")
+    said = run([f"{room}/layout"])[1].decode()
+    return {line.split()[0]: int(line.split()[1]) for line in said.splitlines()}

@@ -1,0 +1,276 @@
+/*
+ * 2,000,000 calls at random on a few states and keys, beside a model of what each state and key is: the number of each
+ * call is the model's, an error changes nothing, and what is told is what the model was fed.
+ *
+ * Prints a line for each check that failed; the last line is `N passed, M failed`. What Ed25519 would answer is made up
+ * here.
+ */
+#include <stdint.h>
+#include <string.h>
+
+#include "minisign.h"
+#include "texts_for_tests.h"
+
+enum { CALLS = 2000000, STATES = 4, KEYS = 3, MOST = 300, ROOM = 1024 };
+
+#define COMMENT_LINES "untrusted comment: x\n"
+#define RECORD "RUQf6LRCGA9i559r3g7V1qNyJDApGip8MfqcadIgT9CuhV3EMhHoN1mGTkUidF/z7SrlQgXdy8ofjb7bNJJylDOocrCo8KLzZwo="
+#define LEGACY_RECORD "RWQf6LRCGA9i59SLOFxz6NxvASXDJeRtuZykwQepbDEGt87ig1BNpWaVWuNrm73YiIiJbq71Wi+dP9eKL8OC351vwIasSSbXxwA="
+#define OTHER_RECORD "RUS4oO+OTGvmIe/AFUZesFY/ONgyTgR9P0wlXFBD98cDX7Pao0WBeMSBQywks6PdOxlxIHanFJJYpkqO7tBvYfnm/DXVQmwFYQ0="
+#define WHOLE "y/rUw2y8/hOUYjZU71eHp/Wo1KZ40fGy2VJEDl34XMJM+TX48Ss/17u3IvIfbVR1FkZZSNCisQbuQY+bHwhEBg=="
+
+/* Texts of signatures: what is wrong with each, and what is asked of it. */
+static const struct {
+    const char *text;
+    enum minisign_error wrong;
+    int legacy, whole;
+    size_t comment_len;
+} rows[] = {
+    { COMMENT_LINES RECORD "\ntrusted comment: abc\n" WHOLE, MINISIGN_OK, 0, 1, 3 },
+    { COMMENT_LINES RECORD "\ntrusted comment: \n" WHOLE "\n", MINISIGN_OK, 0, 1, 0 },
+    { COMMENT_LINES RECORD "\ntrusted comment: abcd\nAAAA\n", MINISIGN_OK, 0, 0, 4 },
+    { COMMENT_LINES LEGACY_RECORD "\ntrusted comment: abc\n" WHOLE "\n", MINISIGN_OK, 1, 1, 3 },
+    { COMMENT_LINES LEGACY_RECORD "\ntrusted comment: \nAAAA\n", MINISIGN_OK, 1, 0, 0 },
+    { COMMENT_LINES OTHER_RECORD "\ntrusted comment: abc\n" WHOLE "\n", MINISIGN_DIFFERENT_KEY_IDS, 0, 1, 3 },
+    { "", MINISIGN_MISSING_UNTRUSTED_COMMENT, 0, 0, 0 },
+    { "\xff", MINISIGN_NOT_UTF8, 0, 0, 0 },
+    { COMMENT_LINES RECORD "\ntrusted comment: abc\n!", MINISIGN_SIGNATURE_NOT_BASE64, 0, 0, 0 },
+};
+
+enum phase { NONE, FED, TOLD };
+
+/* What a state is. */
+struct model {
+    enum phase phase;
+    int asked, whole;
+    size_t len;
+    uint8_t data[MOST];
+};
+
+static minisign_state states[STATES];
+static struct model models[STATES];
+static minisign_secret_key keys[KEYS];
+static int opened[KEYS];
+/* The mark of a key that is opened. */
+static uint64_t mark;
+static minisign_public_key public_key;
+static const uint8_t any_signature[64];
+
+static uint64_t seed = 1;
+
+static uint32_t draw(uint32_t below)
+{
+    seed = seed * UINT64_C(6364136223846793005) + UINT64_C(1442695040888963407);
+    return (uint32_t) (seed >> 33) % below;
+}
+
+static uint32_t draw_answer(void)
+{
+    static const uint32_t answers[] = { MINISIGN_ANSWER_YES, MINISIGN_ANSWER_YES, MINISIGN_ANSWER_YES, MINISIGN_ANSWER_NO, 0, 1, UINT32_MAX };
+
+    return answers[draw(sizeof answers / sizeof answers[0])];
+}
+
+static int is_answer(uint32_t number)
+{
+    return number == MINISIGN_ANSWER_YES || number == MINISIGN_ANSWER_NO;
+}
+
+static void update(int at)
+{
+    struct model *model = &models[at];
+    uint8_t data[8];
+    size_t len = draw(sizeof data + 1);
+    enum minisign_error wanted = model->phase == NONE ? MINISIGN_NOT_BEGUN : model->phase == TOLD ? MINISIGN_ALREADY_ASKED : MINISIGN_OK;
+
+    if (model->len + len > MOST) {
+        len = 0;
+    }
+    for (size_t i = 0; i < len; i++) {
+        data[i] = (uint8_t) draw(256);
+    }
+    CHECK(minisign_update(&states[at], len == 0 ? NULL : data, len) == wanted);
+    if (wanted == MINISIGN_OK) {
+        memcpy(model->data + model->len, data, len);
+        model->len += len;
+    }
+}
+
+static void digest(int at)
+{
+    struct model *model = &models[at];
+    uint8_t told[64], expected[64];
+    minisign_state other;
+    enum minisign_error wanted = model->phase == NONE ? MINISIGN_NOT_BEGUN : model->phase == TOLD ? MINISIGN_ALREADY_ASKED : MINISIGN_OK;
+
+    memset(told, 0xaa, sizeof told);
+    memset(expected, 0xaa, sizeof expected);
+    CHECK(minisign_digest(&states[at], told) == wanted);
+    if (wanted == MINISIGN_OK) {
+        minisign_init(&other);
+        CHECK(minisign_update(&other, model->data, model->len) == MINISIGN_OK && minisign_digest(&other, expected) == MINISIGN_OK);
+        model->phase = TOLD;
+    }
+    CHECK(memcmp(told, expected, sizeof told) == 0);
+}
+
+static enum minisign_error ask_number(const struct model *model, size_t row, uint32_t legacy, size_t room)
+{
+    return legacy > 1                                ? MINISIGN_BAD_LEGACY_FLAG
+           : model->phase == NONE                    ? MINISIGN_NOT_BEGUN
+           : model->phase == TOLD || model->asked    ? MINISIGN_ALREADY_ASKED
+           : rows[row].wrong != MINISIGN_OK          ? rows[row].wrong
+           : rows[row].legacy && !legacy             ? MINISIGN_LEGACY_NOT_ACCEPTED
+           : room < 64 + rows[row].comment_len       ? MINISIGN_NO_ROOM
+                                                     : MINISIGN_OK;
+}
+
+static void ask(int at)
+{
+    static const uint32_t flags[] = { 0, 1, 0, 1, 0, 1, 2, UINT32_MAX };
+    static const size_t rooms[] = { ROOM, ROOM, 64, 63, 66, 67, 68, 0 };
+    static const uint8_t zeros[64];
+    struct model *model = &models[at];
+    size_t row = draw(sizeof rows / sizeof rows[0]), room = rooms[draw(8)];
+    uint32_t legacy = flags[draw(8)];
+    enum minisign_error wanted = ask_number(model, row, legacy, room);
+    uint8_t message[ROOM], before[ROOM];
+    minisign_questions q;
+
+    memset(message, 0xaa, sizeof message);
+    memset(before, 0xaa, sizeof before);
+    CHECK(minisign_ask(&states[at], &public_key, (const uint8_t *) rows[row].text, strlen(rows[row].text), legacy, &q,
+                       room == 0 ? NULL : message, room) == wanted);
+    if (wanted == MINISIGN_OK) {
+        model->asked = 1;
+        model->whole = rows[row].whole;
+        CHECK(q.message_len == 64 + rows[row].comment_len && memcmp(message, q.signature, 64) == 0);
+        CHECK(memcmp(q.digest, zeros, 64) == 0 && memcmp(q.public_key, public_key.key, 32) == 0);
+        CHECK(memcmp(message + 64, "abcd", rows[row].comment_len) == 0 && memcmp(message + q.message_len, before, ROOM - q.message_len) == 0);
+        CHECK(q.legacy == (uint32_t) rows[row].legacy && (memcmp(q.comment_signature, zeros, 64) != 0) == rows[row].whole);
+    } else {
+        CHECK(memcmp(message, before, sizeof message) == 0);
+    }
+}
+
+static void comment_verdict(int at)
+{
+    const struct model *model = &models[at];
+    uint32_t second = draw_answer();
+    enum minisign_error wanted = !is_answer(second)                                    ? MINISIGN_BAD_ANSWER
+                                 : model->phase == NONE                                ? MINISIGN_NOT_BEGUN
+                                 : !model->asked                                       ? MINISIGN_NOT_ASKED
+                                 : model->whole && second == MINISIGN_ANSWER_YES       ? MINISIGN_OK
+                                                                                       : MINISIGN_COMMENT_SIGNATURE_REFUSED;
+
+    CHECK(minisign_comment_verdict(&states[at], (enum minisign_answer) second) == wanted);
+}
+
+static int verdict(int at)
+{
+    struct model *model = &models[at];
+    uint32_t first = draw_answer(), second = draw_answer();
+    enum minisign_error wanted = !is_answer(first) || !is_answer(second)               ? MINISIGN_BAD_ANSWER
+                                 : model->phase == NONE                                ? MINISIGN_NOT_BEGUN
+                                 : model->phase == FED || !model->asked                ? MINISIGN_NOT_ASKED
+                                 : first != MINISIGN_ANSWER_YES                        ? MINISIGN_SIGNATURE_REFUSED
+                                 : model->whole && second == MINISIGN_ANSWER_YES       ? MINISIGN_OK
+                                                                                       : MINISIGN_COMMENT_SIGNATURE_REFUSED;
+    int ends = is_answer(first) && is_answer(second) && model->phase == TOLD && model->asked;
+
+    CHECK(minisign_verdict(&states[at], (enum minisign_answer) first, (enum minisign_answer) second) == wanted);
+    if (ends) {
+        model->phase = NONE;
+    }
+    return ends;
+}
+
+/* One call on a state: which changes only where the model says so. */
+static void on_state(void)
+{
+    int at = (int) draw(STATES), other = (int) draw(STATES);
+    minisign_state before = states[at];
+    struct model was = models[at];
+    int changes = 0;
+
+    switch (draw(16)) {
+    case 0: minisign_init(&states[at]); memset(&models[at], 0, sizeof models[at]); models[at].phase = FED; changes = 1; break;
+    case 1: states[at] = states[other]; models[at] = models[other]; changes = 1; break;
+    case 2: memset(&states[at], (int) draw(256), sizeof states[at]); models[at].phase = NONE; changes = 1; break;
+    case 3: case 4: case 5: comment_verdict(at); break;
+    case 6: case 7: case 8: changes = verdict(at); break;
+    case 9: case 10: digest(at); break;
+    case 11: case 12: ask(at); break;
+    default: update(at);
+    }
+    if (!changes && memcmp(&was, &models[at], sizeof was) == 0) {
+        CHECK(memcmp(&before, &states[at], sizeof before) == 0);
+    }
+}
+
+/* One call on a key: which is only read, but where it is opened or taken in. */
+static void on_key(void)
+{
+    static const minisign_sealing none;
+    static uint8_t text[ROOM];
+    int at = (int) draw(KEYS), bad_flag = draw(4) == 0;
+    minisign_secret_key before = keys[at];
+    minisign_public_key half;
+    uint8_t secret[64], key_id[8];
+    size_t len = 0, room = draw(3) == 0 ? 70 : sizeof text;
+    enum minisign_error wanted = opened[at] ? room < 77 ? MINISIGN_NO_ROOM : MINISIGN_OK : MINISIGN_KEY_NOT_OPENED;
+
+    switch (draw(8)) {
+    case 0:
+        for (size_t i = 0; i < 64; i++) {
+            secret[i] = (uint8_t) draw(256);
+        }
+        memcpy(key_id, secret + 20, 8);
+        minisign_take_secret_key(key_id, secret, &keys[at]);
+        opened[at] = 1;
+        CHECK(memcmp(keys[at].secret, secret, 64) == 0 && memcmp(keys[at].key_id, key_id, 8) == 0);
+        return;
+    case 1: memset(&keys[at], (int) draw(256), sizeof keys[at]); opened[at] = 0; return;
+    case 2: keys[at].mark ^= UINT64_C(1) << draw(64); opened[at] = keys[at].mark == mark; return;
+    case 3:
+        memset(&half, 0xaa, sizeof half);
+        CHECK(minisign_public_key_of(&keys[at], &half) == (opened[at] ? MINISIGN_OK : MINISIGN_KEY_NOT_OPENED));
+        CHECK(opened[at] ? memcmp(half.key, keys[at].secret + 32, 32) == 0 && memcmp(half.key_id, keys[at].key_id, 8) == 0
+                         : half.key[0] == 0xaa && half.key_id[7] == 0xaa);
+        break;
+    case 4: CHECK(minisign_public_key_text(&keys[at], NULL, 0, text, room, &len) == wanted); break;
+    case 5:
+        CHECK(minisign_secret_key_text(&keys[at], bad_flag ? 2 + draw(9) : 0, NULL, 0, &none, draw(3), NULL, 0, text, room, &len)
+              == (bad_flag ? MINISIGN_BAD_PASSWORD_FLAG : wanted));
+        if (!bad_flag && wanted == MINISIGN_OK) {
+            minisign_secret_key again = { 0 };
+
+            CHECK(minisign_open_secret_key(text, len, 0, NULL, 0, 1, 1, &again) == MINISIGN_OK);
+            CHECK(memcmp(&again, &keys[at], sizeof again) == 0);
+            CHECK(minisign_open_secret_key(text, len, 1, NULL, 0, 1, 1, &again) == MINISIGN_KEY_NOT_SEALED);
+            CHECK(minisign_open_secret_key(text, len, 2, NULL, 0, 1, 1, &again) == MINISIGN_BAD_PASSWORD_FLAG);
+            CHECK(memcmp(&again, &keys[at], sizeof again) == 0);
+        }
+        break;
+    default:
+        CHECK(minisign_signed_text(&keys[at], any_signature, any_signature, NULL, 0, NULL, 0, text, room, &len) == wanted);
+    }
+    CHECK(memcmp(&before, &keys[at], sizeof before) == 0 && (len != 0) <= opened[at]);
+}
+
+int main(void)
+{
+    public_key = key_of(KEY);
+    minisign_take_secret_key(any_signature, any_signature, &keys[0]);
+    mark = keys[0].mark;
+    opened[0] = 1;
+    for (long call = 0; call < CALLS; call++) {
+        if (call % 8 == 0) {
+            on_key();
+        } else {
+            on_state();
+        }
+    }
+    printf("%u passed, %u failed\n", passed, failed);
+    return failed != 0;
+}

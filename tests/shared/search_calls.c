@@ -1,0 +1,89 @@
+/* Preloaded into a program, looks for the needles of needles.h whenever it opens, writes or closes a file, and at its
+ * end. What goes into no core file is its own place for secrets. With SEARCH_SAYS a file of that name gets a line each
+ * time: what the program does, a needle, and how often it is found in registers, on the stack, elsewhere, and in that
+ * place. */
+#define _GNU_SOURCE
+#include <fcntl.h>
+#include <stdarg.h>
+#include <stdio.h>
+#include <sys/syscall.h>
+
+#include "search_memory.h"
+
+static int says = -1;
+static const char *doing;
+static const uint8_t *stack_at;
+
+static int place_of(const uint8_t *at, bool is_undumped)
+{
+    return is_undumped                                              ? OWN
+           : is_within(at, signal_stack, sizeof signal_stack)       ? REGISTERS
+           : is_within(at, stack_at - (8 << 20), (size_t) 16 << 20) ? STACK
+                                                                    : ELSEWHERE;
+}
+
+static void look(void)
+{
+    char line[256];
+    int to = says;
+
+    /* (its own calls are not looked at) */
+    says = -1;
+    search_all("/proc/self/smaps");
+    for (size_t n = 0; n < NEEDLES; n++) {
+        int len = snprintf(line, sizeof line, "%s\t%s\t%zu\t%zu\t%zu\t%zu\n", doing, needles[n].name, counts[n][REGISTERS],
+                           counts[n][STACK], counts[n][ELSEWHERE], counts[n][OWN]);
+        syscall(SYS_write, to, line, (size_t) len);
+    }
+    says = to;
+}
+
+#define LOOK(what) \
+    do { \
+        if (says >= 0) { \
+            doing = what; \
+            TRAP(); \
+        } \
+    } while (0)
+
+__attribute__((constructor)) static void begin(void)
+{
+    const char *name = getenv("SEARCH_SAYS");
+
+    stack_at = __builtin_frame_address(0);
+    if (name != NULL) {
+        watch();
+        says = (int) syscall(SYS_openat, AT_FDCWD, name, O_WRONLY | O_CREAT | O_APPEND | O_CLOEXEC, 0600);
+    }
+}
+
+__attribute__((destructor)) static void end(void)
+{
+    LOOK("end");
+}
+
+int open(const char *name, int flags, ...)
+{
+    mode_t mode = 0;
+    va_list rest;
+
+    LOOK("open");
+    va_start(rest, flags);
+    if ((flags & O_CREAT) != 0 || (flags & O_TMPFILE) == O_TMPFILE) {
+        mode = va_arg(rest, mode_t);
+    }
+    va_end(rest);
+    return (int) syscall(SYS_openat, AT_FDCWD, name, flags, mode);
+}
+
+ssize_t write(int fd, const void *bytes, size_t len)
+{
+    LOOK("write");
+    return syscall(SYS_write, fd, bytes, len);
+}
+
+int close(int fd)
+{
+    LOOK("close");
+    return (int) syscall(SYS_close, fd);
+}
