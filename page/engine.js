@@ -1,11 +1,12 @@
 // SPDX-License-Identifier: MIT
-// Where data is hashed: in two threads, to which the page's script is given once more. They take turns: while one hashes a
-// slice of the file, the other reads the next one to where the module takes it from, and the state goes from one to the other.
+// Where data is hashed: in three threads, to which the page's script is given once more. They take turns: while one hashes a
+// slice of the file, the others read the next ones to where the module takes them from, which takes a browser up to twice as
+// long, and the state goes from one to the next.
 // Where the browser, or whoever serves the page, allows no such threads, all is done in the page's own.
 
 // How long a thread may take to say that it is there, in milliseconds.
 const MOST_MILLISECONDS = 10000;
-const THREADS = 2;
+const THREADS = 3;
 // What a thread hashes before there is a file, and how often, so that the browser makes its better code of the module meanwhile.
 const WARMING_BYTES = 262144;
 const WARMING_TIMES = 8;
