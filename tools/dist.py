@@ -9,17 +9,15 @@ PART is `calls` or `page`, both where none is named. Libraries that `rt lib` pro
 first. `--after SAID` takes those that a finished `rt ci` left here: SAID is a file of what that said. In the gate `--check` runs
 beside `rt ci`, and builds over what that proves (`tests/shared/proved.py`).
 
-With another kit of the same logic the bytes may differ. `--check` then says so, and compares what both archives do with all keys
-and signatures of `tests/corpus`; of the page, also where another wasm-opt lowered it, it compares all but the module. `--check`
-says of which files the bytes are the same, and prints a line for each failure; the last line is `N passed, M failed`.
+With another kit of the same logic the bytes may differ, and so may the page's where another wasm-opt lowered it. `--check` then
+says so; of the page it compares all but the module. (What the archives of dist/ do, all of tests/c shows.) It says of which files
+the bytes are the same, and prints a line for each failure; the last line is `N passed, M failed`.
 
-Needs Python 3.9 or later, the kit, what `page/build.py` needs, and for archives that differ make, a C compiler, libsodium, and for
-the one of AArch64 what `tests/c/aarch64.py` needs.
+Needs Python 3.9 or later, the kit, and what `page/build.py` needs.
 """
 
 import argparse
 import hashlib
-import json
 import os
 import re
 import shutil
@@ -30,17 +28,14 @@ from collections import namedtuple
 
 HERE = os.path.dirname(os.path.realpath(__file__))
 ROOT = os.path.dirname(HERE)
-sys.path += [os.path.join(ROOT, *it) for it in (("tests", "shared"), ("tests", "c"), ("page",))]
+sys.path += [os.path.join(ROOT, *it) for it in (("tests", "shared"), ("page",))]
 
-import aarch64
 import build
 import needs
 import proved
 import sources
-import static_library
 
 DIST = os.path.join(ROOT, "dist")
-CORPUS = os.path.join(ROOT, "tests", "corpus")
 PROVED, SUMS = "PROVED", "SHA256SUMS"
 CALLS, PAGE = "minisign_c", "minisign_page"
 PAGE_FILE, LOWERED = "minisign.html", "its module was lowered to 32 bits by"
@@ -163,7 +158,7 @@ def check_files(report):
     """The files are those of SHA256SUMS, and nothing else stands there."""
     listed = dict(reversed(line.split("  ", 1)) for line in read(SUMS).decode().splitlines())
     found = {it for it in os.listdir(DIST) if it not in (SUMS, "README.md")}
-    report.check(found == {*listed} == {*LISTED}, DIST, f"it has {sorted(found)}, and {SUMS} lists {sorted(listed)}")
+    report.check(found == {*listed} == {*LISTED}, "dist", f"it has {sorted(found)}, and {SUMS} lists {sorted(listed)}")
     for name in sorted(found & {*listed}):
         report.check(hashlib.sha256(read(name)).hexdigest() == listed[name], f"dist/{name}", f"it is not what {SUMS} says")
 
@@ -177,37 +172,7 @@ def check_sources(report, parts, lines):
         crate, key = PARTS[part], f"sources of the {part}"
         wanted = {*proved.crates()[crate].below, crate}
         report.check({*below, *more} == wanted, "tools/sources.sh", f"it does not name the crates that {crate} stands on")
-        report.check(lines.get(key) == sources_sum(part), DIST, f"the {key} have changed since it was made: run tools/dist.py")
-
-
-def verifier(room, name, archive):
-    """The words that run the program that verifies over this archive alone, built by make."""
-    out, is_own = os.path.join(room, name), "aarch64" not in os.path.basename(archive)
-    flags = [f"V2={archive}", f"V3={archive}", f"CC={needs.libsodium()}"] if is_own else [f"AARCH64={archive}", *aarch64.make_flags()]
-    static_library.run_make(f"OUT={out}", *flags, f"{out}/minisign")
-    return [*([] if is_own else aarch64.emulator()), f"{out}/minisign"]
-
-
-def check_doing(report, name, data):
-    """Another archive does the same with the kept keys and signatures, and what Minisign does."""
-    with tempfile.TemporaryDirectory(prefix="dist-") as room:
-        archive = os.path.join(room, name)
-        with open(archive, "wb") as file:
-            file.write(data)
-        programs = [verifier(room, "kept", os.path.join(DIST, name)), verifier(room, "now", archive)]
-        for case in json.loads(sources.read("tests/corpus/cases.json")):
-            answers = []
-            for program in programs:
-                ran = subprocess.run([*program, "-Vm", case["data"], "-p", case["key"], "-x", case["signature"]], cwd=CORPUS,
-                                     stdin=subprocess.DEVNULL, stdout=subprocess.PIPE, stderr=subprocess.PIPE)
-                answers.append((ran.returncode, ran.stdout, ran.stderr))
-            what = f"{name}, {case['signature']} of {case['data']} with {case['key']}"
-            report.check(answers[0] == answers[1], what, f"{answers[0]}, and by this kit {answers[1]}")
-
-
-def without_module(page):
-    """A page but for its module, what its policy says of the script with that, and what lowered it."""
-    return re.sub(rb'const MODULE = "[^"]*"|\'sha256-[^\']*\'', b"", page).replace(lowered_by(page).encode(), b"")
+        report.check(lines.get(key) == sources_sum(part), "dist", f"the {key} have changed since it was made: run tools/dist.py")
 
 
 def check_built(report, it, lines, kit):
@@ -221,9 +186,10 @@ def check_built(report, it, lines, kit):
         return
     print(f"dist: {it.name} has other bytes by {' and '.join(own)} than by {' and '.join(kept)}, which made dist/", flush=True)
     if it.name == PAGE_FILE:
-        report.check(without_module(read(it.name)) == without_module(it.data), f"dist/{it.name}", "it differs in more than its module")
-    else:
-        check_doing(report, it.name, it.data)
+        # (the module, what the policy says of the script with it, and what lowered it)
+        bare = [re.sub(rb'const MODULE = "[^"]*"|\'sha256-[^\']*\'', b"", page).replace(lowered_by(page).encode(), b"")
+                for page in (read(it.name), it.data)]
+        report.check(bare[0] == bare[1], f"dist/{it.name}", "it differs in more than its module")
 
 
 def check(parts):
@@ -234,7 +200,7 @@ def check(parts):
     check_files(report)
     check_sources(report, parts, lines)
     logics = [re.search(r"logic \S+", it)[0] for it in (lines["kit"], kit)]
-    report.check(logics[0] == logics[1], DIST, f"it was proved by {lines['kit']}, and here is {kit}: another logic")
+    report.check(logics[0] == logics[1], "dist", f"it was proved by {lines['kit']}, and here is {kit}: another logic")
     for it in built(parts):
         check_built(report, it, lines, kit)
         verdicts = [lines.get(it.name, ""), it.lines[it.name]]

@@ -10,6 +10,7 @@ import os
 import re
 import shutil
 import sys
+from collections import namedtuple
 from dataclasses import dataclass, field
 
 ROOT = os.path.dirname(os.path.dirname(os.path.realpath(__file__)))
@@ -74,16 +75,12 @@ def files_below(folder, ending=""):
 # Items of Rattle.
 
 
-@dataclass
-class Clause:
-    """A `requires` or an `ensures`; the name is empty where it has none."""
-
-    kind: str
-    name: str
-    text: str
-    # The comment right above it, and whether a blank line stands above both.
-    comment: str
-    is_apart: bool
+# A `requires` or an `ensures`; the name is empty where it has none. With the comment right above it, and whether a blank line
+# stands above both.
+Clause = namedtuple("Clause", "kind name text comment is_apart")
+# A `.rt` file: its items, nested ones too, and what its ghost code imports: by the name in the file the module, and the name there,
+# which is empty for a whole module.
+Source = namedtuple("Source", "file text items imports")
 
 
 @dataclass(eq=False)
@@ -114,17 +111,6 @@ class Item:
     def clause(self, name):
         """The clauses of this name."""
         return [clause for clause in self.clauses if clause.name == name]
-
-
-@dataclass(eq=False)
-class Source:
-    """A `.rt` file: its items, nested ones too, and what its ghost code imports."""
-
-    file: str
-    text: str
-    items: list = field(default_factory=list)
-    # By the name in the file: the module, and the name there, which is empty for a whole module.
-    imports: dict = field(default_factory=dict)
 
 
 def in_one_line(text):
@@ -165,7 +151,7 @@ class Reader:
     """Reads the items of one `.rt` file."""
 
     def __init__(self, file):
-        self.source = Source(file, read(file))
+        self.source = Source(file, read(file), [], {})
         self.text = self.source.text
         # The text with spaces for what is opaque, and the places behind the brackets that close others.
         self.bare = OPAQUE.sub(lambda it: re.sub(r"[^\n]", " ", it[0]), self.text)
@@ -276,15 +262,8 @@ class Definition:
         return "\n".join(self.lines)
 
 
-@dataclass(eq=False)
-class Module:
-    """An `.antt` file."""
-
-    definitions: dict = field(default_factory=dict)
-    imports: dict = field(default_factory=dict)
-    passed_on: dict = field(default_factory=dict)
-
-
+# An `.antt` file, with what it imports and passes on as a source has it.
+Module = namedtuple("Module", "definitions imports passed_on")
 BEGINS = re.compile(r"(?:(?:abbrev|unfoldable|pub|opaque|inline)\s+)*(?:(?P<kind>record|data)\s+)?(?P<name>[^\s(){}:]+)")
 KEYWORDS = re.compile(r"(?:abbrev|unfoldable|pub|record|data|opaque|inline)\b|[^\s=]+ :(?!:)")
 OTHER = re.compile(r"(?P<before>(?:(?:unfoldable|pub)\s+)*)(?P<word>use|mod|syntax|infix\w*|open|import|elab)\b")
@@ -293,7 +272,7 @@ OTHER = re.compile(r"(?P<before>(?:(?:unfoldable|pub)\s+)*)(?P<word>use|mod|synt
 @functools.lru_cache(maxsize=None)
 def read_module(file):
     """The definitions of an `.antt` file."""
-    module, comment, current, indent = Module(), [], None, ""
+    module, comment, current, indent = Module({}, {}, {}), [], None, ""
     for number, raw in enumerate(read(file).split("\n"), 1):
         line = raw[len(indent):] if raw.startswith(indent) else raw
         if line.startswith("--"):

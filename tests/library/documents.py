@@ -12,6 +12,8 @@ import re
 import subprocess
 import sys
 
+sys.path.append(os.path.join(os.path.dirname(os.path.realpath(__file__)), "..", "..", "tools"))
+
 import sources
 from sources import NAME, ROOT, read
 
