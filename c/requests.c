@@ -26,17 +26,18 @@
     "  --mode MODE        the permissions of the file, as 755; without this option it\n" \
     "                     gets those of the file at PLACE, with its access control\n" \
     "                     list, and a new file is for its owner alone\n" \
-    "  --most BYTES       refuse data that is longer; behind the number K, M, G or T\n" \
+    "  --most BYTES       reject data that is longer; after the number K, M, G or T\n" \
     "                     may stand, for units of 1024 bytes, 1024 of these, ..\n" \
+    "  --max-size BYTES   the same\n" \
     "  --                 what follows are paths\n" \
     "  -h, --help         show this\n" \
     "  --version          show the version of the program\n" \
     "\n" \
-    "Each option comes at most once, anywhere before `--`. It ends with\n" \
+    "Each option comes at most once, anywhere before `--`. Exit status:\n" \
     "  0  the update was installed, or what was asked for was shown\n" \
-    "  1  a file could not be used, memory ran out, or no random bytes came\n" \
-    "  2  the words are no request\n" \
-    "  3  the update is refused\n" \
+    "  1  a file could not be used, an allocation failed, or no random bytes came\n" \
+    "  2  usage error\n" \
+    "  3  the update is rejected\n" \
     "  4  the update is older than what was installed\n" \
     "  5  another installation is at work at this place\n" \
     "  6  the update stands there, but a crash may bring back what stood there before\n" \
@@ -85,6 +86,9 @@ static int valued_of(const char *word)
 {
     int option = 0;
 
+    if (strcmp(word, "--max-size") == 0) {
+        return MOST;
+    }
     while (option < VALUED && strcmp(word, valued[option]) != 0) {
         option++;
     }
@@ -164,7 +168,7 @@ static uint64_t unit_of(const char *text)
     }
 }
 
-/* How many bytes decimal digits write, behind which the letter of a unit may stand. */
+/* How many bytes decimal digits write, after which the letter of a unit may stand. */
 static uint64_t bytes_of(const char *text)
 {
     size_t len = strspn(text, "0123456789");

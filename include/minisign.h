@@ -8,12 +8,12 @@
  * verdict. What Ed25519 answers is yours.
  *
  * The calls stand in the order in which a program has things. To verify: a public key is read, from two lines or
- * from its base64 alone; minisign_ask takes the key and the text of a signature, refuses what is wrong with them,
+ * from its base64 alone; minisign_ask takes the key and the text of a signature, rejects what is wrong with them,
  * and tells the two questions; the data is fed; minisign_digest completes the first question; minisign_verdict
  * takes the two answers. To sign: a secret key is opened; the data is fed; minisign_digest tells what is signed
  * first; the key and the two signatures make the text.
  *
- * What is proved, for a caller that keeps "What you owe" below: what each call answers and writes, as the contract of
+ * What is proved, for a caller that keeps "Requirements" below: what each call answers and writes, as the contract of
  * its export says in crates/minisign_c/src/lib.rt of the sources. By tests alone is shown: that what was taken from
  * malloc is cleared and given back, and that no secret stays behind on the stack or in registers; that
  * MINISIGN_TEXT_BYTES is room enough; what c/boundary.c, c/allocation.c and c/clearing.c do, which stand between this
@@ -271,7 +271,7 @@ extern "C" {
 #endif
 
 /*
- * What you owe. The library cannot test these; where one is broken, nothing is promised.
+ * Requirements. The library cannot test these; where one is broken, nothing is promised.
  *
  * - A pointer with a length points to so many bytes, at most 2^63 - 1, that you may read, and where it is not const
  *   also write; where the length is 0 it may be NULL. No other pointer is NULL: one to a struct points to one,
@@ -500,7 +500,7 @@ typedef struct minisign_questions {
     uint8_t signature[64];
     /* The second question: and this signature, for the message_len bytes in the buffer? They are the first
      * signature followed by the trusted comment. Zeros where the text has fewer than 64 bytes here: the verdict then
-     * refuses, whatever the second answer is. */
+     * rejects, whatever the second answer is. */
     uint8_t comment_signature[64];
     uint64_t message_len;
     /* The key IDs, of the key and of the signature. Equal where the questions were asked; also written where the
@@ -515,7 +515,7 @@ typedef struct minisign_questions {
 
 /*
  * Asks, before any data: from the public key and the text of the signature (a file such as data.minisig) what
- * Ed25519 has to answer. All that the texts are refused for is told here. The message of the second question is
+ * Ed25519 has to answer. All that the texts are rejected for is told here. The message of the second question is
  * written to message, of room bytes; room for sig_text_len bytes is always enough. The state then takes the data.
  *
  * allow_legacy is 1 where signatures over the data itself will do, otherwise 0. Such a question is about the data
@@ -626,7 +626,7 @@ MINISIGN_MUST_USE enum minisign_error minisign_public_key_of(
     const minisign_secret_key *key, minisign_public_key *public_key);
 
 /*
- * Writes the message of the second question to the front of message, of room bytes: the first signature followed by
+ * Writes the message of the second question to the beginning of message, of room bytes: the first signature followed by
  * the trusted comment, 64 + trusted_len bytes. The message of the first one is the digest of the data, which
  * minisign_digest tells. Both are signed with the secret of the key. Does not allocate.
  *
@@ -688,7 +688,7 @@ typedef struct minisign_sealing {
 #define MINISIGN_PUBLIC_KEY_BYTES(comment_len) (77 + (size_t) (comment_len))
 
 /*
- * Writes the text of a secret key, both lines of a file such as minisign.key, to the front of text, of room bytes,
+ * Writes the text of a secret key, both lines of a file such as minisign.key, to the beginning of text, of room bytes,
  * and its length to text_len.
  *
  * with_password is 1 where the key is sealed under the password, with the salt and the limits of sealing; and 0
@@ -712,7 +712,7 @@ MINISIGN_MUST_USE enum minisign_error minisign_secret_key_text(
     size_t room, size_t *text_len);
 
 /*
- * Writes the text of the public key of a secret key, both lines of a file such as minisign.pub, to the front of
+ * Writes the text of the public key of a secret key, both lines of a file such as minisign.pub, to the beginning of
  * text, of room bytes, and its length to text_len. It takes the secret key, so that no seed is published where a
  * public key was meant.
  *
@@ -729,13 +729,13 @@ MINISIGN_MUST_USE enum minisign_error minisign_public_key_text(
 /*
  * Installs an update at a place, beside which the number of the newest one is kept: nothing else gets there, no
  * older one either, and whatever comes between, a crash too, what stands there is whole. The library knows no
- * folder. It tells which call is due; you make it, and say how it went. A program that does no more than that, over
- * calls of the system relative to a folder that is open, is c/minisign-install.c of the sources.
+ * directory. It tells which call is due; you make it, and say how it went. A program that does no more than that, over
+ * calls of the system relative to a directory that is open, is c/minisign-install.c of the sources.
  *
- * Both are files of one folder: the place, and the record with the number and the field that it stands in. A stage
+ * Both are files of one directory: the place, and the record with the number and the field that it stands in. A stage
  * is a new file beside them, of a name that nobody else has; what is renamed is always whole and on the disk.
  *
- * What is outside, and what you owe beyond the head of this page: the lock is held from MINISIGN_DUE_LOCK to the
+ * What is outside, and what is required beyond the head of this page: the lock is held from MINISIGN_DUE_LOCK to the
  * end of the run, and others keep to it; you say that a call was done only where it was made and went well, and
  * what it is about is what this page says; and what you hand to minisign_install_piece is what the stage holds,
  * read through the descriptor that it was written by, from its first byte to its end. Where one of these is broken,
@@ -835,7 +835,7 @@ MINISIGN_MUST_USE enum minisign_error minisign_install_more(minisign_installatio
 /*
  * The call that was due failed, also where it is one with a call of its own: MINISIGN_OUT_OF_MEMORY,
  * MINISIGN_READING_FAILED, MINISIGN_WRITING_FAILED or MINISIGN_RANDOM_SOURCE_FAILED, and of MINISIGN_DUE_LOCK also
- * MINISIGN_PLACE_IN_USE. What was made is then to be removed, and at the end that is what the run was refused for.
+ * MINISIGN_PLACE_IN_USE. What was made is then to be removed, and at the end that is what the run was rejected for.
  * Of MINISIGN_DUE_SETTLE_NAME it becomes MINISIGN_FOLDER_NOT_ON_DISK: the update stands at the place.
  *
  * MINISIGN_NOT_DUE for another number, and once the run has ended: nothing changes.
@@ -848,7 +848,7 @@ MINISIGN_MUST_USE enum minisign_error minisign_install_failed(
  * "version:" and a number; or a number alone, as earlier versions wrote it, which counts for either field. One line
  * feed at the end is left out; more than 64 bytes are no number. Hand over all of it, or say by
  * minisign_install_failed that reading failed where it is longer. Or there is no record. Where there is no number
- * of the field and this is not the first installation, the run is refused, with MINISIGN_NO_RECORD,
+ * of the field and this is not the first installation, the run is rejected, with MINISIGN_NO_RECORD,
  * MINISIGN_DAMAGED_RECORD, MINISIGN_KEPT_BY_TIMESTAMP or MINISIGN_KEPT_BY_VERSION; the call is MINISIGN_OK then
  * too.
  *
@@ -870,13 +870,13 @@ MINISIGN_MUST_USE enum minisign_error minisign_install_piece(
 /*
  * MINISIGN_DUE_ANSWER, first: what Ed25519 has to answer, as minisign_ask and minisign_digest tell it; signatures
  * over the data itself are never taken. The signed comment is judged too: whether it has a field "file:" with
- * exactly this name, and, behind the label of the numbering, a number below 2^64 in decimal digits alone that is
- * not below the one that is kept. What came of that is told only behind the answers, since nothing vouches for it
+ * exactly this name, and, after the label of the numbering, a number below 2^64 in decimal digits alone that is
+ * not below the one that is kept. What came of that is told only after the answers, since nothing vouches for it
  * before.
  *
- * The errors, in this order: MINISIGN_NOT_DUE; MINISIGN_NOT_UTF8 of the name; those of minisign_ask. Behind
- * MINISIGN_NOT_DUE, MINISIGN_ALREADY_ASKED and MINISIGN_NO_ROOM nothing changes. Behind the others the run is
- * refused for that, and MINISIGN_DUE_REMOVE is due.
+ * The errors, in this order: MINISIGN_NOT_DUE; MINISIGN_NOT_UTF8 of the name; those of minisign_ask. After
+ * MINISIGN_NOT_DUE, MINISIGN_ALREADY_ASKED and MINISIGN_NO_ROOM nothing changes. After the others the run is
+ * rejected for that, and MINISIGN_DUE_REMOVE is due.
  */
 MINISIGN_MUST_USE enum minisign_error minisign_install_ask(
     minisign_installation *installation, const minisign_public_key *key, const uint8_t *sig_text, size_t sig_text_len,
@@ -895,9 +895,9 @@ MINISIGN_MUST_USE enum minisign_error minisign_install_answer(
     minisign_installation *installation, enum minisign_answer first, enum minisign_answer second);
 
 /*
- * MINISIGN_DUE_WRITE_RECORD: writes the number of the update to the front of text, of room bytes, as it is to be
+ * MINISIGN_DUE_WRITE_RECORD: writes the number of the update to the beginning of text, of room bytes, as it is to be
  * written into the stage of the record: the label of its field and decimal digits, as "version:2", at most
- * MINISIGN_NUMBER_TEXT_BYTES, with no 0 behind them. Returns how many, and 0 where no number is to be written or
+ * MINISIGN_NUMBER_TEXT_BYTES, with no 0 after them. Returns how many, and 0 where no number is to be written or
  * there is no room; then nothing is written.
  */
 #define MINISIGN_NUMBER_TEXT_BYTES 30
@@ -908,7 +908,7 @@ enum minisign_error minisign_install_error(const minisign_installation *installa
 
 /*
  * Judges a signed comment by itself, for programs that install in other ways: one that minisign_verdict has vouched
- * for. Writes its number where the comment has a field "file:" with exactly this name, and, behind the label of the
+ * for. Writes its number where the comment has a field "file:" with exactly this name, and, after the label of the
  * numbering, a number below 2^64 in decimal digits alone that is not below kept. Fields end at tabs, and the first
  * with a label counts.
  *

@@ -1,5 +1,5 @@
-"""Makes the boundary in C between the header and the proved library: `c/boundary.c`, and `c/names`, which lists the
-names of the proved calls. `tools/header.py` calls it.
+"""Makes the boundary in C between the header and the proved library: `c/boundary.c`, behind the head that is written by hand
+there, and `c/names`, which lists the names of the proved calls. `tools/header.py` calls it.
 
 Each function that the header declares is compared with the export of the crate `minisign_c` of the same name: what
 Rattle hands over as a slice is a pointer and a length in C. So a declaration that does not fit fails, and so does an export
@@ -7,15 +7,13 @@ without one.
 """
 
 import re
-from dataclasses import dataclass
+from collections import namedtuple
 
+from sources import read
 
-class Unfit(Exception):
-    """A declaration of the header and an export of the crate that do not fit."""
-
-
-# What the boundary answers by itself.
-OWN = {"minisign_version"}
+FILE = "c/boundary.c"
+# What the boundary answers by itself, where its head ends.
+OWN = "minisign_version"
 
 # The structs by their names in Rattle.
 STRUCTS = {"State": "minisign_state", "PublicKeyValue": "minisign_public_key", "Questions": "minisign_questions",
@@ -37,43 +35,17 @@ DECLARATION = re.compile(r"^(?:MINISIGN_MUST_USE )?((?:const )?(?:enum )?\w+ \*?
 EXPORT = re.compile(r'^pub extern "C" fn (minisign_\w+)\((.*?)\)(?: -> (\w+))?\s*$', re.M | re.S)
 
 
-@dataclass
-class Parameter:
-    """A parameter in C: its type without the name, its name, how it is declared, and the name of the length behind it."""
-
-    kind: str
-    name: str
-    text: str
-    length: str = ""
-
-    @property
-    def plain(self):
-        return PLAIN.get(self.kind, self.kind)
-
-    @property
-    def is_pointer(self):
-        return "*" in self.kind
+class Unfit(Exception):
+    """Forms of the sources that do not fit each other, or that these scripts do not read."""
 
 
-@dataclass
-class Function:
-    """A function of the header."""
-
-    kind: str
-    name: str
-    parameters: list
-
-    @property
-    def plain_kind(self):
-        return PLAIN.get(self.kind, self.kind)
-
-    @property
-    def sees_secrets(self):
-        return any(it.name in SECRET_NAMES or SECRET_STRUCTS & {*it.kind.split()} for it in self.parameters)
+# A parameter in C: its type without the name, its name, and how it is declared; and a function of the header.
+Parameter = namedtuple("Parameter", "kind name text")
+Function = namedtuple("Function", "kind name parameters")
 
 
-def without_comments(text):
-    return re.sub(r"/\*.*?\*/", "", text, flags=re.S)
+def plain(kind):
+    return PLAIN.get(kind, kind)
 
 
 def parameter_of(text):
@@ -86,72 +58,57 @@ def parameter_of(text):
 
 def declared(header):
     """The functions that the header declares."""
-    functions = []
-    for kind, name, parameters in DECLARATION.findall(without_comments(header)):
-        made = [] if parameters.strip() == "void" else [parameter_of(it) for it in parameters.split(",")]
-        for one, following in zip(made, made[1:]):
-            if one.is_pointer and following.kind == "size_t":
-                one.length = following.name
-        functions.append(Function(kind.strip(), name, made))
-    return functions
+    bare = re.sub(r"/\*.*?\*/", "", header, flags=re.S)
+    return [Function(kind.strip(), name, [parameter_of(it) for it in parameters.split(",") if parameters.strip() != "void"])
+            for kind, name, parameters in DECLARATION.findall(bare)]
 
 
 def kinds_in_c(kind):
     """The types in C of what Rattle calls this."""
-    kind = kind.strip()
-    if kind == "Global":
-        return []
-    if kind in NUMBERS:
-        return [NUMBERS[kind]]
-    found = re.fullmatch(r"&(mut )?\[u8(; \d+)?\]", kind)
-    if found:
-        pointer = "uint8_t *" if found[1] else "const uint8_t *"
-        return [pointer] if found[2] else [pointer, "size_t"]
-    found = re.fullmatch(r"&(mut )?(\w+)", kind)
-    if found:
-        struct = NUMBERS.get(found[2]) or STRUCTS.get(found[2])
-        if struct:
-            return [f"{struct} *" if found[1] else f"const {struct} *"]
-    raise Unfit(f"an export has a parameter {kind}, which tools/boundary.py does not know")
+    if kind in NUMBERS or kind == "Global":
+        return [NUMBERS[kind]] if kind in NUMBERS else []
+    is_mut, to = re.fullmatch(r"&(mut )?(.*)", kind).groups() if kind.startswith("&") else ("", "")
+    const, is_bytes = "" if is_mut else "const ", re.fullmatch(r"\[u8(; \d+)?\]", to)
+    if is_bytes:
+        return [f"{const}uint8_t *", *([] if is_bytes[1] else ["size_t"])]
+    if to not in NUMBERS and to not in STRUCTS:
+        raise Unfit(f"an export has a parameter {kind}, which tools/boundary.py does not know")
+    return [f"{const}{(NUMBERS | STRUCTS)[to]} *"]
 
 
 def exported(crate):
     """The types in C of the exports of the crate, by their names: those of the parameters, and of the result."""
-    exports = {}
-    for name, parameters, result in EXPORT.findall(crate):
-        kinds = []
-        for parameter in re.split(r",\s*(?![^\[]*\])", parameters.strip().rstrip(",")):
-            kinds += kinds_in_c(parameter.partition(":")[2])
-        exports[name] = (kinds, kinds_in_c(result)[0] if result else "void")
-    return exports
+    return {name: ([kind for it in re.split(r",\s*(?![^\[]*\])", parameters.strip().rstrip(",")) if it
+                    for kind in kinds_in_c(it.partition(":")[2].strip())], kinds_in_c(result)[0] if result else "void")
+            for name, parameters, result in EXPORT.findall(crate)}
 
 
 def functions_of(header, crate):
     """The functions of the header that are proved, once they fit the exports."""
-    functions = [it for it in declared(header) if it.name not in OWN]
-    exports = exported(crate)
-    if {it.name for it in functions} != set(exports):
-        differ = {it.name for it in functions} ^ set(exports)
+    functions, exports = [it for it in declared(header) if it.name != OWN], exported(crate)
+    differ = {it.name for it in functions} ^ {*exports}
+    if differ:
         raise Unfit(f"include/minisign.h and the exports of minisign_c differ in {', '.join(sorted(differ))}")
     for it in functions:
-        kinds = ([parameter.plain for parameter in it.parameters], it.plain_kind)
+        kinds = ([plain(parameter.kind) for parameter in it.parameters], plain(it.kind))
         if kinds != exports[it.name]:
             raise Unfit(f"include/minisign.h declares {it.name} with {kinds}, and the crate has {exports[it.name]}")
     return functions
 
 
-def argument(parameter):
-    if parameter.length:
-        side = "READ" if parameter.kind.startswith("const") else "WRITTEN"
-        return f"{side}({parameter.name}, {parameter.length})"
-    return parameter.name
+def arguments(parameters):
+    """What is handed over: a pointer with a length behind it may be NULL of no bytes."""
+    for it, behind in zip(parameters, [*parameters[1:], None]):
+        has_length = "*" in it.kind and behind and behind.kind == "size_t"
+        side = "READ" if it.kind.startswith("const") else "WRITTEN"
+        yield f"{side}({it.name}, {behind.name})" if has_length else it.name
 
 
 def in_lines(begin, parts, end):
     """The parts behind `begin`, in lines of at most 116 characters."""
-    lines, line = [], begin
-    for number, part in enumerate(parts):
-        piece = part + (end if number == len(parts) - 1 else ",")
+    lines, line, parts = [], begin, [*parts]
+    for number, part in enumerate(parts, 1):
+        piece = part + (end if number == len(parts) else ",")
         if len(line) + len(piece) + 1 > 116:
             lines.append(line.rstrip())
             line = " " * len(begin)
@@ -159,95 +116,26 @@ def in_lines(begin, parts, end):
     return "\n".join([*lines, line.rstrip()])
 
 
-def spaced(kind):
-    return kind if kind.endswith("*") else kind + " "
-
-
-HEAD = """\
-/*
- * The boundary between minisign.h and the proved calls of the crate minisign_c. Made by tools/header.py.
- *
- * It decides three things. A pointer that is NULL where its length is 0 is replaced by one that is not, which the
- * proved calls need. Where there are two copies of these calls, one built for x86-64-v2 and one for x86-64-v3,
- * it takes the second if the processor has what that needs. And behind a call that was given a secret, what it has
- * left on the stack and in registers is cleared.
- *
- * SPDX-License-Identifier: MIT
- */
-#if !(defined(__x86_64__) || defined(__aarch64__)) || !defined(__LP64__) || __BYTE_ORDER__ != __ORDER_LITTLE_ENDIAN__
-#error "minisign is for x86-64 and AArch64, little-endian and with pointers of 64 bits"
-#endif
-
-#include <stddef.h>
-#include <stdint.h>
-
-#include "clearing.h"
-#include "minisign.h"
-
-#ifdef __x86_64__
-
-#include <cpuid.h>
-
-/* Both copies of a call, and the one that is taken. */
-#define PROVED(kind, name, parameters) kind v2_##name parameters; kind v3_##name parameters
-#define CALL(name) (has_v3 ? v3_##name : v2_##name)
-
-static int has_v3;
-
-/* Whether the processor, and the system on it, have what x86-64-v3 is: found out once, before main. */
-__attribute__((constructor)) static void look_at_processor(void)
-{
-    const unsigned one = bit_FMA | bit_MOVBE | bit_OSXSAVE | bit_AVX | bit_F16C, seven = bit_BMI | bit_AVX2 | bit_BMI2;
-    unsigned a, b, c, d, kept, kept_above;
-
-    if (!__get_cpuid(1, &a, &b, &c, &d) || (c & one) != one) {
-        return;
-    }
-    /* (bits 1 and 2: the system keeps the registers of SSE and AVX for each program) */
-    __asm__ __volatile__("xgetbv" : "=a"(kept), "=d"(kept_above) : "c"(0));
-    has_v3 = (kept & 6) == 6 && __get_cpuid_count(7, 0, &a, &b, &c, &d) && (b & seven) == seven
-             && __get_cpuid(0x80000001, &a, &b, &c, &d) && (c & bit_LZCNT) == bit_LZCNT;
-}
-
-#else
-
-#define PROVED(kind, name, parameters) kind aarch64_##name parameters
-#define CALL(name) aarch64_##name
-
-#endif
-
-/* Nothing is read or written here. */
-static const uint8_t nothing;
-
-#define READ(pointer, length) ((pointer) == NULL && (length) == 0 ? &nothing : (const uint8_t *) (pointer))
-#define WRITTEN(pointer, length) ((pointer) == NULL && (length) == 0 ? (uint8_t *) &nothing : (uint8_t *) (pointer))
-
-uint32_t minisign_version(void)
-{
-    return MINISIGN_VERSION;
-}
-"""
+def function_text(it):
+    """The proved call as it is declared, and the function that makes it."""
+    spaced = it.kind if it.kind.endswith("*") else it.kind + " "
+    sees_secrets = any(one.name in SECRET_NAMES or SECRET_STRUCTS & {*one.kind.split()} for one in it.parameters)
+    result = "" if it.kind == "void" else "result = " if sees_secrets else "return "
+    cast = "" if it.kind == plain(it.kind) else f"({it.kind}) "
+    call = [in_lines(f"    {result}{cast}CALL({it.name})(", arguments(it.parameters), ");")]
+    if sees_secrets:
+        before, behind = ([f"    {spaced}result;", ""], ["    return result;"]) if result else ([], [])
+        call = [*before, *call, "    minisign_clear_used();", *behind]
+    return "\n".join([in_lines(f"PROVED({plain(it.kind)}, {it.name}, (", (plain(one.kind) for one in it.parameters), "));"), "",
+                      in_lines(f"{spaced}{it.name}(", (one.text for one in it.parameters), ")"), "{", *call, "}", ""])
 
 
 def boundary_text(header, crate):
     """The source of the boundary."""
-    parts = [HEAD]
-    for it in functions_of(header, crate):
-        kinds = [parameter.plain for parameter in it.parameters]
-        names = [parameter.text for parameter in it.parameters]
-        arguments = [argument(parameter) for parameter in it.parameters]
-        parts += [in_lines(f"PROVED({it.plain_kind}, {it.name}, (", kinds, "));"), ""]
-        parts += [in_lines(f"{spaced(it.kind)}{it.name}(", names, ")"), "{"]
-        cast = "" if it.kind == it.plain_kind else f"({it.kind}) "
-        result = "" if it.kind == "void" else "result = " if it.sees_secrets else "return "
-        call = in_lines(f"    {result}{cast}CALL({it.name})(", arguments, ");")
-        if it.sees_secrets:
-            before, behind = ([f"    {spaced(it.kind)}result;", ""], ["    return result;"]) if result else ([], [])
-            parts += [*before, call, "    minisign_clear_used();", *behind]
-        else:
-            parts += [call]
-        parts += ["}", ""]
-    return "\n".join(parts)
+    head = re.match(rf".*?\n\w+ {OWN}\(void\)\n\{{.*?\n\}}\n", read(FILE), re.S)
+    if head is None:
+        raise Unfit(f"{FILE} lacks its head, which ends with {OWN}")
+    return "\n".join([head[0], *map(function_text, functions_of(header, crate))])
 
 
 def names_text(header, crate):

@@ -9,43 +9,41 @@ PART is `calls` or `page`, both where none is named. Libraries that `rt lib` pro
 first. `--after SAID` takes those that a finished `rt ci` left here: SAID is a file of what that said. In the gate `--check` runs
 beside `rt ci`, and builds over what that proves (`tests/shared/proved.py`).
 
-With another kit of the same logic the bytes may differ. `--check` then says so, and compares what both archives do with all keys
-and signatures of `tests/corpus`; of the page, also where another wasm-opt lowered it, it compares all but the module. `--check`
-says of which files the bytes are the same, and prints a line for each failure; the last line is `N passed, M failed`.
+With another kit of the same logic the bytes may differ, and so may the page's where another wasm-opt lowered it. `--check` then
+says so; of the page it compares all but the module. (What the archives of dist/ do, all of tests/c shows.) It says of which files
+the bytes are the same, and prints a line for each failure; the last line is `N passed, M failed`.
 
-Needs Python 3.9 or later, the kit, what `page/build.py` needs, and for archives that differ make, a C compiler, libsodium, and for
-the one of AArch64 what `tests/c/aarch64.py` needs.
+Needs Python 3.9 or later, the kit, and what `page/build.py` needs.
 """
 
 import argparse
 import hashlib
-import json
 import os
 import re
 import shutil
 import subprocess
 import sys
 import tempfile
-from dataclasses import dataclass
+from collections import namedtuple
 
 HERE = os.path.dirname(os.path.realpath(__file__))
 ROOT = os.path.dirname(HERE)
-sys.path += [os.path.join(ROOT, *it) for it in (("tests", "shared"), ("tests", "c"), ("page",))]
+sys.path += [os.path.join(ROOT, *it) for it in (("tests", "shared"), ("page",))]
 
-import aarch64
 import build
 import needs
 import proved
-import static_library
+import sources
 
 DIST = os.path.join(ROOT, "dist")
-CORPUS = os.path.join(ROOT, "tests", "corpus")
 PROVED, SUMS = "PROVED", "SHA256SUMS"
 CALLS, PAGE = "minisign_c", "minisign_page"
 PAGE_FILE, LOWERED = "minisign.html", "its module was lowered to 32 bits by"
 # The archives, with the flags that they are built by.
 ARCHIVES = {"calls-x86-64-v2.a": [], "calls-x86-64-v3.a": ["--cpu=x86-64-v3"],
             "calls-aarch64.a": ["--target", "aarch64-unknown-linux-gnu"]}
+# The files that SHA256SUMS lists.
+LISTED = [*ARCHIVES, PAGE_FILE, PROVED]
 # The parts, with the crate of each.
 PARTS = {"calls": CALLS, "page": PAGE}
 
@@ -60,13 +58,8 @@ class NoKit(Exception):
     """There is no kit, which only those need who prove."""
 
 
-@dataclass
-class Built:
-    """A file of dist/ as it was built now, with the lines that PROVED has of it."""
-
-    name: str
-    data: bytes
-    lines: dict
+# A file of dist/ as it was built now, with the lines that PROVED has of it.
+Built = namedtuple("Built", "name data lines")
 
 
 def kit_line():
@@ -77,10 +70,6 @@ def kit_line():
     return ran.stdout.decode().strip()
 
 
-def logic_of(kit):
-    return re.search(r"logic \S+", kit)[0]
-
-
 def sources_sum(part):
     """The sum over the sources of a part."""
     ran = subprocess.run(["sh", os.path.join(HERE, "sources.sh"), part], stdout=subprocess.PIPE, check=True)
@@ -88,15 +77,14 @@ def sources_sum(part):
 
 
 def read(name):
+    """The bytes of a file of dist/, or of one with a whole path."""
     with open(os.path.join(DIST, name), "rb") as file:
         return file.read()
 
 
 def lines_of_proved():
     """What PROVED says, by what it says it of."""
-    if not os.path.exists(os.path.join(DIST, PROVED)):
-        return {}
-    text = read(PROVED).decode().removeprefix(HEAD)
+    text = read(PROVED).decode().removeprefix(HEAD) if os.path.exists(os.path.join(DIST, PROVED)) else ""
     return dict(line.split(": ", 1) for line in text.splitlines() if ": " in line)
 
 
@@ -106,23 +94,20 @@ def lines_of_proved():
 
 def built_calls(room):
     """The archives of the proved calls."""
-    sources = sources_sum("calls")
     for name, flags in ARCHIVES.items():
         archive = os.path.join(room, name)
         print(f"dist: {name}, and proving first what is not proved", flush=True)
         verdict = proved.build_archive(CALLS, archive, *flags)
-        with open(archive, "rb") as file:
-            yield Built(name, file.read(), {name: verdict, "sources of the calls": sources})
+        yield Built(name, read(archive), {name: verdict, "sources of the calls": sources_sum("calls")})
 
 
 def built_page(room):
     """The page."""
-    sources, page = sources_sum("page"), os.path.join(room, PAGE_FILE)
+    page = os.path.join(room, PAGE_FILE)
     if build.main([page]) != 0:
         raise proved.NotBuilt("page/build.py wrote no page")
-    with open(page, "rb") as file:
-        data = file.read()
-    yield Built(PAGE_FILE, data, {PAGE_FILE: proved.verdicts[PAGE], "sources of the page": sources, LOWERED: lowered_by(data)})
+    lines = {PAGE_FILE: proved.verdicts[PAGE], "sources of the page": sources_sum("page"), LOWERED: lowered_by(read(page))}
+    yield Built(PAGE_FILE, read(page), lines)
 
 
 def lowered_by(page):
@@ -131,13 +116,11 @@ def lowered_by(page):
     return found[1].decode() if found else "nothing"
 
 
-BUILDERS = {"calls": built_calls, "page": built_page}
-
-
 def built(parts):
-    """All files of these parts, and what has to be the same of all."""
+    """All files of these parts."""
+    builders = {"calls": built_calls, "page": built_page}
     with tempfile.TemporaryDirectory(prefix="dist-") as room:
-        return [it for part in parts for it in BUILDERS[part](room)]
+        return [it for part in parts for it in builders[part](room)]
 
 
 def write(name, data):
@@ -146,11 +129,6 @@ def write(name, data):
     with open(f"{path}.new", "wb") as file:
         file.write(data)
     os.rename(f"{path}.new", path)
-
-
-def names():
-    """The files that SHA256SUMS lists."""
-    return [*ARCHIVES, PAGE_FILE, PROVED]
 
 
 def make(parts):
@@ -166,7 +144,7 @@ def make(parts):
     lines["kit"] = kit
     wanted = ["kit", "sources of the calls", *ARCHIVES, "sources of the page", PAGE_FILE, LOWERED]
     write(PROVED, (HEAD + "\n" + "".join(f"{it}: {lines[it]}\n" for it in wanted if it in lines)).encode())
-    there = [it for it in names() if os.path.exists(os.path.join(DIST, it))]
+    there = [it for it in LISTED if os.path.exists(os.path.join(DIST, it))]
     write(SUMS, "".join(f"{hashlib.sha256(read(it)).hexdigest()}  {it}\n" for it in there).encode())
     for it in files:
         print(f"dist: {it.name}, {len(it.data)} bytes")
@@ -176,73 +154,25 @@ def make(parts):
 # Comparing.
 
 
-class Report:
-    """The count of what holds; a line for each failure."""
-
-    def __init__(self):
-        self.passed, self.failed = 0, 0
-
-    def check(self, holds, words):
-        if holds:
-            self.passed += 1
-        else:
-            self.failed += 1
-            print(f"FAILED: {words}", flush=True)
-
-
 def check_files(report):
     """The files are those of SHA256SUMS, and nothing else stands there."""
     listed = dict(reversed(line.split("  ", 1)) for line in read(SUMS).decode().splitlines())
     found = {it for it in os.listdir(DIST) if it not in (SUMS, "README.md")}
-    report.check(found == {*listed} == {*names()}, f"dist/ has {sorted(found)}, and {SUMS} lists {sorted(listed)}")
+    report.check(found == {*listed} == {*LISTED}, "dist", f"it has {sorted(found)}, and {SUMS} lists {sorted(listed)}")
     for name in sorted(found & {*listed}):
-        report.check(hashlib.sha256(read(name)).hexdigest() == listed[name], f"dist/{name} is not what {SUMS} says")
+        report.check(hashlib.sha256(read(name)).hexdigest() == listed[name], f"dist/{name}", f"it is not what {SUMS} says")
 
 
 def check_sources(report, parts, lines):
     """The sums are over the sources as they are, and over those of all crates."""
-    with open(os.path.join(HERE, "sources.sh"), encoding="utf-8") as file:
-        script = file.read()
+    script = sources.read("tools/sources.sh")
     below = re.search(r"^below='(.*)'$", script, re.M)[1].split()
     for part in parts:
         more = re.search(rf'^{part}\) crates="\$below (.*?)"', script, re.M)[1].split()
-        crate = PARTS[part]
-        report.check({*below, *more} == {*proved.crates()[crate].below, crate},
-                     f"tools/sources.sh does not name the crates that {crate} stands on")
-        key = f"sources of the {part}"
-        report.check(lines.get(key) == sources_sum(part), f"the {key} have changed since dist/ was made: run tools/dist.py")
-
-
-def verifier(room, name, archive):
-    """The words that run the program that verifies over this archive alone, built by make."""
-    out, is_own = os.path.join(room, name), "aarch64" not in os.path.basename(archive)
-    flags = [f"V2={archive}", f"V3={archive}", f"CC={needs.libsodium()}"] if is_own else [f"AARCH64={archive}", *aarch64.make_flags()]
-    static_library.run_make(f"OUT={out}", *flags, f"{out}/minisign")
-    return [*([] if is_own else aarch64.emulator()), f"{out}/minisign"]
-
-
-def check_doing(report, name, data):
-    """Another archive does the same with the kept keys and signatures, and what Minisign does."""
-    with open(os.path.join(CORPUS, "cases.json"), encoding="utf-8") as file:
-        cases = json.load(file)
-    with tempfile.TemporaryDirectory(prefix="dist-") as room:
-        archive = os.path.join(room, name)
-        with open(archive, "wb") as file:
-            file.write(data)
-        programs = [verifier(room, "kept", os.path.join(DIST, name)), verifier(room, "now", archive)]
-        for case in cases:
-            answers = []
-            for program in programs:
-                ran = subprocess.run([*program, "-Vm", case["data"], "-p", case["key"], "-x", case["signature"]], cwd=CORPUS,
-                                     stdin=subprocess.DEVNULL, stdout=subprocess.PIPE, stderr=subprocess.PIPE)
-                answers.append((ran.returncode, ran.stdout, ran.stderr))
-            what = f"{name}, {case['signature']} of {case['data']} with {case['key']}"
-            report.check(answers[0] == answers[1], f"{what}: {answers[0]}, and by this kit {answers[1]}")
-
-
-def without_module(page):
-    """A page but for its module, what its policy says of the script with that, and what lowered it."""
-    return re.sub(rb'const MODULE = "[^"]*"|\'sha256-[^\']*\'', b"", page).replace(lowered_by(page).encode(), b"")
+        crate, key = PARTS[part], f"sources of the {part}"
+        wanted = {*proved.crates()[crate].below, crate}
+        report.check({*below, *more} == wanted, "tools/sources.sh", f"it does not name the crates that {crate} stands on")
+        report.check(lines.get(key) == sources_sum(part), "dist", f"the {key} have changed since it was made: run tools/dist.py")
 
 
 def check_built(report, it, lines, kit):
@@ -252,42 +182,30 @@ def check_built(report, it, lines, kit):
     if is_same:
         print(f"dist: {it.name} has the same bytes as what was proved and built now", flush=True)
     if is_same or kept == own:
-        report.check(is_same, f"dist/{it.name} is not what was proved and built now from these sources, {len(it.data)} bytes")
+        report.check(is_same, f"dist/{it.name}", f"it is not what was proved and built now from these sources, {len(it.data)} bytes")
         return
     print(f"dist: {it.name} has other bytes by {' and '.join(own)} than by {' and '.join(kept)}, which made dist/", flush=True)
     if it.name == PAGE_FILE:
-        report.check(without_module(read(it.name)) == without_module(it.data), f"dist/{it.name} differs in more than its module")
-    else:
-        check_doing(report, it.name, it.data)
+        # (the module, what the policy says of the script with it, and what lowered it)
+        bare = [re.sub(rb'const MODULE = "[^"]*"|\'sha256-[^\']*\'', b"", page).replace(lowered_by(page).encode(), b"")
+                for page in (read(it.name), it.data)]
+        report.check(bare[0] == bare[1], f"dist/{it.name}", "it differs in more than its module")
 
 
 def check(parts):
     """Compares these parts with what is proved and built now."""
-    report, lines, kit = Report(), lines_of_proved(), kit_line()
+    report, lines, kit = sources.Report(), lines_of_proved(), kit_line()
     if "kit" not in lines:
         raise proved.NotBuilt("there is no dist/PROVED: run tools/dist.py")
     check_files(report)
     check_sources(report, parts, lines)
-    report.check(logic_of(lines["kit"]) == logic_of(kit), f"dist/ was proved by {lines['kit']}, and here is {kit}: another logic")
+    logics = [re.search(r"logic \S+", it)[0] for it in (lines["kit"], kit)]
+    report.check(logics[0] == logics[1], "dist", f"it was proved by {lines['kit']}, and here is {kit}: another logic")
     for it in built(parts):
         check_built(report, it, lines, kit)
-        verdict = lines.get(it.name, "")
-        report.check(verdict.startswith("logic=proved ") and it.lines[it.name].startswith("logic=proved "),
-                     f"{it.name}: the verdicts are {verdict!r} and {it.lines[it.name]!r}")
-    print(f"{report.passed} passed, {report.failed} failed")
-    return 1 if report.failed else 0
-
-
-def arguments_of(words):
-    parser = argparse.ArgumentParser(usage="tools/dist.py [--check] [--after SAID] [calls] [page]")
-    parser.add_argument("--check", action="store_true")
-    parser.add_argument("--after")
-    parser.add_argument("parts", nargs="*")
-    given = parser.parse_args(words)
-    unknown = {*given.parts} - {*PARTS}
-    if unknown:
-        parser.error(f"there is no part {' '.join(sorted(unknown))}")
-    return given
+        verdicts = [lines.get(it.name, ""), it.lines[it.name]]
+        report.check(all(said.startswith("logic=proved ") for said in verdicts), it.name, f"the verdicts are {verdicts}")
+    return report.end()
 
 
 def take_over(said):
@@ -301,8 +219,14 @@ def take_over(said):
 
 
 def main(words):
-    given = arguments_of(words)
-    parts = given.parts or [*PARTS]
+    parser = argparse.ArgumentParser(usage="tools/dist.py [--check] [--after SAID] [calls] [page]")
+    parser.add_argument("--check", action="store_true")
+    parser.add_argument("--after")
+    parser.add_argument("parts", nargs="*")
+    given = parser.parse_args(words)
+    parts, unknown = given.parts or [*PARTS], {*given.parts} - {*PARTS}
+    if unknown:
+        parser.error(f"there is no part {' '.join(sorted(unknown))}")
     kept = take_over(given.after) if given.after else None
     try:
         if given.check:

@@ -8,41 +8,40 @@ copies the examples of `c/examples` into the header. From the header it makes it
     tools/header.py --check    fails where one is not up to date; the last line is `N passed, M failed`
 
 A name in C is the name in the source, in capitals behind `MINISIGN_`, or the one of `NAMES`. The comment is the first
-sentence of the source's.
+sentence of the source's. The heads of `c/boundary.c` and `tests/c/layout.c`, and the head and the end of the manual page, are
+written by hand there, and kept.
 Needs Python 3.9 or later.
 """
 
-import os
 import re
 import sys
 import textwrap
+from collections import namedtuple
 
 import boundary
 import manual
 import sources
-from sources import ROOT
+from boundary import Unfit
+from sources import ROOT, read
 
-HEADER = os.path.join(ROOT, "include", "minisign.h")
-FORMATS = os.path.join(ROOT, "docs", "FORMATS.md")
-LAYOUT = os.path.join(ROOT, "tests", "c", "layout.c")
-BOUNDARY = os.path.join(ROOT, "c", "boundary.c")
-NAMES_FILE = os.path.join(ROOT, "c", "names")
-MANUAL = os.path.join(ROOT, "c", "man", "minisign.3")
-EXAMPLES = os.path.join("c", "examples")
+HEADER = "include/minisign.h"
+FORMATS = "docs/FORMATS.md"
+LAYOUT = "tests/c/layout.c"
+EXAMPLES = "c/examples"
 
 FAULTS = "crates/minisign_base/src/faults.rt"
+FAULT_ROWS = "crates/minisign_base/specs/Faults.antt"
 STATE = "crates/minisign_external/src/state.rt"
 NUMBERS = "crates/minisign_external/src/numbers.rt"
-PUBLIC_KEYS = "crates/minisign_external/src/public_keys.rt"
-SECRETS = "crates/minisign_external/src/secrets.rt"
-STORED = "crates/minisign_hash/src/blake2b/stored.rt"
+BLAKE2B = "crates/minisign_hash/src/blake2b.rt"
 EXPORTS = "crates/minisign_c/src/lib.rt"
-MAKING = "crates/minisign/src/making.rt"
 INSTALL_FAULTS = "crates/minisign_install/src/faults.rt"
+INSTALL_ROWS = "crates/minisign_install/specs/Faults.antt"
 HOST_NUMBERS = "crates/minisign_install/src/host_numbers.rt"
 HOSTED = "crates/minisign_install/src/hosted.rt"
-ORDER = "crates/minisign_install/src/order.rt"
-COMMENTS = "crates/minisign_install/src/comments.rt"
+# Where the structs of C stand.
+STRUCT_FILES = (STATE, "crates/minisign_external/src/public_keys.rt", "crates/minisign_external/src/secrets.rt",
+                "crates/minisign_hash/src/blake2b/stored.rt", "crates/minisign/src/making.rt", HOSTED)
 
 # Named faults with this number or a greater one are answered by no call of the header, but for those that a host may tell.
 UNANSWERED = 46
@@ -65,39 +64,25 @@ NAMES = {
 # How long a line of the header may be.
 COLUMNS = 116
 
-# The structs of C, with those of the crate; the fields of the first are the library's.
-STRUCTS = (("minisign_state", "State", False), ("minisign_public_key", "PublicKeyValue", True),
-           ("minisign_questions", "Questions", True), ("minisign_secret_key", "SecretKeyValue", True),
-           ("minisign_sealing", "Sealing", True), ("minisign_installation", "Installation", False))
-
+# The structs whose fields are the library's alone.
+CLOSED = ("minisign_state", "minisign_installation")
 SIZES = {"u8": 1, "u32": 4, "u64": 8}
 
 
-class Unreadable(Exception):
-    """A form of the sources that this script does not read."""
-
-
-class Number:
-    """A number of an error: its name in the source, its first sentence there, and its text."""
-
-    def __init__(self, number, variant, comment, text):
-        self.number, self.variant, self.comment, self.text = number, variant, comment, text
+class Number(namedtuple("Number", "number variant comment")):
+    """A number of an error: its name in the source, and its first sentence there."""
 
     @property
     def name(self):
         return "MINISIGN_" + NAMES.get(self.variant, re.sub(r"(?<=[a-z0-9])(?=[A-Z])", "_", self.variant).upper())
 
 
-def source_text(file):
-    return sources.read_source(os.path.join(ROOT, file)).text
-
-
-def item_text(file, what, name):
-    """The one item of this kind and name."""
-    found = [item.text for item in sources.read_source(os.path.join(ROOT, file)).items
-             if item.what == what and item.name == name]
+def item_text(file, what, path):
+    """The one item of this kind and path, but for methods of traits."""
+    found = [item.text for item in sources.read_source(f"{ROOT}/{file}").items
+             if item.what == what and item.path == path and not item.trait]
     if len(found) != 1:
-        raise Unreadable(f"{file} has {len(found)} items {what} {name}")
+        raise Unfit(f"{file} has {len(found)} items {what} {path}")
     return found[0]
 
 
@@ -106,192 +91,113 @@ def comments_of(file, enum):
     body = item_text(file, "enum", enum).partition("{")[2]
     found = re.findall(r"((?:^    ///.*\n)+)    (\w+)(?: \{[^}]*\}|\(\w+\))?,$", body, re.M)
     if len(found) != len(re.findall(r"^    [A-Z]\w*", body, re.M)):
-        raise Unreadable(f"{enum}: a variant without a comment")
-    return {variant: first_sentence(comment) for comment, variant in found}
+        raise Unfit(f"{enum}: a variant without a comment")
+    bare = {variant: " ".join(re.sub(r"(?m)^ *///", "", comment).split()) for comment, variant in found}
+    return {variant: re.match(r"(?:`[^`]*`|[^.`])*\.", text)[0].replace("`", "") for variant, text in bare.items()}
 
 
-def first_sentence(comment):
-    text = " ".join(line.strip().removeprefix("///").strip() for line in comment.strip().split("\n"))
-    return re.match(r"(?:`[^`]*`|[^.`])*\.", text)[0].replace("`", "")
-
-
-def match_arms(function, pattern):
+def arms_of(file, path, pattern):
     """What the arms of the `match` of a function give, by the variants."""
-    file, owner, name = function
-    found = [item.text for item in sources.read_source(os.path.join(ROOT, file)).items
-             if item.what == "fn" and item.name == name and item.owner == owner and not item.trait]
-    if len(found) != 1:
-        raise Unreadable(f"{file} has {len(found)} functions {owner}::{name}")
-    rows = re.findall(pattern, found[0])
-    arms = len(re.findall(r"=>", found[0]))
-    if len(rows) != arms or len({row[0] for row in rows}) != arms:
-        raise Unreadable(f"{owner}::{name}: {arms} arms, of which {len(rows)} are read")
-    return {row[0]: row[1:] for row in rows}
+    text = item_text(file, "fn", path)
+    rows = dict(re.findall(pattern, text))
+    if len(rows) != text.count("=>"):
+        raise Unfit(f"{path}: {text.count('=>')} arms, of which {len(rows)} are read")
+    return rows
 
 
-TEXT = r'"((?:[^"\\]|\\.)*)"'
+def numbers_of(comments, numbers):
+    """The numbers of the variants of an enum, which have to be those that have comments."""
+    if {*comments} != {*numbers}:
+        raise Unfit(f"variants and their numbers differ in {', '.join(sorted({*comments} ^ {*numbers}))}")
+    return [Number(int(numbers[it]), it, comments[it]) for it in comments]
 
 
 def misuses():
     """The wrong uses."""
-    comments = comments_of(STATE, "Misuse")
-    numbers = match_arms((NUMBERS, "Misuse", "number"), r"Misuse::(\w+) => (\d+),")
-    texts = match_arms((NUMBERS, "Misuse", "text"), r"Misuse::(\w+) => (?:\{\s*)?" + TEXT)
-    return [Number(int(numbers[variant][0]), variant, comment, texts[variant][0])
-            for variant, comment in comments.items()]
+    return numbers_of(comments_of(STATE, "Misuse"), arms_of(NUMBERS, "Misuse::number", r"Misuse::(\w+) => (\d+),"))
 
 
-def faults():
-    """The named faults that calls of the header answer."""
-    comments = comments_of(FAULTS, "NamedFault")
-    rows = match_arms((FAULTS, "NamedFault", "row"), r"(\w+)(?: \{ \.\. \})? => &\(\s*(\d+),\s*[\w:]+,\s*" + TEXT)
-    return [Number(int(rows[variant][0]), variant, comment, rows[variant][1])
-            for variant, comment in comments.items() if int(rows[variant][0]) < UNANSWERED or variant in TOLD_BY_HOSTS]
+def fault_rows():
+    """The named faults in their order: their names, numbers, kinds and texts, with A and B for identifiers."""
+    longer, specs = {}, read(FAULT_ROWS)
+    for name, body in re.findall(r"^named_text \(?fault\.(\w+)[^=]*=\s*(.*(?:\n    .*)*)", specs, re.M):
+        letters = iter("AB")
+        longer[name] = "".join(piece or next(letters) for piece, _ in re.findall(r'codes "([^"]*)"|(identifier_text)', body))
+    rows = re.findall(r'^fault_row \(?fault\.(\w+)[^=]*=\s+row (\d+) kind\.(\w+) \(codes "([^"]*)"\)', specs, re.M)
+    return [(name, number, kind, longer.get(name, text)) for name, number, kind, text in rows]
 
 
 def install_rows():
-    """The faults that installing adds, in their order: their names, numbers, kinds and texts."""
-    numbers = match_arms((HOST_NUMBERS, "InstallFault", "number"), r"(\w+)(?:\(fault\))? => ([\w:]+)[(,]")
-    specs = read_text(os.path.join(ROOT, "crates", "minisign_install", "specs", "Faults.antt"))
-    texts = {name: (kind, text) for name, kind, text in
-             re.findall(r'^install_row (\w+) = record \{ kind = (\w+); text = codes "([^"]*)" \}$', specs, re.M)}
-    own = [variant for variant in comments_of(INSTALL_FAULTS, "InstallFault") if variant != "Library"]
-    if set(own) != set(texts) or set(own) | {"Library"} != set(numbers):
-        raise Unreadable("the faults of installing, their numbers and their texts differ")
-    return [(variant, int(numbers[variant][0]), *texts[variant]) for variant in own]
-
-
-def install_faults():
-    """The faults that installing adds."""
+    """The faults that installing adds, in the same form."""
+    numbers = arms_of(HOST_NUMBERS, "InstallFault::number", r"(\w+)(?:\(fault\))? => ([\w:]+)[(,]")
+    texts = re.findall(r'^install_row (\w+) = record \{ kind = (\w+); text = codes "([^"]*)" \}$', read(INSTALL_ROWS), re.M)
+    texts = {name: (kind, text) for name, kind, text in texts}
     comments = comments_of(INSTALL_FAULTS, "InstallFault")
-    return [Number(number, variant, comments[variant], text) for variant, number, _, text in install_rows()]
+    if not {*texts, "Library"} == {*numbers} == {*comments}:
+        raise Unfit("the faults of installing, their numbers and their texts differ")
+    return [(name, numbers[name], *texts[name]) for name in comments if name != "Library"]
+
+
+def all_numbers(rows, comments):
+    """The errors that calls of the header answer."""
+    named = {name for name, number, _, _ in fault_rows() if int(number) >= UNANSWERED and name not in TOLD_BY_HOSTS}
+    found = [*misuses(), *(Number(int(number), name, comments[name]) for name, number, _, _ in rows if name not in named)]
+    if len({it.number for it in found}) != len(found) or len({it.name for it in found}) != len(found):
+        raise Unfit("two errors have one number or one name")
+    if {*NAMES} - {it.variant for it in found}:
+        raise Unfit(f"a name in C for {', '.join(sorted({*NAMES} - {it.variant for it in found}))}, which no call answers")
+    return sorted(found)
+
+
+def enum_text(enum, numbers, prefix="", first=()):
+    """An enum of the header, of variants with their comments, in lines that fit."""
+    told = []
+    for it in numbers:
+        lines = textwrap.wrap(f"/* {it.comment}\u00a0*/", COLUMNS, initial_indent="    ", subsequent_indent="     * ",
+                              break_long_words=False, break_on_hyphens=False)
+        lines += [f"    {it.name.replace('MINISIGN_', 'MINISIGN_' + prefix, 1)} = {it.number}"]
+        told.append("\n".join(lines).replace("\u00a0", " "))
+    return f"enum minisign_{enum} {{\n" + ",\n".join([*first, *told]) + "\n};\n"
 
 
 def due_text():
     """The enum of the calls that may be due."""
-    comments = comments_of(ORDER, "Due")
-    numbers = match_arms((HOSTED, "Due", "number"), r"(\w+)(?:\(_\))? => (\d+),")
-    if set(comments) != set(numbers):
-        raise Unreadable("the calls that may be due and their numbers differ")
-    return variants_text("minisign_due", "DUE_", [Number(int(numbers[it][0]), it, comment, "") for it, comment in comments.items()])
+    numbers = arms_of(HOSTED, "Due::number", r"(\w+)(?:\(_\))? => (\d+),")
+    return enum_text("due", numbers_of(comments_of("crates/minisign_install/src/order.rt", "Due"), numbers), "DUE_")
 
 
 def numbering_text():
     """The enum of the numberings."""
-    comments = comments_of(COMMENTS, "Numbering")
-    numbers = dict(re.findall(r"(\d+) => Some\(Numbering::(\w+)\),", source_text(HOST_NUMBERS)))
-    if sorted(comments) != sorted(numbers.values()):
-        raise Unreadable("the numberings and their numbers differ")
-    return variants_text("minisign_numbering", "NUMBERING_",
-                         [Number(int(number), it, comments[it], "") for number, it in numbers.items()])
-
-
-def variants_text(enum, prefix, numbers):
-    """An enum of the header, of variants with their comments."""
-    lines = [f"enum {enum} {{"]
-    for it in numbers:
-        comma = "" if it is numbers[-1] else ","
-        lines += [wrapped(it.comment), f"    {it.name.replace('MINISIGN_', 'MINISIGN_' + prefix, 1)} = {it.number}{comma}"]
-    return "\n".join([*lines, "};", ""])
-
-
-def wrapped(comment):
-    """The comment of a variant, in lines that fit."""
-    return "\n".join(textwrap.wrap(f"/* {comment}\u00a0*/", COLUMNS, initial_indent="    ", subsequent_indent="     * ",
-                                   break_long_words=False, break_on_hyphens=False)).replace("\u00a0", " ")
-
-
-ROW = re.compile(r'^fault_row \(?fault\.(\w+)[^=]*=\s+row (\d+) kind\.(\w+) \(codes "([^"]*)"\)', re.M)
-
-
-def faults_of_specs(library):
-    """The named faults in their order: their names, numbers, kinds and texts, with A and B for identifiers."""
-    file = os.path.join(library.crates["minisign_base"], "specs", "Faults.antt")
-    longer = {}
-    for name, body in re.findall(r"^named_text \(?fault\.(\w+)[^=]*=\s*(.*(?:\n    .*)*)", read_text(file), re.M):
-        letters = iter("AB")
-        longer[name] = "".join(piece or next(letters) for piece, _ in re.findall(r'codes "([^"]*)"|(identifier_text)', body))
-    for name, number, kind, summary in ROW.findall(read_text(file)):
-        yield name, number, kind, longer.get(name, summary)
-
-
-def faults_text(numbers):
-    """The table of all named faults, and of those that installing adds, with the names of those that C knows."""
-    comments = comments_of(FAULTS, "NamedFault") | comments_of(INSTALL_FAULTS, "InstallFault")
-    in_c = {it.variant: f"`{it.name}`" for it in numbers}
-    rows = [f"| `{name}` | {number} | {in_c.get(name, '')} | {kind} | `{text}` | {comments[name]} |".replace("|  |", "| |")
-            for name, number, kind, text in [*faults_of_specs(sources.Library(own=True)), *install_rows()]]
-    return "\n".join(["", "| Name | Number | Name in C | Kind | Text | When |", "|---|---|---|---|---|---|", *rows, "", ""])
-
-
-def all_numbers():
-    numbers = sorted(misuses() + faults() + install_faults(), key=lambda it: it.number)
-    if len({it.number for it in numbers}) != len(numbers) or len({it.name for it in numbers}) != len(numbers):
-        raise Unreadable("two errors have one number or one name")
-    unknown = set(NAMES) - {it.variant for it in numbers}
-    if unknown:
-        raise Unreadable(f"a name in C for {', '.join(sorted(unknown))}, which no call answers")
-    return numbers
-
-
-def enum_text(numbers):
-    """The enum of the header."""
-    lines = ["enum minisign_error {", "    MINISIGN_OK = 0,"]
-    for it in numbers:
-        comma = "" if it is numbers[-1] else ","
-        lines += [wrapped(it.comment), f"    {it.name} = {it.number}{comma}"]
-    return "\n".join([*lines, "};", ""])
+    found = re.findall(r"(\d+) => Some\(Numbering::(\w+)\),", read(HOST_NUMBERS))
+    comments = comments_of("crates/minisign_install/src/comments.rt", "Numbering")
+    return enum_text("numbering", sorted(numbers_of(comments, {name: number for number, name in found})), "NUMBERING_")
 
 
 def answers_text(numbers):
     """The answers of the header, which are the number of no error."""
-    lines = []
-    for name in ("ANSWER_YES", "ANSWER_NO"):
-        found = re.search(rf"^pub const {name}: u32 = (\d+);$", source_text(NUMBERS), re.M)
-        if found is None or int(found[1]) < 256 or int(found[1]) in {it.number for it in numbers}:
-            raise Unreadable(f"{NUMBERS} has no {name} that is no other number")
-        lines.append(f"    MINISIGN_{name} = {int(found[1]):#x}")
-    return "enum minisign_answer {\n" + ",\n".join(lines) + "\n};\n"
+    found = re.findall(r"^pub const (ANSWER_(?:YES|NO)): u32 = (\d+);$", read(NUMBERS), re.M)
+    if len(found) != 2 or any(int(it) < 256 or int(it) in {other.number for other in numbers} for _, it in found):
+        raise Unfit(f"{NUMBERS} has no two answers that are no other number")
+    return "enum minisign_answer {\n" + ",\n".join(f"    MINISIGN_{name} = {int(it):#x}" for name, it in found) + "\n};\n"
 
 
 def example_text(name):
     """An example in the comment at the head of the header, without the line that names the licence, which the header has."""
-    with open(os.path.join(ROOT, EXAMPLES, name), encoding="utf-8") as opened:
-        text = opened.read()
+    text = read(f"{EXAMPLES}/{name}")
     if "/*" in text or "*/" in text:
-        raise Unreadable(f"{name} has a comment that would end that of the header")
+        raise Unfit(f"{name} has a comment that would end that of the header")
     lines = [line for line in text.rstrip("\n").split("\n") if not line.startswith("// SPDX-License-Identifier:")]
     return "".join(" *" + (f"     {line}" if line else "") + "\n" for line in ["", *lines, ""])
 
 
-def table_text(numbers):
-    """The table of the numbers of wrong uses."""
-    rows = [f"| {it.number} | `{it.name}` | {it.comment} | `{it.text}` |" for it in numbers]
-    return "\n".join(["", "| Number | Name in C | When | Text |", "|---|---|---|---|", *rows, "", ""])
+def table(head, rows):
+    """A table of a document."""
+    lines = ["", f"| {' | '.join(head)} |", "|" + "---|" * len(head), *(f"| {' | '.join(row)} |" for row in rows), "", ""]
+    return "\n".join(lines).replace("|  |", "| |")
 
 
 # ---------------------------------------------------------------------------------------------------------------
 # Sizes and offsets.
-
-
-def fields_of(struct):
-    """The fields of a struct of the crates with the layout of C, with their types."""
-    for file in (STATE, PUBLIC_KEYS, SECRETS, STORED, MAKING, HOSTED):
-        if f"struct {struct} " in source_text(file):
-            text = item_text(file, "struct", struct)
-            if "#[repr(C)]" not in text:
-                raise Unreadable(f"{struct} has not the layout of C")
-            return re.findall(r"^    (?:pub(?:\(crate\))? )?(\w+): ([^;,]+(?:; \w+\])?),$", text, re.M)
-    raise Unreadable(f"no struct {struct}")
-
-
-def constant(name):
-    """The value of a constant of the hash."""
-    text = source_text("crates/minisign_hash/src/blake2b.rt")
-    found = re.search(rf"const {name}: usize = (\d+);", text)
-    if found is None:
-        raise Unreadable(f"no constant {name}")
-    return int(found[1])
 
 
 def size_and_alignment(kind):
@@ -299,112 +205,95 @@ def size_and_alignment(kind):
     array = re.fullmatch(r"\[(.+); (\w+)\]", kind)
     if array:
         size, alignment = size_and_alignment(array[1])
-        return size * (int(array[2]) if array[2].isdigit() else constant(array[2])), alignment
-    if kind in SIZES:
-        return SIZES[kind], SIZES[kind]
-    _, size, alignment = layout(kind)
-    return size, alignment
+        number = array[2] if array[2].isdigit() else re.search(rf"const {array[2]}: usize = (\d+);", read(BLAKE2B))[1]
+        return size * int(number), alignment
+    return (SIZES[kind], SIZES[kind]) if kind in SIZES else layout(kind)[1:]
 
 
 def layout(struct):
     """The fields of a struct with their offsets and sizes, and its own size and alignment, as C lays it out."""
+    text = item_text(next((it for it in STRUCT_FILES if f"struct {struct} " in read(it)), STATE), "struct", struct)
+    if "#[repr(C)]" not in text:
+        raise Unfit(f"{struct} has not the layout of C")
     at, greatest, placed = 0, 1, []
-    for name, kind in fields_of(struct):
+    for name, kind in re.findall(r"^    (?:pub(?:\(crate\))? )?(\w+): ([^;,]+(?:; \w+\])?),$", text, re.M):
         size, alignment = size_and_alignment(kind)
         at += -at % alignment
         placed.append((name, at, size))
-        at += size
-        greatest = max(greatest, alignment)
+        at, greatest = at + size, max(greatest, alignment)
     return placed, at + -at % greatest, greatest
 
 
 def layout_text():
-    """The assertions."""
-    lines = ["/* The layout of the structs of minisign.h is that of the library: compiled as C and as C++, and not run.",
-             " * Made by tools/header.py from the structs of the crates. */",
-             "#include <assert.h>", "#include <stddef.h>", "", '#include "minisign.h"', "",
-             "#ifdef __cplusplus", "#define ALIGNMENT(type) alignof(type)", "#else",
-             "#define ALIGNMENT(type) _Alignof(type)", "#endif", "",
-             "#define IS_LAID_OUT(type, size, alignment) \\",
-             '    static_assert(sizeof(type) == (size) && ALIGNMENT(type) == (alignment), #type)',
-             "#define IS_AT(type, field, offset, size) \\",
-             "    static_assert(offsetof(type, field) == (offset) && sizeof(((type *) 0)->field) == (size), #type \".\" #field)"]
-    for name, struct, is_open in STRUCTS:
+    """The assertions, behind the head that stands there."""
+    lines = [read(LAYOUT).partition("\n\nIS_LAID_OUT")[0]]
+    for struct, name in boundary.STRUCTS.items():
         fields, size, alignment = layout(struct)
         lines += ["", f"IS_LAID_OUT({name}, {size}, {alignment});"]
-        lines += [f"IS_AT({name}, {field}, {at}, {length});" for field, at, length in fields if is_open]
+        lines += [f"IS_AT({name}, {field}, {at}, {length});" for field, at, length in fields if name not in CLOSED]
     return "\n".join([*lines, ""])
 
 
 # ---------------------------------------------------------------------------------------------------------------
 
 
-def read_text(file):
-    with open(file, encoding="utf-8") as opened:
-        return opened.read()
-
-
-def between(file, begin, end, made, text=None):
-    """The text of a file, or this one of it, with what is made between the two lines."""
-    text = read_text(file) if text is None else text
+def between(text, begin, end, made):
+    """The text with what is made between these two lines."""
     before, found, rest = text.partition(begin + "\n")
     _, closed, after = rest.partition(end + "\n")
     if not found or not closed:
-        raise Unreadable(f"{os.path.relpath(file, ROOT)} lacks the lines {begin!r} and {end!r}")
+        raise Unfit(f"a file lacks the lines {begin!r} and {end!r}")
     return before + found + made + closed + after
 
 
 def header_text(numbers):
     """The header."""
-    header = between(HEADER, "/* Numbers, made by tools/header.py. */", "/* The end of the numbers. */", enum_text(numbers))
-    header = between(HEADER, "/* Answers, made by tools/header.py. */", "/* The end of the answers. */",
-                     answers_text(numbers), header)
-    header = between(HEADER, "/* Calls of installing, made by tools/header.py. */", "/* The end of the calls. */", due_text(), header)
-    header = between(HEADER, "/* Numberings, made by tools/header.py. */", "/* The end of the numberings. */",
-                     numbering_text(), header)
+    header = read(HEADER)
+    parts = {"Numbers": ("numbers", enum_text("error", numbers, first=["    MINISIGN_OK = 0"])), "Answers": ("answers", answers_text(numbers)),
+             "Calls of installing": ("calls", due_text()), "Numberings": ("numberings", numbering_text())}
+    for begin, (end, made) in parts.items():
+        header = between(header, f"/* {begin}, made by tools/header.py. */", f"/* The end of the {end}. */", made)
     for name in ("verify.c", "sign.c"):
-        header = between(HEADER, f" * The example, made by tools/header.py from {EXAMPLES}/{name}.",
-                         " * The end of the example.", example_text(name), header)
+        begin = f" * The example, made by tools/header.py from {EXAMPLES}/{name}."
+        header = between(header, begin, " * The end of the example.", example_text(name))
     return header
 
 
-def documents():
+def formats_text(numbers, rows, comments):
+    """The document with the table of wrong uses, and that of all faults with the names of those that C knows."""
+    texts = arms_of(NUMBERS, "Misuse::text", r'Misuse::(\w+) => (?:\{\s*)?"((?:[^"\\]|\\.)*)"')
+    in_c = {it.variant: f"`{it.name}`" for it in numbers}
+    uses = [(str(it.number), f"`{it.name}`", it.comment, f"`{texts[it.variant]}`") for it in misuses()]
+    told = [(f"`{name}`", number, in_c.get(name, ""), kind, f"`{text}`", comments[name]) for name, number, kind, text in rows]
+    tables = {"numbers": table(("Number", "Name in C", "When", "Text"), uses),
+              "faults": table(("Name", "Number", "Name in C", "Kind", "Text", "When"), told)}
+    text = read(FORMATS)
+    for name, made in tables.items():
+        text = between(text, f"<!-- {name}, made by tools/header.py -->", f"<!-- the end of the {name} -->", made)
+    return text
+
+
+def made():
     """The files that are made, in whole or in part, with their texts."""
-    numbers = all_numbers()
-    header = header_text(numbers)
+    rows, comments = [*fault_rows(), *install_rows()], comments_of(FAULTS, "NamedFault") | comments_of(INSTALL_FAULTS, "InstallFault")
+    numbers = all_numbers(rows, comments)
+    header, exports = header_text(numbers), read(EXPORTS)
     yield HEADER, header
-    yield BOUNDARY, boundary.boundary_text(header, source_text(EXPORTS))
-    yield MANUAL, manual.manual_text(header)
-    yield NAMES_FILE, boundary.names_text(header, source_text(EXPORTS))
-    formats = between(FORMATS, "<!-- numbers, made by tools/header.py -->", "<!-- the end of the numbers -->", table_text(misuses()))
-    yield FORMATS, between(FORMATS, "<!-- faults, made by tools/header.py -->", "<!-- the end of the faults -->", faults_text(numbers), formats)
+    yield boundary.FILE, boundary.boundary_text(header, exports)
+    yield manual.FILE, manual.manual_text(header)
+    yield "c/names", boundary.names_text(header, exports)
+    yield FORMATS, formats_text(numbers, rows, comments)
     yield LAYOUT, layout_text()
 
 
-def is_kept(file, made):
-    if not os.path.exists(file):
-        return False
-    with open(file, encoding="utf-8") as opened:
-        return opened.read() == made
-
-
 def main():
-    passed = failed = 0
+    report = sources.Report()
     try:
-        for file, made in documents():
-            if "--check" not in sys.argv[1:]:
-                with open(file, "w", encoding="utf-8") as opened:
-                    opened.write(made)
-            elif not is_kept(file, made):
-                print(f"FAILED: {os.path.relpath(file, ROOT)} is not up to date: run tools/header.py")
-                failed += 1
-                continue
-            passed += 1
-    except (Unreadable, boundary.Unfit, KeyError) as why:
-        print(f"FAILED: {why}")
-        failed += 1
-    print(f"{passed} passed, {failed} failed")
-    return 1 if failed else 0
+        for file, text in made():
+            report.keep(file, text)
+    except (Unfit, KeyError) as why:
+        report.check(False, "tools/header.py", why)
+    return report.end()
 
 
 if __name__ == "__main__":

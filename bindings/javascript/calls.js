@@ -2,7 +2,7 @@
 // The proved library, built from the crate minisign_page: all calls of its module, which no other file knows. They are proved
 // and built for 64-bit WebAssembly; what is carried is the module that wasm-opt made of that for a memory of 32 bits, whose
 // calls still take each address and length as a number of 64 bits. Both modules can be loaded here. What a caller owes the
-// calls is in include/minisign.h, "What you owe". Each method copies in what it passes and copies out what was written: the
+// calls is in include/minisign.h, "Requirements". Each method copies in what it passes and copies out what was written: the
 // caller holds the state, and nothing lasts in the module from one call to the next but what `place` puts there.
 
 const ANSWER_YES = 0x796573;

@@ -1202,6 +1202,9 @@ def word_cases(it):
         ("the end of options first", ["--", *paths], None),
         ("the end of options between", [PK, "--first", "new", "--", "new.sig", PLACE], None),
     ]
+    if it.kind.is_in_c:
+        orders.append(("a bound by its other name", ["--max-size", str(len(NEW)), *paths], None))
+        yield "a bound by both names", lambda: it.says(["--most", "1M", "--max-size", "1M", *paths], MISUSED, b"error: --max-size: it came before\n" + usage)
     for what, words, mode in orders:
         yield what, lambda words=words, mode=mode: it.takes(words, mode=mode)
     yield "a name that begins with a dash", lambda: it.takes(["--", *paths[:3], "--first"], name="--first", names="--first")

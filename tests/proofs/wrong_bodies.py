@@ -14,7 +14,8 @@ An edit passes if the search for a proof of one of the function's own goals came
 apart, and not as passed, if the search gave up at one of its limits, so that the goal may hold, or if only the
 function's written proof no longer fits: both happen to right bodies too, so what shows that the clause is false is the
 edit's line `why:`. Such an edit has a line `by hand:` and is tried only where it is named or --all is given; without
-that line it fails. It fails too if the function is proved, if the prover could not tell, and if all that is left is a
+that line it fails. But some limits of a search are limits of time and come sooner where other work goes on: so without that
+line it is tried once more alone, when all else of the gate has ended. It fails too if the function is proved, if the prover could not tell, and if all that is left is a
 limit at which it stopped in a written proof. tests/proofs/wrong_bodies.txt says how many edits each crate has and how
 many of these have that line: it fails too on other numbers.
 
@@ -153,7 +154,7 @@ class Verdict:
                                                "refused by its written proof alone", "FAILED", "proved, unchanged")
 
     def __init__(self, body, outcome, why):
-        self.label, self.crate, self.outcome = body.label, body.label.partition("/")[0], outcome
+        self.body, self.label, self.crate, self.outcome = body, body.label, body.label.partition("/")[0], outcome
         self.by_hand = body.by_hand
         self.text = f"wrong body {body.label}: {outcome}: {why[:240]}"
 
@@ -409,20 +410,29 @@ def groups_of(bodies):
 
 
 def try_all(tasks):
-    """Tries the wrong bodies of each crate once it is proved as it stands, and yields what there is to say of each."""
+    """Tries the wrong bodies of each crate once it is proved as it stands, and yields what there is to say of each; at the end
+    of those whose search gave up and that are in the gate, by a trial alone."""
     told, left, works, places = queue.SimpleQueue(), sum(len(bodies) for bodies in tasks.values()), [], Places()
+    trials, gave_up = {crate: Trial(crate, places, told.put) for crate in tasks}, []
     with ThreadPoolExecutor(places.most) as pool, ThreadPoolExecutor(max(1, len(tasks))) as beginning:
         submit = lambda call, *given: works.append(pool.submit(call, *given))
         for crate, bodies in tasks.items():
-            works.append(beginning.submit(Trial(crate, places, told.put).begin, bodies, submit))
+            works.append(beginning.submit(trials[crate].begin, bodies, submit))
         while left:
             with suppress(queue.Empty):
-                yield told.get(timeout=1)
+                verdict = told.get(timeout=1)
                 left -= 1
+                if verdict.outcome != Verdict.GAVE_UP or verdict.by_hand:
+                    yield verdict
+                else:
+                    gave_up.append(verdict.body)
             for it in [it for it in works if it.done()]:
                 # (a call that ended by an exception ends this run so)
                 it.result()
                 works.remove(it)
+    for it in gave_up:
+        proved.wait_for_all_else()
+        yield trials[it.label.partition("/")[0]].tried([it])[0]
 
 
 def wrong_numbers(bodies, names):

@@ -17,8 +17,9 @@ import time
 ROOT = os.path.dirname(os.path.dirname(os.path.dirname(os.path.realpath(__file__))))
 # The environment's name for the file of what `rt ci` says, beside which scripts run.
 SAID = "MINISIGN_RT_CI"
-# The line behind that, once `rt ci` has ended.
+# The line behind that, once `rt ci` has ended, and one once all has ended that runs beside it but the must-fail edits.
 ENDED = "rt ci has ended"
+ALL_ENDED = "all else has ended"
 # What a static library is built for where it is to run in a page.
 WASM = "wasm64-unknown-unknown"
 
@@ -74,7 +75,7 @@ def said():
 
 def is_under_way():
     """Whether `rt ci` runs beside this."""
-    return bool(os.environ.get(SAID)) and not said().endswith(f"{ENDED}\n")
+    return bool(os.environ.get(SAID)) and not re.search(rf"(?m)^{ENDED}$", said())
 
 
 def has(names):
@@ -86,6 +87,12 @@ def has(names):
 def wait_for(names):
     """Waits until `rt ci` has proved these crates, or has ended."""
     while is_under_way() and not has(names):
+        time.sleep(1)
+
+
+def wait_for_all_else():
+    """Waits, in the gate, until nothing else runs."""
+    while os.environ.get(SAID) and not said().endswith(f"{ALL_ENDED}\n"):
         time.sleep(1)
 
 

@@ -1,0 +1,339 @@
+#!/usr/bin/env python3
+"""Compares what the documents name with what is there: functions and clauses, the calls that a CALLING.md quotes, the
+faults of docs/INSTALLING.md, blocks of code, links, paths, names, and the old texts of the must-fail edits. It also looks for
+crates that name the proofs of another one.
+
+It prints a line for each name that is not there; the last line is `N passed, M failed`. Needs Python 3.9 or later.
+"""
+
+import glob
+import os
+import re
+import subprocess
+import sys
+
+sys.path.append(os.path.join(os.path.dirname(os.path.realpath(__file__)), "..", "..", "tools"))
+
+import sources
+from sources import NAME, ROOT, read
+
+FORMATS = "docs/FORMATS.md"
+INSTALLING = "docs/INSTALLING.md"
+ARCHITECTURE = "docs/ARCHITECTURE.md"
+# What a script makes from the sources, and checks itself.
+MADE = "docs/TRUSTED.md"
+CALLS = re.compile(r"crates/([^/]+)/CALLING\.md")
+FOLDERS = ("tests/", "crates/", "bench/", ".ci/", "docs/", "tools/", "examples/", "c/")
+QUOTED = re.compile(r"`([^`]+)`")
+BLOCK = re.compile(r"^```(\w*)\n(.*?)^```$", re.M | re.S)
+PATH_NAME = re.compile(r"[A-Za-z_]\w*(?:::(?:[A-Za-z_]\w*|\.\.))*$")
+TEXT = re.compile(r'"((?:[^"\\]|\\.)*)"')
+
+
+class Index:
+    """The names of all crates."""
+
+    def __init__(self, files):
+        self.library = sources.Library(own=True)
+        self.sources = {name: self.library.crate_sources(name) for name in self.library.crates}
+        self.all_sources = [source for read_all in self.sources.values() for source in read_all]
+        self.items = [item for source in self.all_sources for item in source.items]
+        self.functions = by_name(item for item in self.items if item.what == "fn")
+        self.types = by_name(item for item in self.items if item.what in ("struct", "enum", "trait", "type"))
+        specs = [file for folder in self.library.crates.values() for file in sources.files_below(f"{folder}/specs", ".antt")]
+        self.definitions = [it for file in specs for it in sources.read_module(file).definitions.values()]
+        # Items, clauses, parameters, fields, variants, definitions, and all names in code.
+        self.known = {*self.library.crates, *(it.name for it in self.items if it.what == "mod"), *(it.name for it in self.definitions)}
+        self.known.update(os.path.basename(file).partition(".")[0] for file in files)
+        texts = [it.text for it in self.definitions] + [re.sub(r"//[^\n]*", "", it.text) for it in self.all_sources]
+        for text in [*texts, *(read(file) for file in files if file.endswith((".py", ".c")))]:
+            self.known.update(NAME.findall(text))
+
+    def clauses_of(self, function):
+        """The clauses of a function, and of the trait's that it stands for."""
+        others = self.functions.get(function.name, []) if function.trait else []
+        traits = [it for it in others if it.owner == function.trait and not it.trait]
+        return [clause for it in (function, *traits) for clause in it.clauses]
+
+
+def by_name(items):
+    found = {}
+    for item in items:
+        found.setdefault(item.name, []).append(item)
+    return found
+
+
+def without_blocks(text):
+    """The text with its blocks of code empty."""
+    return BLOCK.sub(lambda block: "\n" * block[0].count("\n"), text)
+
+
+def places(document, text):
+    """The lines, each with its place."""
+    return ((f"{document}:{number}", line) for number, line in enumerate(text.split("\n"), 1))
+
+
+def check_installing(report, index):
+    """Each fault that installing adds stands in its table with its name and its text."""
+    rows = [row.split("|")[2] for row in read(INSTALLING).split("\n") if row.count("|") == 4]
+    faults = re.findall(r'^install_row (\w+) = record \{ kind = \w+; text = codes "([^"]*)"',
+                        read("crates/minisign_install/specs/Faults.antt"), re.M)
+    report.check(faults, "specs/Faults.antt", "no fault is read")
+    for name, said in faults:
+        report.check(any(f"`{name}`: `{said}`" in row for row in rows), INSTALLING, f"no row for {name}")
+
+
+def squeezed(text):
+    """The text with each white space as one."""
+    return re.sub(r"\s+", " ", text).strip()
+
+
+def check_blocks(report, document, text, index):
+    """Each block of Rust stands in a file, with its comments where it has some; lines of crates.txt stand there."""
+    crates = read("crates.txt").split("\n")
+    for found in BLOCK.finditer(text):
+        where, (language, block) = f"{document}:{text.count(chr(10), 0, found.start()) + 1}", found.groups()
+        if language == "rust":
+            read_as = squeezed if "//" in block else lambda it: squeezed(re.sub(r"(?m)^\s*//.*$", "", it))
+            report.check(any(read_as(block) in read_as(it.text) for it in index.all_sources), where, "this block stands in no file")
+        elif not language and re.fullmatch(r"(?:\w+:[\w ]*\n)+", block):
+            for line in block.strip().split("\n"):
+                report.check("your" in line or line in crates, where, f"crates.txt has no line {line!r}")
+        elif language == "sh":
+            for name in re.findall(r"(?<![\w./-])(?:\.ci|tests|bench|tools|docs|crates)/[\w./-]+", block):
+                report.check("/out/" in name or os.path.exists(os.path.join(ROOT, name)), where, f"no file {name}")
+
+
+def shortened(text):
+    """A contract as it is quoted: `S` is what `self` points to at the call, and `S'` at the return."""
+    return re.sub(r"\bself\.(?:now|old)\b", "S", re.sub(r"\bself\.new\b", "S'", sources.in_one_line(text)))
+
+
+def check_calls(report, index, document, text):
+    """Each call that a page quotes stands so in its file, and has each clause that is quoted, word for word."""
+    folder = f"{ROOT}/crates/{CALLS.match(document)[1]}/"
+    file, calls, is_quoted = "", [], False
+    for where, line in places(document, text):
+        if line.startswith("```"):
+            is_quoted, file, calls = line == "```text", "", []
+        elif is_quoted and line.startswith("src/"):
+            file = folder + line.partition(",")[0]
+        elif is_quoted and line.startswith("fn "):
+            path = re.match(r"fn ([\w:]+)", line)[1]
+            calls = [it for it in index.functions.get(path.rpartition("::")[2], []) if (it.file, it.path) == (file, path)]
+            headers = [re.sub(r"^(?:pub(?:\(crate\))? )?", "", sources.in_one_line(it.header)) for it in calls]
+            wanted = line.replace(f"fn {path}", "fn " + path.rpartition("::")[2])
+            report.check(wanted in headers, where, f"{file} has no such call, but {headers}")
+        elif is_quoted and line.strip():
+            found = re.fullmatch(r"  (requires|ensures)(?: (\w+))?: (.*)", line)
+            quoted = [shortened(clause.text) for it in calls for clause in index.clauses_of(it)
+                      if found and (clause.kind, clause.name) == (found[1], found[2] or "")]
+            report.check(found and found[3] in quoted, where, f"no such clause, but {quoted}")
+
+
+def anchors_of(text):
+    """The places of a document that a link may name."""
+    return {re.sub(r"[^\w\- ]", "", head.lower()).replace(" ", "-") for head in re.findall(r"^#+ (.*)$", text, re.M)}
+
+
+def check_links(report, document, text):
+    for where, line in places(document, text):
+        for link in re.findall(r"\]\((?!\w+:)([^)\s]+)\)", line):
+            path, _, anchor = link.partition("#")
+            target = os.path.normpath(os.path.join(os.path.dirname(document), path)) if path else document
+            there = os.path.exists(os.path.join(ROOT, target))
+            report.check(there, where, f"the link {link} leads nowhere")
+            if there and anchor:
+                report.check(anchor in anchors_of(read(target)), where, f"{target} has no #{anchor}")
+
+
+class Paths:
+    """How the documents name files and folders."""
+
+    ENDINGS = ("", ".antt", ".rt", ".py", ".md", ".c", ".rs")
+
+    def __init__(self, files):
+        # Each path, also of what a build makes beside the sources, by its ends: so `specs/Fed` is found in any crate.
+        self.ends = {}
+        for file in (*files, *(line for line in read(".gitignore").split() if not line.endswith("/"))):
+            parts = file.split("/")
+            for last in range(1, len(parts) + 1):
+                for first in range(last):
+                    self.ends.setdefault("/".join(parts[first:last]), {})["/".join(parts[:last])] = None
+
+    def find(self, path):
+        """The files or folders that a document's path may mean."""
+        path = path.rstrip("/")
+        if "*" in path or "NAME" in path:
+            return glob.glob(os.path.join(ROOT, path.replace("NAME", "*")))
+        return [place for ending in self.ENDINGS for place in self.ends.get(path + ending, ())]
+
+
+def is_path(text):
+    """Whether a quoted text names a file or folder of the repository."""
+    if not re.fullmatch(r"[\w.*][\w.*/-]*", text) or "/out" in text or text.startswith("out/"):
+        return False
+    return bool("/" in text and not re.fullmatch(r"\d+(?:/\d+)*", text) or re.search(r"\.(?:rt|antt|py|md|c|txt|edit)$", text))
+
+
+def check_paths(report, document, text, paths):
+    """Each quoted path, and names that are said to stand in a file."""
+    for where, line in places(document, text):
+        for name in QUOTED.findall(line):
+            for word in [name] if " " not in name else [it for it in name.split() if it.startswith(FOLDERS)]:
+                report.check(not is_path(word) or paths.find(word), where, f"no file or folder {word}")
+        for names, path in re.findall(r"((?:`[\w:]+`(?:, | and )?)+) of `([\w./]+)`", line):
+            for name in QUOTED.findall(names) if is_path(path) else ():
+                there = {it for place in paths.find(path) for it in names_of(place)}
+                report.check(name.rpartition("::")[2] in there, where, f"{path} has no {name}")
+
+
+def names_of(path):
+    """What a file defines."""
+    file = os.path.join(ROOT, path)
+    if file.endswith(".antt"):
+        return {*sources.read_module(file).definitions}
+    if file.endswith(".rt"):
+        return {item.name for item in sources.read_source(file).items}
+    return {*NAME.findall(read(path))} if os.path.isfile(file) else set()
+
+
+def check_names(report, document, text, index):
+    """Each quoted name is one of the sources; a quoted path of names is one of a type or module."""
+    for where, line in places(document, without_blocks(text)):
+        if document == "docs/DIFFERENCES.md" and line.startswith("|"):
+            # What stands first is the Rust crate's.
+            line = line[line.find(" | "):]
+        for quoted in QUOTED.findall(line):
+            name = re.sub(r"\(.*\)$", "", quoted)
+            if not PATH_NAME.match(name) or name.endswith("::..") or re.fullmatch(r"[a-zA-Z]{1,8}|[A-Z][A-Z0-9]*", name):
+                continue
+            *owners, last = name.split("::")
+            report.check({*owners, last} <= index.known, where, f"no `{quoted}` in any source")
+            if owners and owners[-1] in index.types:
+                there = [item for item in index.items if item.owner == owners[-1] and item.name == last]
+                there += [item for item in index.types[owners[-1]] if re.search(rf"\b{last}\b", item.text)]
+                report.check(there, where, f"{owners[-1]} has no {last}")
+
+
+def check_clauses(report, index, document, text):
+    """The clauses that a sentence names of a function: the clause `x` of `f`."""
+    for where, line in places(document, text):
+        for clause, names in re.findall(r"clauses? `(\w+)` of ((?:`[\w:]+`(?:, | and )?)+)", line):
+            for name in QUOTED.findall(names):
+                found = index.functions.get(name.rpartition("::")[2], [])
+                holds = any(it.name == clause for function in found for it in index.clauses_of(function))
+                report.check(holds, where, f"no clause `{clause}` of `{name}`")
+
+
+def check_texts(report, index):
+    """Each quoted text of docs/FORMATS.md that has a space stands in a text of the sources, and each form of the
+    usage that the program shows stands in docs/FORMATS.md."""
+    said = "\n".join({text for it in (*index.all_sources, *index.definitions) for text in TEXT.findall(it.text)})
+    formats = read(FORMATS)
+    for usage in set(re.findall(r"usage: minisign_tool ([^\\\n]+)", said)):
+        for form in usage.split(" | "):
+            report.check(f"`{form}`" in formats, FORMATS, f"it does not name the form {form}")
+    # (tools/header.py makes the table)
+    table = re.compile(r"^\| Name \| Number \|.*?(?=\n\n|\Z)", re.M | re.S)
+    for where, line in places(FORMATS, table.sub(lambda found: "\n" * found[0].count("\n"), formats)):
+        for quoted in QUOTED.findall(line):
+            # A text is said in pieces around a line feed.
+            is_text = " " in quoted.strip() and not re.search(r"[*^+=<]", quoted)
+            report.check(not is_text or quoted in said, where, f"no source says {quoted!r}")
+
+
+def check_architecture(report, index):
+    """docs/ARCHITECTURE.md names each crate, each module of the library and of the program, and each file of the
+    library's definitions."""
+    text = read(ARCHITECTURE)
+    named = {name for part in QUOTED.findall(without_blocks(text)) for name in NAME.findall(part)}
+    for crate in re.findall(r"(?m)^\w+(?=:)", read("crates.txt")):
+        report.check(re.search(rf"\b{crate}\b", text), ARCHITECTURE, f"it does not name the crate {crate}")
+    for crate in ("minisign", "minisign_tool"):
+        for item in (it for source in index.sources[crate] for it in source.items if it.what == "mod"):
+            is_file = item.text.rstrip().endswith(";") and "cfg(test)" not in item.comment
+            report.check(not is_file or item.name in named, ARCHITECTURE, f"it does not name the module {item.name} of {crate}")
+    for file in sources.files_below(os.path.join(index.library.crates["minisign"], "specs"), ".antt"):
+        name = os.path.basename(file).removesuffix(".antt")
+        report.check(name == "Lib" or name in named, ARCHITECTURE, f"it does not name specs/{name} of minisign")
+
+
+def check_layers(report, index, files):
+    """No crate names the proofs of another one, but for those that it has for its callers: what it knows of it is its
+    contracts, its definitions and its laws."""
+    for file in (it for it in files if it.startswith("crates/") and it.endswith((".antt", ".rt"))):
+        for where, line in places(file, read(file)) if "proofs" in read(file) else ():
+            for other in re.findall(r"\b(\w+)(?:\.|::)proofs\b(?!(?:\.|::)Laws\b)", line):
+                is_own = other == file.split("/")[1] or other not in index.library.crates
+                report.check(is_own, where, f"it names proofs of {other}")
+
+
+def check_edit(report, shown):
+    """A must-fail edit says first why it is wrong, and each of its old texts stands exactly once in its file."""
+    crate, lines = "/".join(shown.split("/")[:2]), read(shown).split("\n")
+    path, old, texts, pairs = None, None, {}, 0
+    functions = [line for line in lines if line.startswith("fn: ")]
+    report.check(len(functions) == 1, shown, f"{len(functions)} lines fn:, and not one")
+    says_why = lines[0].startswith("why: ") and len(lines[0]) > len("why: ")
+    report.check(says_why, shown, "its first line does not say why: which clause is false, and of what input")
+    for where, line in places(shown, "\n".join(lines)):
+        if line.startswith("file: "):
+            path = f"{crate}/{line[len('file: '):].strip()}"
+            there = os.path.isfile(os.path.join(ROOT, path))
+            report.check(there, where, f"no file {path}")
+            texts.setdefault(path, read(path) if there else "")
+        elif line.startswith("old: "):
+            old = line[len("old: "):]
+            count = texts.get(path, "").count(old)
+            report.check(count == 1, where, f"the old text stands {count} times in {path}: {old}")
+        elif line.startswith("new:") and old:
+            # The texts behind it are looked for in the text that it leaves.
+            texts[path] = texts.get(path, "").replace(old, line[len("new:"):].removeprefix(" "))
+            old, pairs = None, pairs + 1
+        elif line and line not in functions and not line.startswith(("why: ", "by hand: ")):
+            report.check(False, where, f"neither why:, nor by hand:, nor file:, nor old: and then new: but {line!r}")
+    report.check(pairs and old is None, shown, "no pair of old: and new:")
+
+
+def check_version(report, documents):
+    """Each logic that a document names with a kit is that of the kit that is here: a kit is replaced more often than it."""
+    if sources.find_kit():
+        ran = subprocess.run(["rt", "version"], stdout=subprocess.PIPE, stderr=subprocess.STDOUT, timeout=60)
+        for document, text in documents.items():
+            for logic in re.findall(r"`rattle-kit-[^` ]+ (logic [^`]+)`", text):
+                report.check(logic in ran.stdout.decode(), document, f"`rt version` does not say {logic}")
+
+
+def main():
+    report, files = sources.Report(), [os.path.relpath(file, ROOT) for file in sources.files_below(ROOT)]
+    index, paths = Index(files), Paths(files)
+    documents = {path: read(path) for path in files if path.endswith(".md")}
+    for document, text in documents.items():
+        check_links(report, document, text)
+        place = re.search(r"(?<![\w.])/(?:opt|work|root|home|Users)/\S*", text)
+        report.check(place is None, document, f"it names a folder of one machine: {place and place[0]}")
+        if document == MADE:
+            continue
+        check_paths(report, document, text, paths)
+        # (the packages, and what is a repository of its own, have names of their own, and their tests run their examples)
+        if document.startswith(("bindings/", "examples/rattle/")):
+            continue
+        if CALLS.match(document):
+            check_calls(report, index, document, text)
+        else:
+            check_blocks(report, document, text, index)
+        check_names(report, document, text, index)
+        check_clauses(report, index, document, text)
+    check_installing(report, index)
+    check_texts(report, index)
+    check_architecture(report, index)
+    check_layers(report, index, files)
+    for edit in (it for it in files if re.match(r"crates/[^/]+/(?:must-fail|wrong-bodies)/.*\.edit$", it)):
+        check_edit(report, edit)
+    check_version(report, documents)
+    return report.end()
+
+
+if __name__ == "__main__":
+    sys.exit(main())
