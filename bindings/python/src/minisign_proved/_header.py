@@ -1,7 +1,7 @@
 # SPDX-License-Identifier: MIT
 """The numbers, structs and calls of the library.
 
-Made by make_header.py from include/minisign.h.
+Made by tools/bindings.py from include/minisign.h.
 """
 
 from ctypes import CDLL, POINTER, Structure, c_size_t, c_ubyte, c_uint32, c_uint64, c_void_p
