@@ -25,7 +25,7 @@ CALL = re.compile(r"^((?:const )?(?:enum |struct )?\w+ \*?)(minisign_\w+)\(([^)]
 NUMBER = re.compile(r"^#define (MINISIGN_\w+) (\d+|UINT32_MAX)$", re.M)
 TEXT = re.compile(r'^#define (MINISIGN_\w+) "([^"]*)"$', re.M)
 # A size that grows with what is put in: how many bytes it has without that.
-SIZE = re.compile(r"^#define (MINISIGN_\w+)\([\w, ]+\) \((\d+)(?: \+ \(size_t\) \(\w+\))+\)$", re.M)
+SIZE = re.compile(r"^#define (MINISIGN_\w+)\(([\w, ]+)\) \((\d+)(?: \+ \(size_t\) \(\w+\))+\)$", re.M)
 MEMBER = re.compile(r"(?:/\*((?:(?!\*/).)*)\*/\s*)?MINISIGN_(\w+) = (0x[0-9a-f]+|\d+)", re.S)
 FIELD = re.compile(r"\s*(\w+) (\w+)(?:\[(\d+)\])?")
 PARAMETER = re.compile(r"(const )?(?:enum )?(\w+) (\*?)(\w+)(?:\[(\d+)\])?")
@@ -64,7 +64,7 @@ def errors_of(header):
 def numbers(header):
     """What #define names: names and numbers, and below them texts in their marks."""
     found = [(name[9:], number.replace("UINT32_MAX", "0xffffffff")) for name, number in NUMBER.findall(header)]
-    return found, [(name[9:], f'"{text}"') for name, text in TEXT.findall(header)], [(name[9:], number) for name, number in SIZE.findall(header)]
+    return found, [(name[9:], f'"{text}"') for name, text in TEXT.findall(header)], [(name[9:], number) for name, _, number in SIZE.findall(header)]
 
 
 def other_members(header):
@@ -193,6 +193,31 @@ RUST_HEAD = """// SPDX-License-Identifier: MIT
 use crate::Reason;
 """
 RUST_TYPES = {"uint8_t": "u8", "char": "u8", "uint32_t": "u32", "uint64_t": "u64", "size_t": "usize"}
+RUST_CLEARED = """
+/// It is cleared at its end.
+impl Drop for {struct} {{
+    fn drop(&mut self) {{
+        clear(&mut self.secret);
+    }}
+}}
+"""
+RUST_FOOT = """}
+
+/// Writes zeros, also where nothing reads them.
+pub fn clear(bytes: &mut [u8]) {
+    bytes.iter_mut().for_each(|byte| unsafe { std::ptr::write_volatile(byte, 0) });
+}
+
+fn done(number: u32) -> Result<(), Reason> {
+    Some(()).filter(|()| number == 0).ok_or(Reason(number))
+}
+
+/// The calls write UTF-8 alone.
+fn text_of(mut text: Vec<u8>, len: usize) -> Result<String, Reason> {
+    text.truncate(len);
+    String::from_utf8(text).map_err(|_| Reason::NOT_UTF8)
+}
+"""
 # Installing is not for this package.
 NOT_IN_RUST = ("minisign_install", "minisign_judge")
 
@@ -201,26 +226,77 @@ def rust_type(kind, all_structs):
     return name_of(kind[9:]) if kind in all_structs else RUST_TYPES.get(kind, "u32")
 
 
-def rust_parameters(parameters, all_structs):
-    """The parameters as Rust borrows them, and what is handed over: bytes with the length behind them are a slice."""
-    taken, handed, rest = [], [], list(parameters)
+def room_of(name, parameters, header):
+    """How many bytes a call writes: as the size says that is named as the call is, and otherwise all that it takes."""
+    fitting = [it for it in SIZE.findall(header) if it[0][9:].removesuffix("_BYTES") in name.upper()]
+    if fitting:
+        size, lengths, _ = max(fitting, key=lambda it: len(it[0]))
+        return " + ".join([size[9:], *(f"{it.removesuffix('_len')}.len()" for it in lengths.split(", "))])
+    return " + ".join(f"{own}.len()" for constant, kind, star, own, count in parameters if constant and kind == "uint8_t")
+
+
+def rust_call(answer, name, parameters, all_structs, header):
+    """A function that makes a call: bytes with the length behind them are a slice, a password is one or none, an answer is a truth
+    value. What the call writes last is what the function answers: a secret key, which stays in one place, in a box."""
+    taken, handed, before, result, told, rest = [], [], [], "()", "", list(parameters)
     while rest:
-        constant, kind, star, name, count = rest.pop(0)
+        constant, kind, star, own, count = rest.pop(0)
         of, lent = rust_type(kind, all_structs), "" if constant else "mut "
-        pointer = f"{name}.as_ptr()" if constant else f"{name}.as_mut_ptr()"
-        if count:
-            taken.append(f"{name}: &{lent}[{of}; {count}]")
-            handed.append(pointer)
+        pointer = f"{own}.as_ptr()" if constant else f"{own}.as_mut_ptr()"
+        if own.startswith("with_"):
+            password = own.removeprefix("with_")
+            taken.append(f"{password}: Option<&[u8]>")
+            before.append(f"let ({own}, {password}) = ({password}.is_some().into(), {password}.unwrap_or_default());")
+            handed += [own, f"{password}.as_ptr()", f"{password}.len()"]
+            rest = rest[2:]
+        elif count and not constant:
+            before.append(f"let mut {own} = [0; {count}];")
+            handed.append(f"&mut {own}")
+            result, told = f"[{of}; {count}]", own
+        elif count:
+            taken.append(f"{own}: &[{of}; {count}]")
+            handed.append(own)
+        elif star and of == "u8" and [it[1] + it[2] for it in rest] == ["size_t", "size_t*"]:
+            before.append(f"let (mut {own}, mut len) = (vec![0; {room_of(name, parameters, header)}], 0);")
+            handed += [pointer, f"{own}.len()", "&mut len"]
+            result, told, rest = "String", f"text_of({own}, len)", []
+        elif star and answer == "size_t" and not constant:
+            before.append(f"let mut {own} = vec![0; {name[9:].upper()}_BYTES];")
+            handed += [pointer, f"{own}.len()"]
+            rest = rest[1:]
+        elif star and of == "u8" and not constant and len(rest) == 1 and parameters[0][1] == "uint8_t":
+            before.append(f"let mut {own} = vec![0; {room_of(name, parameters, header)}];")
+            handed += [pointer, f"{own}.len()"]
+            result, told, rest = "Vec<u8>", own, []
         elif star and of == "u8":
             if not rest or rest[0][1] != "size_t" or rest[0][2]:
-                raise Unreadable(f"{name}, behind which no length stands")
+                raise Unreadable(f"{own}, behind which no length stands")
             rest.pop(0)
-            taken.append(f"{name}: &{lent}[u8]")
-            handed += [pointer, f"{name}.len()"]
+            taken.append(f"{own}: &{lent}[u8]")
+            handed += [pointer, f"{own}.len()"]
+        elif star and not constant and not rest and kind in all_structs:
+            boxed = of == "SecretKey"
+            before.append(f"let mut {own} = {f'Box::new({of}::ZEROS)' if boxed else f'{of}::ZEROS'};")
+            handed.append(f"&mut *{own}" if boxed else f"&mut {own}")
+            result, told = f"Box<{of}>" if boxed else of, own
+        elif kind == "minisign_answer":
+            taken.append(f"{own}: bool")
+            handed.append(f"if {own} {{ ANSWER_YES }} else {{ ANSWER_NO }}")
         else:
-            taken.append(f"{name}: &{lent}{of}" if star else f"{name}: {of}")
-            handed.append(name)
-    return ", ".join(taken), ", ".join(handed)
+            taken.append(f"{own}: &{lent}{of}" if star else f"{own}: {of}")
+            handed.append(own)
+    call = f"unsafe {{ {name}({', '.join(handed)}) }}"
+    if answer == "size_t":
+        lines, answers = [f"let len = {call};", "text_of(text, len)"], " -> Result<String, Reason>"
+    elif answer == "enum minisign_error":
+        lines = [f"done({call})?;", told if result == "String" else f"Ok({told})"] if told else [f"done({call})"]
+        answers = f" -> Result<{result}, Reason>"
+    elif answer == "void":
+        lines, answers = [f"{call};", told], f" -> {result}"
+    else:
+        lines, answers = [call], f" -> {RUST_TYPES[answer]}"
+    inside = "".join(f"    {line}\n" for line in before + lines)
+    return f"\npub fn {name[9:]}({', '.join(taken)}){answers} {{\n{inside}}}\n"
 
 
 def rust_header(header):
@@ -242,21 +318,19 @@ def rust_header(header):
             made += "".join(f"    pub {name}: {f'[{of}; {count}]' if count else of},\n" for name, of, count in inside)
             zeros = ", ".join(f"{name}: {f'[0; {count}]' if count else '0'}" for name, of, count in inside)
             made += f"}}\n\nimpl {name_of(struct)} {{\n    pub const ZEROS: Self = Self {{ {zeros} }};\n}}\n"
+            made += RUST_CLEARED.format(struct=name_of(struct)) if any(name == "secret" for name, *_ in inside) else ""
     made += "\nextern \"C\" {\n"
     for answer, name, parameters in chosen:
         told = []
         for constant, kind, star, own, count in parameters:
             of = rust_type(kind, all_structs)
-            told.append(f"{own}: *{'const' if constant else 'mut'} {of}" if star or count else f"{own}: {of}")
+            if count:
+                told.append(f"{own}: &{'' if constant else 'mut '}[{of}; {count}]")
+            else:
+                told.append(f"{own}: *{'const' if constant else 'mut'} {of}" if star else f"{own}: {of}")
         result = {"void": "", "size_t": " -> usize"}.get(answer, " -> u32")
         made += f"    fn {name}({', '.join(told)}){result};\n"
-    made += "}\n\nfn done(number: u32) -> Result<(), Reason> {\n    Some(()).filter(|()| number == 0).ok_or(Reason(number))\n}\n"
-    for answer, name, parameters in chosen:
-        taken, handed = rust_parameters(parameters, all_structs)
-        result = {"void": "", "size_t": " -> usize", "uint32_t": " -> u32"}.get(answer, " -> Result<(), Reason>")
-        call = f"unsafe {{ {name}({handed}) }}"
-        made += f"\npub fn {name[9:]}({taken}){result} {{\n    {f'done({call})' if 'Result' in result else call}\n}}\n"
-    return made
+    return made + RUST_FOOT + "".join(rust_call(*it, all_structs, header) for it in chosen)
 
 
 # ---- All of them ----

@@ -14,9 +14,7 @@ pub struct Reason(pub u32);
 
 impl fmt::Display for Reason {
     fn fmt(&self, f: &mut fmt::Formatter) -> fmt::Result {
-        let mut text = [0; raw::ERROR_TEXT_BYTES];
-        let len = raw::error_text(self.0, &mut text);
-        f.write_str(&String::from_utf8_lossy(&text[..len]))
+        f.write_str(&raw::error_text(self.0).unwrap_or_default())
     }
 }
 
@@ -43,14 +41,14 @@ pub enum Error {
 
 impl From<Reason> for Error {
     fn from(reason: Reason) -> Error {
-        const FIRST: u32 = Reason::MISSING_PUBLIC_KEY_COMMENT.0;
-        const LAST: u32 = Reason::TRUSTED_COMMENT_PREFIX.0;
+        let is_of_text = (Reason::MISSING_PUBLIC_KEY_COMMENT.0..=Reason::TRUSTED_COMMENT_PREFIX.0).contains(&reason.0);
         match reason {
             Reason::SIGNATURE_REFUSED | Reason::COMMENT_SIGNATURE_REFUSED => Error::InvalidSignature,
             Reason::LEGACY_NOT_ACCEPTED => Error::UnexpectedAlgorithm,
             Reason::DIFFERENT_KEY_IDS => Error::UnexpectedKeyId,
             Reason::UNSUPPORTED_ALGORITHM => Error::UnsupportedAlgorithm,
-            Reason::BARE_PUBLIC_KEY_LENGTH | Reason::BARE_PUBLIC_KEY_NOT_BASE64 | Reason(FIRST..=LAST) => Error::InvalidEncoding,
+            Reason::BARE_PUBLIC_KEY_LENGTH | Reason::BARE_PUBLIC_KEY_NOT_BASE64 => Error::InvalidEncoding,
+            _ if is_of_text => Error::InvalidEncoding,
             _ => Error::Refused(reason),
         }
     }
@@ -111,16 +109,13 @@ pub struct PublicKey {
 impl PublicKey {
     /// Reads both lines of a file such as `minisign.pub`.
     pub fn decode(lines: &str) -> Result<Self, Error> {
-        let mut key = raw::PublicKey::ZEROS;
-        raw::read_public_key(lines.as_bytes(), &mut key)?;
+        let key = raw::read_public_key(lines.as_bytes())?;
         Ok(PublicKey { untrusted_comment: lines.lines().next().map(String::from), key })
     }
 
     /// Reads the base64 of a public key alone: its 56 letters.
     pub fn from_base64(public_key: &str) -> Result<Self, Error> {
-        let mut key = raw::PublicKey::ZEROS;
-        raw::read_bare_public_key(public_key.as_bytes(), &mut key)?;
-        Ok(PublicKey { untrusted_comment: None, key })
+        Ok(PublicKey { untrusted_comment: None, key: raw::read_bare_public_key(public_key.as_bytes())? })
     }
 
     /// Reads a file such as `minisign.pub`.
@@ -141,7 +136,8 @@ impl PublicKey {
 
     /// Verifies data at once, by this Ed25519.
     pub fn verify_with(&self, by: &dyn Ed25519, data: &[u8], signature: &Signature, allow_legacy: bool) -> Result<(), Error> {
-        let mut verifier = StreamVerifier { ed25519: by, asked: Asked::whole(&self.key, &signature.text, allow_legacy)? };
+        let asked = ask(&self.key, &signature.text, allow_legacy).map_err(|(reason, _)| reason)?;
+        let mut verifier = StreamVerifier { ed25519: by, asked };
         verifier.update(data);
         verifier.end(data)
     }
@@ -154,9 +150,10 @@ impl PublicKey {
 
     /// Begins to verify data that comes in pieces, by this Ed25519.
     pub fn verify_stream_with<'a>(&'a self, by: &'a dyn Ed25519, signature: &'a Signature) -> Result<StreamVerifier<'a>, Error> {
-        match Asked::whole(&self.key, &signature.text, false) {
-            Err(Reason::LEGACY_NOT_ACCEPTED) => Err(Error::UnsupportedLegacyMode),
-            asked => Ok(StreamVerifier { ed25519: by, asked: asked? }),
+        match ask(&self.key, &signature.text, false) {
+            Ok(asked) => Ok(StreamVerifier { ed25519: by, asked }),
+            Err((Reason::LEGACY_NOT_ACCEPTED, _)) => Err(Error::UnsupportedLegacyMode),
+            Err((reason, _)) => Err(reason.into()),
         }
     }
 }
@@ -168,27 +165,13 @@ struct Asked {
     message: Vec<u8>,
 }
 
-impl Asked {
-    /// The questions are filled in as far as the header says, also where they were not asked.
-    fn new(key: &raw::PublicKey, text: &str, allow_legacy: bool) -> (Result<(), Reason>, Asked) {
-        let mut it = Asked { state: begun(), questions: raw::Questions::ZEROS, message: vec![0; text.len()] };
-        let legacy = allow_legacy.into();
-        let result = raw::ask(&mut it.state, key, text.as_bytes(), legacy, &mut it.questions, &mut it.message);
-        it.message.truncate(it.questions.message_len as usize);
-        (result, it)
-    }
-
-    fn whole(key: &raw::PublicKey, text: &str, allow_legacy: bool) -> Result<Asked, Reason> {
-        let (result, it) = Asked::new(key, text, allow_legacy);
-        result.map(|()| it)
-    }
-}
-
-/// A state that was fed nothing.
-fn begun() -> raw::State {
-    let mut state = raw::State::ZEROS;
-    raw::init(&mut state);
-    state
+/// Asks about the text of a signature. Where it is refused, its key ID is told with the reason, as far as it reads.
+fn ask(key: &raw::PublicKey, text: &str, allow_legacy: bool) -> Result<Asked, (Reason, [u8; 8])> {
+    let (mut state, mut questions, mut message) = (raw::init(), raw::Questions::ZEROS, vec![0; text.len()]);
+    let asked = raw::ask(&mut state, key, text.as_bytes(), allow_legacy.into(), &mut questions, &mut message);
+    message.truncate(questions.message_len as usize);
+    asked.map_err(|reason| (reason, questions.signature_key_id))?;
+    Ok(Asked { state, questions, message })
 }
 
 /// A signature, which vouches for nothing before it was verified.
@@ -202,13 +185,11 @@ impl Signature {
     /// Reads the four lines of a file such as `data.minisig`.
     pub fn decode(lines: &str) -> Result<Self, Error> {
         // Asked under a key of no key ID, and then under one of the signature's, the library tells what is in the text.
-        let mut key = raw::PublicKey::ZEROS;
-        let (mut result, mut asked) = Asked::new(&key, lines, true);
-        if result == Err(Reason::DIFFERENT_KEY_IDS) {
-            key.key_id = asked.questions.signature_key_id;
-            (result, asked) = Asked::new(&key, lines, true);
-        }
-        result?;
+        let asked = match ask(&raw::PublicKey::ZEROS, lines, true) {
+            Err((Reason::DIFFERENT_KEY_IDS, key_id)) => ask(&raw::PublicKey { key: [0; 32], key_id }, lines, true),
+            asked => asked,
+        };
+        let asked = asked.map_err(|(reason, _)| reason)?;
         Ok(Signature { text: lines.into(), trusted_comment: String::from_utf8_lossy(&asked.message[64..]).into_owned() })
     }
 
@@ -254,14 +235,10 @@ impl StreamVerifier<'_> {
     }
 
     fn end(&mut self, data: &[u8]) -> Result<(), Error> {
-        let (Asked { state, questions, message }, mut digest) = (&mut self.asked, [0; 64]);
-        raw::digest(state, &mut digest)?;
-        let answer = |signature: &[u8; 64], message: &[u8]| match self.ed25519.accepts(signature, message, &questions.public_key)
-        {
-            true => raw::ANSWER_YES,
-            false => raw::ANSWER_NO,
-        };
-        let first = answer(&questions.signature, if questions.legacy == 1 { data } else { &digest });
-        Ok(raw::verdict(state, first, answer(&questions.comment_signature, message))?)
+        let Asked { state, questions, message } = &mut self.asked;
+        let (digest, by) = (raw::digest(state)?, &questions.public_key);
+        let first = self.ed25519.accepts(&questions.signature, if questions.legacy == 1 { data } else { &digest }, by);
+        let second = self.ed25519.accepts(&questions.comment_signature, message, by);
+        Ok(raw::verdict(state, first, second)?)
     }
 }

@@ -1,7 +1,7 @@
 // SPDX-License-Identifier: MIT
 //! Signing, and making keys.
 
-use crate::{begun, raw, Ed25519, Error, PublicKey, Reason, Signature};
+use crate::{raw, Ed25519, Error, PublicKey, Reason, Signature};
 use std::{fmt, fs, path::Path};
 
 /// How much memory and time a sealed key may take, and takes.
@@ -27,34 +27,22 @@ impl Work {
     };
 }
 
-/// What a call writes to the front of a room of so many bytes. The calls write UTF-8 alone.
-fn text_of(room: usize, call: impl FnOnce(&mut [u8], &mut usize) -> Result<(), Reason>) -> Result<String, Error> {
-    let (mut text, mut len) = (vec![0; room], 0);
-    call(&mut text, &mut len)?;
-    text.truncate(len);
-    String::from_utf8(text).map_err(|_| Reason::NOT_UTF8.into())
-}
-
 /// A secret key, opened. Its bytes are cleared at its end.
 pub struct SecretKey(Box<raw::SecretKey>);
 
 impl SecretKey {
     /// A new key of random bytes.
     pub fn generate(ed25519: &dyn Ed25519) -> Result<SecretKey, Error> {
-        let (mut id, mut seed, mut secret, mut key) = ([0; 8], [0; 32], [0; 64], Box::new(raw::SecretKey::ZEROS));
+        let (mut id, mut seed, mut secret) = ([0; 8], [0; 32], [0; 64]);
         let made = ed25519.random(&mut id) && ed25519.random(&mut seed) && ed25519.expand(&seed, &mut secret);
-        raw::take_secret_key(&id, &secret, &mut key);
-        raw::clear(&mut seed);
-        raw::clear(&mut secret);
+        let key = raw::take_secret_key(&id, &secret);
+        [&mut seed[..], &mut secret].into_iter().for_each(raw::clear);
         Some(SecretKey(key)).filter(|_| made).ok_or_else(|| Reason::RANDOM_SOURCE_FAILED.into())
     }
 
     /// Reads both lines of a file such as `minisign.key`. A password opens a sealed key, and no other one.
     pub fn decode(lines: &str, password: Option<&str>, work: &Work) -> Result<SecretKey, Error> {
-        let (mut key, is_sealed, typed) =
-            (Box::new(raw::SecretKey::ZEROS), password.is_some().into(), password.unwrap_or_default());
-        raw::open_secret_key(lines.as_bytes(), is_sealed, typed.as_bytes(), work.keep_every, work.greatest_work, &mut key)?;
-        Ok(SecretKey(key))
+        Ok(SecretKey(raw::open_secret_key(lines.as_bytes(), password.map(str::as_bytes), work.keep_every, work.greatest_work)?))
     }
 
     /// Reads a file such as `minisign.key`.
@@ -72,25 +60,18 @@ impl SecretKey {
         if password.is_some() && !ed25519.random(&mut sealing.salt) {
             return Err(Reason::RANDOM_SOURCE_FAILED.into());
         }
-        let (is_sealed, typed, comment) =
-            (password.is_some().into(), password.unwrap_or_default(), raw::SECRET_KEY_COMMENT.as_bytes());
-        text_of(raw::SECRET_KEY_BYTES + comment.len(), |text, len| {
-            raw::secret_key_text(&self.0, is_sealed, typed.as_bytes(), &sealing, keep_every, comment, text, len)
-        })
+        Ok(raw::secret_key_text(&self.0, password.map(str::as_bytes), &sealing, keep_every, raw::SECRET_KEY_COMMENT.as_bytes())?)
     }
 
     /// The text of its public key, both lines of a file such as `minisign.pub`.
     pub fn public_key_text(&self) -> Result<String, Error> {
         let comment = format!("{}{:X}", raw::PUBLIC_KEY_COMMENT, u64::from_le_bytes(self.0.key_id));
-        let room = raw::PUBLIC_KEY_BYTES + comment.len();
-        text_of(room, |text, len| raw::public_key_text(&self.0, comment.as_bytes(), text, len))
+        Ok(raw::public_key_text(&self.0, comment.as_bytes())?)
     }
 
     /// Its public key.
     pub fn public_key(&self) -> Result<PublicKey, Error> {
-        let mut key = raw::PublicKey::ZEROS;
-        raw::public_key_of(&self.0, &mut key)?;
-        Ok(PublicKey { untrusted_comment: None, key })
+        Ok(PublicKey { untrusted_comment: None, key: raw::public_key_of(&self.0)? })
     }
 
     /// Signs data at once. The comments are one line each; whoever verifies can trust the first one.
@@ -102,7 +83,7 @@ impl SecretKey {
 
     /// Begins to sign data that comes in pieces.
     pub fn sign_stream<'a>(&'a self, ed25519: &'a dyn Ed25519) -> Signer<'a> {
-        Signer { ed25519, key: self, state: begun() }
+        Signer { ed25519, key: self, state: raw::init() }
     }
 }
 
@@ -129,14 +110,10 @@ impl Signer<'_> {
 
     /// The signature of all pieces.
     pub fn finalize(mut self, trusted: &str, untrusted: &str) -> Result<Signature, Error> {
-        let (mut digest, mut message) = ([0; 64], vec![0; 64 + trusted.len()]);
-        raw::digest(&mut self.state, &mut digest)?;
-        let (first, trusted, untrusted) = (self.signed(&digest)?, trusted.as_bytes(), untrusted.as_bytes());
-        raw::comment_message(&first, trusted, &mut message)?;
-        let (second, room) = (self.signed(&message)?, raw::TEXT_BYTES + trusted.len() + untrusted.len());
-        let written =
-            |text: &mut [u8], len: &mut usize| raw::signed_text(&self.key.0, &first, &second, trusted, untrusted, text, len);
-        Signature::decode(&text_of(room, written)?)
+        let digest = raw::digest(&mut self.state)?;
+        let first = self.signed(&digest)?;
+        let second = self.signed(&raw::comment_message(&first, trusted.as_bytes())?)?;
+        Signature::decode(&raw::signed_text(&self.key.0, &first, &second, trusted.as_bytes(), untrusted.as_bytes())?)
     }
 
     /// A signature that was verified: one of a damaged key, whose halves do not belong together, would give the secret half away.

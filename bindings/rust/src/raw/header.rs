@@ -214,6 +214,13 @@ impl SecretKey {
     pub const ZEROS: Self = Self { mark: 0, key_id: [0; 8], secret: [0; 64] };
 }
 
+/// It is cleared at its end.
+impl Drop for SecretKey {
+    fn drop(&mut self) {
+        clear(&mut self.secret);
+    }
+}
+
 #[repr(C)]
 pub struct Sealing {
     pub salt: [u8; 32],
@@ -230,89 +237,126 @@ extern "C" {
     fn minisign_error_text(error: u32, text: *mut u8, room: usize) -> usize;
     fn minisign_init(state: *mut State);
     fn minisign_update(state: *mut State, data: *const u8, len: usize) -> u32;
-    fn minisign_digest(state: *mut State, digest: *mut u8) -> u32;
+    fn minisign_digest(state: *mut State, digest: &mut [u8; 64]) -> u32;
     fn minisign_read_public_key(pk_text: *const u8, pk_text_len: usize, key: *mut PublicKey) -> u32;
     fn minisign_read_bare_public_key(base64: *const u8, base64_len: usize, key: *mut PublicKey) -> u32;
     fn minisign_ask(state: *mut State, key: *const PublicKey, sig_text: *const u8, sig_text_len: usize, allow_legacy: u32, questions: *mut Questions, message: *mut u8, room: usize) -> u32;
     fn minisign_comment_verdict(state: *const State, second: u32) -> u32;
     fn minisign_verdict(state: *mut State, first: u32, second: u32) -> u32;
     fn minisign_open_secret_key(sk_text: *const u8, sk_text_len: usize, with_password: u32, password: *const u8, password_len: usize, keep_every: u64, greatest_work: u32, key: *mut SecretKey) -> u32;
-    fn minisign_take_secret_key(key_id: *const u8, secret: *const u8, key: *mut SecretKey);
+    fn minisign_take_secret_key(key_id: &[u8; 8], secret: &[u8; 64], key: *mut SecretKey);
     fn minisign_public_key_of(key: *const SecretKey, public_key: *mut PublicKey) -> u32;
-    fn minisign_comment_message(first: *const u8, trusted: *const u8, trusted_len: usize, message: *mut u8, room: usize) -> u32;
-    fn minisign_signed_text(key: *const SecretKey, first: *const u8, second: *const u8, trusted: *const u8, trusted_len: usize, untrusted: *const u8, untrusted_len: usize, text: *mut u8, room: usize, text_len: *mut usize) -> u32;
+    fn minisign_comment_message(first: &[u8; 64], trusted: *const u8, trusted_len: usize, message: *mut u8, room: usize) -> u32;
+    fn minisign_signed_text(key: *const SecretKey, first: &[u8; 64], second: &[u8; 64], trusted: *const u8, trusted_len: usize, untrusted: *const u8, untrusted_len: usize, text: *mut u8, room: usize, text_len: *mut usize) -> u32;
     fn minisign_secret_key_text(key: *const SecretKey, with_password: u32, password: *const u8, password_len: usize, sealing: *const Sealing, keep_every: u64, comment: *const u8, comment_len: usize, text: *mut u8, room: usize, text_len: *mut usize) -> u32;
     fn minisign_public_key_text(key: *const SecretKey, comment: *const u8, comment_len: usize, text: *mut u8, room: usize, text_len: *mut usize) -> u32;
+}
+
+/// Writes zeros, also where nothing reads them.
+pub fn clear(bytes: &mut [u8]) {
+    bytes.iter_mut().for_each(|byte| unsafe { std::ptr::write_volatile(byte, 0) });
 }
 
 fn done(number: u32) -> Result<(), Reason> {
     Some(()).filter(|()| number == 0).ok_or(Reason(number))
 }
 
+/// The calls write UTF-8 alone.
+fn text_of(mut text: Vec<u8>, len: usize) -> Result<String, Reason> {
+    text.truncate(len);
+    String::from_utf8(text).map_err(|_| Reason::NOT_UTF8)
+}
+
 pub fn version() -> u32 {
     unsafe { minisign_version() }
 }
 
-pub fn error_text(error: u32, text: &mut [u8]) -> usize {
-    unsafe { minisign_error_text(error, text.as_mut_ptr(), text.len()) }
+pub fn error_text(error: u32) -> Result<String, Reason> {
+    let mut text = vec![0; ERROR_TEXT_BYTES];
+    let len = unsafe { minisign_error_text(error, text.as_mut_ptr(), text.len()) };
+    text_of(text, len)
 }
 
-pub fn init(state: &mut State) {
-    unsafe { minisign_init(state) }
+pub fn init() -> State {
+    let mut state = State::ZEROS;
+    unsafe { minisign_init(&mut state) };
+    state
 }
 
 pub fn update(state: &mut State, data: &[u8]) -> Result<(), Reason> {
     done(unsafe { minisign_update(state, data.as_ptr(), data.len()) })
 }
 
-pub fn digest(state: &mut State, digest: &mut [u8; 64]) -> Result<(), Reason> {
-    done(unsafe { minisign_digest(state, digest.as_mut_ptr()) })
+pub fn digest(state: &mut State) -> Result<[u8; 64], Reason> {
+    let mut digest = [0; 64];
+    done(unsafe { minisign_digest(state, &mut digest) })?;
+    Ok(digest)
 }
 
-pub fn read_public_key(pk_text: &[u8], key: &mut PublicKey) -> Result<(), Reason> {
-    done(unsafe { minisign_read_public_key(pk_text.as_ptr(), pk_text.len(), key) })
+pub fn read_public_key(pk_text: &[u8]) -> Result<PublicKey, Reason> {
+    let mut key = PublicKey::ZEROS;
+    done(unsafe { minisign_read_public_key(pk_text.as_ptr(), pk_text.len(), &mut key) })?;
+    Ok(key)
 }
 
-pub fn read_bare_public_key(base64: &[u8], key: &mut PublicKey) -> Result<(), Reason> {
-    done(unsafe { minisign_read_bare_public_key(base64.as_ptr(), base64.len(), key) })
+pub fn read_bare_public_key(base64: &[u8]) -> Result<PublicKey, Reason> {
+    let mut key = PublicKey::ZEROS;
+    done(unsafe { minisign_read_bare_public_key(base64.as_ptr(), base64.len(), &mut key) })?;
+    Ok(key)
 }
 
 pub fn ask(state: &mut State, key: &PublicKey, sig_text: &[u8], allow_legacy: u32, questions: &mut Questions, message: &mut [u8]) -> Result<(), Reason> {
     done(unsafe { minisign_ask(state, key, sig_text.as_ptr(), sig_text.len(), allow_legacy, questions, message.as_mut_ptr(), message.len()) })
 }
 
-pub fn comment_verdict(state: &State, second: u32) -> Result<(), Reason> {
-    done(unsafe { minisign_comment_verdict(state, second) })
+pub fn comment_verdict(state: &State, second: bool) -> Result<(), Reason> {
+    done(unsafe { minisign_comment_verdict(state, if second { ANSWER_YES } else { ANSWER_NO }) })
 }
 
-pub fn verdict(state: &mut State, first: u32, second: u32) -> Result<(), Reason> {
-    done(unsafe { minisign_verdict(state, first, second) })
+pub fn verdict(state: &mut State, first: bool, second: bool) -> Result<(), Reason> {
+    done(unsafe { minisign_verdict(state, if first { ANSWER_YES } else { ANSWER_NO }, if second { ANSWER_YES } else { ANSWER_NO }) })
 }
 
-pub fn open_secret_key(sk_text: &[u8], with_password: u32, password: &[u8], keep_every: u64, greatest_work: u32, key: &mut SecretKey) -> Result<(), Reason> {
-    done(unsafe { minisign_open_secret_key(sk_text.as_ptr(), sk_text.len(), with_password, password.as_ptr(), password.len(), keep_every, greatest_work, key) })
+pub fn open_secret_key(sk_text: &[u8], password: Option<&[u8]>, keep_every: u64, greatest_work: u32) -> Result<Box<SecretKey>, Reason> {
+    let (with_password, password) = (password.is_some().into(), password.unwrap_or_default());
+    let mut key = Box::new(SecretKey::ZEROS);
+    done(unsafe { minisign_open_secret_key(sk_text.as_ptr(), sk_text.len(), with_password, password.as_ptr(), password.len(), keep_every, greatest_work, &mut *key) })?;
+    Ok(key)
 }
 
-pub fn take_secret_key(key_id: &[u8; 8], secret: &[u8; 64], key: &mut SecretKey) {
-    unsafe { minisign_take_secret_key(key_id.as_ptr(), secret.as_ptr(), key) }
+pub fn take_secret_key(key_id: &[u8; 8], secret: &[u8; 64]) -> Box<SecretKey> {
+    let mut key = Box::new(SecretKey::ZEROS);
+    unsafe { minisign_take_secret_key(key_id, secret, &mut *key) };
+    key
 }
 
-pub fn public_key_of(key: &SecretKey, public_key: &mut PublicKey) -> Result<(), Reason> {
-    done(unsafe { minisign_public_key_of(key, public_key) })
+pub fn public_key_of(key: &SecretKey) -> Result<PublicKey, Reason> {
+    let mut public_key = PublicKey::ZEROS;
+    done(unsafe { minisign_public_key_of(key, &mut public_key) })?;
+    Ok(public_key)
 }
 
-pub fn comment_message(first: &[u8; 64], trusted: &[u8], message: &mut [u8]) -> Result<(), Reason> {
-    done(unsafe { minisign_comment_message(first.as_ptr(), trusted.as_ptr(), trusted.len(), message.as_mut_ptr(), message.len()) })
+pub fn comment_message(first: &[u8; 64], trusted: &[u8]) -> Result<Vec<u8>, Reason> {
+    let mut message = vec![0; first.len() + trusted.len()];
+    done(unsafe { minisign_comment_message(first, trusted.as_ptr(), trusted.len(), message.as_mut_ptr(), message.len()) })?;
+    Ok(message)
 }
 
-pub fn signed_text(key: &SecretKey, first: &[u8; 64], second: &[u8; 64], trusted: &[u8], untrusted: &[u8], text: &mut [u8], text_len: &mut usize) -> Result<(), Reason> {
-    done(unsafe { minisign_signed_text(key, first.as_ptr(), second.as_ptr(), trusted.as_ptr(), trusted.len(), untrusted.as_ptr(), untrusted.len(), text.as_mut_ptr(), text.len(), text_len) })
+pub fn signed_text(key: &SecretKey, first: &[u8; 64], second: &[u8; 64], trusted: &[u8], untrusted: &[u8]) -> Result<String, Reason> {
+    let (mut text, mut len) = (vec![0; TEXT_BYTES + trusted.len() + untrusted.len()], 0);
+    done(unsafe { minisign_signed_text(key, first, second, trusted.as_ptr(), trusted.len(), untrusted.as_ptr(), untrusted.len(), text.as_mut_ptr(), text.len(), &mut len) })?;
+    text_of(text, len)
 }
 
-pub fn secret_key_text(key: &SecretKey, with_password: u32, password: &[u8], sealing: &Sealing, keep_every: u64, comment: &[u8], text: &mut [u8], text_len: &mut usize) -> Result<(), Reason> {
-    done(unsafe { minisign_secret_key_text(key, with_password, password.as_ptr(), password.len(), sealing, keep_every, comment.as_ptr(), comment.len(), text.as_mut_ptr(), text.len(), text_len) })
+pub fn secret_key_text(key: &SecretKey, password: Option<&[u8]>, sealing: &Sealing, keep_every: u64, comment: &[u8]) -> Result<String, Reason> {
+    let (with_password, password) = (password.is_some().into(), password.unwrap_or_default());
+    let (mut text, mut len) = (vec![0; SECRET_KEY_BYTES + comment.len()], 0);
+    done(unsafe { minisign_secret_key_text(key, with_password, password.as_ptr(), password.len(), sealing, keep_every, comment.as_ptr(), comment.len(), text.as_mut_ptr(), text.len(), &mut len) })?;
+    text_of(text, len)
 }
 
-pub fn public_key_text(key: &SecretKey, comment: &[u8], text: &mut [u8], text_len: &mut usize) -> Result<(), Reason> {
-    done(unsafe { minisign_public_key_text(key, comment.as_ptr(), comment.len(), text.as_mut_ptr(), text.len(), text_len) })
+pub fn public_key_text(key: &SecretKey, comment: &[u8]) -> Result<String, Reason> {
+    let (mut text, mut len) = (vec![0; PUBLIC_KEY_BYTES + comment.len()], 0);
+    done(unsafe { minisign_public_key_text(key, comment.as_ptr(), comment.len(), text.as_mut_ptr(), text.len(), &mut len) })?;
+    text_of(text, len)
 }
