@@ -16,6 +16,7 @@ where it may. Debian's cargo is tried too where another one comes first in PATH.
 """
 
 import base64
+import copy
 import os
 import re
 import shutil
@@ -314,6 +315,8 @@ def check_planted(checks, cargo, crate, room, minisign):
     """Each planted bug is noticed by what is asked of a program over the changed crate."""
     kept = shared_cases.corpus()
     wanted = shared_cases.answers_of(minisign, room, kept)
+    lenient = copy.copy(cargo)
+    lenient.environment = {**cargo.environment, "RUSTFLAGS": ""}
     for number, (file, old, new) in enumerate(BUGS):
         folder = os.path.join(room, f"planted-{number}")
         changed = os.path.join(folder, "crate")
@@ -321,11 +324,14 @@ def check_planted(checks, cargo, crate, room, minisign):
         text = shared_cases.read(os.path.join(changed, file)).decode()
         write(changed, file, text.replace(old, new).encode())
         found = Checks()
-        program = cargo.program(folder, f"planted-{number}", RENAMED.format(crate=changed), "answers.rs")
+        program = lenient.program(folder, f"planted-{number}", RENAMED.format(crate=changed), "answers.rs")
         shared_cases.compare(found, "kept", kept, run([program, "verify"], data=shared_cases.lines_of(kept))[1], wanted)
         check_refusals(found, program)
         check_vectors(found, program)
-        check_signing(found, program, folder, minisign)
+        try:
+            check_signing(found, program, folder, minisign)
+        except OSError as why:
+            found.check(False, f"it did not go on: {why}")
         checks.check(old in text and found.failures, f"planted in {file}, and not noticed: {new}")
 
 
