@@ -143,7 +143,8 @@ def argument(parameter, all_structs):
 def python_header(header):
     plain, texts, sizes = numbers(header)
     made = MADE.format("The numbers, structs and calls of the library.")
-    made += "from ctypes import CDLL, POINTER, Structure, c_size_t, c_ubyte, c_uint32, c_uint64, c_void_p\nfrom typing import Callable\n\n"
+    made += "from ctypes import CDLL, POINTER, Array, Structure, c_size_t, c_ubyte, c_uint32, c_uint64, c_void_p, create_string_buffer\n"
+    made += "from typing import Callable, Optional, Tuple, Union\n\n"
     made += "".join(f"{name} = {value}\n" for name, value in plain + texts)
     made += "# Sizes to which the length of what is put in is added.\n" + "".join(f"{name} = {value}\n" for name, value in sizes)
     for enum in other_members(header):
@@ -151,14 +152,96 @@ def python_header(header):
     for struct, fields in structs(header):
         inside = "".join(f'        ("{name}", {ctype(kind)}{f" * {count}" if count else ""}),\n' for kind, name, count in fields)
         made += f"\n\nclass {name_of(struct)}(Structure):\n    _fields_ = [\n{inside}    ]\n"
-    made += "\n\ndef declare(library: CDLL, error: Callable[[int], object]) -> None:\n"
-    made += '    """Tells what each call takes and answers: what answers an error is passed through a function."""\n'
     all_structs = {f"minisign_{name}" for name, _ in structs(header)}
+    made += PYTHON_CALLS
     for answer, name, parameters in calls(header):
         taken = [argument(it, all_structs) for it in parameters]
-        made += f"    library.{name}.restype = {'error' if answer == 'enum minisign_error' else ctype(answer)}\n"
-        made += f"    library.{name}.argtypes = ({', '.join(taken)}{',' if len(taken) == 1 else ''})\n"
-    return made
+        made += f"        library.{name}.restype = {'error' if answer == 'enum minisign_error' else ctype(answer)}\n"
+        made += f"        library.{name}.argtypes = ({', '.join(taken)}{',' if len(taken) == 1 else ''})\n"
+    return made + "".join(python_call(*it, all_structs, header) for it in calls(header))
+
+
+PYTHON_CALLS = '''
+
+# Bytes that a call only reads.
+Octets = Union[bytes, "Array[c_ubyte]"]
+
+
+class Calls:
+    """The calls of a library: what answers an error is passed through a function."""
+
+    def __init__(self, library: CDLL, error: Callable[[int], object]) -> None:
+        self._library = library
+'''
+
+
+def python_room(name, parameters, header):
+    return re.sub(r"(\w+)\.len\(\)", r"len(\1)", room_of(name, parameters, header))
+
+
+def python_call(answer, name, parameters, all_structs, header):
+    """A method that makes a call: bytes with the length behind them are one argument, a password is one or none, an answer is a truth
+    value. What the call writes last is what the method answers: its message is told by the questions in front of it."""
+    taken, handed, before, result, told, rest = ["self"], [], [], "None", "", list(parameters)
+    while rest:
+        constant, kind, star, own, count = rest.pop(0)
+        of = name_of(kind[9:]) if kind in all_structs else "int"
+        texts = [it[1] + it[2] for it in rest]
+        if own.startswith("with_"):
+            password = own.removeprefix("with_")
+            taken.append(f"{password}: Optional[bytes]")
+            handed += [f"0 if {password} is None else 1", password, f"len({password} or b'')".replace("'", '"')]
+            rest = rest[2:]
+        elif count and not constant:
+            before.append(f"{own} = create_string_buffer({count})")
+            handed.append(own)
+            result, told = "bytes", f"{own}.raw"
+        elif count:
+            taken.append(f"{own}: Octets")
+            handed.append(own)
+        elif star and kind in ("uint8_t", "char") and not constant and texts in (["size_t", "size_t*"], ["size_t"]):
+            size, result = python_room(name, parameters, header), "bytes"
+            told = f"{own}.raw"
+            if len(texts) == 2:
+                before.append("length = c_size_t()")
+                told += "[:length.value]"
+            elif answer == "size_t":
+                size = f"{name[9:].removeprefix('install_').upper()}_BYTES"
+                told += "[:length]"
+            elif any(it[3] == "questions" for it in parameters):
+                size, result, told = "len(sig_text) + 1", "Tuple[Questions, bytes]", f"questions, {own}.raw[:questions.message_len]"
+            before.append(f"{own} = create_string_buffer({size})")
+            handed += [own, f"len({own})", *(["length"] if len(texts) == 2 else [])]
+            rest = []
+        elif star and kind in ("uint8_t", "char"):
+            if texts[:1] != ["size_t"]:
+                raise Unreadable(f"{own}, behind which no length stands")
+            taken.append(f"{own}: bytes")
+            handed += [own, f"len({own})"]
+            rest.pop(0)
+        elif star and not constant and kind in all_structs and (own == "questions" or not rest and (len(parameters) > 1 or answer == "void")):
+            before.append(f"{own} = {of}()")
+            handed.append(own)
+            result, told = of, own
+        elif star and kind not in all_structs:
+            before.append(f"{own} = {ctype(kind)}()")
+            handed.append(own)
+            result, told = "int", f"{own}.value"
+        elif kind == "minisign_answer":
+            taken.append(f"{own}: bool")
+            handed.append(f"ANSWER_YES if {own} is True else ANSWER_NO")
+        else:
+            taken.append(f"{own}: {of}")
+            handed.append(own)
+    call = f"self._library.{name}({', '.join(handed)})"
+    if answer == "size_t":
+        lines = [f"length = {call}", f"return {told}"]
+    elif answer == "uint32_t":
+        lines, result = [f"number: int = {call}", "return number"], "int"
+    else:
+        lines = [call] + ([f"return {told}"] if told else [])
+    inside = "".join(f"        {line}\n" for line in before + lines)
+    return f"\n    def {name[9:]}({', '.join(taken)}) -> {result}:\n{inside}"
 
 
 # ---- Go ----
