@@ -98,7 +98,8 @@ class User:
 
     def __init__(self, python_path, kind, changed=""):
         self.kind = kind
-        self.python, self.environment = python_path, {"PYTHONPATH": changed, "PYTHONDONTWRITEBYTECODE": "1"}
+        self.python, self.environment = python_path, {"PYTHONPATH": changed, "PYTHONDONTWRITEBYTECODE": "1",
+                                                      "PATH": static_library.path_without_kit()}
 
     def run(self, word, *rest, data=b""):
         return shared.run([self.python, USER, word, self.kind, *rest], environment=self.environment, data=data, seconds=SECONDS)
