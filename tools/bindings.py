@@ -280,8 +280,7 @@ RUST_CLEARED = """
 /// It is cleared at its end.
 impl Drop for {struct} {{
     fn drop(&mut self) {{
-        clear(&mut self.secret);
-    }}
+{cleared}    }}
 }}
 """
 RUST_FOOT = """}
@@ -303,6 +302,11 @@ fn text_of(mut text: Vec<u8>, len: usize) -> Result<String, Reason> {
 """
 # Installing is not for this package.
 NOT_IN_RUST = ("minisign_install", "minisign_judge")
+
+
+def is_secret(struct):
+    """Whether a struct holds a secret key."""
+    return struct.endswith("_key") and struct != "public_key"
 
 
 def rust_type(kind, all_structs):
@@ -358,7 +362,7 @@ def rust_call(answer, name, parameters, all_structs, header):
             taken.append(f"{own}: &{lent}[u8]")
             handed += [pointer, f"{own}.len()"]
         elif star and not constant and not rest and kind in all_structs:
-            boxed = of == "SecretKey"
+            boxed = is_secret(kind[9:])
             before.append(f"let mut {own} = {f'Box::new({of}::ZEROS)' if boxed else f'{of}::ZEROS'};")
             handed.append(f"&mut *{own}" if boxed else f"&mut {own}")
             result, told = f"Box<{of}>" if boxed else of, own
@@ -401,7 +405,9 @@ def rust_header(header):
             made += "".join(f"    pub {name}: {f'[{of}; {count}]' if count else of},\n" for name, of, count in inside)
             zeros = ", ".join(f"{name}: {f'[0; {count}]' if count else '0'}" for name, of, count in inside)
             made += f"}}\n\nimpl {name_of(struct)} {{\n    pub const ZEROS: Self = Self {{ {zeros} }};\n}}\n"
-            made += RUST_CLEARED.format(struct=name_of(struct)) if any(name == "secret" for name, *_ in inside) else ""
+            if is_secret(struct):
+                cleared = "".join(f"        clear(&mut self.{name});\n" for name, of, count in inside if count and name != "key_id")
+                made += RUST_CLEARED.format(struct=name_of(struct), cleared=cleared)
     made += "\nextern \"C\" {\n"
     for answer, name, parameters in chosen:
         told = []

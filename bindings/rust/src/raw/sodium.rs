@@ -2,12 +2,11 @@
 //! The Ed25519 of libsodium, whose calls are told here.
 
 #[link(name = "sodium")]
-#[rustfmt::skip]
 extern "C" {
     fn sodium_init() -> i32;
     fn crypto_sign_verify_detached(signature: &[u8; 64], message: *const u8, len: u64, public_key: &[u8; 32]) -> i32;
-    fn crypto_sign_detached(signature: &mut [u8; 64], len: *mut u64, message: *const u8, message_len: u64, secret_key: &[u8; 64]) -> i32;
-    fn crypto_sign_seed_keypair(public_key: &mut [u8; 32], secret_key: &mut [u8; 64], seed: &[u8; 32]) -> i32;
+    fn crypto_sign_detached(made: &mut [u8; 64], len: *mut u64, message: *const u8, message_len: u64, secret: &[u8; 64]) -> i32;
+    fn crypto_sign_seed_keypair(public_key: &mut [u8; 32], secret: &mut [u8; 64], seed: &[u8; 32]) -> i32;
     fn randombytes_buf(bytes: *mut u8, len: usize);
 }
 
