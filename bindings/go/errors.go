@@ -7,7 +7,7 @@ package minisign
 // #include <minisign.h>
 import "C"
 
-// The errors of minisign.h, made by tests/bindings/go.py. Verifying answers those of texts and signatures.
+// The errors of minisign.h, made by tools/bindings.py. Verifying answers those of texts and signatures.
 const (
 	ErrNotBegun                 = Error(C.MINISIGN_NOT_BEGUN)
 	ErrAlreadyAsked             = Error(C.MINISIGN_ALREADY_ASKED)

@@ -5,10 +5,11 @@
 package minisign
 
 /*
-#cgo CFLAGS: -I${SRCDIR}/../../include
-#cgo amd64,!amd64.v3 LDFLAGS: ${SRCDIR}/../../dist/calls-x86-64-v2.a
-#cgo amd64,amd64.v3 LDFLAGS: ${SRCDIR}/../../dist/calls-x86-64-v3.a
-#cgo arm64 LDFLAGS: ${SRCDIR}/../../dist/calls-aarch64.a
+#cgo CFLAGS: -I${SRCDIR} -I${SRCDIR}/../../include
+#cgo LDFLAGS: -L${SRCDIR} -L${SRCDIR}/../../dist
+#cgo amd64,!amd64.v3 LDFLAGS: -l:calls-x86-64-v2.a
+#cgo amd64,amd64.v3 LDFLAGS: -l:calls-x86-64-v3.a
+#cgo arm64 LDFLAGS: -l:calls-aarch64.a
 #include <minisign.h>
 */
 import "C"

@@ -1,6 +1,6 @@
 # SPDX-License-Identifier: MIT
-"""Builds the shared library by `make -C c library` of the repository, or takes the one that the environment names
-MINISIGN_LIBRARY, and puts it into the wheel, which is for this kind of machine and any Python 3."""
+"""Builds the shared library by `make -C c library`, of what the package carries or of the repository around it, or takes the
+one that the environment names MINISIGN_LIBRARY, and puts it into the wheel, which is for this kind of machine and any Python 3."""
 
 import os
 import shutil
@@ -10,7 +10,9 @@ from setuptools import Distribution, setup
 from setuptools.command.build_py import build_py
 from wheel.bdist_wheel import bdist_wheel
 
-TOP = os.path.join(os.path.dirname(os.path.abspath(__file__)), "..", "..")
+HERE = os.path.dirname(os.path.abspath(__file__))
+CARRIED = os.path.join(HERE, "library")
+TOP = CARRIED if os.path.isdir(CARRIED) else os.path.join(HERE, "..", "..")
 
 
 class BuildWithLibrary(build_py):

@@ -1,15 +1,14 @@
 #!/usr/bin/env python3
-"""The module of `bindings/go` as its user has it: a copy of its folder, and of what it says it needs, built by Debian's Go without a
-network, by a program of another module.
+"""The module of `bindings/go` as its user has it: what is packed, unpacked into an empty folder, and built by Debian's Go without a
+network and without the kit, by a program of another module, also where that has it in its folder `vendor` alone.
 
     tests/bindings/go.py
-    tests/bindings/go.py --errors    writes the list of errors of the package, from the header
 
 Its own tests and examples run under `go vet` and under the race detector, over each copy of the calls for x86-64, and for AArch64 in
 an emulator. What that program answers to kept keys and signatures, to damaged ones, to data in pieces and in files, and to signatures
 that implementations of Ed25519 differ in is compared with `c/minisign` and with libsodium; why it refuses, with the numbers of the
 header. Many calls take no more memory, and threads get the same answers, under the race detector too. The program of README.md is
-built. It prints a line for each failure; the last line is `N passed, M failed`.
+built. Each of some planted bugs is noticed. It prints a line for each failure; the last line is `N passed, M failed`.
 
 Needs Python 3.9 or later, golang-go, make, a C compiler, binutils and libsodium with its header, and of Debian gcc-aarch64-linux-gnu,
 libc6-dev-arm64-cross and qemu-user-static, and installs what is not there where it may.
@@ -32,27 +31,10 @@ import static_library
 from shared_cases import TOP, Checks, run, write
 
 PACKAGE = os.path.join(TOP, "bindings", "go")
-ERRORS = os.path.join(PACKAGE, "errors.go")
-NEEDED = ["c/allocation.c", "dist", "include"]
 LINES = 300
 CALLS = 100_000
 # How many pages of 4 KiB may be in memory after all calls that were not after a tenth of them.
 PAGES = 512
-
-# What README.md tells a user to do, once there is a module.
-USED = ["-require=proved/minisign@v0.0.0", "-replace=proved/minisign=../bindings/go"]
-
-
-def errors_text():
-    """What stands in errors.go: the errors of the header."""
-    name_of = lambda name: "Err" + "".join(map(str.capitalize, name.split("_")))
-    names = [name for name in shared_cases.error_numbers() if name != "OK"]
-    width = max(len(name_of(name)) for name in names)
-    lines = [f"\t{name_of(name):{width}} = Error(C.MINISIGN_{name})" for name in names]
-    return "\n".join(["// SPDX-License-Identifier: MIT", "", "//go:build cgo && linux && (amd64 || arm64)", "", "package minisign", "", "// #include <minisign.h>", 'import "C"', "",
-                      "// The errors of minisign.h, made by tests/bindings/go.py. Verifying answers those of texts and signatures.",
-                      "const (", *lines, ")", ""])
-
 
 class Go:
     """Runs go with what it keeps in a folder of its own, and no network."""
@@ -69,6 +51,11 @@ class Go:
             raise static_library.NotBuilt(f"go {' '.join(words)}: {said.decode(errors='replace')[-1500:]}{why[-1500:]}")
         return said.decode(errors="replace")
 
+    def begin(self, folder, package):
+        """Begins a module that uses the package, as README.md tells a user."""
+        self.run(folder, "mod", "init", os.path.basename(folder))
+        self.run(folder, "mod", "edit", "-require=proved/minisign@v0.0.0", f"-replace=proved/minisign={package}")
+
 
 def check_sources(checks):
     """The package is small, calls C in one file alone, and has the errors of the header."""
@@ -78,7 +65,8 @@ def check_sources(checks):
             continue
         text = shared_cases.read(os.path.join(PACKAGE, name)).decode()
         if name == "errors.go":
-            checks.check(text == errors_text(), "errors.go is not what the header says: run tests/bindings/go.py --errors")
+            status, said, _ = run([sys.executable, os.path.join(TOP, "tools", "bindings.py"), "--check"])
+            checks.check(status == 0, said.decode())
             continue
         lines += sum(1 for line in text.splitlines() if line.strip() and not line.strip().startswith("//"))
         checks.check(name == "raw.go" or 'import "C"' not in text and '"unsafe"' not in text, f"{name}: it calls C")
@@ -133,9 +121,13 @@ def check_readme(checks, go, room, package):
     block = re.search(r"```go\n(.*?)```", shared_cases.read(os.path.join(package, "README.md")).decode(), re.S)[1]
     write(folder, "verify.go", block.encode())
     write(folder, "main.go", b'package main\n\nimport "fmt"\n\nfunc main() {\n\tfmt.Println(verify("app"), verify("other"))\n}\n')
-    go.run(folder, "mod", "init", "readme")
-    go.run(folder, "mod", "edit", *USED)
-    go.run(folder, "build", "-o", "readme")
+    go.begin(folder, package)
+    # (it is built of what Go has put into its folder `vendor`, as if nothing else were there)
+    go.run(folder, "mod", "vendor")
+    away = package + "-away"
+    os.rename(package, away)
+    go.run(folder, "build", "-mod=vendor", "-o", "readme")
+    os.rename(away, package)
     for name, of in (("app", "test"), ("app.minisig", "published.minisig"), ("other", "hello"), ("other.minisig", "published.minisig")):
         shutil.copy(os.path.join(shared_cases.CORPUS, of), os.path.join(folder, name))
     said = run([os.path.join(folder, "readme")], folder)[1]
@@ -164,7 +156,7 @@ def check_many(checks, program, racing):
 
 def check_all(checks, room):
     minisign = shared_cases.c_minisign(room)
-    package, go = shared_cases.copy_of("go", room, *NEEDED), Go(room)
+    package, go = shared_cases.packed("go", room), Go(room)
     checks.check(go.run(package, "vet", "./...") == "", "go vet has words")
     formatted = run([shutil.which("gofmt") or os.path.join(os.path.dirname(go.go), "gofmt"), "-l", package])[1]
     checks.check(formatted == b"", f"gofmt would change {formatted}")
@@ -173,8 +165,7 @@ def check_all(checks, room):
         checks.check(said.count("--- PASS: ") >= 4 and "--- SKIP" not in said, f"go test {words}: {said[-500:]}")
     folder = os.path.join(room, "answers")
     os.makedirs(folder)
-    go.run(folder, "mod", "init", "answers")
-    go.run(folder, "mod", "edit", *USED)
+    go.begin(folder, package)
     shutil.copy(os.path.join(HERE, "go", "answers.go"), folder)
     checks.check(go.run(folder, "vet", "./...") == "", "go vet has words of the program")
     go.run(folder, "build", "-o", "answers")
@@ -185,13 +176,47 @@ def check_all(checks, room):
     check_refusals(checks, program)
     check_many(checks, program, racing)
     check_readme(checks, go, room, package)
+    check_planted(checks, go, package, room, minisign)
     check_arm(checks, go, package)
 
 
+# The file, and what is changed in it.
+BUGS = [
+    ("ed25519.go", "!isRefusedPoint(publicKey[:]) && !", "!"),
+    ("ed25519.go", "second.Cmp(it) == 0", "second.Cmp(it) == 2"),
+    ("ed25519.go", "second.Cmp(prime) >= 0", "second.Sign() < 0"),
+    ("minisign.go", "\t\tmessage = bin\n", ""),
+    ("minisign.go", "asked.message, asked.second())", "message, asked.first())"),
+    ("minisign.go", "return begin(publicKey, signature, false)", "return begin(publicKey, signature, true)"),
+    ("minisign.go", "verifier.end(held.Bytes())", "verifier.end(nil)"),
+    ("raw.go", "\t\treturn C.MINISIGN_ANSWER_YES", "\t\treturn C.MINISIGN_ANSWER_YES + 1"),
+]
+
+
+def check_planted(checks, go, package, room, minisign):
+    """Each planted bug is noticed by what is asked of a program over the changed package."""
+    cases = shared_cases.corpus()
+    wanted, strict = (shared_cases.answers_of(minisign, room, cases, allow) for allow in (True, False))
+    for number, (file, old, new) in enumerate(BUGS):
+        folder = os.path.join(room, f"planted-{number}")
+        changed = os.path.join(folder, "package")
+        shutil.copytree(package, changed)
+        text = shared_cases.read(os.path.join(changed, file)).decode()
+        write(changed, file, text.replace(old, new, 1).encode())
+        found, using = Checks(), os.path.join(folder, "using")
+        os.mkdir(using)
+        go.begin(using, changed)
+        shutil.copy(os.path.join(HERE, "go", "answers.go"), using)
+        go.run(using, "build", "-o", "answers")
+        program, lines = os.path.join(using, "answers"), shared_cases.lines_of(cases)
+        shared_cases.compare(found, "kept", cases, run([program, "files", folder], data=lines)[1], wanted)
+        shared_cases.compare(found, "in pieces", cases, run([program, "pieces", "7"], data=lines)[1], strict)
+        check_vectors(found, program)
+        check_refusals(found, program)
+        checks.check(old in text and found.failures, f"planted in {file}, and not noticed: {new}")
+
+
 def main():
-    if sys.argv[1:] == ["--errors"]:
-        write(PACKAGE, "errors.go", errors_text().encode())
-        return 0
     checks = Checks()
     with tempfile.TemporaryDirectory(prefix="bindings-go-") as room:
         try:

@@ -1,17 +1,19 @@
 #!/usr/bin/env python3
-"""The package of `bindings/javascript` as its user has it: a copy of its folder alone, with the module that `page/build.py
---package` writes, in the folder `node_modules` of a program, in Node without a network.
+"""The package of `bindings/javascript` as its user has it: what `npm pack` makes, unpacked into the folder `node_modules` of a
+program in an empty folder; in Node, and in a page and a worker of Chromium and of Firefox. There is no network and no kit.
 
     tests/bindings/javascript.py [PAGE]
 
-The module is that of PAGE, the one of `dist/` where none is named. What the program answers to kept keys and signatures, to
+The module is that of PAGE, the one of `dist/` where none is named. What the package answers to kept keys and signatures, to
 damaged ones, to data in pieces of each kind, and to signatures that implementations of Ed25519 differ in is compared with
-`c/minisign` and with libsodium; why it refuses, and the list of errors, with the header. The example of README.md runs, also
-over what npm packs and installs where that is there. Many calls take no more memory, and threads get the same answers. It
-prints a line for each failure; the last line is `N passed, M failed`.
+`c/minisign` and with libsodium; why it refuses, the list of errors and the sizes of structs, with the header. The example of
+README.md runs, also over what npm installs. Many calls take no more memory, and threads get the same answers. Each of some
+planted bugs is noticed. Where there is no npm, the files that package.json names are taken. It prints a line for each failure;
+the last line is `N passed, M failed`.
 
-Needs Python 3.9 or later, nodejs (the one that the environment names NODE, if any), make, a C compiler and libsodium with its
-header, and installs what is not there where it may.
+Needs Python 3.9 or later, nodejs (the one that the environment names NODE, if any), make, a C compiler, libsodium with its
+header, and for the browsers chromium, chromium-driver, python3-selenium and firefox-esr, and installs what is not there where
+it may.
 """
 
 import base64
@@ -35,6 +37,7 @@ from shared_cases import TOP, Case, Checks, read, run
 PACKAGE = os.path.join(TOP, "bindings", "javascript")
 BUILD = os.path.join(TOP, "page", "build.py")
 PROGRAM = os.path.join(HERE, "javascript", "answers.mjs")
+BROWSERS = os.path.join(HERE, "javascript_browsers.py")
 MODULE = "module.js"
 LINES = 300
 CALLS = 100_000
@@ -45,14 +48,22 @@ VERIFYING = {8, *range(16, 33), 44, 45}
 
 
 def made(room, page):
-    """A user's folder with the package in it: its path."""
+    """A user's folder with the packed package in it: its path."""
     user = os.path.join(room, "user")
     package = os.path.join(user, "node_modules", "minisign-proved")
-    shutil.copytree(PACKAGE, package, ignore=shutil.ignore_patterns(MODULE, "node_modules"))
-    chosen = ["--from", page] if page else []
-    status, _, why = run([sys.executable, BUILD, "--package", *chosen, os.path.join(package, MODULE)])
-    if status != 0:
-        raise static_library.NotBuilt(why)
+    os.makedirs(os.path.dirname(package))
+    page = page or os.path.join(TOP, "dist", "minisign.html")
+    if shutil.which("npm") is not None:
+        os.rename(shared_cases.packed("javascript", room, PAGE=page), package)
+    else:
+        print("without npm: the files that package.json names, and what npm adds")
+        os.mkdir(package)
+        for name in [*json.loads(text_of("package.json"))["files"], "package.json", "README.md"]:
+            if name != MODULE:
+                shutil.copy(os.path.join(PACKAGE, name), package)
+        status, _, why = run([sys.executable, BUILD, "--package", "--from", page, os.path.join(package, MODULE)])
+        if status != 0:
+            raise static_library.NotBuilt(why)
     shutil.copy(PROGRAM, user)
     return user
 
@@ -80,6 +91,14 @@ def check_sources(checks, user):
     found = re.search(r"ERRORS = Object\.freeze\(\{(.*?)\}\)", text_of("index.js"), re.S)[1]
     errors = {name: int(number) for name, number in re.findall(r"(\w+): (\d+)", found)}
     checks.check(errors == wanted, f"index.js has other errors than the header: {set(errors.items()) ^ set(wanted.items())}")
+    sizes = dict(re.findall(r"const (STATE|KEY|QUESTIONS)_BYTES = (\d+);", text_of("calls.js")))
+    places = shared_cases.layout(user)
+    structs = {name: places[f"minisign_{of}"] for name, of in (("STATE", "state"), ("KEY", "public_key"), ("QUESTIONS", "questions"))}
+    checks.check({name: int(size) for name, size in sizes.items()} == structs, f"calls.js has other sizes than the header: {sizes}")
+    told = re.search(r"const QUESTIONS = \{(.*?)\};", text_of("calls.js"), re.S)[1]
+    found = {name: int(at) for name, at in re.findall(r"(\w+): (\d+)", told)}
+    wanted_at = {name: places[f"minisign_questions.{name}"] for name in found}
+    checks.check(len(found) >= 8 and found == wanted_at, f"calls.js has the questions at {found}, and the header at {wanted_at}")
     typed = set(re.findall(r'"([A-Z0-9_]+)"', re.search(r"type ErrorCode = (.*?);", text_of("index.d.ts"), re.S)[1]))
     checks.check(typed == set(wanted), f"index.d.ts has other errors than the header: {typed ^ set(wanted)}")
 
@@ -92,7 +111,7 @@ class Program:
 
     def said(self, data, *words):
         """What it says: its lines."""
-        status, said, why = run([self.node, "answers.mjs", *words], folder=self.user, data=data)
+        status, said, why = run([self.node, "answers.mjs", *words], self.user, {"PATH": static_library.path_without_kit()}, data)
         self.checks.check(status == 0, f"answers.mjs {words} ended with {status}: {why[-600:]}")
         return said
 
@@ -105,9 +124,10 @@ def check_answers(checks, program, room, minisign):
     shared_cases.compare(checks, "with legacy signatures", cases, program.said(lines, "cases", "legacy"), legacy)
     shared_cases.compare(checks, "without them", cases, program.said(lines, "cases"), strict)
     shared_cases.compare(checks, "in threads", cases, program.said(lines, "threads"), strict)
-    kept = [it for it in shared_cases.corpus() if len(it.data) < 300_000]
-    told = [comment for it, comment in zip(cases, strict) if it in kept]
-    shared_cases.compare(checks, "in pieces", kept, program.said(shared_cases.lines_of(kept), "pieces"), told[:len(kept)])
+    kept = [it for it in shared_cases.corpus() if len(it.data) < 300_000] + shared_cases.large(minisign, room)
+    for words, allowed in ((["pieces"], False), (["pieces", "legacy"], True)):
+        wanted = shared_cases.answers_of(minisign, room, kept, allowed)
+        shared_cases.compare(checks, f"in {words}", kept, program.said(shared_cases.lines_of(kept), *words), wanted)
     accepted = sum(it is not None for it in strict)
     checks.check(0 < accepted < len(cases), f"{accepted} of {len(cases)} cases are accepted")
 
@@ -173,25 +193,93 @@ def check_readme(checks, program):
 
 
 def check_npm(checks, program, room):
-    """What `npm pack` makes is installed without a network, and the example of the README runs over it."""
+    """What `npm pack` made is installed without a network, and the example of the README runs over it."""
     npm = shutil.which("npm")
     if npm is None:
-        print("skipped: `npm pack` and `npm install`: npm is not here")
+        print("skipped: `npm install`: npm is not here")
         return
-    user, package = os.path.join(room, "by-npm"), os.path.join(program.user, "node_modules", "minisign-proved")
+    user = os.path.join(room, "by-npm")
     os.mkdir(user)
     with open(os.path.join(user, "package.json"), "w", encoding="utf-8") as file:
         file.write("{}")
-    quiet = ["--offline", "--silent", "--cache", os.path.join(room, "npm")]
-    status, said, why = run([npm, "pack", *quiet, "--pack-destination", user, package], folder=user)
-    archive = said.decode().strip().split("\n")[-1]
-    checks.check(status == 0 and os.path.exists(os.path.join(user, archive)), f"npm pack: {said} {why}")
-    status, said, why = run([npm, "install", *quiet, "--no-audit", "--no-fund", f"./{archive}"], folder=user)
+    archive = next(it for it in os.listdir(os.path.join(room, "packed")) if it.endswith(".tgz"))
+    quiet = ["--offline", "--silent", "--cache", os.path.join(room, "npm"), "--no-audit", "--no-fund"]
+    status, said, why = run([npm, "install", *quiet, os.path.join(room, "packed", archive)], folder=user)
     checks.check(status == 0, f"npm install: {said} {why}")
     shutil.copy(os.path.join(program.user, "readme.mjs"), user)
     named = [os.path.join(shared_cases.CORPUS, it) for it in ("test", "published.minisig")]
     status, said, why = run([program.node, "readme.mjs", *named], folder=user)
     checks.check(status == 0 and said.startswith(b"verified"), f"the README's example over what npm installed: {said} {why}")
+
+
+def digits_of(cases):
+    return [[part.hex() or "-" for part in it[1:]] for it in cases]
+
+
+def check_browsers(checks, program, room, minisign):
+    """It answers in a page and in a worker of Chromium and of Firefox what it has to."""
+    cases = shared_cases.corpus() + shared_cases.damaged() + shared_cases.vector_cases()
+    kept = [it for it in shared_cases.corpus() if len(it.data) < 300_000]
+    legacy, strict = (shared_cases.answers_of(minisign, room, cases, allowed) for allowed in (True, False))
+    in_pieces, vectors = shared_cases.answers_of(minisign, room, kept, False), edges.vectors()
+    asked = {"cases": digits_of(cases), "pieces": digits_of(kept), "vectors": [[it["A"], it["sig"], it["msg"] or "-"] for it in vectors]}
+    folder = os.path.join(room, "served")
+    shutil.copytree(os.path.join(program.user, "node_modules", "minisign-proved"), os.path.join(folder, "minisign-proved"))
+    shutil.copy(os.path.join(HERE, "javascript", "browser.mjs"), folder)
+    with open(os.path.join(folder, "asked.json"), "w", encoding="utf-8") as file:
+        json.dump(asked, file)
+    status, said, why = run([needs.python_with_selenium(), BROWSERS, folder], seconds=1800)
+    if status != 0:
+        checks.check(False, f"the browsers ended with {status}: {why[-1000:]}")
+        return
+    lines = lambda answers: "".join(f"{it}\n" for it in answers).encode()
+    for browser, told in json.loads(said).items():
+        for where in ("page", "thread"):
+            answers, what = told.get(where), f"{browser} {told['version']}, {where}"
+            if answers is None:
+                checks.check(False, f"{what}: {told}")
+                continue
+            shared_cases.compare(checks, f"{what}, with legacy signatures", cases, lines(answers["legacy"]), legacy)
+            shared_cases.compare(checks, f"{what}, without them", cases, lines(answers["strict"]), strict)
+            shared_cases.compare(checks, f"{what}, in pieces", kept, lines(answers["pieces"]), in_pieces)
+            checks.check(answers["vectors"] == [it["sodium"] for it in vectors], f"{what}: other answers to the vectors than libsodium's")
+        print(f"bindings/javascript: in a page and in a worker of {browser} {told['version']}", flush=True)
+
+
+# The file, and what is changed in it.
+BUGS = [
+    ("ed25519.js", "isRefusedPoint(publicKey) || isRefusedPoint", "isRefusedPoint"),
+    ("ed25519.js", "second >= PRIME || ", ""),
+    ("verification.js", "questions.commentSignature, questions.message)", "questions.signature, data)"),
+    ("verification.js", "    hold(this.library.feed(this.state, bytes));", "    hold(this.library.feed(this.state, bytes.subarray(0, 65536)));"),
+    ("verification.js", "this.kept.push(bytes.slice());", "this.kept = [bytes.slice()];"),
+    ("calls.js", "it ? ANSWER_YES : ANSWER_NO", "it ? ANSWER_YES : ANSWER_YES"),
+    ("calls.js", "allowsLegacy ? 1 : 0", "1"),
+    ("index.js", "UNSUPPORTED_ALGORITHM: 28, DIFFERENT_KEY_IDS: 29", "UNSUPPORTED_ALGORITHM: 29, DIFFERENT_KEY_IDS: 28"),
+]
+
+
+def check_planted(checks, program, room, minisign):
+    """Each planted bug is noticed by what is asked of a program over the changed package, in Node."""
+    cases, vectors = shared_cases.corpus() + shared_cases.large(minisign, room), edges.vectors()
+    legacy, strict = (shared_cases.answers_of(minisign, room, cases, allowed) for allowed in (True, False))
+    kept = [it for it in shared_cases.corpus() if len(it.data) < 300_000]
+    for number, (file, old, new) in enumerate(BUGS):
+        user, found = os.path.join(room, f"planted-{number}"), Checks()
+        shutil.copytree(program.user, user)
+        path = os.path.join(user, "node_modules", "minisign-proved", file)
+        text = read(path).decode()
+        with open(path, "w", encoding="utf-8") as changed:
+            changed.write(text.replace(old, new))
+        other = Program(found, user)
+        lines = shared_cases.lines_of(cases)
+        shared_cases.compare(found, "with legacy signatures", cases, other.said(lines, "cases", "legacy"), legacy)
+        shared_cases.compare(found, "without them", cases, other.said(lines, "cases"), strict)
+        found.check(b" and " not in other.said(shared_cases.lines_of(kept), "pieces", "legacy"), "in pieces")
+        check_refusals(found, other)
+        answers = other.said(json.dumps(vectors).encode(), "vectors").decode().split()
+        found.check(answers == [str(it["sodium"]).lower() for it in vectors], "vectors")
+        checks.check(old in text and found.failures, f"planted in {file}, and not noticed: {new}")
 
 
 def check_memory(checks, program):
@@ -217,6 +305,8 @@ def main():
             check_keys(checks, program)
             check_readme(checks, program)
             check_npm(checks, program, room)
+            check_browsers(checks, program, room, minisign)
+            check_planted(checks, program, room, minisign)
             check_memory(checks, program)
         except (needs.Missing, static_library.NotBuilt, OSError, ValueError, subprocess.SubprocessError) as why:
             checks.check(False, f"it did not go on: {why!r}")

@@ -1,5 +1,5 @@
 #!/usr/bin/env python3
-"""Builds the wheel of bindings/python from a copy of its folder and of what its README names, installs it into fresh environments
+"""Builds the wheel of bindings/python from the archive of sources that is packed, without the kit, installs it into fresh environments
 without a network, and uses it as its user would, by libsodium and by the package `cryptography`.
 
     tests/bindings/python.py
@@ -14,6 +14,7 @@ Needs Debian's Python with pip, venv, setuptools, wheel and cryptography, mypy, 
 header, minisign and setfacl, and installs what is not there where it may.
 """
 
+import ast
 import base64
 import glob
 import os
@@ -36,6 +37,9 @@ PYTHON = "/usr/bin/python3"
 USER = os.path.join(HERE, "python_user.py")
 PACKAGE = "minisign_proved"
 KINDS = ("libsodium", "cryptography")
+# How many lines are written by hand: without the host of an installation, and of that. Docstrings do not count.
+LINES, LINES_OF_INSTALLING = 300, 250
+MADE = ("errors.py", "_header.py")
 # (another test may have the processor for long)
 SECONDS = 1800
 
@@ -56,9 +60,12 @@ def python():
 
 
 def build_wheel(checks, room):
-    """The wheel, built from a copy of the package's folder and what its README names; None where it was not built."""
-    package = shared.copy_of("python", os.path.join(room, "copy"), "c", "include", "dist")
-    command = [python(), "-m", "pip", "wheel", "-q", "--no-index", "--no-build-isolation", "--no-deps", "-w", room, package]
+    """The wheel, built from the packed archive; None where it was not built."""
+    own = os.path.join(room, "packing")
+    os.mkdir(own)
+    package = shared.packed("python", own, PYTHON=python())
+    archive = glob.glob(os.path.join(own, "packed", "*.tar.gz"))[0]
+    command = [python(), "-m", "pip", "wheel", "-q", "--no-index", "--no-build-isolation", "--no-deps", "-w", room, archive]
     status, _, why = shared.run(command, environment={"PATH": static_library.path_without_kit()}, seconds=SECONDS)
     wheels = glob.glob(os.path.join(room, "*.whl"))
     if status != 0 or len(wheels) != 1:
@@ -91,7 +98,8 @@ class User:
 
     def __init__(self, python_path, kind, changed=""):
         self.kind = kind
-        self.python, self.environment = python_path, {"PYTHONPATH": changed, "PYTHONDONTWRITEBYTECODE": "1"}
+        self.python, self.environment = python_path, {"PYTHONPATH": changed, "PYTHONDONTWRITEBYTECODE": "1",
+                                                      "PATH": static_library.path_without_kit()}
 
     def run(self, word, *rest, data=b""):
         return shared.run([self.python, USER, word, self.kind, *rest], environment=self.environment, data=data, seconds=SECONDS)
@@ -113,11 +121,28 @@ class User:
 # ---- What is compared ----
 
 
+def lines_of(path):
+    """How many lines a source has, without blank ones, comments and docstrings."""
+    text = shared.read(path).decode()
+    told = set()
+    for node in ast.walk(ast.parse(text)):
+        if isinstance(node, (ast.Module, ast.ClassDef, ast.FunctionDef)) and ast.get_docstring(node, False) is not None:
+            told.update(range(node.body[0].lineno, node.body[0].end_lineno + 1))
+    return sum(1 for number, line in enumerate(text.splitlines(), 1) if line.strip() and not line.strip().startswith("#") and number not in told)
+
+
+def check_sources(checks):
+    """The package is small."""
+    sources = os.path.join(shared.TOP, "bindings", "python")
+    lines = {name: lines_of(path) for path in glob.glob(os.path.join(sources, "src", PACKAGE, "*.py")) if (name := os.path.basename(path)) not in MADE}
+    installing = lines.pop("installing.py")
+    count = sum(lines.values()) + lines_of(os.path.join(sources, "setup.py"))
+    checks.check(count <= LINES and installing <= LINES_OF_INSTALLING, f"the package has {count} lines, and for installing {installing}")
+
+
 def check_header(checks, room, python_path):
     """The exceptions, the numbers, the structs and their fields are the header's."""
-    made = os.path.join(shared.TOP, "bindings", "python", "make_header.py")
-    sources = os.path.join(shared.TOP, "bindings", "python", "src", PACKAGE)
-    status, said, why = shared.run([python_path, made, "--check", shared.HEADER, sources])
+    status, said, why = shared.run([python_path, os.path.join(shared.TOP, "tools", "bindings.py"), "--check"])
     checks.check(status == 0, f"made from the header: {said.decode()}{why}")
     told = f"""
 import ctypes
@@ -246,18 +271,18 @@ def check_examples(checks, python_path, room):
 
 # The file, what is changed in it, and the checks of the user's program that have to notice it.
 BUGS = [
-    ("_calls.py", "if it is True else h.ANSWER_NO for it in both", "if it is not None else h.ANSWER_NO for it in both", "answers"),
-    ("_calls.py", "self.message, key)\n", "self.message, key) or True\n", "answers"),
-    ("_calls.py", "1 if allow_legacy else 0", "1", "answers"),
-    ("_calls.py", "    Verification(self._key.public_key()", "    False and Verification(self._key.public_key()", "keys"),
+    ("_header.py", "verdict(state, ANSWER_YES if first is True else", "verdict(state, ANSWER_YES if first is not None else", "answers"),
+    ("_calls.py", "message, key)\n", "message, key) or True\n", "answers"),
+    ("_verifying.py", "1 if allow_legacy else 0", "1", "answers"),
+    ("_signing.py", "        Verifier(PublicKey._of(", "        False and Verifier(PublicKey._of(", "keys"),
     ("_ed25519.py", "second >= PRIME or second in SMALL_ORDER", "second in SMALL_ORDER", "vectors"),
     ("_ed25519.py", "second >= PRIME or second in SMALL_ORDER", "second >= PRIME", "vectors"),
     ("_ed25519.py", "is_refused(key) or is_refused(signature[:32]) or", "is_refused(key) or", "vectors"),
     ("_verifying.py", "                self._held.append(piece)", "                self._held = [piece]", "pieces"),
-    ("_verifying.py", "        with self._turn:\n            self._verification.update(piece)", "        if True:\n            self._verification.update(piece)",
+    ("_verifying.py", "        with self._turn:\n            calls.update(self._state, piece)", "        if True:\n            calls.update(self._state, piece)",
      "threads"),
     ("_verifying.py", "    if len(text) > TEXT_BYTES:", "    if len(text) > 2 * TEXT_BYTES:", "keys"),
-    ("_calls.py", "            ctypes.memset(pair, 0, ctypes.sizeof(pair))", "            pass", "keys"),
+    ("_signing.py", "        ctypes.memset(pair, 0, ctypes.sizeof(pair))", "        pass", "keys"),
     ("_verifying.py", "bytes(memoryview(piece))", "bytes(piece)", "keys"),
     ("_signing.py", "        os.replace(fresh, path)", "        pass", "keys"),
     ("_signing.py", "    path = os.path.realpath(path)", "    path = os.fspath(path)", "keys"),
@@ -311,6 +336,7 @@ def main():
                 return checks.end()
             alone = environment(room, "alone", wheel)
             beside = environment(room, "beside", wheel, "--system-site-packages")
+            check_sources(checks)
             check_header(checks, room, alone)
             check_types(checks, beside)
             check_examples(checks, alone, os.path.join(room, "examples"))

@@ -1,21 +1,22 @@
 #!/usr/bin/env python3
-"""The crate of `bindings/rust` as its user has it: a copy of its folder, and of the folders that it says it needs, built by cargo
-without a network and without a registry, by a program of another crate that names it `minisign-verify`.
+"""The crate of `bindings/rust` as its user has it: what cargo packs, unpacked into an empty folder, and built by cargo without a
+network, without a registry and without the kit, by a program of another crate that names it `minisign-verify`.
 
     tests/bindings/rust.py
 
 The examples of its documentation run. What that program answers to kept keys and signatures, to damaged ones, to data in pieces and
 to signatures that implementations of Ed25519 differ in is compared with `c/minisign` and with libsodium; why it refuses, with the
 names of the header. It makes keys and signatures that `c/minisign` reads, and reads those of `c/minisign`. Many calls take no more
-memory, and threads get the same answers. Structs and calls are declared as the header has them; there is no `unsafe` outside one
-module; without its feature `sodium` nothing of libsodium is linked. It prints a line for each failure; the last line is
-`N passed, M failed`.
+memory, and threads get the same answers. Structs and calls are declared as the header has them; what is written by hand has at most
+300 lines, and no `unsafe` outside one module; without its feature `sodium` nothing of libsodium is linked. Each of some planted bugs
+is noticed. It prints a line for each failure; the last line is `N passed, M failed`.
 
 Needs Python 3.9 or later, cargo, rustc, make, a C compiler, binutils and libsodium with its header, and installs what is not there
 where it may. Debian's cargo is tried too where another one comes first in PATH.
 """
 
 import base64
+import copy
 import os
 import re
 import shutil
@@ -32,7 +33,10 @@ import static_library
 from shared_cases import TOP, Checks, run, write
 
 CRATE = os.path.join(TOP, "bindings", "rust")
-NEEDED = ["c", "dist", "include"]
+# What is written by hand, of which the first three have nothing unsafe; and what tools/bindings.py makes.
+BY_HAND = ["build.rs", "src/lib.rs", "src/signing.rs", "src/raw.rs", "src/raw/sodium.rs"]
+MADE = "src/raw/header.rs"
+LINES = 300
 CALLS = 100_000
 # How many pages of 4 KiB may be in memory after all calls that were not after a tenth of them.
 PAGES = 64
@@ -102,31 +106,40 @@ class Cargo:
 
 
 def check_sources(checks):
-    """The crate is unsafe in one module alone."""
-    for name in ("build.rs", "src/lib.rs", "src/raw.rs", "src/signing.rs"):
+    """The crate is small, and unsafe in one module alone; what is made of the header is what that says."""
+    lines = 0
+    for name in BY_HAND:
         text = shared_cases.read(os.path.join(CRATE, name)).decode()
         code = [line for line in text.splitlines() if line.strip() and not line.strip().startswith("//")]
+        lines += len(code)
         words = re.sub(r"unsafe_code", "", "\n".join(code))
-        checks.check(name == "src/raw.rs" or "unsafe" not in words, f"{name}: it has `unsafe`")
+        checks.check(name.startswith("src/raw") or "unsafe" not in words, f"{name}: it has `unsafe`")
+    checks.check(lines <= LINES, f"the crate has {lines} lines")
+    there = [os.path.relpath(os.path.join(folder, it), CRATE) for folder, _, names in os.walk(os.path.join(CRATE, "src")) for it in names]
+    checks.check({*there, "build.rs"} == {*BY_HAND, MADE}, f"the crate has the files {sorted(there)}")
+    status, said, _ = run([sys.executable, os.path.join(TOP, "tools", "bindings.py"), "--check"])
+    checks.check(status == 0, said.decode())
 
 
 def check_declarations(checks):
     """Each call is declared with the kinds of parameters that the header has."""
     kinds = {"size_t": "usize", "uint32_t": "u32", "uint64_t": "u64", "uint8_t": "u8", "char": "u8", **STRUCTS}
-    header, raw = shared_cases.header_text(), shared_cases.read(os.path.join(CRATE, "src", "raw.rs")).decode()
+    header, raw = shared_cases.header_text(), shared_cases.read(os.path.join(CRATE, MADE)).decode()
 
     def kind_of(parameter):
         """As Rust writes the kind of a parameter in C."""
         constant, kind, star, array = re.fullmatch(r"(const )?(?:enum )?(\w+) (\*?)\w*(\[\d+\])?", parameter.strip()).groups()
         kind = "u32" if kind in ("minisign_answer", "minisign_error") else kinds[kind]
-        return f"*{'const' if constant else 'mut'} {kind}" if star or array else kind
+        if array:
+            return f"&{'' if constant else 'mut '}[{kind}; {array[1:-1]}]"
+        return f"*{'const' if constant else 'mut'} {kind}" if star else kind
 
     declared = re.findall(r"fn (minisign_\w+)\((.*?)\)(?: -> (\w+))?;", raw, re.S)
     checks.check(len(declared) >= 10, f"the crate declares only {len(declared)} calls")
     for name, parameters, answer in declared:
         found = re.search(rf"(\w+) {name}\((.*?)\)", header, re.S)
-        wanted = [kind_of(re.sub(r"\s+", " ", it)) for it in found[2].split(",")]
-        told = [it.partition(":")[2].strip() for it in parameters.split(",")]
+        wanted = [kind_of(re.sub(r"\s+", " ", it)) for it in found[2].split(",") if it.strip() != "void"]
+        told = [it.partition(":")[2].strip() for it in parameters.split(",") if it]
         checks.check(told == wanted, f"{name}: declared with {told} in place of {wanted}")
         result = {"void": "", "size_t": "usize"}.get(found[1], "u32")
         checks.check(answer == result, f"{name}: declared with the answer {answer!r} in place of {result}")
@@ -163,15 +176,14 @@ def check_inside(checks, cargo, crate, room):
         struct, _, field = place.partition(".")
         if struct in STRUCTS:
             lines.append((OFFSET if field else SIZE).format(of=STRUCTS[struct], field=field, number=number, place=place))
-    path = os.path.join(crate, "src", "raw.rs")
-    source = shared_cases.read(path)
-    write(crate, "src/raw.rs", source + INSIDE.replace("LINES", "\n".join(lines)).encode())
+    source = shared_cases.read(os.path.join(crate, MADE))
+    write(crate, MADE, source + INSIDE.replace("LINES", "\n".join(lines)).encode())
     try:
         said = cargo.run(crate, "test", "--lib")
         checks.check("2 passed; 0 failed" in said and len(lines) >= 15, f"inside, {len(lines)} places: {said[-300:]}")
     except static_library.NotBuilt as why:
         checks.check(False, f"inside: {why}")
-    write(crate, "src/raw.rs", source)
+    write(crate, MADE, source)
 
 
 def check_answers(checks, program, room, minisign):
@@ -285,10 +297,48 @@ def check_own(checks, cargo, room, crate):
     checks.check(b"libsodium" not in needed and b"libc" in needed, "a program without libsodium is linked with it")
 
 
+# The file, and what is changed in it.
+BUGS = [
+    ("src/lib.rs", "if questions.legacy == 1 { data } else { &digest }", "&digest"),
+    ("src/lib.rs", "raw::verdict(state, first, second)", "raw::verdict(state, first, first)"),
+    ("src/lib.rs", "lines, true)", "lines, false)"),
+    ("src/lib.rs", "Reason::TRUSTED_COMMENT_PREFIX.0)", "Reason::SIGNATURE_NOT_BASE64.0)"),
+    ("src/raw/sodium.rs", "crypto_sign_verify_detached(signature, message.as_ptr(), message.len() as u64, key) == 0",
+     "crypto_sign_verify_detached(signature, message.as_ptr(), message.len() as u64, key) <= 0"),
+    ("src/signing.rs", "|it| ed25519.accepts(it, message, &key)", "|it| it.len() + key.len() == 96"),
+    ("src/signing.rs", "!ed25519.random(&mut sealing.salt)", "keep_every == 0"),
+    (MADE, "with_password, password) = (password.is_some().into()", "with_password, password) = (0"),
+]
+
+
+def check_planted(checks, cargo, crate, room, minisign):
+    """Each planted bug is noticed by what is asked of a program over the changed crate."""
+    kept = shared_cases.corpus()
+    wanted = shared_cases.answers_of(minisign, room, kept)
+    lenient = copy.copy(cargo)
+    lenient.environment = {**cargo.environment, "RUSTFLAGS": ""}
+    for number, (file, old, new) in enumerate(BUGS):
+        folder = os.path.join(room, f"planted-{number}")
+        changed = os.path.join(folder, "crate")
+        shutil.copytree(crate, changed)
+        text = shared_cases.read(os.path.join(changed, file)).decode()
+        write(changed, file, text.replace(old, new).encode())
+        found = Checks()
+        program = lenient.program(folder, f"planted-{number}", RENAMED.format(crate=changed), "answers.rs")
+        shared_cases.compare(found, "kept", kept, run([program, "verify"], data=shared_cases.lines_of(kept))[1], wanted)
+        check_refusals(found, program)
+        check_vectors(found, program)
+        try:
+            check_signing(found, program, folder, minisign)
+        except OSError as why:
+            found.check(False, f"it did not go on: {why}")
+        checks.check(old in text and found.failures, f"planted in {file}, and not noticed: {new}")
+
+
 def check_toolchain(checks, room, toolchain, minisign):
     """All of it with one cargo."""
     cargo = Cargo(room, *toolchain)
-    crate = shared_cases.copy_of("rust", room, *NEEDED)
+    crate = shared_cases.packed("rust", room, cargo.environment, CARGO=cargo.cargo)
     said = cargo.run(crate, "test", "--doc")
     checks.check(re.search(r"test result: ok\. [2-9] passed; 0 failed; 0 ignored", said), f"the examples: {said[-500:]}")
     check_inside(checks, cargo, crate, room)
@@ -299,7 +349,8 @@ def check_toolchain(checks, room, toolchain, minisign):
     check_signing(checks, program, room, minisign)
     check_many(checks, program)
     check_own(checks, cargo, room, crate)
-    shutil.rmtree(os.path.join(room, "c"))
+    check_planted(checks, cargo, crate, room, minisign)
+    shutil.rmtree(os.path.join(crate, "library"))
     try:
         cargo.run(crate, "build", "--profile", "bench")
         checks.check(False, "the crate is built without what it needs")

@@ -98,6 +98,20 @@ def copy_of(package, room, *needed):
     return os.path.join(room, "bindings", package)
 
 
+def packed(package, room, environment=None, **chosen):
+    """What a package's archive holds, unpacked into an empty folder: `make -C bindings` packs it, without the kit."""
+    out, to = os.path.join(room, "packed"), os.path.join(room, "unpacked")
+    words = [f"{name}={value}" for name, value in {"OUT": out, "PYTHON": sys.executable, **chosen}.items()]
+    command = [needs.program("make", "make"), "-s", "-C", os.path.join(TOP, "bindings"), package, *words]
+    status, _, why = run(command, environment={"PATH": static_library.path_without_kit(), **(environment or {})})
+    archives = [name for name in os.listdir(out) if name.endswith((".crate", ".tar.gz", ".tgz"))] if os.path.isdir(out) else []
+    if status != 0 or len(archives) != 1:
+        raise static_library.NotBuilt(f"make -C bindings {package} packed {archives}: {why[-1500:]}")
+    os.makedirs(to)
+    subprocess.run(["tar", "-xf", os.path.join(out, archives[0]), "-C", to], check=True)
+    return os.path.join(to, *os.listdir(to))
+
+
 def c_minisign(room):
     """Builds `c/` over `dist/`: the path of the program minisign, beside which the library stands."""
     compiler = needs.libsodium()

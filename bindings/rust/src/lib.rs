@@ -14,7 +14,7 @@ pub struct Reason(pub u32);
 
 impl fmt::Display for Reason {
     fn fmt(&self, f: &mut fmt::Formatter) -> fmt::Result {
-        f.write_str(&raw::error_text(self.0))
+        f.write_str(&raw::error_text(self.0).unwrap_or_default())
     }
 }
 
@@ -41,17 +41,14 @@ pub enum Error {
 
 impl From<Reason> for Error {
     fn from(reason: Reason) -> Error {
-        let is_between = |first: Reason, last: Reason| (first.0..=last.0).contains(&reason.0);
+        let is_of_text = (Reason::MISSING_PUBLIC_KEY_COMMENT.0..=Reason::TRUSTED_COMMENT_PREFIX.0).contains(&reason.0);
         match reason {
             Reason::SIGNATURE_REFUSED | Reason::COMMENT_SIGNATURE_REFUSED => Error::InvalidSignature,
             Reason::LEGACY_NOT_ACCEPTED => Error::UnexpectedAlgorithm,
             Reason::DIFFERENT_KEY_IDS => Error::UnexpectedKeyId,
             Reason::UNSUPPORTED_ALGORITHM => Error::UnsupportedAlgorithm,
-            _ if is_between(Reason::MISSING_PUBLIC_KEY_COMMENT, Reason::TRUSTED_COMMENT_PREFIX)
-                || is_between(Reason::BARE_PUBLIC_KEY_LENGTH, Reason::BARE_PUBLIC_KEY_NOT_BASE64) =>
-            {
-                Error::InvalidEncoding
-            }
+            Reason::BARE_PUBLIC_KEY_LENGTH | Reason::BARE_PUBLIC_KEY_NOT_BASE64 => Error::InvalidEncoding,
+            _ if is_of_text => Error::InvalidEncoding,
             _ => Error::Refused(reason),
         }
     }
@@ -112,18 +109,18 @@ pub struct PublicKey {
 impl PublicKey {
     /// Reads both lines of a file such as `minisign.pub`.
     pub fn decode(lines: &str) -> Result<Self, Error> {
-        let key = raw::PublicKey::read(lines, false)?;
+        let key = raw::read_public_key(lines.as_bytes())?;
         Ok(PublicKey { untrusted_comment: lines.lines().next().map(String::from), key })
     }
 
     /// Reads the base64 of a public key alone: its 56 letters.
     pub fn from_base64(public_key: &str) -> Result<Self, Error> {
-        Ok(PublicKey { untrusted_comment: None, key: raw::PublicKey::read(public_key, true)? })
+        Ok(PublicKey { untrusted_comment: None, key: raw::read_bare_public_key(public_key.as_bytes())? })
     }
 
     /// Reads a file such as `minisign.pub`.
     pub fn from_file<P: AsRef<Path>>(path: P) -> Result<Self, Error> {
-        Self::decode(&fs::read_to_string(path).map_err(Error::IoError)?)
+        Self::decode(&fs::read_to_string(path)?)
     }
 
     /// The first line of the key's text, for which nobody vouches.
@@ -138,14 +135,9 @@ impl PublicKey {
     }
 
     /// Verifies data at once, by this Ed25519.
-    pub fn verify_with(
-        &self,
-        ed25519: &dyn Ed25519,
-        data: &[u8],
-        signature: &Signature,
-        allow_legacy: bool,
-    ) -> Result<(), Error> {
-        let mut verifier = StreamVerifier::begin(ed25519, self, signature, allow_legacy)?;
+    pub fn verify_with(&self, by: &dyn Ed25519, data: &[u8], signature: &Signature, allow_legacy: bool) -> Result<(), Error> {
+        let asked = ask(&self.key, &signature.text, allow_legacy).map_err(|(reason, _)| reason)?;
+        let mut verifier = StreamVerifier { ed25519: by, asked };
         verifier.update(data);
         verifier.end(data)
     }
@@ -157,16 +149,29 @@ impl PublicKey {
     }
 
     /// Begins to verify data that comes in pieces, by this Ed25519.
-    pub fn verify_stream_with<'a>(
-        &'a self,
-        ed25519: &'a dyn Ed25519,
-        signature: &'a Signature,
-    ) -> Result<StreamVerifier<'a>, Error> {
-        StreamVerifier::begin(ed25519, self, signature, false).map_err(|error| match error {
-            Error::UnexpectedAlgorithm => Error::UnsupportedLegacyMode,
-            error => error,
-        })
+    pub fn verify_stream_with<'a>(&'a self, by: &'a dyn Ed25519, signature: &'a Signature) -> Result<StreamVerifier<'a>, Error> {
+        match ask(&self.key, &signature.text, false) {
+            Ok(asked) => Ok(StreamVerifier { ed25519: by, asked }),
+            Err((Reason::LEGACY_NOT_ACCEPTED, _)) => Err(Error::UnsupportedLegacyMode),
+            Err((reason, _)) => Err(reason.into()),
+        }
     }
+}
+
+/// What Ed25519 is asked about a signature under a key, and the message of the second question.
+struct Asked {
+    state: raw::State,
+    questions: raw::Questions,
+    message: Vec<u8>,
+}
+
+/// Asks about the text of a signature. Where it is refused, its key ID is told with the reason, as far as it reads.
+fn ask(key: &raw::PublicKey, text: &str, allow_legacy: bool) -> Result<Asked, (Reason, [u8; 8])> {
+    let (mut state, mut questions, mut message) = (raw::init(), raw::Questions::ZEROS, vec![0; text.len()]);
+    let asked = raw::ask(&mut state, key, text.as_bytes(), allow_legacy.into(), &mut questions, &mut message);
+    message.truncate(questions.message_len as usize);
+    asked.map_err(|reason| (reason, questions.signature_key_id))?;
+    Ok(Asked { state, questions, message })
 }
 
 /// A signature, which vouches for nothing before it was verified.
@@ -180,19 +185,17 @@ impl Signature {
     /// Reads the four lines of a file such as `data.minisig`.
     pub fn decode(lines: &str) -> Result<Self, Error> {
         // Asked under a key of no key ID, and then under one of the signature's, the library tells what is in the text.
-        let mut key = raw::PublicKey { key: [0; 32], key_id: [0; 8] };
-        let (mut asked, questions, mut message) = raw::State::new().ask(&key, lines, true);
-        if asked == Err(Reason::DIFFERENT_KEY_IDS) {
-            key.key_id = questions.signature_key_id;
-            (asked, _, message) = raw::State::new().ask(&key, lines, true);
-        }
-        asked?;
-        Ok(Signature { text: lines.into(), trusted_comment: String::from_utf8_lossy(&message[64..]).into_owned() })
+        let asked = match ask(&raw::PublicKey::ZEROS, lines, true) {
+            Err((Reason::DIFFERENT_KEY_IDS, key_id)) => ask(&raw::PublicKey { key: [0; 32], key_id }, lines, true),
+            asked => asked,
+        };
+        let asked = asked.map_err(|(reason, _)| reason)?;
+        Ok(Signature { text: lines.into(), trusted_comment: String::from_utf8_lossy(&asked.message[64..]).into_owned() })
     }
 
     /// Reads a file such as `data.minisig`.
     pub fn from_file<P: AsRef<Path>>(path: P) -> Result<Self, Error> {
-        Self::decode(&fs::read_to_string(path).map_err(Error::IoError)?)
+        Self::decode(&fs::read_to_string(path)?)
     }
 
     /// The trusted comment, which was signed with the data: trust it only once the signature was verified.
@@ -216,23 +219,14 @@ impl fmt::Display for Signature {
 /// Verifies data that comes in pieces.
 pub struct StreamVerifier<'a> {
     ed25519: &'a dyn Ed25519,
-    state: raw::State,
-    questions: raw::Questions,
-    message: Vec<u8>,
+    asked: Asked,
 }
 
-impl<'a> StreamVerifier<'a> {
-    fn begin(ed25519: &'a dyn Ed25519, key: &PublicKey, signature: &Signature, allow_legacy: bool) -> Result<Self, Error> {
-        let mut state = raw::State::new();
-        let (asked, questions, message) = state.ask(&key.key, &signature.text, allow_legacy);
-        asked?;
-        Ok(StreamVerifier { ed25519, state, questions, message })
-    }
-
+impl StreamVerifier<'_> {
     /// Takes in the next piece of the data, of any length.
     pub fn update(&mut self, piece: &[u8]) {
         // (only once the verdict was asked for is it refused, and then so is another verdict)
-        let _ = self.state.update(piece);
+        let _ = raw::update(&mut self.asked.state, piece);
     }
 
     /// Whether the signature vouches for all of the pieces. It is asked once: after that each call refuses.
@@ -241,10 +235,10 @@ impl<'a> StreamVerifier<'a> {
     }
 
     fn end(&mut self, data: &[u8]) -> Result<(), Error> {
-        let (digest, asked) = (self.state.digest()?, &self.questions);
-        let first = if asked.legacy == 1 { data } else { &digest };
-        let accepts = |signature, message| self.ed25519.accepts(signature, message, &asked.public_key);
-        let answers = [accepts(&asked.signature, first), accepts(&asked.comment_signature, &self.message)];
-        Ok(self.state.verdict(answers)?)
+        let Asked { state, questions, message } = &mut self.asked;
+        let (digest, by) = (raw::digest(state)?, &questions.public_key);
+        let first = self.ed25519.accepts(&questions.signature, if questions.legacy == 1 { data } else { &digest }, by);
+        let second = self.ed25519.accepts(&questions.comment_signature, message, by);
+        Ok(raw::verdict(state, first, second)?)
     }
 }

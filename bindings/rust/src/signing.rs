@@ -35,20 +35,19 @@ impl SecretKey {
     pub fn generate(ed25519: &dyn Ed25519) -> Result<SecretKey, Error> {
         let (mut id, mut seed, mut secret) = ([0; 8], [0; 32], [0; 64]);
         let made = ed25519.random(&mut id) && ed25519.random(&mut seed) && ed25519.expand(&seed, &mut secret);
-        let key = raw::SecretKey::take(&id, &secret);
-        raw::clear(&mut seed);
-        raw::clear(&mut secret);
+        let key = raw::take_secret_key(&id, &secret);
+        [&mut seed[..], &mut secret].into_iter().for_each(raw::clear);
         Some(SecretKey(key)).filter(|_| made).ok_or_else(|| Reason::RANDOM_SOURCE_FAILED.into())
     }
 
     /// Reads both lines of a file such as `minisign.key`. A password opens a sealed key, and no other one.
     pub fn decode(lines: &str, password: Option<&str>, work: &Work) -> Result<SecretKey, Error> {
-        Ok(SecretKey(raw::SecretKey::open(lines, password, work.keep_every, work.greatest_work)?))
+        Ok(SecretKey(raw::open_secret_key(lines.as_bytes(), password.map(str::as_bytes), work.keep_every, work.greatest_work)?))
     }
 
     /// Reads a file such as `minisign.key`.
     pub fn from_file<P: AsRef<Path>>(path: P, password: Option<&str>, work: &Work) -> Result<SecretKey, Error> {
-        let text = fs::read_to_string(path).map_err(Error::IoError)?;
+        let text = fs::read_to_string(path)?;
         let key = Self::decode(&text, password, work);
         raw::clear(&mut text.into_bytes());
         key
@@ -56,22 +55,23 @@ impl SecretKey {
 
     /// The text of the key, both lines of a file such as `minisign.key`, sealed under a password where there is one.
     pub fn encode(&self, ed25519: &dyn Ed25519, password: Option<&str>, work: &Work) -> Result<String, Error> {
-        let Work { operations_limit, memory_limit, .. } = *work;
+        let Work { operations_limit, memory_limit, keep_every, .. } = *work;
         let mut sealing = raw::Sealing { salt: [0; 32], operations_limit, memory_limit };
         if password.is_some() && !ed25519.random(&mut sealing.salt) {
             return Err(Reason::RANDOM_SOURCE_FAILED.into());
         }
-        Ok(self.0.text(password, &sealing, work.keep_every, raw::SECRET_KEY_COMMENT)?)
+        Ok(raw::secret_key_text(&self.0, password.map(str::as_bytes), &sealing, keep_every, raw::SECRET_KEY_COMMENT.as_bytes())?)
     }
 
     /// The text of its public key, both lines of a file such as `minisign.pub`.
     pub fn public_key_text(&self) -> Result<String, Error> {
-        Ok(self.0.public_text(&format!("{}{:X}", raw::PUBLIC_KEY_COMMENT, u64::from_le_bytes(self.0.key_id)))?)
+        let comment = format!("{}{:X}", raw::PUBLIC_KEY_COMMENT, u64::from_le_bytes(self.0.key_id));
+        Ok(raw::public_key_text(&self.0, comment.as_bytes())?)
     }
 
     /// Its public key.
     pub fn public_key(&self) -> Result<PublicKey, Error> {
-        Ok(PublicKey { untrusted_comment: None, key: self.0.public_key()? })
+        Ok(PublicKey { untrusted_comment: None, key: raw::public_key_of(&self.0)? })
     }
 
     /// Signs data at once. The comments are one line each; whoever verifies can trust the first one.
@@ -83,7 +83,7 @@ impl SecretKey {
 
     /// Begins to sign data that comes in pieces.
     pub fn sign_stream<'a>(&'a self, ed25519: &'a dyn Ed25519) -> Signer<'a> {
-        Signer { ed25519, key: &self.0, state: raw::State::new() }
+        Signer { ed25519, key: self, state: raw::init() }
     }
 }
 
@@ -97,7 +97,7 @@ impl fmt::Debug for SecretKey {
 /// Signs data that comes in pieces.
 pub struct Signer<'a> {
     ed25519: &'a dyn Ed25519,
-    key: &'a raw::SecretKey,
+    key: &'a SecretKey,
     state: raw::State,
 }
 
@@ -105,21 +105,21 @@ impl Signer<'_> {
     /// Takes in the next piece of the data, of any length.
     pub fn update(&mut self, piece: &[u8]) {
         // (a state that was begun refuses nothing before its digest was told, which ends this)
-        let _ = self.state.update(piece);
+        let _ = raw::update(&mut self.state, piece);
     }
 
     /// The signature of all pieces.
     pub fn finalize(mut self, trusted: &str, untrusted: &str) -> Result<Signature, Error> {
-        let digest = self.state.digest()?;
+        let digest = raw::digest(&mut self.state)?;
         let first = self.signed(&digest)?;
-        let second = self.signed(&raw::comment_message(&first, trusted)?)?;
-        Signature::decode(&self.key.signed_text([&first, &second], trusted, untrusted)?)
+        let second = self.signed(&raw::comment_message(&first, trusted.as_bytes())?)?;
+        Signature::decode(&raw::signed_text(&self.key.0, &first, &second, trusted.as_bytes(), untrusted.as_bytes())?)
     }
 
     /// A signature that was verified: one of a damaged key, whose halves do not belong together, would give the secret half away.
     fn signed(&self, message: &[u8]) -> Result<[u8; 64], Error> {
-        let (key, ed25519) = (self.key.public_key()?.key, self.ed25519);
-        let signature = ed25519.sign(message, &self.key.secret).filter(|it| ed25519.accepts(it, message, &key));
+        let (key, ed25519) = (self.key.public_key()?.key.key, self.ed25519);
+        let signature = ed25519.sign(message, &self.key.0.secret).filter(|it| ed25519.accepts(it, message, &key));
         signature.ok_or(Error::InvalidSignature)
     }
 }

@@ -1,7 +1,7 @@
 // What the package answers, as a program of its user: it stands in a folder beside `node_modules`.
 //
 //     node answers.mjs cases [legacy]    the cases of standard input, one on each line, in an order that they answer
-//     node answers.mjs pieces            the same, whose data comes in pieces in each way that there is
+//     node answers.mjs pieces [legacy]   the same, whose data comes in pieces in each way that there is
 //     node answers.mjs vectors           the vectors of Ed25519 of standard input, as JSON: a list of answers
 //     node answers.mjs threads           the same cases in four threads: what all of them answer, if it is the same
 //     node answers.mjs calls COUNT       so many calls: the memory in bytes after a tenth of them, and after all
@@ -65,7 +65,7 @@ const streamOf = pieces => new ReadableStream({
 });
 
 // The ways in which data comes, and a text as a string where it is one.
-async function answersInPieces(cases) {
+async function answersInPieces(cases, options) {
   const answers = [];
   for (const [key, data, signature] of cases) {
     const ways = [
@@ -73,7 +73,7 @@ async function answersInPieces(cases) {
       streamOf(cut(data, PIECE_LENGTHS)), Readable.from(cut(Buffer.from(data), [1000])), streamOf(cut(data, [1])),
       (async function* () { yield* cut(data, [300, 0, 1]); })(),
     ];
-    const found = new Set(await Promise.all(ways.map(way => answerOf(way, signature, key))));
+    const found = new Set(await Promise.all(ways.map(way => answerOf(way, signature, key, options))));
     answers.push([...found].join(" and "));
   }
   return answers;
@@ -126,7 +126,7 @@ if (isMainThread) {
   const text = await textOfInput();
   const run = {
     cases: () => answersOf(casesOf(text), {allowLegacy: word === "legacy"}),
-    pieces: () => answersInPieces(casesOf(text)),
+    pieces: () => answersInPieces(casesOf(text), {allowLegacy: word === "legacy"}),
     vectors: () => vectorAnswers(JSON.parse(text)),
     threads: () => answersInThreads(text),
     calls: () => memoryOf(Number(word), casesOf(text)),

@@ -1,11 +1,11 @@
 # SPDX-License-Identifier: MIT
 """The numbers, structs and calls of the library.
 
-Made by make_header.py from include/minisign.h.
+Made by tools/bindings.py from include/minisign.h.
 """
 
-from ctypes import CDLL, POINTER, Structure, c_size_t, c_ubyte, c_uint32, c_uint64, c_void_p
-from typing import Callable
+from ctypes import CDLL, POINTER, Array, Structure, c_size_t, c_ubyte, c_uint32, c_uint64, c_void_p, create_string_buffer
+from typing import Callable, Optional, Tuple, Union
 
 VERSION_MAJOR = 0
 VERSION_MINOR = 2
@@ -103,65 +103,201 @@ class Installation(Structure):
     ]
 
 
-def declare(library: CDLL, error: Callable[[int], object]) -> None:
-    """Tells what each call takes and answers: what answers an error is passed through a function."""
-    library.minisign_version.restype = c_uint32
-    library.minisign_version.argtypes = ()
-    library.minisign_error_text.restype = c_size_t
-    library.minisign_error_text.argtypes = (c_uint32, c_void_p, c_size_t)
-    library.minisign_init.restype = None
-    library.minisign_init.argtypes = (POINTER(State),)
-    library.minisign_update.restype = error
-    library.minisign_update.argtypes = (POINTER(State), c_void_p, c_size_t)
-    library.minisign_digest.restype = error
-    library.minisign_digest.argtypes = (POINTER(State), c_void_p)
-    library.minisign_read_public_key.restype = error
-    library.minisign_read_public_key.argtypes = (c_void_p, c_size_t, POINTER(PublicKey))
-    library.minisign_read_bare_public_key.restype = error
-    library.minisign_read_bare_public_key.argtypes = (c_void_p, c_size_t, POINTER(PublicKey))
-    library.minisign_ask.restype = error
-    library.minisign_ask.argtypes = (POINTER(State), POINTER(PublicKey), c_void_p, c_size_t, c_uint32, POINTER(Questions), c_void_p, c_size_t)
-    library.minisign_comment_verdict.restype = error
-    library.minisign_comment_verdict.argtypes = (POINTER(State), c_uint32)
-    library.minisign_verdict.restype = error
-    library.minisign_verdict.argtypes = (POINTER(State), c_uint32, c_uint32)
-    library.minisign_open_secret_key.restype = error
-    library.minisign_open_secret_key.argtypes = (c_void_p, c_size_t, c_uint32, c_void_p, c_size_t, c_uint64, c_uint32, POINTER(SecretKey))
-    library.minisign_take_secret_key.restype = None
-    library.minisign_take_secret_key.argtypes = (c_void_p, c_void_p, POINTER(SecretKey))
-    library.minisign_public_key_of.restype = error
-    library.minisign_public_key_of.argtypes = (POINTER(SecretKey), POINTER(PublicKey))
-    library.minisign_comment_message.restype = error
-    library.minisign_comment_message.argtypes = (c_void_p, c_void_p, c_size_t, c_void_p, c_size_t)
-    library.minisign_signed_text.restype = error
-    library.minisign_signed_text.argtypes = (POINTER(SecretKey), c_void_p, c_void_p, c_void_p, c_size_t, c_void_p, c_size_t, c_void_p, c_size_t, POINTER(c_size_t))
-    library.minisign_secret_key_text.restype = error
-    library.minisign_secret_key_text.argtypes = (POINTER(SecretKey), c_uint32, c_void_p, c_size_t, POINTER(Sealing), c_uint64, c_void_p, c_size_t, c_void_p, c_size_t, POINTER(c_size_t))
-    library.minisign_public_key_text.restype = error
-    library.minisign_public_key_text.argtypes = (POINTER(SecretKey), c_void_p, c_size_t, c_void_p, c_size_t, POINTER(c_size_t))
-    library.minisign_install_init.restype = error
-    library.minisign_install_init.argtypes = (POINTER(Installation), c_uint32, c_uint32)
-    library.minisign_install_due.restype = c_uint32
-    library.minisign_install_due.argtypes = (POINTER(Installation),)
-    library.minisign_install_done.restype = error
-    library.minisign_install_done.argtypes = (POINTER(Installation),)
-    library.minisign_install_more.restype = error
-    library.minisign_install_more.argtypes = (POINTER(Installation),)
-    library.minisign_install_failed.restype = error
-    library.minisign_install_failed.argtypes = (POINTER(Installation), c_uint32)
-    library.minisign_install_record.restype = error
-    library.minisign_install_record.argtypes = (POINTER(Installation), c_void_p, c_size_t)
-    library.minisign_install_no_record.restype = error
-    library.minisign_install_no_record.argtypes = (POINTER(Installation),)
-    library.minisign_install_piece.restype = error
-    library.minisign_install_piece.argtypes = (POINTER(Installation), c_void_p, c_size_t)
-    library.minisign_install_ask.restype = error
-    library.minisign_install_ask.argtypes = (POINTER(Installation), POINTER(PublicKey), c_void_p, c_size_t, c_void_p, c_size_t, POINTER(Questions), c_void_p, c_size_t)
-    library.minisign_install_answer.restype = error
-    library.minisign_install_answer.argtypes = (POINTER(Installation), c_uint32, c_uint32)
-    library.minisign_install_number_text.restype = c_size_t
-    library.minisign_install_number_text.argtypes = (POINTER(Installation), c_void_p, c_size_t)
-    library.minisign_install_error.restype = error
-    library.minisign_install_error.argtypes = (POINTER(Installation),)
-    library.minisign_judge_comment.restype = error
-    library.minisign_judge_comment.argtypes = (c_void_p, c_size_t, c_void_p, c_size_t, c_uint32, c_uint64, POINTER(c_uint64))
+# Bytes that a call only reads.
+Octets = Union[bytes, "Array[c_ubyte]"]
+
+
+class Calls:
+    """The calls of a library: what answers an error is passed through a function."""
+
+    def __init__(self, library: CDLL, error: Callable[[int], object]) -> None:
+        self._library = library
+        library.minisign_version.restype = c_uint32
+        library.minisign_version.argtypes = ()
+        library.minisign_error_text.restype = c_size_t
+        library.minisign_error_text.argtypes = (c_uint32, c_void_p, c_size_t)
+        library.minisign_init.restype = None
+        library.minisign_init.argtypes = (POINTER(State),)
+        library.minisign_update.restype = error
+        library.minisign_update.argtypes = (POINTER(State), c_void_p, c_size_t)
+        library.minisign_digest.restype = error
+        library.minisign_digest.argtypes = (POINTER(State), c_void_p)
+        library.minisign_read_public_key.restype = error
+        library.minisign_read_public_key.argtypes = (c_void_p, c_size_t, POINTER(PublicKey))
+        library.minisign_read_bare_public_key.restype = error
+        library.minisign_read_bare_public_key.argtypes = (c_void_p, c_size_t, POINTER(PublicKey))
+        library.minisign_ask.restype = error
+        library.minisign_ask.argtypes = (POINTER(State), POINTER(PublicKey), c_void_p, c_size_t, c_uint32, POINTER(Questions), c_void_p, c_size_t)
+        library.minisign_comment_verdict.restype = error
+        library.minisign_comment_verdict.argtypes = (POINTER(State), c_uint32)
+        library.minisign_verdict.restype = error
+        library.minisign_verdict.argtypes = (POINTER(State), c_uint32, c_uint32)
+        library.minisign_open_secret_key.restype = error
+        library.minisign_open_secret_key.argtypes = (c_void_p, c_size_t, c_uint32, c_void_p, c_size_t, c_uint64, c_uint32, POINTER(SecretKey))
+        library.minisign_take_secret_key.restype = None
+        library.minisign_take_secret_key.argtypes = (c_void_p, c_void_p, POINTER(SecretKey))
+        library.minisign_public_key_of.restype = error
+        library.minisign_public_key_of.argtypes = (POINTER(SecretKey), POINTER(PublicKey))
+        library.minisign_comment_message.restype = error
+        library.minisign_comment_message.argtypes = (c_void_p, c_void_p, c_size_t, c_void_p, c_size_t)
+        library.minisign_signed_text.restype = error
+        library.minisign_signed_text.argtypes = (POINTER(SecretKey), c_void_p, c_void_p, c_void_p, c_size_t, c_void_p, c_size_t, c_void_p, c_size_t, POINTER(c_size_t))
+        library.minisign_secret_key_text.restype = error
+        library.minisign_secret_key_text.argtypes = (POINTER(SecretKey), c_uint32, c_void_p, c_size_t, POINTER(Sealing), c_uint64, c_void_p, c_size_t, c_void_p, c_size_t, POINTER(c_size_t))
+        library.minisign_public_key_text.restype = error
+        library.minisign_public_key_text.argtypes = (POINTER(SecretKey), c_void_p, c_size_t, c_void_p, c_size_t, POINTER(c_size_t))
+        library.minisign_install_init.restype = error
+        library.minisign_install_init.argtypes = (POINTER(Installation), c_uint32, c_uint32)
+        library.minisign_install_due.restype = c_uint32
+        library.minisign_install_due.argtypes = (POINTER(Installation),)
+        library.minisign_install_done.restype = error
+        library.minisign_install_done.argtypes = (POINTER(Installation),)
+        library.minisign_install_more.restype = error
+        library.minisign_install_more.argtypes = (POINTER(Installation),)
+        library.minisign_install_failed.restype = error
+        library.minisign_install_failed.argtypes = (POINTER(Installation), c_uint32)
+        library.minisign_install_record.restype = error
+        library.minisign_install_record.argtypes = (POINTER(Installation), c_void_p, c_size_t)
+        library.minisign_install_no_record.restype = error
+        library.minisign_install_no_record.argtypes = (POINTER(Installation),)
+        library.minisign_install_piece.restype = error
+        library.minisign_install_piece.argtypes = (POINTER(Installation), c_void_p, c_size_t)
+        library.minisign_install_ask.restype = error
+        library.minisign_install_ask.argtypes = (POINTER(Installation), POINTER(PublicKey), c_void_p, c_size_t, c_void_p, c_size_t, POINTER(Questions), c_void_p, c_size_t)
+        library.minisign_install_answer.restype = error
+        library.minisign_install_answer.argtypes = (POINTER(Installation), c_uint32, c_uint32)
+        library.minisign_install_number_text.restype = c_size_t
+        library.minisign_install_number_text.argtypes = (POINTER(Installation), c_void_p, c_size_t)
+        library.minisign_install_error.restype = error
+        library.minisign_install_error.argtypes = (POINTER(Installation),)
+        library.minisign_judge_comment.restype = error
+        library.minisign_judge_comment.argtypes = (c_void_p, c_size_t, c_void_p, c_size_t, c_uint32, c_uint64, POINTER(c_uint64))
+
+    def version(self) -> int:
+        number: int = self._library.minisign_version()
+        return number
+
+    def error_text(self, error: int) -> bytes:
+        text = create_string_buffer(ERROR_TEXT_BYTES)
+        length = self._library.minisign_error_text(error, text, len(text))
+        return text.raw[:length]
+
+    def init(self) -> State:
+        state = State()
+        self._library.minisign_init(state)
+        return state
+
+    def update(self, state: State, data: bytes) -> None:
+        self._library.minisign_update(state, data, len(data))
+
+    def digest(self, state: State) -> bytes:
+        digest = create_string_buffer(64)
+        self._library.minisign_digest(state, digest)
+        return digest.raw
+
+    def read_public_key(self, pk_text: bytes) -> PublicKey:
+        key = PublicKey()
+        self._library.minisign_read_public_key(pk_text, len(pk_text), key)
+        return key
+
+    def read_bare_public_key(self, base64: bytes) -> PublicKey:
+        key = PublicKey()
+        self._library.minisign_read_bare_public_key(base64, len(base64), key)
+        return key
+
+    def ask(self, state: State, key: PublicKey, sig_text: bytes, allow_legacy: int) -> Tuple[Questions, bytes]:
+        questions = Questions()
+        message = create_string_buffer(len(sig_text) + 1)
+        self._library.minisign_ask(state, key, sig_text, len(sig_text), allow_legacy, questions, message, len(message))
+        return questions, message.raw[:questions.message_len]
+
+    def comment_verdict(self, state: State, second: bool) -> None:
+        self._library.minisign_comment_verdict(state, ANSWER_YES if second is True else ANSWER_NO)
+
+    def verdict(self, state: State, first: bool, second: bool) -> None:
+        self._library.minisign_verdict(state, ANSWER_YES if first is True else ANSWER_NO, ANSWER_YES if second is True else ANSWER_NO)
+
+    def open_secret_key(self, sk_text: bytes, password: Optional[bytes], keep_every: int, greatest_work: int) -> SecretKey:
+        key = SecretKey()
+        self._library.minisign_open_secret_key(sk_text, len(sk_text), 0 if password is None else 1, password, len(password or b""), keep_every, greatest_work, key)
+        return key
+
+    def take_secret_key(self, key_id: Octets, secret: Octets) -> SecretKey:
+        key = SecretKey()
+        self._library.minisign_take_secret_key(key_id, secret, key)
+        return key
+
+    def public_key_of(self, key: SecretKey) -> PublicKey:
+        public_key = PublicKey()
+        self._library.minisign_public_key_of(key, public_key)
+        return public_key
+
+    def comment_message(self, first: Octets, trusted: bytes) -> bytes:
+        message = create_string_buffer(len(first) + len(trusted))
+        self._library.minisign_comment_message(first, trusted, len(trusted), message, len(message))
+        return message.raw
+
+    def signed_text(self, key: SecretKey, first: Octets, second: Octets, trusted: bytes, untrusted: bytes) -> bytes:
+        length = c_size_t()
+        text = create_string_buffer(TEXT_BYTES + len(trusted) + len(untrusted))
+        self._library.minisign_signed_text(key, first, second, trusted, len(trusted), untrusted, len(untrusted), text, len(text), length)
+        return text.raw[:length.value]
+
+    def secret_key_text(self, key: SecretKey, password: Optional[bytes], sealing: Sealing, keep_every: int, comment: bytes) -> bytes:
+        length = c_size_t()
+        text = create_string_buffer(SECRET_KEY_BYTES + len(comment))
+        self._library.minisign_secret_key_text(key, 0 if password is None else 1, password, len(password or b""), sealing, keep_every, comment, len(comment), text, len(text), length)
+        return text.raw[:length.value]
+
+    def public_key_text(self, key: SecretKey, comment: bytes) -> bytes:
+        length = c_size_t()
+        text = create_string_buffer(PUBLIC_KEY_BYTES + len(comment))
+        self._library.minisign_public_key_text(key, comment, len(comment), text, len(text), length)
+        return text.raw[:length.value]
+
+    def install_init(self, installation: Installation, is_first: int, numbering: int) -> None:
+        self._library.minisign_install_init(installation, is_first, numbering)
+
+    def install_due(self, installation: Installation) -> int:
+        number: int = self._library.minisign_install_due(installation)
+        return number
+
+    def install_done(self, installation: Installation) -> None:
+        self._library.minisign_install_done(installation)
+
+    def install_more(self, installation: Installation) -> None:
+        self._library.minisign_install_more(installation)
+
+    def install_failed(self, installation: Installation, why: int) -> None:
+        self._library.minisign_install_failed(installation, why)
+
+    def install_record(self, installation: Installation, record: bytes) -> None:
+        self._library.minisign_install_record(installation, record, len(record))
+
+    def install_no_record(self, installation: Installation) -> None:
+        self._library.minisign_install_no_record(installation)
+
+    def install_piece(self, installation: Installation, piece: bytes) -> None:
+        self._library.minisign_install_piece(installation, piece, len(piece))
+
+    def install_ask(self, installation: Installation, key: PublicKey, sig_text: bytes, file: bytes) -> Tuple[Questions, bytes]:
+        questions = Questions()
+        message = create_string_buffer(len(sig_text) + 1)
+        self._library.minisign_install_ask(installation, key, sig_text, len(sig_text), file, len(file), questions, message, len(message))
+        return questions, message.raw[:questions.message_len]
+
+    def install_answer(self, installation: Installation, first: bool, second: bool) -> None:
+        self._library.minisign_install_answer(installation, ANSWER_YES if first is True else ANSWER_NO, ANSWER_YES if second is True else ANSWER_NO)
+
+    def install_number_text(self, installation: Installation) -> bytes:
+        text = create_string_buffer(NUMBER_TEXT_BYTES)
+        length = self._library.minisign_install_number_text(installation, text, len(text))
+        return text.raw[:length]
+
+    def install_error(self, installation: Installation) -> None:
+        self._library.minisign_install_error(installation)
+
+    def judge_comment(self, comment: bytes, file: bytes, numbering: int, kept: int) -> int:
+        number = c_uint64()
+        self._library.minisign_judge_comment(comment, len(comment), file, len(file), numbering, kept, number)
+        return number.value

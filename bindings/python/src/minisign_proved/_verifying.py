@@ -5,7 +5,8 @@ import os
 import threading
 from typing import IO, Callable, Iterable, List, Optional, Union, cast
 
-from . import _calls
+from . import _header as h
+from ._calls import answers, calls
 from ._ed25519 import ed25519
 from .errors import ReadingFailed
 
@@ -75,17 +76,15 @@ class PublicKey:
     def __init__(self, text: bytes) -> None:
         """Reads both lines of a file such as minisign.pub. NotUtf8, MissingPublicKeyComment, MissingPublicKey, PublicKeyLength,
         PublicKeyNotBase64, RecordTooShort."""
-        self._take(_calls.PublicKey(bytes(text)))
+        self._take(calls.read_public_key(bytes(text)))
 
-    def _take(self, read: _calls.PublicKey) -> None:
-        self._read, self.key = read, read.key
-        self.key_id = f"{int.from_bytes(read.key_id, 'little'):X}"
+    def _take(self, read: h.PublicKey) -> "PublicKey":
+        self._read, self.key, self.key_id = read, bytes(read.key), f"{int.from_bytes(bytes(read.key_id), 'little'):X}"
+        return self
 
     @classmethod
-    def _of(cls, read: _calls.PublicKey) -> "PublicKey":
-        key = cls.__new__(cls)
-        key._take(read)
-        return key
+    def _of(cls, read: h.PublicKey) -> "PublicKey":
+        return cls.__new__(cls)._take(read)
 
     @classmethod
     def from_file(cls, path: Path) -> "PublicKey":
@@ -95,7 +94,7 @@ class PublicKey:
     def from_base64(cls, letters: str) -> "PublicKey":
         """Reads the 56 letters that stand in the second line and behind minisign -P. NotUtf8, BarePublicKeyLength,
         BarePublicKeyNotBase64, RecordTooShort."""
-        return cls._of(_calls.PublicKey(letters.encode("utf-8", "surrogatepass"), True))
+        return cls._of(calls.read_bare_public_key(letters.encode("utf-8", "surrogatepass")))
 
     def verify(self, data: Data, signature: Signature, allow_legacy: bool = False) -> str:
         """The trusted comment, where the signature vouches for the data under this key; see `Verifier`."""
@@ -119,23 +118,27 @@ class Verifier:
     signature, DifferentKeyIds, LegacyNotAccepted. Signatures over the data itself are taken where `allow_legacy` is true: the data
     is then kept in memory until the end. Threads may share one: their calls are made one after another."""
 
-    def __init__(self, key: PublicKey, signature: Signature, allow_legacy: bool = False) -> None:
-        self._verification = _calls.Verification(key._read, signature.text, allow_legacy)
+    def __init__(self, key: PublicKey, signature: Signature, allow_legacy: bool = False, *, _fed: Optional[h.State] = None) -> None:
+        self._state = _fed or calls.init()
+        self._asked, self._message = calls.ask(self._state, key._read, signature.text, 1 if allow_legacy else 0)
         self._turn, self._held = threading.Lock(), []  # type: threading.Lock, List[bytes]
 
     def update(self, piece: bytes) -> None:
         """Feeds the next bytes, as many as there are."""
         piece = copied(piece)
         with self._turn:
-            self._verification.update(piece)
-            if self._verification.is_legacy:
+            calls.update(self._state, piece)
+            if self._asked.legacy == 1:
                 self._held.append(piece)
 
     def finish(self) -> str:
         """The trusted comment, where the signature vouches for all that was fed. Otherwise SignatureRefused or
         CommentSignatureRefused; and NotBegun where it was finished before."""
         with self._turn:
-            return self._verification.finish(ed25519().accepts, b"".join(self._held)).decode()
+            digest = calls.digest(self._state)
+            first = b"".join(self._held) if self._asked.legacy == 1 else digest
+            calls.verdict(self._state, *answers(ed25519().accepts, self._asked, self._message, first))
+            return self._message[64:].decode()
 
 
 def verify(path: Path, key: PublicKey, signature: Optional[Signature] = None, *, allow_legacy: bool = False,

@@ -1,7 +1,7 @@
 # SPDX-License-Identifier: MIT
 """An exception for each error.
 
-Made by make_header.py from include/minisign.h.
+Made by tools/bindings.py from include/minisign.h.
 """
 
 class MinisignError(Exception):

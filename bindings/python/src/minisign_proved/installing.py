@@ -11,7 +11,8 @@ from contextlib import ExitStack, closing, suppress
 from io import UnsupportedOperation
 from typing import IO, Callable, Dict, List, Optional, Tuple, Union, cast
 
-from . import _calls, _header as h, errors
+from . import _header as h, errors
+from ._calls import answers, calls, error_of
 from ._ed25519 import ed25519
 from ._verifying import PIECE_BYTES, Path, Progress, PublicKey, Signature, TooLong, copied
 
@@ -95,7 +96,7 @@ class _Folder:
             except (FileExistsError, FileNotFoundError):
                 continue
             except BlockingIOError:
-                raise _calls.error_of(errors.PlaceInUse.number) from None
+                raise error_of(errors.PlaceInUse.number) from None
             return self.give_to_keeper(self.locked) if is_made else self.renew_lock()
         raise OSError(errno.EBUSY, "others remove it again and again", self.lock)
 
@@ -129,13 +130,13 @@ class _Folder:
         record = os.read(fd, RECORD_BYTES + 1)
         if len(record) > RECORD_BYTES:
             raise OSError(errno.EFBIG, "it is too long for a number", self.record)
-        return "record", record, len(record)
+        return "record", record
 
     def create(self, stage: _Stage, is_locked: bool = True) -> None:
         try:
             stage.name = self.stages + os.urandom(16).hex()
         except OSError as why:
-            raise _calls.error_of(errors.RandomSourceFailed.number) from why
+            raise error_of(errors.RandomSourceFailed.number) from why
         if is_locked:
             self.expect(self.lock, self.locked)
         stage.fd = self.open(stage.name, NEW)
@@ -152,7 +153,7 @@ class _Folder:
     def read_back(self) -> Told:
         piece = os.pread(self.update.fd, PIECE_BYTES, self.update.read)
         self.update.read += len(piece)
-        return "piece", piece, len(piece)
+        return "piece", piece
 
     def settle_record(self) -> None:
         self.give_to_keeper(self.number.fd)
@@ -230,7 +231,7 @@ class _Source:
                 # (a file that does not wait has nothing yet, which is not its end)
                 raise BlockingIOError(errno.EAGAIN, os.strerror(errno.EAGAIN))
         except OSError as why:
-            raise _calls.error_of(errors.ReadingFailed.number) from why
+            raise error_of(errors.ReadingFailed.number) from why
         piece = copied(read)
         self.done += len(piece)
         if self.most is not None and self.done > self.most:
@@ -250,12 +251,40 @@ class _Source:
         return _Source(open(held.fd, "rb", buffering=0, closefd=False), None, self.progress)
 
 
-def _run(at: _calls.Installation, calls: Dict[int, Callable[[], Told]]) -> None:
+class _Installation:
+    """An installation of the header: which call is due, and how each went."""
+
+    def __init__(self, is_first: bool, numbering: int) -> None:
+        self.at = h.Installation()
+        calls.install_init(self.at, 1 if is_first else 0, numbering)
+
+    def tell(self, call: object, *arguments: object) -> int:
+        """Makes a call of the header, by what stands behind `minisign_install_` in its name."""
+        answer: int = getattr(calls, f"install_{call}")(self.at, *arguments)
+        return answer
+
+    def judge(self, key: PublicKey, signature: Signature, name: str) -> Told:
+        """Has the questions answered. What comes of it the installation keeps: so nothing more is told."""
+        with suppress(errors.MinisignError):
+            asked, message = calls.install_ask(self.at, key._read, signature.text, os.fsencode(name))
+            self.tell("answer", *answers(ed25519().accepts, asked, message, bytes(asked.digest)))
+        return ("due",)
+
+    def error(self) -> Optional[errors.MinisignError]:
+        """Why the run was refused."""
+        try:
+            calls.install_error(self.at)
+        except errors.MinisignError as why:
+            return why
+        return None
+
+
+def _run(at: _Installation, due_calls: Dict[int, Callable[[], Told]]) -> None:
     """Makes each call that is due, and tells how it went, until none is."""
     trouble: Optional[BaseException] = None
     while (due := at.tell("due")) not in (h.DUE_INSTALLED, h.DUE_REFUSED):
         try:
-            at.tell(*(calls[due]() or ("done",)))
+            at.tell(*(due_calls[due]() or ("done",)))
         except BaseException as why:
             is_reading = due in (h.DUE_LOCK, h.DUE_READ_RECORD, h.DUE_READ_BACK)
             kind = errors.OutOfMemory if isinstance(why, MemoryError) else errors.ReadingFailed if is_reading else errors.WritingFailed
@@ -288,7 +317,7 @@ def install(key: PublicKey, data: Union[Path, IO[bytes]], signature: Signature, 
     OSError where the folder or the data cannot be opened, or what is no regular file cannot be received; ValueError where `place` does
     not end with the name of a file.
     """
-    at, is_open = _calls.Installation(first, NUMBERINGS[numbering]), hasattr(data, "read")
+    at, is_open = _Installation(first, NUMBERINGS[numbering]), hasattr(data, "read")
     with closing(_Folder(os.fsdecode(place), mode)) as folder, ExitStack() as opened:
         file = cast("IO[bytes]", data) if is_open else opened.enter_context(open(cast(Path, data), "rb", buffering=0))
         update, number, source = folder.update, folder.number, _Source(file, most, progress)
@@ -297,9 +326,9 @@ def install(key: PublicKey, data: Union[Path, IO[bytes]], signature: Signature, 
         _run(at, {
             h.DUE_LOCK: folder.lock_place, h.DUE_CLEAR: folder.remove_leftovers, h.DUE_READ_RECORD: folder.read_record,
             h.DUE_CREATE: lambda: folder.create(update), h.DUE_COPY: lambda: folder.copy(source), h.DUE_READ_BACK: folder.read_back,
-            h.DUE_ANSWER: lambda: at.judge(key._read, signature.text, os.fsencode(name or folder.place), ed25519().accepts),
+            h.DUE_ANSWER: lambda: at.judge(key, signature, name or folder.place),
             h.DUE_TAKE_RIGHTS: folder.take_rights, h.DUE_SETTLE: lambda: os.fsync(update.fd),
-            h.DUE_CREATE_RECORD: lambda: folder.create(number), h.DUE_WRITE_RECORD: lambda: folder.write(number, at.number_text()),
+            h.DUE_CREATE_RECORD: lambda: folder.create(number), h.DUE_WRITE_RECORD: lambda: folder.write(number, calls.install_number_text(at.at)),
             h.DUE_SETTLE_RECORD: folder.settle_record, h.DUE_RENAME_RECORD: lambda: folder.rename(number, folder.record),
             h.DUE_SETTLE_RECORD_NAME: lambda: os.fsync(folder.fd), h.DUE_RENAME: lambda: folder.rename(update, folder.place),
             h.DUE_SETTLE_NAME: lambda: os.fsync(folder.fd), h.DUE_REMOVE_RECORD: lambda: folder.remove(number),

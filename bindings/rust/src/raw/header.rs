@@ -1,0 +1,362 @@
+// SPDX-License-Identifier: MIT
+//! The numbers, structs and calls of `minisign.h`, made by `tools/bindings.py`. Each function makes one call, over what it borrows for
+//! as long as that takes, and hands over the lengths of slices as they are.
+#![allow(dead_code, clippy::too_many_arguments)]
+
+use crate::Reason;
+
+impl Reason {
+    /// No error.
+    pub const OK: Reason = Reason(0);
+    /// The state was never begun, or was ended by a verdict.
+    pub const NOT_BEGUN: Reason = Reason(1);
+    /// The questions were asked before, or the digest was told.
+    pub const ALREADY_ASKED: Reason = Reason(2);
+    /// The questions were not asked, or the digest was not told.
+    pub const NOT_ASKED: Reason = Reason(3);
+    /// An answer is neither MINISIGN_ANSWER_YES nor MINISIGN_ANSWER_NO.
+    pub const BAD_ANSWER: Reason = Reason(4);
+    /// A buffer is too short.
+    pub const NO_ROOM: Reason = Reason(5);
+    /// allow_legacy is neither 0 nor 1.
+    pub const BAD_LEGACY_FLAG: Reason = Reason(6);
+    /// A growth was refused, or a size that no allocation can have was asked for.
+    pub const OUT_OF_MEMORY: Reason = Reason(7);
+    /// A text, a typed line, a password or a comment is not UTF-8.
+    pub const NOT_UTF8: Reason = Reason(8);
+    /// A comment of a signature would not be read back as it is.
+    pub const BAD_COMMENT: Reason = Reason(9);
+    /// with_password is neither 0 nor 1.
+    pub const BAD_PASSWORD_FLAG: Reason = Reason(10);
+    /// A comment of a signature is one that Minisign would not read back: too long, or with a zero byte or a carriage return.
+    pub const UNREADABLE_COMMENT: Reason = Reason(11);
+    /// A call of installing is not due, or cannot go so.
+    pub const NOT_DUE: Reason = Reason(12);
+    /// is_first is neither 0 nor 1.
+    pub const BAD_FIRST_FLAG: Reason = Reason(13);
+    /// A numbering is neither MINISIGN_NUMBERING_TIMESTAMP nor MINISIGN_NUMBERING_VERSION.
+    pub const BAD_NUMBERING: Reason = Reason(14);
+    /// A secret key was neither opened nor taken in.
+    pub const KEY_NOT_OPENED: Reason = Reason(15);
+    /// A public key text has no first line.
+    pub const MISSING_PUBLIC_KEY_COMMENT: Reason = Reason(16);
+    /// A public key text has no second line.
+    pub const MISSING_PUBLIC_KEY: Reason = Reason(17);
+    /// The second line of a public key text is not 56 bytes long.
+    pub const PUBLIC_KEY_LENGTH: Reason = Reason(18);
+    /// The second line of a public key text is not base64.
+    pub const PUBLIC_KEY_NOT_BASE64: Reason = Reason(19);
+    /// Fewer bytes than a record has.
+    pub const RECORD_TOO_SHORT: Reason = Reason(20);
+    /// A signature text has no first line.
+    pub const MISSING_UNTRUSTED_COMMENT: Reason = Reason(21);
+    /// A signature text has no second line.
+    pub const MISSING_SIGNATURE: Reason = Reason(22);
+    /// A signature text has no third line.
+    pub const MISSING_TRUSTED_COMMENT: Reason = Reason(23);
+    /// A signature text has no fourth line.
+    pub const MISSING_COMMENT_SIGNATURE: Reason = Reason(24);
+    /// The first line of a signature text does not begin with untrusted comment: .
+    pub const UNTRUSTED_COMMENT_PREFIX: Reason = Reason(25);
+    /// A line of a signature text is not base64.
+    pub const SIGNATURE_NOT_BASE64: Reason = Reason(26);
+    /// The third line of a signature text does not begin with trusted comment: .
+    pub const TRUSTED_COMMENT_PREFIX: Reason = Reason(27);
+    /// The algorithm of a signature is neither Ed nor ED.
+    pub const UNSUPPORTED_ALGORITHM: Reason = Reason(28);
+    /// The identifier of a signature is not that of the public key.
+    pub const DIFFERENT_KEY_IDS: Reason = Reason(29);
+    /// A legacy signature where only prehashed ones are allowed.
+    pub const LEGACY_NOT_ACCEPTED: Reason = Reason(30);
+    /// The signature of the data is not accepted.
+    pub const SIGNATURE_REFUSED: Reason = Reason(31);
+    /// The comment signature is too short or is not accepted.
+    pub const COMMENT_SIGNATURE_REFUSED: Reason = Reason(32);
+    /// A secret key text has no first line.
+    pub const MISSING_SECRET_KEY_COMMENT: Reason = Reason(33);
+    /// A secret key text has no second line.
+    pub const MISSING_SECRET_KEY: Reason = Reason(34);
+    /// The second line of a secret key text is not base64.
+    pub const SECRET_KEY_NOT_BASE64: Reason = Reason(35);
+    /// A key that is asked for as unsealed names a key derivation.
+    pub const KEY_SEALED: Reason = Reason(36);
+    /// The checksum of an unsealed key does not match.
+    pub const KEY_CORRUPTED: Reason = Reason(37);
+    /// A key that is asked for as sealed names no key derivation.
+    pub const KEY_NOT_SEALED: Reason = Reason(38);
+    /// A sealed key names a key derivation other than Sc.
+    pub const UNSUPPORTED_KEY_DERIVATION: Reason = Reason(39);
+    /// The limits of a sealed key ask for more than is allowed.
+    pub const PARAMETERS_TOO_HIGH: Reason = Reason(40);
+    /// The limits lead to parameters that scrypt does not take.
+    pub const INVALID_PARAMETERS: Reason = Reason(41);
+    /// The checksum of an opened key does not match.
+    pub const WRONG_PASSWORD: Reason = Reason(42);
+    /// The limits lead to more parallel work than the caller allows.
+    pub const WORK_TOO_HIGH: Reason = Reason(43);
+    /// A public key given as base64 alone is not 56 bytes long.
+    pub const BARE_PUBLIC_KEY_LENGTH: Reason = Reason(44);
+    /// A public key given as base64 alone is not base64.
+    pub const BARE_PUBLIC_KEY_NOT_BASE64: Reason = Reason(45);
+    /// Another run holds the lock on this place.
+    pub const PLACE_IN_USE: Reason = Reason(46);
+    /// No number is kept beside the place, and this was not said to be the first installation.
+    pub const NO_RECORD: Reason = Reason(47);
+    /// What is kept beside the place does not read as a number, and this was not said to be the first installation.
+    pub const DAMAGED_RECORD: Reason = Reason(48);
+    /// The trusted comment does not name the file that the caller expects.
+    pub const OTHER_FILE: Reason = Reason(49);
+    /// The trusted comment has no number in decimal digits alone under the label that the caller chose, or none below 2^64.
+    pub const NO_NUMBER: Reason = Reason(50);
+    /// The number of the trusted comment is below the one that is kept.
+    pub const OLDER_UPDATE: Reason = Reason(51);
+    /// The update stands at the place, but a crash may still bring back what stood there before.
+    pub const FOLDER_NOT_ON_DISK: Reason = Reason(52);
+    /// The number that is kept is a timestamp and not a version, and this was not said to be the first installation.
+    pub const KEPT_BY_TIMESTAMP: Reason = Reason(53);
+    /// The number that is kept is a version and not a timestamp, and this was not said to be the first installation.
+    pub const KEPT_BY_VERSION: Reason = Reason(54);
+    /// A source, a file or a prompt's reader failed at a read.
+    pub const READING_FAILED: Reason = Reason(64);
+    /// A sink or a prompt's writer failed at a write or a flush.
+    pub const WRITING_FAILED: Reason = Reason(65);
+    /// A random source failed or had too few bytes.
+    pub const RANDOM_SOURCE_FAILED: Reason = Reason(67);
+}
+
+pub const VERSION_MAJOR: usize = 0;
+pub const VERSION_MINOR: usize = 2;
+pub const VERSION_PATCH: usize = 0;
+pub const ERROR_TEXT_BYTES: usize = 128;
+pub const KEEP_EVERY_ROW: usize = 1;
+pub const KEEP_FEW_ROWS: usize = 16;
+pub const USUAL_WORK: usize = 1;
+pub const ANY_WORK: u32 = 0xffffffff;
+pub const OPERATIONS_LIMIT: usize = 33554432;
+pub const MEMORY_LIMIT: usize = 1073741824;
+pub const NUMBER_TEXT_BYTES: usize = 30;
+pub const TEXT_BYTES: usize = 240;
+pub const SECRET_KEY_BYTES: usize = 233;
+pub const PUBLIC_KEY_BYTES: usize = 77;
+pub const VERSION_TEXT: &str = "0.2.0";
+pub const SECRET_KEY_COMMENT: &str = "minisign encrypted secret key";
+pub const PUBLIC_KEY_COMMENT: &str = "minisign public key ";
+pub const ANSWER_YES: u32 = 7955827;
+pub const ANSWER_NO: u32 = 28271;
+pub const DUE_LOCK: u32 = 1;
+pub const DUE_CLEAR: u32 = 2;
+pub const DUE_READ_RECORD: u32 = 3;
+pub const DUE_CREATE: u32 = 4;
+pub const DUE_COPY: u32 = 5;
+pub const DUE_READ_BACK: u32 = 6;
+pub const DUE_ANSWER: u32 = 7;
+pub const DUE_TAKE_RIGHTS: u32 = 8;
+pub const DUE_SETTLE: u32 = 9;
+pub const DUE_CREATE_RECORD: u32 = 10;
+pub const DUE_WRITE_RECORD: u32 = 11;
+pub const DUE_SETTLE_RECORD: u32 = 12;
+pub const DUE_RENAME_RECORD: u32 = 13;
+pub const DUE_SETTLE_RECORD_NAME: u32 = 14;
+pub const DUE_RENAME: u32 = 15;
+pub const DUE_SETTLE_NAME: u32 = 16;
+pub const DUE_REMOVE_RECORD: u32 = 17;
+pub const DUE_REMOVE: u32 = 18;
+pub const DUE_INSTALLED: u32 = 19;
+pub const DUE_REFUSED: u32 = 20;
+pub const NUMBERING_TIMESTAMP: u32 = 0;
+pub const NUMBERING_VERSION: u32 = 1;
+
+#[repr(C)]
+pub struct State {
+    pub opaque: [u64; 64],
+}
+
+impl State {
+    pub const ZEROS: Self = Self { opaque: [0; 64] };
+}
+
+#[derive(Clone, Debug, Eq, PartialEq, Ord, PartialOrd, Hash)]
+#[repr(C)]
+pub struct PublicKey {
+    pub key: [u8; 32],
+    pub key_id: [u8; 8],
+}
+
+impl PublicKey {
+    pub const ZEROS: Self = Self { key: [0; 32], key_id: [0; 8] };
+}
+
+#[repr(C)]
+pub struct Questions {
+    pub public_key: [u8; 32],
+    pub digest: [u8; 64],
+    pub signature: [u8; 64],
+    pub comment_signature: [u8; 64],
+    pub message_len: u64,
+    pub public_key_id: [u8; 8],
+    pub signature_key_id: [u8; 8],
+    pub legacy: u32,
+    pub reserved: u32,
+}
+
+impl Questions {
+    pub const ZEROS: Self = Self { public_key: [0; 32], digest: [0; 64], signature: [0; 64], comment_signature: [0; 64], message_len: 0, public_key_id: [0; 8], signature_key_id: [0; 8], legacy: 0, reserved: 0 };
+}
+
+#[repr(C)]
+pub struct SecretKey {
+    pub mark: u64,
+    pub key_id: [u8; 8],
+    pub secret: [u8; 64],
+}
+
+impl SecretKey {
+    pub const ZEROS: Self = Self { mark: 0, key_id: [0; 8], secret: [0; 64] };
+}
+
+/// It is cleared at its end.
+impl Drop for SecretKey {
+    fn drop(&mut self) {
+        clear(&mut self.secret);
+    }
+}
+
+#[repr(C)]
+pub struct Sealing {
+    pub salt: [u8; 32],
+    pub operations_limit: u64,
+    pub memory_limit: u64,
+}
+
+impl Sealing {
+    pub const ZEROS: Self = Self { salt: [0; 32], operations_limit: 0, memory_limit: 0 };
+}
+
+extern "C" {
+    fn minisign_version() -> u32;
+    fn minisign_error_text(error: u32, text: *mut u8, room: usize) -> usize;
+    fn minisign_init(state: *mut State);
+    fn minisign_update(state: *mut State, data: *const u8, len: usize) -> u32;
+    fn minisign_digest(state: *mut State, digest: &mut [u8; 64]) -> u32;
+    fn minisign_read_public_key(pk_text: *const u8, pk_text_len: usize, key: *mut PublicKey) -> u32;
+    fn minisign_read_bare_public_key(base64: *const u8, base64_len: usize, key: *mut PublicKey) -> u32;
+    fn minisign_ask(state: *mut State, key: *const PublicKey, sig_text: *const u8, sig_text_len: usize, allow_legacy: u32, questions: *mut Questions, message: *mut u8, room: usize) -> u32;
+    fn minisign_comment_verdict(state: *const State, second: u32) -> u32;
+    fn minisign_verdict(state: *mut State, first: u32, second: u32) -> u32;
+    fn minisign_open_secret_key(sk_text: *const u8, sk_text_len: usize, with_password: u32, password: *const u8, password_len: usize, keep_every: u64, greatest_work: u32, key: *mut SecretKey) -> u32;
+    fn minisign_take_secret_key(key_id: &[u8; 8], secret: &[u8; 64], key: *mut SecretKey);
+    fn minisign_public_key_of(key: *const SecretKey, public_key: *mut PublicKey) -> u32;
+    fn minisign_comment_message(first: &[u8; 64], trusted: *const u8, trusted_len: usize, message: *mut u8, room: usize) -> u32;
+    fn minisign_signed_text(key: *const SecretKey, first: &[u8; 64], second: &[u8; 64], trusted: *const u8, trusted_len: usize, untrusted: *const u8, untrusted_len: usize, text: *mut u8, room: usize, text_len: *mut usize) -> u32;
+    fn minisign_secret_key_text(key: *const SecretKey, with_password: u32, password: *const u8, password_len: usize, sealing: *const Sealing, keep_every: u64, comment: *const u8, comment_len: usize, text: *mut u8, room: usize, text_len: *mut usize) -> u32;
+    fn minisign_public_key_text(key: *const SecretKey, comment: *const u8, comment_len: usize, text: *mut u8, room: usize, text_len: *mut usize) -> u32;
+}
+
+/// Writes zeros, also where nothing reads them.
+pub fn clear(bytes: &mut [u8]) {
+    bytes.iter_mut().for_each(|byte| unsafe { std::ptr::write_volatile(byte, 0) });
+}
+
+fn done(number: u32) -> Result<(), Reason> {
+    Some(()).filter(|()| number == 0).ok_or(Reason(number))
+}
+
+/// The calls write UTF-8 alone.
+fn text_of(mut text: Vec<u8>, len: usize) -> Result<String, Reason> {
+    text.truncate(len);
+    String::from_utf8(text).map_err(|_| Reason::NOT_UTF8)
+}
+
+pub fn version() -> u32 {
+    unsafe { minisign_version() }
+}
+
+pub fn error_text(error: u32) -> Result<String, Reason> {
+    let mut text = vec![0; ERROR_TEXT_BYTES];
+    let len = unsafe { minisign_error_text(error, text.as_mut_ptr(), text.len()) };
+    text_of(text, len)
+}
+
+pub fn init() -> State {
+    let mut state = State::ZEROS;
+    unsafe { minisign_init(&mut state) };
+    state
+}
+
+pub fn update(state: &mut State, data: &[u8]) -> Result<(), Reason> {
+    done(unsafe { minisign_update(state, data.as_ptr(), data.len()) })
+}
+
+pub fn digest(state: &mut State) -> Result<[u8; 64], Reason> {
+    let mut digest = [0; 64];
+    done(unsafe { minisign_digest(state, &mut digest) })?;
+    Ok(digest)
+}
+
+pub fn read_public_key(pk_text: &[u8]) -> Result<PublicKey, Reason> {
+    let mut key = PublicKey::ZEROS;
+    done(unsafe { minisign_read_public_key(pk_text.as_ptr(), pk_text.len(), &mut key) })?;
+    Ok(key)
+}
+
+pub fn read_bare_public_key(base64: &[u8]) -> Result<PublicKey, Reason> {
+    let mut key = PublicKey::ZEROS;
+    done(unsafe { minisign_read_bare_public_key(base64.as_ptr(), base64.len(), &mut key) })?;
+    Ok(key)
+}
+
+pub fn ask(state: &mut State, key: &PublicKey, sig_text: &[u8], allow_legacy: u32, questions: &mut Questions, message: &mut [u8]) -> Result<(), Reason> {
+    done(unsafe { minisign_ask(state, key, sig_text.as_ptr(), sig_text.len(), allow_legacy, questions, message.as_mut_ptr(), message.len()) })
+}
+
+pub fn comment_verdict(state: &State, second: bool) -> Result<(), Reason> {
+    done(unsafe { minisign_comment_verdict(state, if second { ANSWER_YES } else { ANSWER_NO }) })
+}
+
+pub fn verdict(state: &mut State, first: bool, second: bool) -> Result<(), Reason> {
+    done(unsafe { minisign_verdict(state, if first { ANSWER_YES } else { ANSWER_NO }, if second { ANSWER_YES } else { ANSWER_NO }) })
+}
+
+pub fn open_secret_key(sk_text: &[u8], password: Option<&[u8]>, keep_every: u64, greatest_work: u32) -> Result<Box<SecretKey>, Reason> {
+    let (with_password, password) = (password.is_some().into(), password.unwrap_or_default());
+    let mut key = Box::new(SecretKey::ZEROS);
+    done(unsafe { minisign_open_secret_key(sk_text.as_ptr(), sk_text.len(), with_password, password.as_ptr(), password.len(), keep_every, greatest_work, &mut *key) })?;
+    Ok(key)
+}
+
+pub fn take_secret_key(key_id: &[u8; 8], secret: &[u8; 64]) -> Box<SecretKey> {
+    let mut key = Box::new(SecretKey::ZEROS);
+    unsafe { minisign_take_secret_key(key_id, secret, &mut *key) };
+    key
+}
+
+pub fn public_key_of(key: &SecretKey) -> Result<PublicKey, Reason> {
+    let mut public_key = PublicKey::ZEROS;
+    done(unsafe { minisign_public_key_of(key, &mut public_key) })?;
+    Ok(public_key)
+}
+
+pub fn comment_message(first: &[u8; 64], trusted: &[u8]) -> Result<Vec<u8>, Reason> {
+    let mut message = vec![0; first.len() + trusted.len()];
+    done(unsafe { minisign_comment_message(first, trusted.as_ptr(), trusted.len(), message.as_mut_ptr(), message.len()) })?;
+    Ok(message)
+}
+
+pub fn signed_text(key: &SecretKey, first: &[u8; 64], second: &[u8; 64], trusted: &[u8], untrusted: &[u8]) -> Result<String, Reason> {
+    let (mut text, mut len) = (vec![0; TEXT_BYTES + trusted.len() + untrusted.len()], 0);
+    done(unsafe { minisign_signed_text(key, first, second, trusted.as_ptr(), trusted.len(), untrusted.as_ptr(), untrusted.len(), text.as_mut_ptr(), text.len(), &mut len) })?;
+    text_of(text, len)
+}
+
+pub fn secret_key_text(key: &SecretKey, password: Option<&[u8]>, sealing: &Sealing, keep_every: u64, comment: &[u8]) -> Result<String, Reason> {
+    let (with_password, password) = (password.is_some().into(), password.unwrap_or_default());
+    let (mut text, mut len) = (vec![0; SECRET_KEY_BYTES + comment.len()], 0);
+    done(unsafe { minisign_secret_key_text(key, with_password, password.as_ptr(), password.len(), sealing, keep_every, comment.as_ptr(), comment.len(), text.as_mut_ptr(), text.len(), &mut len) })?;
+    text_of(text, len)
+}
+
+pub fn public_key_text(key: &SecretKey, comment: &[u8]) -> Result<String, Reason> {
+    let (mut text, mut len) = (vec![0; PUBLIC_KEY_BYTES + comment.len()], 0);
+    done(unsafe { minisign_public_key_text(key, comment.as_ptr(), comment.len(), text.as_mut_ptr(), text.len(), &mut len) })?;
+    text_of(text, len)
+}

@@ -1,0 +1,67 @@
+// What the package answers in a browser, in a page and in a worker of it: answers.html has it run in both, on what stands in asked.json.
+
+import {MinisignError, verify} from "./minisign-proved/index.js";
+import {accepts} from "./minisign-proved/ed25519.js";
+
+const bytesOf = digits => Uint8Array.from((digits === "-" ? "" : digits).match(/../g) ?? [], pair => parseInt(pair, 16));
+const hexOf = text => Array.from(new TextEncoder().encode(text), byte => byte.toString(16).padStart(2, "0")).join("") || "-";
+
+async function answerOf(data, signature, key, options) {
+  try {
+    return `accepted ${hexOf((await verify(data, signature, key, options)).trustedComment)}`;
+  } catch (why) {
+    return why instanceof MinisignError ? `refused ${why.code}` : String(why);
+  }
+}
+
+// A stream whose pieces have these lengths in turn.
+function streamOf(data, lengths) {
+  let at = 0, turn = 0;
+  return new ReadableStream({
+    pull(controller) {
+      if (at >= data.length) {
+        return controller.close();
+      }
+      const length = lengths[turn % lengths.length];
+      controller.enqueue(data.slice(at, at + length));
+      at += length;
+      turn += 1;
+    },
+  });
+}
+
+// The data in each way that a browser has it: what all of them answer.
+async function answerInPieces(data, signature, key) {
+  const blob = new Blob([data]), address = URL.createObjectURL(blob);
+  const ways = [data, data.buffer, blob, new File([data], "data"), blob.stream(), streamOf(data, [1000, 1, 65536]), (await fetch(address)).body];
+  const found = new Set(await Promise.all(ways.map(way => answerOf(way, signature, key))));
+  URL.revokeObjectURL(address);
+  return [...found].join(" and ");
+}
+
+async function answersOf({cases, pieces, vectors}) {
+  const answers = {legacy: [], strict: [], pieces: [], vectors: []};
+  for (const [key, data, signature] of cases.map(it => it.map(bytesOf))) {
+    answers.legacy.push(await answerOf(data, signature, key, {allowLegacy: true}));
+    answers.strict.push(await answerOf(data, signature, key));
+  }
+  for (const [key, data, signature] of pieces.map(it => it.map(bytesOf))) {
+    answers.pieces.push(await answerInPieces(data, signature, key));
+  }
+  for (const [key, signature, message] of vectors.map(it => it.map(bytesOf))) {
+    answers.vectors.push(await accepts(key, signature, message));
+  }
+  return answers;
+}
+
+const asked = async () => answersOf(await (await fetch("asked.json")).json());
+
+if (typeof document === "undefined") {
+  asked().then(postMessage);
+} else {
+  const worker = new Worker("browser.mjs", {type: "module"});
+  const inWorker = new Promise((resolve, reject) => Object.assign(worker, {onmessage: it => resolve(it.data), onerror: reject}));
+  const told = await Promise.all([asked(), inWorker]).then(([page, thread]) => ({page, thread}), why => ({why: String(why.message ?? why)}));
+  document.body.textContent = JSON.stringify(told);
+  document.documentElement.dataset.ready = "";
+}
