@@ -1,5 +1,5 @@
 -- What the keys that are generated are good for.
-use Rattle.std.proofs.Common.{◌≡◌, ◌⊎◌, ℕ, true, false, not, List, length, Option, None, Some, Ok, inl, inr, refl, sym, ap, ◌∙◌, arith}
+use Rattle.std.proofs.Common.{◌≡◌, ◌⊎◌, ℕ, true, false, not, List, length, None, Ok, Err, inl, inr, refl, sym, ap, ◌∙◌, arith}
 use Rattle.std.specs.Int.{w64, to_le_bytes}
 use Rattle.std.specs.Str.{bytes_eq}
 use Rattle.std.proofs.lemmas.Slice.Eq.{bytes_eq-Decides}
@@ -7,13 +7,12 @@ use Rattle.minisign_base.specs.Fault.{Fault, Named}
 use Rattle.minisign_base.specs.DeviceCalls.{RandomCall}
 use Rattle.minisign_base.specs.Scheme.{IsBytes}
 use Rattle.minisign_base.specs.declared.faults.NamedFault.TheVariants.{OutOfMemory}
-use Rattle.minisign_kdf.specs.Params.{Numbers}
 use Rattle.minisign_base.specs.Limits.{cost_log2, limits}
 use Rattle.minisign.specs.Records.{PublicKeyRecord, SecretKeyRecord}
-use Rattle.minisign.specs.Sealing.{IsUnencrypted, Opens, is_within, checksum_of, is_encrypted, key_limits, key_numbers, key_xor, scrypt_kdf, work_refusal, xored_key}
-use Rattle.minisign.specs.Generation.{AreSeedAndKeynum, IsGenuinePair, IsSealedOf, IsSealedPair, OpensToPair, key_to_seal, opened_key, public_key_of, sealed_key, sealing_memory, sealing_operations, secret_of, unsealed_key}
-use Rattle.minisign.proofs.Openings.{opens_to, work_none}
-use Rattle.minisign.proofs.SealingLimits.{allowed_numbers}
+use Rattle.minisign.specs.Sealing.{allowed_work, checksum_of, is_encrypted, key_limits, key_numbers, key_xor, open_sealed, scrypt_kdf, unencrypted_key, xored_key}
+use Rattle.minisign.specs.Generation.{AreSeedAndKeynum, IsGenuinePair, IsSealedOf, IsSealedPair, OpensToPair, key_to_seal, opened_key, public_key_of, sealing_memory, sealing_operations, secret_of, unsealed_key}
+use Rattle.minisign.specs.Texts.{and_then}
+use Rattle.minisign.proofs.Openings.{opened_within, opens_to, sealed_taken, unencrypted_taken}
 
 -- 32 random bytes, and then 8
 pub seed_and_keynum : (seed keynum : List ℕ) → IsBytes seed × (length seed ≡ 32) → IsBytes keynum × (length keynum ≡ 8) → AreSeedAndKeynum seed keynum
@@ -21,9 +20,9 @@ seed_and_keynum seed keynum (seed_bytes, seed_length) (keynum_bytes, keynum_leng
     record { seed_length = seed_length; seed_bytes = seed_bytes; keynum_length = keynum_length; keynum_bytes = keynum_bytes }
 
 -- the key that is not to be sealed is none that has to be opened
-pub unsealed_is_unencrypted : (keynum secret : List ℕ) → IsUnencrypted (unsealed_key keynum secret)
+pub unsealed_is_unencrypted : (keynum secret : List ℕ) → unencrypted_key (unsealed_key keynum secret) ≡ Ok (unsealed_key keynum secret)
 unfolding unsealed_key
-unsealed_is_unencrypted keynum secret = record { kdf = refl; checksum = refl }
+unsealed_is_unencrypted keynum secret = unencrypted_taken (unsealed_key keynum secret) refl refl
 
 pub unsealed_is_open : (keynum secret : List ℕ) → is_encrypted (unsealed_key keynum secret) ≡ false
 unfolding unsealed_key
@@ -51,15 +50,13 @@ default_limits : (k : SecretKeyRecord) → k.operations_limit ≡ to_le_bytes w6
 unfolding key_limits limits cost_log2
 default_limits k operations memory = rw (operations, memory) refl
 
-default_work : (k : SecretKeyRecord) (bound : Option ℕ) → k.operations_limit ≡ to_le_bytes w64 sealing_operations → k.memory_limit ≡ to_le_bytes w64 sealing_memory
-    → is_within bound 1 ≡ true → work_refusal k bound ≡ None
-default_work k bound operations memory one = work_none k _ bound (default_limits k operations memory) one
-
 -- where these limits stand, only memory can run out
-pub only_memory : (k : SecretKeyRecord) (bound : Option ℕ) (e : Fault) → k.operations_limit ≡ to_le_bytes w64 sealing_operations → k.memory_limit ≡ to_le_bytes w64 sealing_memory
-    → is_within bound 1 ≡ true → ((e ≡ Named OutOfMemory) × (work_refusal k bound ≡ None)) ⊎ (work_refusal k bound ≡ Some e) → e ≡ Named OutOfMemory
-only_memory k bound e operations memory one (inl (is, allowed)) = is
-only_memory k bound e operations memory one (inr refused) = let allowed = default_work k bound operations memory one in absurd (cc)
+pub only_memory : (k : SecretKeyRecord) (e : Fault) → k.operations_limit ≡ to_le_bytes w64 sealing_operations → k.memory_limit ≡ to_le_bytes w64 sealing_memory
+    → ((e ≡ Named OutOfMemory) × (allowed_work k None ≡ Ok (key_numbers k))) ⊎ (allowed_work k None ≡ Err e) → e ≡ Named OutOfMemory
+only_memory k e operations memory (inl (is, allowed)) = is
+only_memory k e operations memory (inr refused) =
+    let differ = sym refused ∙ ap (λ r. and_then r (λ v. Ok v)) (default_limits k operations memory) in
+    cc differ
 
 no_mismatch : (xs : List ℕ) → not (bytes_eq xs xs) ≡ false
 no_mismatch xs = let same : bytes_eq xs xs ≡ true = (bytes_eq-Decides xs xs).1 refl in rw same refl
@@ -90,7 +87,8 @@ unfolding key_xor key_to_seal
 sealed_kdf keynum secret salt password operations memory = refl
 
 sealed_limits : (keynum secret salt password : List ℕ)
-    → ((sealed_key keynum secret salt password).operations_limit ≡ to_le_bytes w64 sealing_operations) × ((sealed_key keynum secret salt password).memory_limit ≡ to_le_bytes w64 sealing_memory)
+    → ((xored_key (opened_key keynum secret salt) password).operations_limit ≡ to_le_bytes w64 sealing_operations)
+    × ((xored_key (opened_key keynum secret salt) password).memory_limit ≡ to_le_bytes w64 sealing_memory)
 unfolding key_xor key_to_seal
 sealed_limits keynum secret salt password = (refl, refl)
 
@@ -107,15 +105,10 @@ sealed_pair public_of password z pk sk pair =
     let secret : List ℕ = secret_of public_of pair.seed in
     let limits = sealed_limits pair.keynum secret pair.salt password in
     let allowed : key_limits sk ≡ Ok (record { n_log2 = 15; r = 8; p = 1 }) = default_limits sk (ap (λ k. k.operations_limit) sealed.secret ∙ limits.0) (ap (λ k. k.memory_limit) sealed.secret ∙ limits.1) in
-    let numbers = allowed_numbers sk _ allowed in
-    let opens : Opens sk password None = record {
-      kdf = ap (λ k. k.kdf) sealed.secret ∙ sealed_kdf pair.keynum secret pair.salt password sealing_operations sealing_memory;
-      allowed = allowed ∙ ap (λ (v : Numbers). Ok v) (sym numbers);
-      bounded = refl;
-      restored = ap (λ k. k.checksum) sealed.opened ∙ opened_checksum pair.keynum secret pair.salt sealing_operations sealing_memory ∙ sym (ap checksum_of sealed.opened);
-    } in
+    let kdf = ap (λ k. k.kdf) sealed.secret ∙ sealed_kdf pair.keynum secret pair.salt password sealing_operations sealing_memory in
+    let restored = ap (λ k. k.checksum) sealed.opened ∙ opened_checksum pair.keynum secret pair.salt sealing_operations sealing_memory ∙ sym (ap checksum_of sealed.opened) in
     record {
-      opens = opens;
+      opens = ap (λ r. and_then r (λ k. open_sealed k password None)) (sealed_taken sk kdf) ∙ opened_within sk password None _ allowed restored;
       pair = opened_pair public_of pair.seed pair.keynum pair.salt pk (xored_key sk password) pair.lengths sealed.public sealed.opened;
-      texts = λ text read. opens_to text password sk _ read opens.kdf allowed opens.restored;
+      texts = λ text read. opens_to text password sk _ read kdf allowed restored;
     }

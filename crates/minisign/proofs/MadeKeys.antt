@@ -9,16 +9,17 @@ use Rattle.minisign_base.specs.declared.faults.NamedFault.TheVariants.{OutOfMemo
 use Rattle.minisign_base.specs.Limits.{numbers, sealing_limits}
 use Rattle.minisign_kdf.specs.Params.{Numbers}
 use Rattle.minisign.specs.Generation.{key_to_seal, unsealed_key}
-use Rattle.minisign.specs.Making.{IsMadePublicText, IsMadeText, IsOfParts, OpensToParts}
+use Rattle.minisign.specs.Making.{IsMadePublicText, IsMadeText, IsOfParts}
 use Rattle.minisign.specs.PublicKeyText.{commented_public_key_text, read_public_key}
 use Rattle.minisign.specs.Records.{PublicKeyRecord, SecretKeyRecord, own_public_key}
-use Rattle.minisign.specs.Sealing.{bound_refusal, checksum_of, key_limits, key_xor, work_refusal, xored_key}
+use Rattle.minisign.specs.Sealing.{allowed_work, checksum_of, key_limits, key_numbers, key_xor, xored_key}
 use Rattle.minisign.specs.SecretKeyText.{read_secret_key, secret_key_text}
 use Rattle.minisign.specs.OpenedTexts.{OpensTo}
 use Rattle.minisign.specs.declared.making.Sealing.{Sealing}
 use Rattle.minisign.proofs.GeneratedKeys.{opened_checksum, opened_is_open, sealed_kdf, unsealed_is_open, unsealed_is_unencrypted}
 use Rattle.minisign.proofs.SealingLimits.{sealing_numbers}
-use Rattle.minisign.proofs.Openings.{opens_to, unencrypted_taken, unencrypted_text}
+use Rattle.minisign.specs.Texts.{and_then}
+use Rattle.minisign.proofs.Openings.{opens_to, unencrypted_text}
 
 -- the limits of a key that is sealed with these
 pub limits_named : (k : SecretKeyRecord) (operations memory : ℕ) → operations < 2 ^ 64 → memory < 2 ^ 64
@@ -28,23 +29,19 @@ limits_named k operations memory some more same_operations same_memory =
     rw (same_operations, same_memory, from_le_bytes-to_le_bytes_8 operations some, from_le_bytes-to_le_bytes_8 memory more) refl
 
 -- what a test with no bound says of the limits
-allowed_of : (r : Result Numbers Fault) → bound_refusal r None ≡ None → IsOk r
-allowed_of (Ok v) h = refl
-allowed_of (Err e) h = absurd (cc)
+unbounded : (r : Result Numbers Fault) → and_then r (λ v. Ok v) ≡ r
+unbounded (Ok v) = refl
+unbounded (Err e) = refl
 
-refused_of : (r : Result Numbers Fault) (e : Fault) → bound_refusal r None ≡ Some e → r ≡ Err e
-refused_of (Ok v) e h = absurd (cc)
-refused_of (Err f) e h = cc
-
-pub work_allowed : (k : SecretKeyRecord) (l : Result Numbers Fault) → key_limits k ≡ l → work_refusal k None ≡ None → IsOk l
-work_allowed k l same h = subst IsOk same (allowed_of (key_limits k) h)
+pub work_allowed : (k : SecretKeyRecord) (l : Result Numbers Fault) → key_limits k ≡ l → allowed_work k None ≡ Ok (key_numbers k) → IsOk l
+work_allowed k l same h = subst IsOk (sym h ∙ unbounded (key_limits k) ∙ same) refl
 
 -- why no stream was applied
 pub stream_fault : (k : SecretKeyRecord) (l : Result Numbers Fault) (e : Fault) → key_limits k ≡ l
-    → ((e ≡ Named OutOfMemory) × (work_refusal k None ≡ None)) ⊎ (work_refusal k None ≡ Some e)
+    → ((e ≡ Named OutOfMemory) × (allowed_work k None ≡ Ok (key_numbers k))) ⊎ (allowed_work k None ≡ Err e)
     → ((e ≡ Named OutOfMemory) × IsOk l) ⊎ (l ≡ Err e)
 stream_fault k l e same (inl (memory, allowed)) = inl (memory, work_allowed k l same allowed)
-stream_fault k l e same (inr refused) = inr (sym same ∙ refused_of (key_limits k) e refused)
+stream_fault k l e same (inr refused) = inr (sym same ∙ sym (unbounded (key_limits k)) ∙ refused)
 
 allowed_limits : (memory operations : ℕ) (r : Result Numbers Fault) → sealing_limits memory operations ≡ r → IsOk r → r ≡ Ok (numbers memory operations)
 allowed_limits memory operations (Ok v) same ok = ap (λ (w : Numbers). Ok w) (sym (sealing_numbers memory operations v same))
@@ -66,11 +63,11 @@ pub made_unsealed : (keynum secret comment text : List ℕ) (s : Sealing) (sk : 
     → IsMadeText keynum secret None s comment text
 made_unsealed keynum secret comment text s sk same written reads size = record {
   written = written ∙ ap (λ (k : SecretKeyRecord). secret_key_text (Some comment) k) same;
-  gives = λ lacks. record {
-    key = unsealed_key keynum secret;
-    parts = unsealed_parts keynum secret;
-    reads = unencrypted_text text (unsealed_key keynum secret) _ (reads lacks ∙ ap (λ k. Ok k) same) (unencrypted_taken _ (unsealed_is_unencrypted keynum secret));
-  };
+  gives = λ lacks. (
+    unsealed_key keynum secret,
+    unsealed_parts keynum secret,
+    unencrypted_text text (unsealed_key keynum secret) _ (reads lacks ∙ ap (λ k. Ok k) same) (unsealed_is_unencrypted keynum secret),
+  );
   size = size;
 }
 
@@ -90,14 +87,15 @@ module _ (keynum secret salt password : List ℕ) (operations memory : ℕ) (som
   restored : (xored_key sk password).checksum ≡ checksum_of (xored_key sk password)
   restored = ap (λ k. k.checksum) opened ∙ opened_checksum keynum secret salt operations memory ∙ sym (ap checksum_of opened)
 
-  pub opens_to_parts : (text : List ℕ) → read_secret_key text ≡ Ok sk → OpensToParts text password keynum secret (numbers memory operations).p
-  opens_to_parts text read = record {
-    key = key_to_seal keynum secret salt operations memory;
-    parts = sealed_parts keynum secret salt operations memory;
-    opens = subst (λ k. OpensTo text password (numbers memory operations).p k) opened
+  pub opens_to_parts : (text : List ℕ) → read_secret_key text ≡ Ok sk
+      → (key : SecretKeyRecord) × IsOfParts keynum secret key × OpensTo text password (numbers memory operations).p key
+  opens_to_parts text read = (
+    key_to_seal keynum secret salt operations memory,
+    sealed_parts keynum secret salt operations memory,
+    subst (λ k. OpensTo text password (numbers memory operations).p k) opened
         (opens_to text password sk _ read (ap (λ k. k.kdf) sealed ∙ sealed_kdf keynum secret salt password operations memory)
-        (limits_named sk operations memory some more operations_kept memory_kept ∙ allowed_limits memory operations _ refl allowed) restored);
-  }
+        (limits_named sk operations memory some more operations_kept memory_kept ∙ allowed_limits memory operations _ refl allowed) restored),
+  )
 
 -- the text of a sealed key
 pub made_sealed : (keynum secret password comment text : List ℕ) (s : Sealing) (sk : SecretKeyRecord) → s.operations_limit < 2 ^ 64 → s.memory_limit < 2 ^ 64
