@@ -11,7 +11,7 @@ use Rattle.minisign_kdf.specs.Params.{Numbers}
 use Rattle.minisign.specs.Records.{SecretKeyRecord}
 use Rattle.minisign.specs.SecretKeyText.{SecretKeyText, read_secret_key}
 use Rattle.minisign.specs.Sealing.{allowed_work, checksum_of, is_encrypted, is_within, key_limits, key_numbers, no_kdf, open_sealed, restored_key, scrypt_kdf, sealed_by_scrypt, unencrypted_key, xored_key}
-use Rattle.minisign.specs.OpenedTexts.{IsOpened, IsUnencryptedText, OpensTo, open_key, read_sealed_key, read_unencrypted_key}
+use Rattle.minisign.specs.OpenedTexts.{IsOpened, IsUnencryptedText, open_key, read_sealed_key, read_unencrypted_key}
 use Rattle.minisign.specs.Texts.{IsReadOrNoMemory, IsReading, and_then, require}
 use Rattle.minisign.proofs.ReadTexts.{is_reading, passed, read_before, same_end, same_value}
 use Rattle.minisign.proofs.SealingLimits.{allowed_numbers}
@@ -123,12 +123,6 @@ opens_text text password bound v h =
 pub opened_as : (text password : List ℕ) (bound : Option ℕ) → IsReading (IsOpened text password bound) (open_key text password bound)
 opened_as text password bound =
     is_reading (IsOpened text password bound) (open_key text password bound) (λ v. (text_opens text password bound v, opens_text text password bound v))
-
--- a text opens to the key that a sealed one opens to, within each bound that its parallelization is within
-pub opens_to : (text password : List ℕ) (k : SecretKeyRecord) (v : Numbers) → read_secret_key text ≡ Ok k → k.kdf ≡ scrypt_kdf → key_limits k ≡ Ok v
-    → (xored_key k password).checksum ≡ checksum_of (xored_key k password) → OpensTo text password v.p (xored_key k password)
-opens_to text password k v read kdf allowed restored = λ bound.
-    open_text text password bound k (sealed_text text k _ read (sealed_taken k kdf)) ∙ opened_within k password bound v allowed restored
 
 -- a key is taken as one that was never sealed exactly where it is one
 pub unencrypted_taken : (k : SecretKeyRecord) → k.kdf ≡ no_kdf → k.checksum ≡ checksum_of k → unencrypted_key k ≡ Ok k

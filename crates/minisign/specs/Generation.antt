@@ -119,13 +119,14 @@ pub record OpensToPair (public_of : List ℕ → List ℕ) (password : List ℕ)
 abbrev pub AreUnwritten : {P K : Type 0} → SinkCall P → SinkCall K → Type 0
 AreUnwritten pk_sink sk_sink = (pk_sink.new ≡ pk_sink.old) × (sk_sink.new ≡ sk_sink.old)
 
--- a pair's parts are not written: memory ran out for them, and both sinks are as they were; or the public sink failed at
--- the public part, with the secret sink as it was, or took and flushed it, and the secret sink failed at the secret part
+-- a pair's parts are not written: memory ran out for them, with both sinks as they were; or the public sink failed at the
+-- public part, with the secret sink as it was, or took and flushed it, and the secret sink failed at the secret part
 abbrev pub PartsFail : {P K : Type 0} → SinkCall P → SinkCall K → List ℕ → List ℕ → Fault → Type 0
 PartsFail pk_sink sk_sink public secret e =
     ((e ≡ Named OutOfMemory) × AreUnwritten pk_sink sk_sink)
     ⊎ ((e ≡ Named WritingFailed)
-    × ((FailsAtPart pk_sink public × (sk_sink.new ≡ sk_sink.old)) ⊎ (TakesPart pk_sink public × FailsAtPart sk_sink secret)))
+    × ((FailsAtPart pk_sink public × (sk_sink.new ≡ sk_sink.old))
+    ⊎ (TakesPart pk_sink public × FailsAtPart sk_sink secret)))
 
 -- a pair that is not sealed is not written as raw bytes: the random source failed, and both sinks are as they
 -- were, or it did not, and a pair was made whose parts were not written

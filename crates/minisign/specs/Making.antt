@@ -27,8 +27,8 @@ made_key keynum secret None s = unsealed_key keynum secret
 made_key keynum secret (Some password) s =
     xored_key (key_to_seal keynum secret s.salt s.operations_limit s.memory_limit) password
 
--- the text gives back the key of these parts: without a password it reads as this key, which was never sealed; under the
--- password it opens to this key, whatever bound its parallelization is within, and to no other
+-- the text gives back the key of these parts: without a password it reads as this key, which was never sealed; under
+-- the password it opens to this key, whatever bound its parallelization is within, and to no other
 abbrev pub GivesParts : List ℕ → Option (List ℕ) → List ℕ → List ℕ → Sealing → Type 0
 GivesParts text None keynum secret s =
     (key : SecretKeyRecord) × IsOfParts keynum secret key × (read_unencrypted_key text ≡ Ok key)

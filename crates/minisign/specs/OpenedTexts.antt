@@ -1,6 +1,7 @@
 -- What a secret key's text gives, under a password or without one: the key, or the first fault; and the same as
 -- relations.
-use Rattle.std.specs.Prelude.{◌≡◌, ℕ, Bool, true, false, not, if◌then◌else◌, bytes_eq, List, Option, None, Result, Ok, Err}
+use Rattle.std.specs.Prelude.{◌≡◌, ℕ, Bool, true, false, not, if◌then◌else◌, bytes_eq, List, Option, None}
+use Rattle.std.specs.Prelude.{Result, Ok, Err}
 use Rattle.minisign_base.specs.Fault.{Fault}
 use Rattle.minisign_base.specs.declared.faults.NamedFault.TheVariants.{WorkTooHigh}
 use Rattle.minisign.specs.Records.{SecretKeyRecord}

@@ -1,7 +1,7 @@
 -- The checksum of a secret key, whether the key is still sealed, and what sealing and opening do: the
 -- last 104 bytes of its record, as one list, are xored with a stream of scrypt (RFC 7914, section 6).
-use Rattle.std.specs.Prelude.{ℕ, ◌^◌, Bool, true, not, ◌&&◌, nat_lt, List, [], ◌∷◌, ◌++◌, take, drop, Option, None, Some}
-use Rattle.std.specs.Prelude.{Result, Ok, bit_xor, bytes_eq, codes}
+use Rattle.std.specs.Prelude.{ℕ, ◌^◌, Bool, true, not, ◌&&◌, nat_lt, List, [], ◌∷◌, ◌++◌, take, drop, Option}
+use Rattle.std.specs.Prelude.{None, Some, Result, Ok, bit_xor, bytes_eq, codes}
 use Rattle.std.specs.Int.{w64, from_le_bytes}
 use Rattle.std.specs.Simd.Lanes.{zip2}
 use Rattle.minisign_hash.specs.Blake2b.{blake2b_digest}

@@ -117,8 +117,8 @@ RandomHasNoNewFault z = z.random.random_faults z.new ≡ z.random.random_faults 
 abbrev pub RunsOutDrawing : {Z : Type 0} → RandomCall Z → Fault → Type 0
 RunsOutDrawing z e = (e ≡ Named OutOfMemory) × RandomHasNoNewFault z
 
--- signing with an opened key fails: memory runs out, with no new fault of either; the data fails, with nothing drawn; or
--- all of it was read, and the random source fails
+-- signing with an opened key fails: memory runs out, with no new fault of either; the data fails, with nothing drawn;
+-- or all of it was read, and the random source fails
 abbrev pub OpenedSigningFails : {R Z : Type 0} → SourceCall R → RandomCall Z → Fault → Type 0
 OpenedSigningFails r z e =
     (RunsOutDrawing z e × (r.source.faults r.new ≡ r.source.faults r.old))
@@ -131,9 +131,10 @@ KeySigningFails sk r z e =
     ((e ≡ Named EncryptedKeyRefused) × (is_encrypted sk ≡ true) × (r.new ≡ r.old) × (z.new ≡ z.old))
     ⊎ ((is_encrypted sk ≡ false) × OpenedSigningFails r z e)
 
--- all the data was read, and a public key does not accept the comment signature of the box that an opened key made of it
-pub record RefusesSigned {R Z : Type 0} (accepts : Verifier) (sign : Signer) (pk : PublicKeyRecord) (sk : SecretKeyRecord)
-    (chosen : ChosenComments) (r : SourceCall R) (z : RandomCall Z) : Type 0 where
+-- all the data was read, and a public key does not accept the comment signature of the box that an opened key made of
+-- it
+pub record RefusesSigned {R Z : Type 0} (accepts : Verifier) (sign : Signer) (pk : PublicKeyRecord)
+    (sk : SecretKeyRecord) (chosen : ChosenComments) (r : SourceCall R) (z : RandomCall Z) : Type 0 where
   pub opened : is_encrypted sk ≡ false
   pub message : List ℕ
   pub read : ReadsWhole r.source r.old r.new message

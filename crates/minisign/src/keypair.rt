@@ -18,9 +18,10 @@ ghost use Rattle.minisign.specs.SecretKeyText.{read_secret_key, secret_key_text}
 ghost use Rattle.minisign.specs.Generation.{AreSeedAndKeynum, HasSealed, IsGenuinePair, IsSealedOf, IsUnsealedPair, OpensOnlyTo, OpensToPair, PartsFail, RawPairFails, SealedPairFails, SealedTextsFail, public_key_of, secret_of, unsealed_key};
 ghost use Rattle.minisign.specs.OpenedTexts.{read_unencrypted_key};
 
-use crate::constants::SIGALG;
+use crate::constants::{MEMLIMIT, OPSLIMIT, SIGALG};
 use crate::drawing::{draw, draw_two};
 use crate::keynum::KeynumPK;
+use crate::making::Sealing;
 use crate::public_key::PublicKey;
 use crate::secret_key::SecretKey;
 use minisign_base::devices::random_sources::RandomSource;
@@ -430,7 +431,12 @@ pub(crate) fn make_sealed_pair<S: Scheme>(
     ensures refused { IfErr result (λ e. e ≡ Named OutOfMemory) }
 {
     let KeyPair { pk, sk } = make_pair(scheme, &drawn.seed, drawn.keynum);
-    let sk = sk.seal(alloc, drawn.salt, password)?;
+    let sealing = Sealing {
+        salt: drawn.salt,
+        operations_limit: OPSLIMIT,
+        memory_limit: MEMLIMIT,
+    };
+    let sk = sk.seal_by(alloc, password, sealing, 1)?;
     Ok(KeyPair { pk, sk })
 }
 

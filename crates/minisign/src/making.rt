@@ -61,7 +61,13 @@ impl SecretKey {
 
     // Seals a key that is not sealed, with every k-th row of scrypt kept. Limits that are not
     // allowed are refused before anything is derived.
-    fn seal_by(self, alloc: Global, password: &[u8], sealing: Sealing, k: u64) -> Result<SecretKey>
+    pub(crate) fn seal_by(
+        self,
+        alloc: Global,
+        password: &[u8],
+        sealing: Sealing,
+        k: u64,
+    ) -> Result<SecretKey>
         requires { 1 ≤ k }
         ensures sealed { (keynum secret : List ℕ) → self ≡ unsealed_key keynum secret
             → IfOk result (λ sk. sk ≡ made_key keynum secret (Some password.now) sealing) }

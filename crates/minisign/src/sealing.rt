@@ -5,10 +5,10 @@ ghost use Rattle.std.specs.Int.{to_le_bytes, w64};
 ghost use Rattle.std.specs.Simd.Lanes.{zip2};
 ghost use Rattle.minisign_base.specs.Fault.{Named};
 ghost use Rattle.minisign_base.specs.declared.faults.NamedFault.TheVariants.{OutOfMemory};
-ghost use Rattle.minisign.specs.Generation.{key_to_seal, opened_key, unsealed_key};
+ghost use Rattle.minisign.specs.Generation.{key_to_seal, unsealed_key};
 ghost use Rattle.minisign.specs.Sealing.{allowed_work, key_limits, key_numbers, key_xor, stream_of, xored_key};
 
-use crate::constants::{KDF_ALG, MEMLIMIT, OPSLIMIT};
+use crate::constants::KDF_ALG;
 use crate::secret_key::SecretKey;
 use minisign_base::helpers::{load_u64_le, raw_scrypt_params, store_u64_le};
 use minisign_base::{NamedFault, Params, Result};
@@ -30,20 +30,6 @@ pub(crate) struct Derivation {
 }
 
 impl SecretKey {
-    // Seals a key that is not sealed, with a salt and the limits by default.
-    pub(crate) fn seal(self, alloc: Global, salt: [u8; 32], password: &[u8]) -> Result<SecretKey>
-        ensures sealed { (keynum secret : List ℕ) → self ≡ unsealed_key keynum secret
-            → IfOk result (λ k. k ≡ xored_key (opened_key keynum secret salt) password.now) }
-        ensures opened { (keynum secret : List ℕ) → self ≡ unsealed_key keynum secret
-            → IfOk result (λ k. xored_key k password.now ≡ opened_key keynum secret salt) }
-        ensures refused { IfErr result (λ e. e ≡ Named OutOfMemory) }
-    {
-        let mut sk = self.with_limits(salt, OPSLIMIT, MEMLIMIT);
-        let derivation = Derivation { bound: None, k: 1 };
-        sk.apply_stream(alloc, password, derivation)?;
-        Ok(sk)
-    }
-
     // Names the key derivation, its salt and its limits.
     #[tactic(auto, unfolding(crate::specs::Generation::key_to_seal))]
     pub(crate) fn with_limits(self, salt: [u8; 32], opslimit: u64, memlimit: u64) -> SecretKey

@@ -9,7 +9,7 @@ ghost use Rattle.minisign.specs.Reading.{IsAhead, ReadsWhole};
 ghost use Rattle.minisign.specs.Sealing.{is_encrypted};
 ghost use Rattle.minisign.specs.Signing.{OpenedSigningFails, chosen_of, given_comments};
 ghost use Rattle.minisign.specs.Headline.{SigningHeadline};
-ghost use Rattle.minisign.specs.SigningTexts.{GivesKey, HasSignedText, IsKeyOf, TextSigningFails};
+ghost use Rattle.minisign.specs.SigningTexts.{GivesKey, HasSignedText, IsKeyOf, IsSignedText, TextSigningFails};
 
 use crate::constants::KDF_NONE;
 use crate::sealing::Derivation;
@@ -68,9 +68,11 @@ pub fn sign_texts<S: Scheme, P: Source, Q: Sink, R: Source, Z: RandomSource>(
         × GivesKey (prompt_call P.Source Q.Sink prompt.old prompt.new)
         (option_map string_bytes password) sk_text.now (Ok sk)
         × ReadsWhole R.Source data_reader.old data_reader.new message
-        × HasSignedText S.Scheme scheme.now sk message
+        × IsSignedText (S.signature_of scheme.now) sk message
         (given_comments trusted_comment.entry untrusted_comment.entry moment)
-        (random_call Z.RandomSource random.old random.new) (string_bytes t)) }
+        (random_call Z.RandomSource random.old random.new) (string_bytes t)
+        × SigningHeadline (S.accepts scheme.now) (S.public_of scheme.now) sk message
+        (given_comments trusted_comment.entry untrusted_comment.entry moment) (string_bytes t)) }
 
     // On success the random source did not fail.
     ensures random_no_new_fault { OnOk result (Z.random_faults random.new ≡ Z.random_faults random.old) }

@@ -7,7 +7,7 @@ use Rattle.minisign.proofs.signing.sign.Goals as goal
 
 pub returns-in_err-test_given_key-clause-refused : goal.returns-in_err-test_given_key-clause-refused
 returns-in_err-test_given_key-clause-refused g c =
-    let (message, read, signed, genuine) = c.in_ok-signature_box.ensures.signed in
+    let (message, read, (signed, genuine)) = c.in_ok-signature_box.ensures.signed in
     let opened : is_encrypted c.args.sk.now ≡ false = cc in
     passed_up c.from_residual-in_err-test_given_key.result c.in_err-test_given_key.field-0.0 _ c.from_residual-in_err-test_given_key.ensures.1
     (elim c.in_err-test_given_key.ensures.refused [

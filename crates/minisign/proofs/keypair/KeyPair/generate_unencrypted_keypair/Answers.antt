@@ -1,6 +1,7 @@
 use Rattle.std.proofs.Common.{◌≡◌, Ok, subst, sym}
 use Rattle.minisign.specs.Sealing.{unencrypted_key}
-use Rattle.minisign.proofs.GeneratedKeys.{seed_and_keynum, unsealed_is_unencrypted, unsealed_pair}
+use Rattle.minisign.proofs.GeneratedKeys.{seed_and_keynum, unsealed_pair}
+use Rattle.minisign.proofs.MadeKeys.{unsealed_is_unencrypted}
 use Rattle.minisign.proofs.Openings.{unencrypted_text}
 use Rattle.minisign.proofs.keypair.KeyPair.generate_unencrypted_keypair.Goals as goal
 
