@@ -441,6 +441,7 @@ pub(crate) fn make_sealed_pair<S: Scheme>(
 }
 
 // The random bytes of a sealed pair: a seed, a key ID, and a salt.
+#[tactic(auto, using(crate::proofs::Beginnings::given_behind))]
 pub(crate) fn draw_with_salt<Z: RandomSource>(random: &mut Z) -> Result<Drawn>
     ensures drawn { IfOk result
         (λ z. HasDrawn (random_call Z.RandomSource random.old random.new)

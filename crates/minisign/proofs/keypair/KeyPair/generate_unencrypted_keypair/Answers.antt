@@ -5,16 +5,6 @@ use Rattle.minisign.proofs.MadeKeys.{unsealed_is_unencrypted}
 use Rattle.minisign.proofs.Openings.{unencrypted_text}
 use Rattle.minisign.proofs.keypair.KeyPair.generate_unencrypted_keypair.Goals as goal
 
-pub returns-clause-made : goal.returns-clause-made
-returns-clause-made g c = record {
-  seed = c.in_ok-seed.seed;
-  keynum = c.in_ok-seed.keynum;
-  lengths = seed_and_keynum _ _ c.in_ok-seed.ensures.first c.in_ok-seed.ensures.second;
-  drawn = c.in_ok-seed.ensures.drawn;
-  public = c.make_pair.ensures.public;
-  secret = c.make_pair.ensures.secret;
-}
-
 pub returns-clause-genuine : goal.returns-clause-genuine
 returns-clause-genuine g c =
     unsealed_pair _ c.in_ok-seed.seed c.in_ok-seed.keynum _ _ (seed_and_keynum _ _ c.in_ok-seed.ensures.first c.in_ok-seed.ensures.second) c.make_pair.ensures.public c.make_pair.ensures.secret

@@ -4,11 +4,6 @@ use Rattle.std.proofs.lemmas.Result.{err_from_is_err_and}
 use Rattle.minisign.proofs.Openings.{opened_so}
 use Rattle.minisign.proofs.secret_key.SecretKey.open_telling.Goals as goal
 
-pub returns-in_err-say_deriving-clause-ended : goal.returns-in_err-say_deriving-clause-ended
-returns-in_err-say_deriving-clause-ended g c =
-    let p = err_from_is_err_and c.from_residual.result c.from_residual.ensures.1 in
-    rw (p.1, p.2) (inl c.in_err-say_deriving.ensures.ended)
-
 pub returns-in_err-apply_stream-clause-ended : goal.returns-in_err-apply_stream-clause-ended
 returns-in_err-apply_stream-clause-ended g c =
     let said = c.say_deriving.new.prompt in
