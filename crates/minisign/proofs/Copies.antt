@@ -4,7 +4,7 @@ use Rattle.std.proofs.lemmas.Bool.{true≢false}
 use Rattle.std.proofs.lemmas.Slice.Eq.{bytes_eq-Decides}
 use Rattle.std.specs.Io.KnownBytes.{append_known, Appends, Consumes, Keeps}
 use Rattle.minisign_base.specs.Devices.{AppendsFront, StaysOrHides}
-use Rattle.minisign_base.specs.SinkLaws.{AppendsFront-after, AppendsFront-keeps, AppendsFront-more}
+use Rattle.minisign_base.proofs.Laws.{AppendsFront-after, AppendsFront-keeps, AppendsFront-more}
 use Rattle.minisign.specs.Reading.{IsAhead, WereGiven}
 
 -- all of a text is a beginning of it

@@ -1,103 +1,46 @@
 -- What the keys that are generated are good for.
-use Rattle.std.proofs.Common.{◌≡◌, ◌⊎◌, ℕ, true, false, not, List, length, Option, None, Some, Ok, inl, inr, refl, sym, ap, ◌∙◌, arith}
-use Rattle.std.specs.Int.{w64, to_le_bytes}
-use Rattle.std.specs.Str.{bytes_eq}
-use Rattle.std.proofs.lemmas.Slice.Eq.{bytes_eq-Decides}
+use Rattle.std.proofs.Common.{◌≡◌, ◌⊎◌, ◌^◌, ◌<◌, ℕ, List, length, None, Ok, Err, IsOk, inl, inr, refl, sym, ap, subst, ◌∙◌, arith}
 use Rattle.minisign_base.specs.Fault.{Fault, Named}
 use Rattle.minisign_base.specs.DeviceCalls.{RandomCall}
 use Rattle.minisign_base.specs.Scheme.{IsBytes}
 use Rattle.minisign_base.specs.declared.faults.NamedFault.TheVariants.{OutOfMemory}
-use Rattle.minisign_kdf.specs.Params.{Numbers}
-use Rattle.minisign_base.specs.Limits.{cost_log2, limits}
+use Rattle.minisign_base.specs.Limits.{cost_log2, limits, sealing_limits}
 use Rattle.minisign.specs.Records.{PublicKeyRecord, SecretKeyRecord}
-use Rattle.minisign.specs.Sealing.{IsUnencrypted, Opens, is_within, checksum_of, is_encrypted, key_limits, key_numbers, key_xor, scrypt_kdf, work_refusal, xored_key}
-use Rattle.minisign.specs.Generation.{AreSeedAndKeynum, IsGenuinePair, IsSealedOf, IsSealedPair, OpensToPair, key_to_seal, opened_key, public_key_of, sealed_key, sealing_memory, sealing_operations, secret_of, unsealed_key}
-use Rattle.minisign.proofs.Openings.{opens_to, work_none}
-use Rattle.minisign.proofs.SealingLimits.{allowed_numbers}
+use Rattle.minisign.specs.Sealing.{xored_key}
+use Rattle.minisign.specs.Generation.{AreSeedAndKeynum, IsGenuinePair, IsSealedOf, IsSealedPair, OpensToPair, public_key_of, sealing_memory, sealing_operations, secret_of, unsealed_key}
+use Rattle.minisign.specs.Making.{IsOfParts}
+use Rattle.minisign.proofs.MadeKeys.{sealed_opens, sealed_parts, text_opens, unsealed_parts}
 
 -- 32 random bytes, and then 8
 pub seed_and_keynum : (seed keynum : List ℕ) → IsBytes seed × (length seed ≡ 32) → IsBytes keynum × (length keynum ≡ 8) → AreSeedAndKeynum seed keynum
 seed_and_keynum seed keynum (seed_bytes, seed_length) (keynum_bytes, keynum_length) =
     record { seed_length = seed_length; seed_bytes = seed_bytes; keynum_length = keynum_length; keynum_bytes = keynum_bytes }
 
--- the key that is not to be sealed is none that has to be opened
-pub unsealed_is_unencrypted : (keynum secret : List ℕ) → IsUnencrypted (unsealed_key keynum secret)
-unfolding unsealed_key
-unsealed_is_unencrypted keynum secret = record { kdf = refl; checksum = refl }
+-- a public key, and the secret key of its parts, belong together
+pair_of_parts : (public_of : List ℕ → List ℕ) (seed keynum : List ℕ) (pk : PublicKeyRecord) (sk : SecretKeyRecord) → AreSeedAndKeynum seed keynum
+    → pk ≡ public_key_of public_of seed keynum → IsOfParts keynum (secret_of public_of seed) sk → IsGenuinePair public_of pk sk
+pair_of_parts public_of seed keynum pk sk lengths public parts = record {
+  seed = seed;
+  genuine = record { seed_length = lengths.seed_length; seed_bytes = lengths.seed_bytes; secret = parts.secret_is; opened = parts.opened };
+  key = ap (λ k. k.key) public;
+  keynum = ap (λ k. k.keynum) public ∙ sym parts.keynum_is;
+}
 
-pub unsealed_is_open : (keynum secret : List ℕ) → is_encrypted (unsealed_key keynum secret) ≡ false
-unfolding unsealed_key
-unsealed_is_open keynum secret = refl
-
--- the pair that is not sealed belongs together
 pub unsealed_pair : (public_of : List ℕ → List ℕ) (seed keynum : List ℕ) (pk : PublicKeyRecord) (sk : SecretKeyRecord) → AreSeedAndKeynum seed keynum
     → pk ≡ public_key_of public_of seed keynum → sk ≡ unsealed_key keynum (secret_of public_of seed) → IsGenuinePair public_of pk sk
-unfolding unsealed_key
-unsealed_pair public_of seed keynum pk sk lengths public secret = record {
-  seed = seed;
-  genuine = record {
-    seed_length = lengths.seed_length;
-    seed_bytes = lengths.seed_bytes;
-    secret = ap (λ k. k.secret) secret;
-    opened = ap is_encrypted secret ∙ unsealed_is_open keynum (secret_of public_of seed);
-  };
-  key = ap (λ k. k.key) public;
-  keynum = ap (λ k. k.keynum) public ∙ sym (ap (λ k. k.keynum) secret);
-}
+unsealed_pair public_of seed keynum pk sk lengths public secret =
+    pair_of_parts public_of seed keynum pk sk lengths public (subst (IsOfParts keynum (secret_of public_of seed)) (sym secret) (unsealed_parts keynum (secret_of public_of seed)))
 
 -- the limits by default are allowed, and lead to N of 2 ^ 15, r of 8 and p of 1
-default_limits : (k : SecretKeyRecord) → k.operations_limit ≡ to_le_bytes w64 sealing_operations → k.memory_limit ≡ to_le_bytes w64 sealing_memory
-    → key_limits k ≡ Ok (record { n_log2 = 15; r = 8; p = 1 })
-unfolding key_limits limits cost_log2
-default_limits k operations memory = rw (operations, memory) refl
+default_limits : sealing_limits sealing_memory sealing_operations ≡ Ok (record { n_log2 = 15; r = 8; p = 1 })
+unfolding limits cost_log2
+default_limits = refl
 
-default_work : (k : SecretKeyRecord) (bound : Option ℕ) → k.operations_limit ≡ to_le_bytes w64 sealing_operations → k.memory_limit ≡ to_le_bytes w64 sealing_memory
-    → is_within bound 1 ≡ true → work_refusal k bound ≡ None
-default_work k bound operations memory one = work_none k _ bound (default_limits k operations memory) one
-
--- where these limits stand, only memory can run out
-pub only_memory : (k : SecretKeyRecord) (bound : Option ℕ) (e : Fault) → k.operations_limit ≡ to_le_bytes w64 sealing_operations → k.memory_limit ≡ to_le_bytes w64 sealing_memory
-    → is_within bound 1 ≡ true → ((e ≡ Named OutOfMemory) × (work_refusal k bound ≡ None)) ⊎ (work_refusal k bound ≡ Some e) → e ≡ Named OutOfMemory
-only_memory k bound e operations memory one (inl (is, allowed)) = is
-only_memory k bound e operations memory one (inr refused) = let allowed = default_work k bound operations memory one in absurd (cc)
-
-no_mismatch : (xs : List ℕ) → not (bytes_eq xs xs) ≡ false
-no_mismatch xs = let same : bytes_eq xs xs ≡ true = (bytes_eq-Decides xs xs).1 refl in rw same refl
-
-pub opened_is_open : (keynum secret salt : List ℕ) (operations memory : ℕ) → is_encrypted (key_to_seal keynum secret salt operations memory) ≡ false
-unfolding key_to_seal unsealed_key
-opened_is_open keynum secret salt operations memory = no_mismatch (checksum_of (unsealed_key keynum secret))
-
--- what opening gives of a sealed pair belongs together
-opened_pair : (public_of : List ℕ → List ℕ) (seed keynum salt : List ℕ) (pk : PublicKeyRecord) (sk : SecretKeyRecord) → AreSeedAndKeynum seed keynum
-    → pk ≡ public_key_of public_of seed keynum → sk ≡ opened_key keynum (secret_of public_of seed) salt → IsGenuinePair public_of pk sk
-unfolding key_to_seal unsealed_key
-opened_pair public_of seed keynum salt pk sk lengths public secret = record {
-  seed = seed;
-  genuine = record {
-    seed_length = lengths.seed_length;
-    seed_bytes = lengths.seed_bytes;
-    secret = ap (λ k. k.secret) secret;
-    opened = ap is_encrypted secret ∙ opened_is_open keynum (secret_of public_of seed) salt sealing_operations sealing_memory;
-  };
-  key = ap (λ k. k.key) public;
-  keynum = ap (λ k. k.keynum) public ∙ sym (ap (λ k. k.keynum) secret);
-}
-
--- what sealing leaves as it is
-pub sealed_kdf : (keynum secret salt password : List ℕ) (operations memory : ℕ) → (xored_key (key_to_seal keynum secret salt operations memory) password).kdf ≡ scrypt_kdf
-unfolding key_xor key_to_seal
-sealed_kdf keynum secret salt password operations memory = refl
-
-sealed_limits : (keynum secret salt password : List ℕ)
-    → ((sealed_key keynum secret salt password).operations_limit ≡ to_le_bytes w64 sealing_operations) × ((sealed_key keynum secret salt password).memory_limit ≡ to_le_bytes w64 sealing_memory)
-unfolding key_xor key_to_seal
-sealed_limits keynum secret salt password = (refl, refl)
-
-pub opened_checksum : (keynum secret salt : List ℕ) (operations memory : ℕ)
-    → (key_to_seal keynum secret salt operations memory).checksum ≡ checksum_of (key_to_seal keynum secret salt operations memory)
-unfolding key_to_seal unsealed_key
-opened_checksum keynum secret salt operations memory = refl
+-- so only memory can run out
+pub only_memory : (e : Fault) → ((e ≡ Named OutOfMemory) × IsOk (sealing_limits sealing_memory sealing_operations)) ⊎ (sealing_limits sealing_memory sealing_operations ≡ Err e)
+    → e ≡ Named OutOfMemory
+only_memory e (inl memory) = memory.0
+only_memory e (inr refused) = let differ = sym refused ∙ default_limits in cc differ
 
 -- a sealed pair opens under its password
 pub sealed_pair : {Z : Type 0} (public_of : List ℕ → List ℕ) (password : List ℕ) (z : RandomCall Z) (pk : PublicKeyRecord) (sk : SecretKeyRecord)
@@ -105,17 +48,11 @@ pub sealed_pair : {Z : Type 0} (public_of : List ℕ → List ℕ) (password : L
 sealed_pair public_of password z pk sk pair =
     let sealed : IsSealedOf public_of pair.seed pair.keynum pair.salt password pk sk = pair.sealed in
     let secret : List ℕ = secret_of public_of pair.seed in
-    let limits = sealed_limits pair.keynum secret pair.salt password in
-    let allowed : key_limits sk ≡ Ok (record { n_log2 = 15; r = 8; p = 1 }) = default_limits sk (ap (λ k. k.operations_limit) sealed.secret ∙ limits.0) (ap (λ k. k.memory_limit) sealed.secret ∙ limits.1) in
-    let numbers = allowed_numbers sk _ allowed in
-    let opens : Opens sk password None = record {
-      kdf = ap (λ k. k.kdf) sealed.secret ∙ sealed_kdf pair.keynum secret pair.salt password sealing_operations sealing_memory;
-      allowed = allowed ∙ ap (λ (v : Numbers). Ok v) (sym numbers);
-      bounded = refl;
-      restored = ap (λ k. k.checksum) sealed.opened ∙ opened_checksum pair.keynum secret pair.salt sealing_operations sealing_memory ∙ sym (ap checksum_of sealed.opened);
-    } in
+    let some : sealing_operations < 2 ^ 64 = omega arith in
+    let more : sealing_memory < 2 ^ 64 = omega arith in
+    let parts = subst (IsOfParts pair.keynum secret) (sym sealed.opened) (sealed_parts pair.keynum secret pair.salt sealing_operations sealing_memory) in
     record {
-      opens = opens;
-      pair = opened_pair public_of pair.seed pair.keynum pair.salt pk (xored_key sk password) pair.lengths sealed.public sealed.opened;
-      texts = λ text read. opens_to text password sk _ read opens.kdf allowed opens.restored;
+      opens = sealed_opens pair.keynum secret pair.salt password sealing_operations sealing_memory some more sk sealed.secret sealed.opened _ default_limits None;
+      pair = pair_of_parts public_of pair.seed pair.keynum pk (xored_key sk password) pair.lengths sealed.public parts;
+      texts = text_opens pair.keynum secret pair.salt password sealing_operations sealing_memory some more sk sealed.secret sealed.opened _ default_limits;
     }

@@ -1,4 +1,5 @@
--- What the proofs of other crates cite: of a verdict on texts that vouch for a message, and of verifying without an output.
+-- What the proofs of other crates cite: of a verdict on texts that vouch for a message, of verifying without an output, and
+-- of a sink that is written to in parts.
 use Rattle.std.proofs.Common.{◌≡◌, ℕ, Bool, List, sym, ap, ◌∙◌, inl, inr}
 use Rattle.std.specs.declared.result.Result.TheVariants.{Ok, Err}
 use Rattle.minisign_base.specs.Fault.{Fault, Named}
@@ -8,6 +9,7 @@ use Rattle.minisign.specs.Headline.{TextsVouchFor, verdict}
 use Rattle.minisign.specs.Texts.{IsReadOrNoMemory, and_then}
 use Rattle.minisign.proofs.Verdicts.{judged_verdict, vouched, vouches_judged}
 pub use Rattle.minisign.proofs.VerifyingLaws.{fails_without_output}
+pub use Rattle.minisign_base.proofs.Laws.{AppendsFront-after, AppendsFront-more}
 
 module _ (accepts : Verifier) (pk_text sig_text message : List ℕ) (legacy : Bool) where
   -- texts that vouch for a message are refused only where memory runs out

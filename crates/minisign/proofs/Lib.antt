@@ -14,7 +14,6 @@ pub mod ReadTexts
 pub mod WrittenLines
 pub mod Facts
 pub mod SecretKeyTexts
-pub mod GeneratedKeys
 pub mod Openings
 pub mod GivenKeys
 pub mod Asking
@@ -31,5 +30,6 @@ pub mod Laws
 pub mod VouchedTexts
 pub mod Commented
 pub mod MadeKeys
+pub mod GeneratedKeys
 pub mod Base64Pieces
 pub mod InPlace

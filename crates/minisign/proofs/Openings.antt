@@ -1,5 +1,5 @@
 -- What a secret key opens to, and when a text gives a key: the functions and the relations agree.
-use Rattle.std.proofs.Common.{◌≡◌, ℕ, Bool, true, false, not, ◌&&◌, if◌then◌else◌, bytes_eq, List, Option, None, Some, refl, sym, ap, subst, ◌∙◌, inl, inr}
+use Rattle.std.proofs.Common.{◌≡◌, ℕ, Bool, true, false, not, ◌&&◌, bytes_eq, List, Option, refl, sym, ap, subst, ◌∙◌, inl, inr}
 use Rattle.std.specs.declared.result.Result.{Result}
 use Rattle.std.specs.declared.result.Result.TheVariants.{Ok, Err}
 use Rattle.std.proofs.lemmas.Slice.Eq.{bytes_eq-Decides}
@@ -10,24 +10,12 @@ use Rattle.minisign_base.specs.declared.faults.NamedFault.TheVariants.{Corrupted
 use Rattle.minisign_kdf.specs.Params.{Numbers}
 use Rattle.minisign.specs.Records.{SecretKeyRecord}
 use Rattle.minisign.specs.SecretKeyText.{SecretKeyText, read_secret_key}
-use Rattle.minisign.specs.Sealing.{IsUnencrypted, Opens, bound_refusal, checksum_of, checksum_refusal, is_encrypted, is_within, key_limits, key_numbers, no_kdf, open_sealed, scrypt_kdf, sealed_by_scrypt, unencrypted_key, work_refusal, xored_key}
-use Rattle.minisign.specs.OpenedTexts.{IsOpened, IsUnencryptedText, OpensTo, open_key, read_sealed_key, read_unencrypted_key}
-use Rattle.minisign.specs.Texts.{IsReadOrNoMemory, IsReading, and_then, require, unless}
-use Rattle.minisign.proofs.ReadTexts.{is_reading, not_refused, passed, read_before, same_end, same_value}
+use Rattle.minisign.specs.Sealing.{allowed_work, checksum_of, is_encrypted, is_within, key_limits, key_numbers, no_kdf, open_sealed, restored_key, scrypt_kdf, sealed_by_scrypt, unencrypted_key, xored_key}
+use Rattle.minisign.specs.OpenedTexts.{IsOpened, IsUnencryptedText, open_key, read_sealed_key, read_unencrypted_key}
+use Rattle.minisign.specs.Texts.{IsReadOrNoMemory, IsReading, and_then, require}
+use Rattle.minisign.proofs.ReadTexts.{is_reading, passed, read_before, same_end, same_value}
 use Rattle.minisign.proofs.SealingLimits.{allowed_numbers}
 use Rattle.minisign.proofs.SecretKeyTexts.{read_as}
-
--- a test that holds
-held : (b : Bool) (e : Fault) → (if b then None else Some e) ≡ None → b ≡ true
-held true e h = refl
-held false e h = absurd (cc)
-
--- the checksum is restored exactly where nothing is refused
-checksum_held : (k : SecretKeyRecord) → checksum_refusal k ≡ None → k.checksum ≡ checksum_of k
-checksum_held k h = (bytes_eq-Decides k.checksum (checksum_of k)).0 (held _ (Named WrongPassword) h)
-
-checksum_none : (k : SecretKeyRecord) → k.checksum ≡ checksum_of k → checksum_refusal k ≡ None
-checksum_none k h = let same : bytes_eq k.checksum (checksum_of k) ≡ true = (bytes_eq-Decides k.checksum (checksum_of k)).1 h in rw same refl
 
 -- a key is taken as sealed by scrypt exactly where it names scrypt
 sealed_held : (k l : SecretKeyRecord) → sealed_by_scrypt k ≡ Ok l → (k ≡ l) × (k.kdf ≡ scrypt_kdf)
@@ -52,37 +40,44 @@ pub unencrypted_passed : (k : SecretKeyRecord) → Ok tt ≡ without_value (unen
 unencrypted_passed k h = both_passed (bytes_eq k.kdf no_kdf) (bytes_eq k.checksum (checksum_of k)) KeyMightBeEncrypted CorruptedKey k h
 
 -- limits that are allowed, and a parallelization within the bound
-work_held : (k : SecretKeyRecord) (bound : Option ℕ) (r : Result Numbers Fault) → key_limits k ≡ r → bound_refusal r bound ≡ None
+work_held : (k : SecretKeyRecord) (bound : Option ℕ) (w : Numbers) → allowed_work k bound ≡ Ok w
     → (key_limits k ≡ Ok (key_numbers k)) × (is_within bound (key_numbers k).p ≡ true)
-work_held k bound (Err e) same h = absurd (cc)
-work_held k bound (Ok v) same h =
-    let numbers : key_numbers k ≡ v = allowed_numbers k v same in
-    (same ∙ ap (λ (w : Numbers). Ok w) (sym numbers), ap (λ (w : Numbers). is_within bound w.p) numbers ∙ held _ (Named WorkTooHigh) h)
+work_held k bound w h =
+    let (v, limits, within) = read_before (key_limits k) (λ v. require (is_within bound v.p) WorkTooHigh (Ok v)) w h in
+    let numbers : key_numbers k ≡ v = allowed_numbers k v limits in
+    (limits ∙ ap (λ (n : Numbers). Ok n) (sym numbers), ap (λ (n : Numbers). is_within bound n.p) numbers ∙ (passed (is_within bound v.p) WorkTooHigh (Ok v) w within).0)
 
-pub work_none : (k : SecretKeyRecord) (v : Numbers) (bound : Option ℕ) → key_limits k ≡ Ok v → is_within bound v.p ≡ true → work_refusal k bound ≡ None
-work_none k v bound allowed within = ap (λ r. bound_refusal r bound) allowed ∙ rw within refl
+-- a checksum that is restored
+restored_held : (k v : SecretKeyRecord) → restored_key k ≡ Ok v → (k ≡ v) × (k.checksum ≡ checksum_of k)
+restored_held k v h =
+    let (same, is) = passed (bytes_eq k.checksum (checksum_of k)) WrongPassword (Ok k) v h in
+    (same_value k v is, (bytes_eq-Decides k.checksum (checksum_of k)).0 same)
 
 -- a sealed key opens exactly where the conditions hold
-opening_held : (k v : SecretKeyRecord) (password : List ℕ) (bound : Option ℕ) → k.kdf ≡ scrypt_kdf → open_sealed k password bound ≡ Ok v
-    → Opens k password bound × (v ≡ xored_key k password)
-opening_held k v password bound kdf h =
-    let opened : SecretKeyRecord = xored_key k password in
-    let work = not_refused (work_refusal k bound) (unless (checksum_refusal opened) (Ok opened)) v h in
-    let checksum = not_refused (checksum_refusal opened) (Ok opened) v work.1 in
-    let limits = work_held k bound (key_limits k) refl work.0 in (
-      record { kdf = kdf; allowed = limits.0; bounded = limits.1; restored = checksum_held opened checksum.0 },
-      sym (same_value opened v checksum.1),
-    )
+opening_held : (k v : SecretKeyRecord) (password : List ℕ) (bound : Option ℕ) → open_sealed k password bound ≡ Ok v
+    → (key_limits k ≡ Ok (key_numbers k)) × (is_within bound (key_numbers k).p ≡ true) × (xored_key k password ≡ v) × (v.checksum ≡ checksum_of v)
+opening_held k v password bound h =
+    let (w, work, restored) = read_before (allowed_work k bound) (λ _. restored_key (xored_key k password)) v h in
+    let (allowed, within) = work_held k bound w work in
+    let (is, checksum) = restored_held (xored_key k password) v restored in
+    (allowed, within, is, subst (λ (l : SecretKeyRecord). l.checksum ≡ checksum_of l) is checksum)
 
-opening_none : (k : SecretKeyRecord) (password : List ℕ) (bound : Option ℕ) → Opens k password bound → open_sealed k password bound ≡ Ok (xored_key k password)
-opening_none k password bound h =
-    rw (work_none k (key_numbers k) bound h.allowed h.bounded, checksum_none (xored_key k password) h.restored) refl
+-- and it opens within each bound that its parallelization is within
+pub opened_within : (k : SecretKeyRecord) (password : List ℕ) (bound : Option ℕ) (v : Numbers) → key_limits k ≡ Ok v
+    → (xored_key k password).checksum ≡ checksum_of (xored_key k password)
+    → open_sealed k password bound ≡ require (is_within bound v.p) WorkTooHigh (Ok (xored_key k password))
+opened_within k password bound v allowed h =
+    let checksum : bytes_eq (xored_key k password).checksum (checksum_of (xored_key k password)) ≡ true =
+    (bytes_eq-Decides (xored_key k password).checksum (checksum_of (xored_key k password))).1 h in
+    rw (allowed, checksum) (of (is_within bound v.p))
+  where
+    of : (b : Bool) → and_then (require b WorkTooHigh (Ok v)) (λ _. Ok (xored_key k password)) ≡ require b WorkTooHigh (Ok (xored_key k password))
+    of true = refl
+    of false = refl
 
-pub opened_so : (k v : SecretKeyRecord) (password : List ℕ) (bound : Option ℕ) → v ≡ xored_key k password → work_refusal k bound ≡ None
-    → checksum_refusal v ≡ None → open_sealed k password bound ≡ Ok v
-opened_so k v password bound is work checksum =
-    let restored : checksum_refusal (xored_key k password) ≡ None = ap checksum_refusal (sym is) ∙ checksum in
-    rw (work, restored) (ap (λ x. Ok x) (sym is))
+pub opened_so : (k v : SecretKeyRecord) (password : List ℕ) (bound : Option ℕ) (w : Numbers) → v ≡ xored_key k password
+    → allowed_work k bound ≡ Ok w → restored_key v ≡ Ok v → open_sealed k password bound ≡ Ok v
+opened_so k v password bound w is work restored = ap (λ r. and_then r (λ _. restored_key (xored_key k password))) work ∙ ap restored_key (sym is) ∙ restored
 
 -- a key that opened is not encrypted any more
 neither : (a b : Bool) → b ≡ true → a && not b ≡ false
@@ -91,10 +86,8 @@ neither false b h = refl
 
 pub opened_key_is_open : (k v : SecretKeyRecord) (password : List ℕ) (bound : Option ℕ) → open_sealed k password bound ≡ Ok v → is_encrypted v ≡ false
 opened_key_is_open k v password bound h =
-    let opened : SecretKeyRecord = xored_key k password in
-    let work = not_refused (work_refusal k bound) (unless (checksum_refusal opened) (Ok opened)) v h in
-    let checksum = not_refused (checksum_refusal opened) (Ok opened) v work.1 in
-    ap is_encrypted (sym (same_value opened v checksum.1)) ∙ neither _ _ ((bytes_eq-Decides opened.checksum (checksum_of opened)).1 (checksum_held opened checksum.0))
+    let (allowed, within, is, restored) = opening_held k v password bound h in
+    neither _ _ ((bytes_eq-Decides v.checksum (checksum_of v)).1 restored)
 
 -- the key of a text
 pub sealed_text : (text : List ℕ) (k : SecretKeyRecord) (r : Result SecretKeyRecord Fault) → read_secret_key text ≡ Ok k → sealed_by_scrypt k ≡ r → read_sealed_key text ≡ r
@@ -117,41 +110,32 @@ text_opens text password bound v h =
     let (k, sealed, opened) = read_before (read_sealed_key text) (λ l. open_sealed l password bound) v h in
     let (l, read, taken) = read_before (read_secret_key text) sealed_by_scrypt k sealed in
     let (same, kdf) = sealed_held l k taken in
-    let (opens, is) = opening_held l v password bound kdf (ap (λ m. open_sealed m password bound) same ∙ opened) in
-    record { sealed = l; read = ((read_as text).value l).0 read; opens = opens; key = is }
+    let (allowed, bounded, is, restored) = opening_held l v password bound (ap (λ m. open_sealed m password bound) same ∙ opened) in
+    record { sealed = l; read = ((read_as text).value l).0 read; kdf = kdf; allowed = allowed; bounded = bounded; key = sym is; restored = restored }
 
 opens_text : (text password : List ℕ) (bound : Option ℕ) (v : SecretKeyRecord) → IsOpened text password bound v → open_key text password bound ≡ Ok v
 opens_text text password bound v h =
     let read : read_secret_key text ≡ Ok h.sealed = ((read_as text).value h.sealed).1 h.read in
-    open_text text password bound h.sealed (sealed_text text h.sealed _ read (sealed_taken h.sealed h.opens.kdf))
-    ∙ opening_none h.sealed password bound h.opens ∙ ap (λ x. Ok x) (sym h.key)
+    let restored = subst (λ (l : SecretKeyRecord). l.checksum ≡ checksum_of l) h.key h.restored in
+    open_text text password bound h.sealed (sealed_text text h.sealed _ read (sealed_taken h.sealed h.kdf))
+    ∙ opened_within h.sealed password bound _ h.allowed restored ∙ rw h.bounded (ap (λ x. Ok x) (sym h.key))
 
 pub opened_as : (text password : List ℕ) (bound : Option ℕ) → IsReading (IsOpened text password bound) (open_key text password bound)
 opened_as text password bound =
     is_reading (IsOpened text password bound) (open_key text password bound) (λ v. (text_opens text password bound v, opens_text text password bound v))
 
--- a text opens to the key that a sealed one opens to, within each bound that its parallelization is within
-pub opens_to : (text password : List ℕ) (k : SecretKeyRecord) (v : Numbers) → read_secret_key text ≡ Ok k → k.kdf ≡ scrypt_kdf → key_limits k ≡ Ok v
-    → (xored_key k password).checksum ≡ checksum_of (xored_key k password) → OpensTo text password v.p (xored_key k password)
-opens_to text password k v read kdf allowed restored = λ bound.
-    open_text text password bound k (sealed_text text k _ read (sealed_taken k kdf)) ∙ rw (allowed, checksum_none (xored_key k password) restored) (of (is_within bound v.p))
-  where
-    of : (b : Bool) → unless (if b then None else Some (Named WorkTooHigh)) (Ok (xored_key k password)) ≡ require b WorkTooHigh (Ok (xored_key k password))
-    of true = refl
-    of false = refl
-
 -- a key is taken as one that was never sealed exactly where it is one
-pub unencrypted_taken : (k : SecretKeyRecord) → IsUnencrypted k → unencrypted_key k ≡ Ok k
-unencrypted_taken k h =
-    let kdf : bytes_eq k.kdf no_kdf ≡ true = (bytes_eq-Decides k.kdf no_kdf).1 h.kdf in
-    let checksum : bytes_eq k.checksum (checksum_of k) ≡ true = (bytes_eq-Decides k.checksum (checksum_of k)).1 h.checksum in
+pub unencrypted_taken : (k : SecretKeyRecord) → k.kdf ≡ no_kdf → k.checksum ≡ checksum_of k → unencrypted_key k ≡ Ok k
+unencrypted_taken k none same =
+    let kdf : bytes_eq k.kdf no_kdf ≡ true = (bytes_eq-Decides k.kdf no_kdf).1 none in
+    let checksum : bytes_eq k.checksum (checksum_of k) ≡ true = (bytes_eq-Decides k.checksum (checksum_of k)).1 same in
     rw (kdf, checksum) refl
 
-unencrypted_held : (k l : SecretKeyRecord) → unencrypted_key k ≡ Ok l → (k ≡ l) × IsUnencrypted k
+unencrypted_held : (k l : SecretKeyRecord) → unencrypted_key k ≡ Ok l → (k ≡ l) × (k.kdf ≡ no_kdf) × (k.checksum ≡ checksum_of k)
 unencrypted_held k l h =
     let kdf = passed (bytes_eq k.kdf no_kdf) KeyMightBeEncrypted (require (bytes_eq k.checksum (checksum_of k)) CorruptedKey (Ok k)) l h in
     let checksum = passed (bytes_eq k.checksum (checksum_of k)) CorruptedKey (Ok k) l kdf.1 in
-    (same_value k l checksum.1, record { kdf = (bytes_eq-Decides k.kdf no_kdf).0 kdf.0; checksum = (bytes_eq-Decides k.checksum (checksum_of k)).0 checksum.0 })
+    (same_value k l checksum.1, (bytes_eq-Decides k.kdf no_kdf).0 kdf.0, (bytes_eq-Decides k.checksum (checksum_of k)).0 checksum.0)
 
 pub unencrypted_text : (text : List ℕ) (k : SecretKeyRecord) (r : Result SecretKeyRecord Fault) → read_secret_key text ≡ Ok k → unencrypted_key k ≡ r → read_unencrypted_key text ≡ r
 unfolding read_unencrypted_key
@@ -165,13 +149,17 @@ text_is_unencrypted : (text : List ℕ) (v : SecretKeyRecord) → read_unencrypt
 unfolding read_unencrypted_key
 text_is_unencrypted text v h =
     let (k, read, taken) = read_before (read_secret_key text) unencrypted_key v h in
-    let (same, unencrypted) = unencrypted_held k v taken in
-    record { read = ((read_as text).value v).0 (read ∙ ap (λ x. Ok x) same); unencrypted = subst IsUnencrypted same unencrypted }
+    let (same, kdf, checksum) = unencrypted_held k v taken in
+    record {
+      read = ((read_as text).value v).0 (read ∙ ap (λ x. Ok x) same);
+      kdf = ap (λ (l : SecretKeyRecord). l.kdf) (sym same) ∙ kdf;
+      checksum = subst (λ (l : SecretKeyRecord). l.checksum ≡ checksum_of l) same checksum;
+    }
 
 pub unencrypted_as : (text : List ℕ) → IsReading (IsUnencryptedText text) (read_unencrypted_key text)
 unencrypted_as text = is_reading (IsUnencryptedText text) (read_unencrypted_key text) (λ v. (
   text_is_unencrypted text v,
-  λ h. unencrypted_text text v _ (((read_as text).value v).1 h.read) (unencrypted_taken v h.unencrypted),
+  λ h. unencrypted_text text v _ (((read_as text).value v).1 h.read) (unencrypted_taken v h.kdf h.checksum),
 ))
 
 -- how taking a key ends that was never sealed

@@ -12,7 +12,7 @@ use Rattle.minisign_base.specs.Fault.{Fault, Named}
 use Rattle.minisign_base.specs.declared.faults.NamedFault.TheVariants.{GoingBackFailed, OutOfMemory}
 use Rattle.minisign_base.specs.Members.{SinkOf, SourceOf}
 use Rattle.minisign_base.specs.DeviceCalls.{IsFlushed, IsSteady, IsUnflushed, IsWritingFault, Marks, RereaderCall, SinkCall, SinkFails, SinkHasNoNewFault, SourceFails, SourceHasNoNewFault, Takes, TakesFront, rereader_call, sink_call, unused}
-use Rattle.minisign_base.specs.StepLaws.{first_stopped, second_ends}
+use Rattle.minisign_base.proofs.Laws.{first_stopped, second_ends}
 use Rattle.minisign_base.specs.Steps.{StepsEnd}
 use Rattle.minisign.specs.declared.signed_data.SignedData.{SignedData}
 use Rattle.minisign.specs.declared.signed_data.SignedData.TheVariants.{Digest, Kept, Unkept}

@@ -1,14 +1,12 @@
 -- What a reading call answers, from what is read.
 use Rattle.std.proofs.Common.{◌≡◌, ◌↔◌, ◌⊎◌, Bool, true, false, refl, sym, ◌∙◌, inl, inr}
-use Rattle.std.specs.declared.option.Option.{Option}
-use Rattle.std.specs.declared.option.Option.TheVariants.{None, Some}
 use Rattle.std.specs.declared.result.Result.{Result}
 use Rattle.std.specs.declared.result.Result.TheVariants.{Ok, Err}
 use Rattle.minisign_base.specs.Fault.{Fault, Named}
 use Rattle.minisign_base.specs.Steps.{without_value}
 use Rattle.minisign_base.specs.declared.faults.NamedFault.{NamedFault}
 use Rattle.minisign_base.specs.declared.faults.NamedFault.TheVariants.{OutOfMemory}
-use Rattle.minisign.specs.Texts.{IsReadOrNoMemory, IsReading, and_then, require, unless}
+use Rattle.minisign.specs.Texts.{IsReadOrNoMemory, IsReading, and_then, require}
 
 -- what is read is one value at most
 pub one_value : {V : Type 0} (r : Result V Fault) (v w : V) → r ≡ Ok v → r ≡ Ok w → v ≡ w
@@ -26,11 +24,6 @@ is_reading reads read value = record {
 pub passed : {V : Type 0} (holds : Bool) (fault : NamedFault) (more : Result V Fault) (v : V) → require holds fault more ≡ Ok v → (holds ≡ true) × (more ≡ Ok v)
 passed true fault more v h = (refl, h)
 passed false fault more v h = cc h
-
--- the same behind a test that names its fault
-pub not_refused : {V : Type 0} (refusal : Option Fault) (more : Result V Fault) (v : V) → unless refusal more ≡ Ok v → (refusal ≡ None) × (more ≡ Ok v)
-not_refused None more v h = (refl, h)
-not_refused (Some e) more v h = cc h
 
 -- what is read on
 pub read_before : {V W : Type 0} (r : Result V Fault) (more : V → Result W Fault) (w : W) → and_then r more ≡ Ok w → (v : V) × (r ≡ Ok v) × (more v ≡ Ok w)

@@ -6,7 +6,7 @@ use Rattle.std.proofs.lemmas.Simd.{length-zip2}
 use Rattle.std.specs.Simd.Lanes.{zip2}
 use Rattle.minisign.proofs.Xor.{xor_halves, xor_twice}
 use Rattle.minisign.specs.Records.{SecretKeyRecord}
-use Rattle.minisign.specs.Sealing.{key_numbers, key_xor, sealed_part, stream_of, key_with_part, xored_key}
+use Rattle.minisign.specs.Sealing.{key_numbers, key_xor, stream_of, xored_key}
 
 -- the fields that are sealed have their lengths
 pub record HasSealedLengths (k : SecretKeyRecord) : Type 0 where
@@ -17,6 +17,10 @@ pub record HasSealedLengths (k : SecretKeyRecord) : Type 0 where
 -- the key with these three fields
 abbrev pub with_fields : SecretKeyRecord → List ℕ → List ℕ → List ℕ → SecretKeyRecord
 with_fields k a b c = record k { keynum = a; secret = b; checksum = c }
+
+-- the key with other bytes there
+abbrev key_with_part : SecretKeyRecord → List ℕ → SecretKeyRecord
+key_with_part k part = with_fields k (take 8 part) (take 64 (drop 8 part)) (take 32 (drop 72 part))
 
 -- a part of three fields, cut again
 cut_fields : (k : SecretKeyRecord) (a b c : List ℕ) → length a ≡ 8 → length b ≡ 64 → length c ≡ 32
@@ -36,7 +40,7 @@ pub xored_fields : (k : SecretKeyRecord) (a b c : List ℕ) → HasSealedLengths
     → key_xor k (a ++ b ++ c) ≡ with_fields k (zip2 bit_xor k.keynum a) (zip2 bit_xor k.secret b) (zip2 bit_xor k.checksum c)
 unfolding key_xor
 xored_fields k a b c len la lb lc =
-    let halves : zip2 bit_xor (sealed_part k) (a ++ b ++ c) ≡ zip2 bit_xor k.keynum a ++ zip2 bit_xor k.secret b ++ zip2 bit_xor k.checksum c =
+    let halves : zip2 bit_xor (k.keynum ++ k.secret ++ k.checksum) (a ++ b ++ c) ≡ zip2 bit_xor k.keynum a ++ zip2 bit_xor k.secret b ++ zip2 bit_xor k.checksum c =
     xor_halves (k.keynum ++ k.secret) k.checksum (a ++ b) c
     (length-append k.keynum k.secret ∙ omega (arith, len.keynum, len.secret, la, lb) ∙ sym (length-append a b))
     ∙ ap (λ (l : List ℕ). l ++ zip2 bit_xor k.checksum c) (xor_halves k.keynum k.secret a b (len.keynum ∙ sym la)) in

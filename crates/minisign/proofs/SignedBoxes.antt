@@ -3,13 +3,15 @@ use Rattle.std.proofs.Common.{◌≡◌, ℕ, true, false, List, ◌++◌, lengt
 use Rattle.std.proofs.lemmas.List.{take_all}
 use Rattle.std.specs.Option.{IsSomeAnd}
 use Rattle.minisign_hash.specs.Blake2b.{blake2b_digest}
-use Rattle.minisign_base.specs.DeviceCalls.{RandomCall}
+use Rattle.minisign_base.specs.DeviceCalls.{RandomCall, SourceCall}
 use Rattle.minisign_base.specs.Fault.{Fault, Named}
 use Rattle.minisign_base.specs.declared.faults.NamedFault.TheVariants.{RefusedByGivenKey}
 use Rattle.minisign_base.specs.Scheme.{IsBytes, AreRandomBytes}
 use Rattle.minisign.specs.Records.{PublicKeyRecord, SecretKeyRecord, SignatureBoxRecord, prehashed_algorithm}
 use Rattle.minisign.specs.Acceptance.{Verifier, accepts_comments}
-use Rattle.minisign.specs.Signing.{Signer, ChosenComments, GivenKeyRefuses, IsSigned, signed_box, VouchesWhereGenuine}
+use Rattle.minisign.specs.Reading.{ReadsWhole}
+use Rattle.minisign.specs.Sealing.{is_encrypted}
+use Rattle.minisign.specs.Signing.{Signer, ChosenComments, IsSigned, RefusesSigned, signed_box, VouchesWhereGenuine}
 
 -- a box of these parts
 abbrev pub box_of : List ℕ → List ℕ → ChosenComments → List ℕ → SignatureBoxRecord
@@ -50,10 +52,11 @@ genuine_box accepts sign public_of own sk message chosen first second keynum sig
     }
 
 -- a public key that is given and refuses the box that was made is the reason
-pub refused_by_given : {Z : Type 0} (accepts : Verifier) (sign : Signer) (pk : Option PublicKeyRecord) (sk : SecretKeyRecord) (message : List ℕ)
-    (chosen : ChosenComments) (z : RandomCall Z) (x : SignatureBoxRecord) (e : Fault) → IsSigned sign sk message chosen z x
+pub refused_by_given : {R Z : Type 0} (accepts : Verifier) (sign : Signer) (pk : Option PublicKeyRecord) (sk : SecretKeyRecord) (message : List ℕ)
+    (chosen : ChosenComments) (r : SourceCall R) (z : RandomCall Z) (x : SignatureBoxRecord) (e : Fault) → is_encrypted sk ≡ false
+    → ReadsWhole r.source r.old r.new message → IsSigned sign sk message chosen z x
     → IsSomeAnd pk (λ p. (e ≡ Named (RefusedByGivenKey p.keynum)) × (accepts_comments accepts p x ≡ false))
-    → IsSomeAnd pk (λ p. GivenKeyRefuses accepts sign p sk message chosen z e)
-refused_by_given accepts sign None sk message chosen z x e signed refused = absurd refused
-refused_by_given accepts sign (Some p) sk message chosen z x e signed (fault, refused) =
-    record { fault = fault; made = x; signed = signed; refused = refused }
+    → IsSomeAnd pk (λ p. (e ≡ Named (RefusedByGivenKey p.keynum)) × RefusesSigned accepts sign p sk chosen r z)
+refused_by_given accepts sign None sk message chosen r z x e opened read signed refused = absurd refused
+refused_by_given accepts sign (Some p) sk message chosen r z x e opened read signed (fault, refused) =
+    (fault, record { opened = opened; message = message; read = read; made = x; signed = signed; refused = refused })

@@ -4,14 +4,14 @@ use Rattle.std.specs.Prelude.{◌≡◌, ℕ, ◌<◌, ◌≤◌, Bool, true, fa
 use Rattle.std.specs.declared.result.Result.{Result}
 use Rattle.minisign_base.specs.Fault.{Fault, Named}
 use Rattle.minisign_base.specs.declared.faults.NamedFault.TheVariants.{EncryptedKeyRefused, OutOfMemory, PasswordTooLong, ReadingFailed}
-use Rattle.minisign_base.specs.DeviceCalls.{IsFlushed, IsSteady, RandomCall, RereaderCall, SinkCall, SourceCall, Takes, unused}
+use Rattle.minisign_base.specs.DeviceCalls.{IsFlushed, IsSteady, RandomCall, RereaderCall, SinkCall, Takes, unused}
 use Rattle.minisign.specs.Records.{CommentsRecord, PublicKeyRecord, SecretKeyRecord, SignatureBoxRecord}
 use Rattle.minisign.specs.Acceptance.{Flags, Verifier}
 use Rattle.minisign.specs.Generation.{AllDrawn}
 use Rattle.minisign.specs.Headline.{TextsVouchFor, verdict}
 use Rattle.minisign.specs.Sealing.{is_encrypted}
 use Rattle.minisign.specs.SignatureText.{read_signature_box}
-use Rattle.minisign.specs.Signing.{DrawFails, KeyIsSealed, OpenedSigningFails, RunsOutDrawing}
+use Rattle.minisign.specs.Signing.{DrawFails, RunsOutDrawing}
 use Rattle.minisign.specs.TextFiles.{IsTextFileFault}
 use Rattle.minisign.specs.Verifying.{ReadsTwice, VerifyingFails}
 use Rattle.minisign.specs.VerifyingTexts.{ReadTexts, TextsFail}
@@ -79,11 +79,6 @@ abbrev pub BytesSigningFails : {Z : Type 0} → SecretKeyRecord → RandomCall Z
 BytesSigningFails sk z e =
     ((e ≡ Named EncryptedKeyRefused) × (is_encrypted sk ≡ true) × (z.new ≡ z.old))
     ⊎ ((is_encrypted sk ≡ false) × (RunsOutDrawing z e ⊎ DrawFails z e))
-
--- signing what a reader has ahead fails: the key is sealed, with nothing read or drawn; or it is opened, and memory
--- runs out, the reader fails, or all was read and the random source fails
-abbrev pub ReaderSigningFails : {R Z : Type 0} → SecretKeyRecord → SourceCall R → RandomCall Z → Fault → Type 0
-ReaderSigningFails sk r z e = KeyIsSealed sk r z e ⊎ ((is_encrypted sk ≡ false) × OpenedSigningFails r z e)
 
 -- signing the data of a file fails: as signing bytes does; or the key is opened, and the file could not be opened
 -- or read, with nothing drawn

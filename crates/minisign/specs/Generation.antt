@@ -1,6 +1,7 @@
 -- The pairs of keys that generation makes, from which random bytes, and what the sinks of a pair take.
-use Rattle.std.specs.Prelude.{◌≡◌, ℕ, ◌⊎◌, List, [], ◌++◌, length, replicate, Option, None, Ok, Err, codes}
+use Rattle.std.specs.Prelude.{◌≡◌, ℕ, ◌⊎◌, List, ◌++◌, length, replicate, Option, None, Ok, Err, codes}
 use Rattle.std.specs.Int.{w64, to_le_bytes}
+use Rattle.minisign_hash.specs.Blake2b.{blake2b_digest}
 use Rattle.minisign_base.specs.DeviceCalls.{FailsAtPart, PromptCall, RandomCall, SinkCall, TakesPart}
 use Rattle.minisign_base.specs.Fault.{Fault, Named}
 use Rattle.minisign_base.specs.declared.faults.NamedFault.TheVariants.{OutOfMemory, WritingFailed}
@@ -9,14 +10,11 @@ use Rattle.minisign.specs.NewPassword.{IsSealing}
 use Rattle.minisign.specs.PublicKeyText.{public_key_text}
 use Rattle.minisign.specs.Records.{PublicKeyRecord, SecretKeyRecord, legacy_algorithm, public_key_bytes}
 use Rattle.minisign.specs.Records.{secret_key_bytes}
-use Rattle.minisign.specs.Sealing.{Opens, checksum_of, no_kdf, scrypt_kdf, xored_key}
+use Rattle.minisign.specs.Sealing.{no_kdf, open_sealed, scrypt_kdf, sealed_by_scrypt, xored_key}
 use Rattle.minisign.specs.SecretKeyText.{read_secret_key, secret_key_text}
 use Rattle.minisign.specs.Signing.{DrawFails, HasDrawn, IsGenuine, RandomHasNoNewFault}
 use Rattle.minisign.specs.OpenedTexts.{OpensTo}
-
--- the checksum's algorithm: Blake2b
-abbrev pub blake2b_algorithm : List ℕ
-blake2b_algorithm = codes "B2"
+use Rattle.minisign.specs.Texts.{and_then}
 
 -- the operations limit of a key that is sealed
 abbrev pub sealing_operations : ℕ
@@ -26,11 +24,7 @@ sealing_operations = 1048576
 abbrev pub sealing_memory : ℕ
 sealing_memory = 33554432
 
--- so many zero bytes
-abbrev pub zeros : ℕ → List ℕ
-zeros n = replicate n 0
-
--- the public key of a seed under an identifier
+-- the public key of a seed under a key ID
 abbrev pub public_key_of : (List ℕ → List ℕ) → List ℕ → List ℕ → PublicKeyRecord
 public_key_of public_of seed keynum = record { algorithm = legacy_algorithm; keynum = keynum; key = public_of seed }
 
@@ -38,23 +32,19 @@ public_key_of public_of seed keynum = record { algorithm = legacy_algorithm; key
 abbrev pub secret_of : (List ℕ → List ℕ) → List ℕ → List ℕ
 secret_of public_of seed = seed ++ public_of seed
 
--- the key with the checksum that its other fields call for
-abbrev pub key_with_checksum : SecretKeyRecord → SecretKeyRecord
-key_with_checksum k = record k { checksum = checksum_of k }
-
--- the secret key of an identifier and 64 secret bytes that is not to be sealed
+-- the secret key of a key ID and 64 secret bytes that is not to be sealed, with the checksum that these call for
 unfoldable pub unsealed_key : List ℕ → List ℕ → SecretKeyRecord
-unsealed_key keynum secret = key_with_checksum (record {
+unsealed_key keynum secret = record {
   algorithm = legacy_algorithm;
   kdf = no_kdf;
-  checksum_algorithm = blake2b_algorithm;
-  salt = zeros 32;
-  operations_limit = zeros 8;
-  memory_limit = zeros 8;
+  checksum_algorithm = codes "B2";
+  salt = replicate 32 0;
+  operations_limit = replicate 8 0;
+  memory_limit = replicate 8 0;
   keynum = keynum;
   secret = secret;
-  checksum = [];
-})
+  checksum = blake2b_digest 32 (legacy_algorithm ++ keynum ++ secret);
+}
 
 -- the one that is to be sealed with a salt of 32 bytes and these limits, as it is before, and again once it is opened
 unfoldable pub key_to_seal : List ℕ → List ℕ → List ℕ → ℕ → ℕ → SecretKeyRecord
@@ -69,19 +59,15 @@ key_to_seal keynum secret salt operations memory = record (unsealed_key keynum s
 abbrev pub opened_key : List ℕ → List ℕ → List ℕ → SecretKeyRecord
 opened_key keynum secret salt = key_to_seal keynum secret salt sealing_operations sealing_memory
 
--- that key sealed under a password: the xor of sealing is that of opening
-abbrev pub sealed_key : List ℕ → List ℕ → List ℕ → List ℕ → SecretKeyRecord
-sealed_key keynum secret salt password = xored_key (opened_key keynum secret salt) password
-
 -- the keys belong together: the secret key is a genuine one, and the public key is that of its seed under
--- its identifier
+-- its key ID
 pub record IsGenuinePair (public_of : List ℕ → List ℕ) (pk : PublicKeyRecord) (sk : SecretKeyRecord) : Type 0 where
   pub seed : List ℕ
   pub genuine : IsGenuine public_of sk seed
   pub key : pk.key ≡ public_of seed
   pub keynum : pk.keynum ≡ sk.keynum
 
--- 32 random bytes of a seed, and then 8 of an identifier
+-- 32 random bytes of a seed, and then 8 of a key ID
 pub record AreSeedAndKeynum (seed keynum : List ℕ) : Type 0 where
   pub seed_length : length seed ≡ 32
   pub seed_bytes : IsBytes seed
@@ -98,12 +84,12 @@ pub record IsUnsealedPair {Z : Type 0} (public_of : List ℕ → List ℕ) (z : 
   pub public : pk ≡ public_key_of public_of seed keynum
   pub secret : sk ≡ unsealed_key keynum (secret_of public_of seed)
 
--- the sealed pair of a seed under an identifier, with a salt, under a password
+-- the sealed pair of a seed under a key ID, with a salt, under a password
 pub record IsSealedOf (public_of : List ℕ → List ℕ) (seed keynum salt password : List ℕ)
     (pk : PublicKeyRecord) (sk : SecretKeyRecord) : Type 0 where
   pub public : pk ≡ public_key_of public_of seed keynum
-  pub secret : sk ≡ sealed_key keynum (secret_of public_of seed) salt password
-  -- opening gives the key as it was
+  -- the xor of sealing is that of opening, which gives the key as it was
+  pub secret : sk ≡ xored_key (opened_key keynum (secret_of public_of seed) salt) password
   pub opened : xored_key sk password ≡ opened_key keynum (secret_of public_of seed) salt
 
 -- the sealed pair of random bytes that were drawn: those of the other pair, and then 32 of a salt
@@ -125,27 +111,22 @@ OpensOnlyTo text password key = OpensTo text password 1 key
 -- as it
 pub record OpensToPair (public_of : List ℕ → List ℕ) (password : List ℕ)
     (pk : PublicKeyRecord) (sk : SecretKeyRecord) : Type 0 where
-  pub opens : Opens sk password None
+  pub opens : and_then (sealed_by_scrypt sk) (λ k. open_sealed k password None) ≡ Ok (xored_key sk password)
   pub pair : IsGenuinePair public_of pk (xored_key sk password)
   pub texts : (text : List ℕ) → read_secret_key text ≡ Ok sk → OpensOnlyTo text password (xored_key sk password)
-
--- the two parts could not be written: the public sink failed at the public part, with the secret sink as it
--- was, or took and flushed it, and the secret sink failed at the secret part
-pub record WritingFails {P K : Type 0} (pk_sink : SinkCall P) (sk_sink : SinkCall K)
-    (public secret : List ℕ) (e : Fault) : Type 0 where
-  pub fault : e ≡ Named WritingFailed
-  pub part : (FailsAtPart pk_sink public × (sk_sink.new ≡ sk_sink.old))
-      ⊎ (TakesPart pk_sink public × FailsAtPart sk_sink secret)
 
 -- both sinks are as they were
 abbrev pub AreUnwritten : {P K : Type 0} → SinkCall P → SinkCall K → Type 0
 AreUnwritten pk_sink sk_sink = (pk_sink.new ≡ pk_sink.old) × (sk_sink.new ≡ sk_sink.old)
 
--- a pair's parts are not written: memory ran out for them, and both sinks are as they were, or a sink
--- failed
+-- a pair's parts are not written: memory ran out for them, with both sinks as they were; or the public sink failed at the
+-- public part, with the secret sink as it was, or took and flushed it, and the secret sink failed at the secret part
 abbrev pub PartsFail : {P K : Type 0} → SinkCall P → SinkCall K → List ℕ → List ℕ → Fault → Type 0
 PartsFail pk_sink sk_sink public secret e =
-    ((e ≡ Named OutOfMemory) × AreUnwritten pk_sink sk_sink) ⊎ WritingFails pk_sink sk_sink public secret e
+    ((e ≡ Named OutOfMemory) × AreUnwritten pk_sink sk_sink)
+    ⊎ ((e ≡ Named WritingFailed)
+    × ((FailsAtPart pk_sink public × (sk_sink.new ≡ sk_sink.old))
+    ⊎ (TakesPart pk_sink public × FailsAtPart sk_sink secret)))
 
 -- a pair that is not sealed is not written as raw bytes: the random source failed, and both sinks are as they
 -- were, or it did not, and a pair was made whose parts were not written

@@ -32,11 +32,8 @@ pub use Rattle.minisign_base.specs.Identifiers
 pub use Rattle.minisign_base.specs.Limits
 pub use Rattle.minisign_base.specs.Members
 pub use Rattle.minisign_base.specs.Passwords
-pub use Rattle.minisign_base.specs.PromptLaws
 pub use Rattle.minisign_base.specs.Prompts
 pub use Rattle.minisign_base.specs.Scheme
-pub use Rattle.minisign_base.specs.SinkLaws
-pub use Rattle.minisign_base.specs.StepLaws
 pub use Rattle.minisign_base.specs.Steps
 pub use Rattle.minisign_base.specs.Toy
 pub use Rattle.minisign_base.specs.declared.errors.ErrorKind.TheVariants as ErrorKinds

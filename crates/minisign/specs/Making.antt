@@ -1,5 +1,5 @@
 -- Keys that are made of their parts, and the texts of both: 64 secret bytes, of a seed and of its public key,
--- under an identifier.
+-- under a key ID.
 use Rattle.std.specs.Prelude.{◌≡◌, ◌⊎◌, ◌+◌, ℕ, List, length, false, Option, None, Some, IsOk, Ok, Err}
 use Rattle.std.specs.Str.Iter.{LacksByte}
 use Rattle.minisign_base.specs.Fault.{Fault, Named}
@@ -27,23 +27,14 @@ made_key keynum secret None s = unsealed_key keynum secret
 made_key keynum secret (Some password) s =
     xored_key (key_to_seal keynum secret s.salt s.operations_limit s.memory_limit) password
 
--- the text opens under the password to the key of these parts, whatever bound p is within, and to no other key
-pub record OpensToParts (text password keynum secret : List ℕ) (p : ℕ) : Type 0 where
-  pub key : SecretKeyRecord
-  pub parts : IsOfParts keynum secret key
-  pub opens : OpensTo text password p key
-
--- the text reads as the key of these parts, which was never sealed
-pub record ReadsAsParts (text keynum secret : List ℕ) : Type 0 where
-  pub key : SecretKeyRecord
-  pub parts : IsOfParts keynum secret key
-  pub reads : read_unencrypted_key text ≡ Ok key
-
--- the text gives back the key of these parts: with the password, or without one
+-- the text gives back the key of these parts: without a password it reads as this key, which was never sealed; under
+-- the password it opens to this key, whatever bound its parallelization is within, and to no other
 abbrev pub GivesParts : List ℕ → Option (List ℕ) → List ℕ → List ℕ → Sealing → Type 0
-GivesParts text None keynum secret s = ReadsAsParts text keynum secret
+GivesParts text None keynum secret s =
+    (key : SecretKeyRecord) × IsOfParts keynum secret key × (read_unencrypted_key text ≡ Ok key)
 GivesParts text (Some password) keynum secret s =
-    OpensToParts text password keynum secret (numbers s.memory_limit s.operations_limit).p
+    (key : SecretKeyRecord) × IsOfParts keynum secret key
+    × OpensTo text password (numbers s.memory_limit s.operations_limit).p key
 
 -- the text of the secret key that is made of these parts: a line of comment, and a line of base64
 pub record IsMadeText (keynum secret : List ℕ) (password : Option (List ℕ)) (s : Sealing)

@@ -1,12 +1,13 @@
 -- What a secret key's text gives, under a password or without one: the key, or the first fault; and the same as
 -- relations.
-use Rattle.std.specs.Prelude.{◌≡◌, ℕ, Bool, false, not, if◌then◌else◌, bytes_eq, List, Option, None, Result, Ok, Err}
+use Rattle.std.specs.Prelude.{◌≡◌, ℕ, Bool, true, false, not, if◌then◌else◌, bytes_eq, List, Option, None}
+use Rattle.std.specs.Prelude.{Result, Ok, Err}
 use Rattle.minisign_base.specs.Fault.{Fault}
 use Rattle.minisign_base.specs.declared.faults.NamedFault.TheVariants.{WorkTooHigh}
 use Rattle.minisign.specs.Records.{SecretKeyRecord}
 use Rattle.minisign.specs.SecretKeyText.{SecretKeyText, read_secret_key}
-use Rattle.minisign.specs.Sealing.{IsUnencrypted, Opens, is_within, no_kdf, open_sealed, sealed_by_scrypt}
-use Rattle.minisign.specs.Sealing.{unencrypted_key, xored_key}
+use Rattle.minisign.specs.Sealing.{checksum_of, is_within, key_limits, key_numbers, no_kdf, open_sealed, scrypt_kdf}
+use Rattle.minisign.specs.Sealing.{sealed_by_scrypt, unencrypted_key, xored_key}
 use Rattle.minisign.specs.Texts.{and_then, require}
 
 -- the sealed key that a text reads as
@@ -41,14 +42,19 @@ abbrev pub OpensTo : List ℕ → List ℕ → ℕ → SecretKeyRecord → Type 
 OpensTo text password p key =
     (bound : Option ℕ) → open_key text password bound ≡ require (is_within bound p) WorkTooHigh (Ok key)
 
--- the text reads as a key that opens under the password within the bound, and this is the key opened
+-- the text reads as a key that is sealed, whose limits are allowed and whose parallelization is within the bound; the
+-- stream under the password restores its checksum; and this is the key opened
 pub record IsOpened (text password : List ℕ) (bound : Option ℕ) (opened : SecretKeyRecord) : Type 0 where
   pub sealed : SecretKeyRecord
   pub read : SecretKeyText text sealed
-  pub opens : Opens sealed password bound
+  pub kdf : sealed.kdf ≡ scrypt_kdf
+  pub allowed : key_limits sealed ≡ Ok (key_numbers sealed)
+  pub bounded : is_within bound (key_numbers sealed).p ≡ true
   pub key : opened ≡ xored_key sealed password
+  pub restored : opened.checksum ≡ checksum_of opened
 
 -- the text reads as this key, which was never sealed and whose checksum matches
 pub record IsUnencryptedText (text : List ℕ) (k : SecretKeyRecord) : Type 0 where
   pub read : SecretKeyText text k
-  pub unencrypted : IsUnencrypted k
+  pub kdf : k.kdf ≡ no_kdf
+  pub checksum : k.checksum ≡ checksum_of k

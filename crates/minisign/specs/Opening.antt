@@ -1,5 +1,6 @@
 -- How opening the text of a sealed key ends, with a password that is passed in or asked for.
-use Rattle.std.specs.Prelude.{◌≡◌, ◌⊎◌, ℕ, List, [], ◌∷◌, ◌++◌, Option, None, Some, Result, Ok, Err, IsErrAnd}
+use Rattle.std.specs.Prelude.{◌≡◌, ◌⊎◌, ℕ, List, [], ◌∷◌, ◌++◌, Option, None, Some, Result, Ok, Err}
+use Rattle.std.specs.Result.{result_err}
 use Rattle.minisign_base.specs.Fault.{Fault, Named}
 use Rattle.minisign_base.specs.DeviceCalls.{PromptCall}
 use Rattle.minisign_base.specs.declared.faults.NamedFault.TheVariants.{OutOfMemory}
@@ -8,18 +9,17 @@ use Rattle.minisign_base.specs.Passwords.{password_of, typed_password}
 use Rattle.minisign.specs.PromptTexts.{asking_text, deriving_text, done_text}
 use Rattle.minisign.specs.Records.{SecretKeyRecord}
 use Rattle.minisign.specs.OpenedTexts.{open_key, read_sealed_key}
-use Rattle.minisign.specs.Sealing.{checksum_refusal, work_refusal, xored_key}
-use Rattle.minisign.specs.TextFiles.{IsTextFileFault}
+use Rattle.minisign.specs.Sealing.{allowed_work, restored_key, xored_key}
 use Rattle.minisign.specs.Texts.{IsReadOrNoMemory}
 
 -- the derivation is told to be done, and then the checksum is to be restored
 abbrev pub ending_steps : SecretKeyRecord → List Step
-ending_steps opened = Say done_text ∷ Test (checksum_refusal opened) ∷ []
+ending_steps opened = Say done_text ∷ Test (result_err (restored_key opened)) ∷ []
 
 -- the derivation is told of, which the limits and the bound are to allow, and for which memory is to be found
 abbrev pub telling_steps : SecretKeyRecord → List ℕ → Option ℕ → List Step
 telling_steps k password bound =
-    Say deriving_text ∷ Test (work_refusal k bound) ∷ Allocate ∷ ending_steps (xored_key k password)
+    Say deriving_text ∷ Test (result_err (allowed_work k bound)) ∷ Allocate ∷ ending_steps (xored_key k password)
 
 -- a sealed key is opened with the password that is typed in these bytes
 abbrev pub opening_steps : SecretKeyRecord → Option ℕ → List ℕ → List Step
@@ -40,11 +40,3 @@ IsOpening p None text bound (Err e) =
     (((e ≡ Named OutOfMemory) ⊎ (read_sealed_key text ≡ Err e)) × (p.new ≡ p.old))
     ⊎ ((k : SecretKeyRecord) × (bytes : List ℕ) × (read_sealed_key text ≡ Ok k)
     × ConversationEnds p (opening_steps k bound bytes) (Err e))
-
--- how opening the key of a file ends: the file gave no text, with the prompt untouched, or it gave one, and
--- this is how opening its key ended
-abbrev pub IsFileOpening : {R W : Type 0} → PromptCall R W → Option (List ℕ) → Option ℕ
-    → Result SecretKeyRecord Fault → Type 0
-IsFileOpening p password bound answer =
-    (IsErrAnd answer IsTextFileFault × (p.new ≡ p.old))
-    ⊎ ((text : List ℕ) × IsOpening p password text bound answer)

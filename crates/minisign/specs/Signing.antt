@@ -8,7 +8,9 @@ use Rattle.minisign_hash.specs.Blake2b.{blake2b_digest}
 use Rattle.minisign_base.specs.Devices.{Rose}
 use Rattle.minisign_base.specs.DeviceCalls.{RandomCall, SourceCall}
 use Rattle.minisign_base.specs.Fault.{Fault, Named}
-use Rattle.minisign_base.specs.declared.faults.NamedFault.TheVariants.{OutOfMemory, RandomSourceFailed, EncryptedKeyRefused, RefusedByGivenKey}
+use Rattle.minisign_base.specs.declared.faults.NamedFault.TheVariants.{OutOfMemory, RandomSourceFailed}
+use Rattle.minisign_base.specs.declared.faults.NamedFault.TheVariants.{EncryptedKeyRefused, RefusedByGivenKey}
+use Rattle.minisign_base.specs.Members.{SchemeOf}
 use Rattle.minisign_base.specs.Scheme.{IsBytes, AreRandomBytes}
 use Rattle.minisign.specs.Records.{PublicKeyRecord, SecretKeyRecord, SignatureBoxRecord, prehashed_algorithm}
 use Rattle.minisign.specs.Acceptance.{Verifier, VouchesUnderEachKey, accepts_comments}
@@ -35,8 +37,10 @@ pub record ChosenComments : Type 0 where
 
 -- the comments that are given, or else the defaults: the moment as the trusted one
 abbrev pub comments_or_defaults : Option (List ℕ) → Option (List ℕ) → ℕ → ChosenComments
-comments_or_defaults trusted untrusted moment =
-    record { trusted = unwrap_or trusted (default_trusted_comment moment); untrusted = unwrap_or untrusted default_untrusted_comment }
+comments_or_defaults trusted untrusted moment = record {
+  trusted = unwrap_or trusted (default_trusted_comment moment);
+  untrusted = unwrap_or untrusted default_untrusted_comment;
+}
 
 -- the comments that a caller hands over, or else the defaults
 abbrev pub given_comments : Option (Bor (List ℕ)) → Option (Bor (List ℕ)) → ℕ → ChosenComments
@@ -51,9 +55,11 @@ chosen_of comments = given_comments comments.trusted comments.untrusted comments
 abbrev pub signed_box : Signer → SecretKeyRecord → List ℕ → ChosenComments → List ℕ → List ℕ → SignatureBoxRecord
 signed_box sign sk message chosen z1 z2 =
     let signature = sign (blake2b_digest 64 message) sk.secret (Some z1) in
+    let comment_signature = sign (signature ++ chosen.trusted) sk.secret (Some z2) in
     record {
       signature = record { algorithm = prehashed_algorithm; keynum = sk.keynum; signature = signature };
-      comments = Some (record { untrusted = chosen.untrusted; trusted = chosen.trusted; signature = sign (signature ++ chosen.trusted) sk.secret (Some z2) });
+      comments =
+          Some (record { untrusted = chosen.untrusted; trusted = chosen.trusted; signature = comment_signature });
     }
 
 -- these bytes were drawn, where they are known
@@ -62,7 +68,8 @@ HasDrawn z bytes = Consumes (z.random.random_ahead z.old) (z.random.random_ahead
 
 -- the box is the one that signing makes of the message with random bytes that were drawn: 64 for the
 -- signature and then 64 for the comment signature
-pub record IsSigned {Z : Type 0} (sign : Signer) (sk : SecretKeyRecord) (message : List ℕ) (chosen : ChosenComments) (z : RandomCall Z) (x : SignatureBoxRecord) : Type 0 where
+pub record IsSigned {Z : Type 0} (sign : Signer) (sk : SecretKeyRecord) (message : List ℕ) (chosen : ChosenComments)
+    (z : RandomCall Z) (x : SignatureBoxRecord) : Type 0 where
   pub first : List ℕ
   pub second : List ℕ
   pub first_random : AreRandomBytes (Some first)
@@ -86,33 +93,21 @@ abbrev pub VouchesWhereGenuine : Verifier → (List ℕ → List ℕ) → Secret
 VouchesWhereGenuine accepts public_of sk message x =
     (seed : List ℕ) → IsGenuine public_of sk seed → VouchesUnderEachKey accepts (public_of seed) sk.keynum message x
 
+-- the box is signed with the key, and where that is genuine it is accepted
+abbrev pub HasSignedBox : {S Z : Type 0} → SchemeOf S → S → SecretKeyRecord → List ℕ → ChosenComments → RandomCall Z
+    → SignatureBoxRecord → Type 0
+HasSignedBox s scheme sk message chosen z x =
+    IsSigned (s.signature_of scheme) sk message chosen z x
+    × VouchesWhereGenuine (s.accepts scheme) (s.public_of scheme) sk message x
+
 -- the chosen comments are read back as they were written
 abbrev pub AreChosenReadBack : ChosenComments → Type 0
 AreChosenReadBack chosen = AreReadBack chosen.untrusted chosen.trusted
-
--- the key is sealed; nothing was read or drawn
-pub record KeyIsSealed {R Z : Type 0} (sk : SecretKeyRecord) (r : SourceCall R) (z : RandomCall Z) (e : Fault) : Type 0 where
-  pub fault : e ≡ Named EncryptedKeyRefused
-  pub sealed : is_encrypted sk ≡ true
-  pub unread : r.new ≡ r.old
-  pub undrawn : z.new ≡ z.old
-
--- the data could not be read; nothing was drawn
-pub record DataFails {R Z : Type 0} (r : SourceCall R) (z : RandomCall Z) (e : Fault) : Type 0 where
-  pub failed : ReadingFails r.source r.old r.new e
-  pub undrawn : z.new ≡ z.old
 
 -- the random source failed
 pub record DrawFails {Z : Type 0} (z : RandomCall Z) (e : Fault) : Type 0 where
   pub fault : e ≡ Named RandomSourceFailed
   pub rose : Rose (z.random.random_faults z.old) (z.random.random_faults z.new)
-
--- the public key that was given does not accept the comment signature of the box that was made
-pub record GivenKeyRefuses {Z : Type 0} (accepts : Verifier) (sign : Signer) (pk : PublicKeyRecord) (sk : SecretKeyRecord) (message : List ℕ) (chosen : ChosenComments) (z : RandomCall Z) (e : Fault) : Type 0 where
-  pub fault : e ≡ Named (RefusedByGivenKey pk.keynum)
-  pub made : SignatureBoxRecord
-  pub signed : IsSigned sign sk message chosen z made
-  pub refused : accepts_comments accepts pk made ≡ false
 
 -- the random source did not fail
 abbrev pub RandomHasNoNewFault : {Z : Type 0} → RandomCall Z → Type 0
@@ -122,26 +117,34 @@ RandomHasNoNewFault z = z.random.random_faults z.new ≡ z.random.random_faults 
 abbrev pub RunsOutDrawing : {Z : Type 0} → RandomCall Z → Fault → Type 0
 RunsOutDrawing z e = (e ≡ Named OutOfMemory) × RandomHasNoNewFault z
 
--- memory ran out, with no new fault of the data or of the random source
-abbrev pub RunsOutSigning : {R Z : Type 0} → SourceCall R → RandomCall Z → Fault → Type 0
-RunsOutSigning r z e = RunsOutDrawing z e × (r.source.faults r.new ≡ r.source.faults r.old)
-
--- signing with an opened key fails: memory runs out, the data fails, or all of it was read and the random
--- source fails
+-- signing with an opened key fails: memory runs out, with no new fault of either; the data fails, with nothing drawn;
+-- or all of it was read, and the random source fails
 abbrev pub OpenedSigningFails : {R Z : Type 0} → SourceCall R → RandomCall Z → Fault → Type 0
 OpenedSigningFails r z e =
-    RunsOutSigning r z e
-    ⊎ DataFails r z e
+    (RunsOutDrawing z e × (r.source.faults r.new ≡ r.source.faults r.old))
+    ⊎ (ReadingFails r.source r.old r.new e × (z.new ≡ z.old))
     ⊎ ((message : List ℕ) × ReadsWhole r.source r.old r.new message × DrawFails z e)
 
--- signing fails: the key is sealed; or it is opened, and memory runs out, the data fails, or all of it was
--- read and the random source fails or the given public key refuses
+-- signing with a key fails: it is sealed, with nothing read or drawn; or it is opened, and signing with it fails
+abbrev pub KeySigningFails : {R Z : Type 0} → SecretKeyRecord → SourceCall R → RandomCall Z → Fault → Type 0
+KeySigningFails sk r z e =
+    ((e ≡ Named EncryptedKeyRefused) × (is_encrypted sk ≡ true) × (r.new ≡ r.old) × (z.new ≡ z.old))
+    ⊎ ((is_encrypted sk ≡ false) × OpenedSigningFails r z e)
+
+-- all the data was read, and a public key does not accept the comment signature of the box that an opened key made of
+-- it
+pub record RefusesSigned {R Z : Type 0} (accepts : Verifier) (sign : Signer) (pk : PublicKeyRecord)
+    (sk : SecretKeyRecord) (chosen : ChosenComments) (r : SourceCall R) (z : RandomCall Z) : Type 0 where
+  pub opened : is_encrypted sk ≡ false
+  pub message : List ℕ
+  pub read : ReadsWhole r.source r.old r.new message
+  pub made : SignatureBoxRecord
+  pub signed : IsSigned sign sk message chosen z made
+  pub refused : accepts_comments accepts pk made ≡ false
+
+-- signing fails: with the key; or the public key that was given refuses what was signed
 abbrev pub SigningFails : {R Z : Type 0} → Verifier → Signer → Option PublicKeyRecord → SecretKeyRecord → ChosenComments
     → SourceCall R → RandomCall Z → Fault → Type 0
 SigningFails accepts sign pk sk chosen r z e =
-    KeyIsSealed sk r z e
-    ⊎ ((is_encrypted sk ≡ false)
-    × (RunsOutSigning r z e
-    ⊎ DataFails r z e
-    ⊎ ((message : List ℕ) × ReadsWhole r.source r.old r.new message
-    × (DrawFails z e ⊎ IsSomeAnd pk (λ p. GivenKeyRefuses accepts sign p sk message chosen z e)))))
+    KeySigningFails sk r z e
+    ⊎ IsSomeAnd pk (λ p. (e ≡ Named (RefusedByGivenKey p.keynum)) × RefusesSigned accepts sign p sk chosen r z)

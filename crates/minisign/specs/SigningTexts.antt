@@ -2,6 +2,8 @@
 use Rattle.std.specs.Prelude.{◌≡◌, ◌⊎◌, ℕ, Bool, true, false, List, Option, None, Some, Result, Ok, Err}
 use Rattle.minisign_base.specs.Fault.{Fault}
 use Rattle.minisign_base.specs.DeviceCalls.{PromptCall, RandomCall, SourceCall}
+use Rattle.minisign_base.specs.Members.{SchemeOf}
+use Rattle.minisign.specs.Headline.{SigningHeadline}
 use Rattle.minisign.specs.Records.{CommentsRecord, SecretKeyRecord, SignatureBoxRecord}
 use Rattle.minisign.specs.SignatureText.{signature_text}
 use Rattle.minisign.specs.Signing.{ChosenComments, IsSigned, OpenedSigningFails, Signer}
@@ -31,6 +33,13 @@ pub record IsSignedText {Z : Type 0} (sign : Signer) (sk : SecretKeyRecord) (mes
   pub signed : IsSigned sign sk message chosen z box
   pub both : box.comments ≡ Some comments
   pub written : text ≡ signature_text box.signature comments
+
+-- the text is that of a box that is signed with the key, and where that is genuine it is read back as one that vouches
+abbrev pub HasSignedText : {S Z : Type 0} → SchemeOf S → S → SecretKeyRecord → List ℕ → ChosenComments → RandomCall Z
+    → List ℕ → Type 0
+HasSignedText s scheme sk message chosen z text =
+    IsSignedText (s.signature_of scheme) sk message chosen z text
+    × SigningHeadline (s.accepts scheme) (s.public_of scheme) sk message chosen text
 
 -- signing with a text fails: it gives no key, with nothing read or drawn, or signing with its key fails
 abbrev pub TextSigningFails : {P Q R Z : Type 0} → PromptCall P Q → Option (List ℕ) → List ℕ → SourceCall R

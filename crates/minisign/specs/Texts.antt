@@ -1,6 +1,6 @@
 -- What texts of keys and signatures are made of: lines, base64 as RFC 4648 section 4 has it, and tests
 -- in an order.
-use Rattle.std.specs.Prelude.{◌≡◌, ◌↔◌, ◌⊎◌, ℕ, ◌%◌, Bool, if◌then◌else◌, bytes_eq, map, List, Option, None, Some}
+use Rattle.std.specs.Prelude.{◌≡◌, ◌↔◌, ◌⊎◌, ℕ, ◌%◌, Bool, if◌then◌else◌, bytes_eq, map, List}
 use Rattle.std.specs.Prelude.{Result, Ok, Err, codes}
 use Rattle.base64.specs.Engines.{standard}
 use Rattle.base64.specs.GeneralPurpose.{IsBytes, encode_of, decoded_bytes_of}
@@ -28,11 +28,6 @@ is_base64 text = bytes_eq text (base64_of (base64_bytes text))
 -- reading goes on where a test holds, and ends with the fault where it does not
 abbrev pub require : {V : Type 0} → Bool → NamedFault → Result V Fault → Result V Fault
 require holds fault more = if holds then more else Err (Named fault)
-
--- it ends with the fault that a test names, where it names one
-abbrev pub unless : {V : Type 0} → Option Fault → Result V Fault → Result V Fault
-unless None more = more
-unless (Some e) more = Err e
 
 -- reading goes on with what was read, and ends with the fault where there is one
 abbrev pub and_then : {V W : Type 0} → Result V Fault → (V → Result W Fault) → Result W Fault

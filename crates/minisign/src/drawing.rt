@@ -26,6 +26,7 @@ pub(crate) fn draw<const N: usize, Z: RandomSource>(random: &mut Z) -> Result<[u
 }
 
 // The next `N` random bytes, and `M` more.
+#[tactic(auto, using(crate::proofs::Beginnings::given_behind))]
 pub(crate) fn draw_two<const N: usize, const M: usize, Z: RandomSource>(
     random: &mut Z,
 ) -> Result<([u8; N], [u8; M])>

@@ -7,13 +7,13 @@ ghost use Rattle.minisign_base.specs.Devices.{HasGiven};
 ghost use Rattle.minisign_base.specs.Fault.{Named};
 ghost use Rattle.minisign_base.specs.declared.faults.NamedFault.TheVariants.{OutOfMemory};
 ghost use Rattle.minisign_base.specs.DeviceCalls.{random_call, source_call};
-ghost use Rattle.minisign.specs.Calls.{BytesSigningFails, PasswordPairFails, PathSigningFails, ReaderSigningFails};
+ghost use Rattle.minisign.specs.Calls.{BytesSigningFails, PasswordPairFails, PathSigningFails};
 ghost use Rattle.minisign.specs.Generation.{IsSealedPair, OpensToPair};
 ghost use Rattle.minisign.specs.Headline.{SigningHeadline};
 ghost use Rattle.minisign.specs.Reading.{ReadsWhole};
 ghost use Rattle.minisign.specs.Sealing.{is_encrypted};
-ghost use Rattle.minisign.specs.Signing.{chosen_of, given_comments};
-ghost use Rattle.minisign.specs.SigningTexts.{IsSignedText};
+ghost use Rattle.minisign.specs.Signing.{KeySigningFails, chosen_of, given_comments};
+ghost use Rattle.minisign.specs.SigningTexts.{HasSignedText, IsSignedText};
 ghost use Rattle.minisign.specs.OpenedTexts.{key_with_password};
 ghost use Rattle.minisign.specs.Texts.{IsReadOrNoMemory};
 
@@ -53,7 +53,7 @@ pub fn open_with_password(alloc: Global, sk_text: &str, password: &str) -> Resul
 
 impl KeyPair {
     /// Makes a pair whose secret key is sealed under the password, as `generate_encrypted_keypair`
-    /// does where one is passed in: of 32 random bytes of a seed, then 8 of an identifier, and then
+    /// does where one is passed in: of 32 random bytes of a seed, then 8 of a key ID, and then
     /// 32 of a salt. Nothing is asked for and nothing is said.
     ///
     /// Refused are, in this order: a password of more than 1024 bytes, which could not be typed
@@ -178,11 +178,9 @@ pub fn sign_reader<S: Scheme, R: Source, Z: RandomSource>(
     // a genuine key signed is read back as a box that vouches for this data, if neither comment has
     // a line feed and the trusted one is trimmed.
     ensures signed { IfOk result (λ t. (message : List ℕ) × ReadsWhole R.Source data_reader.old data_reader.new message
-        × IsSignedText (S.signature_of scheme.now) sk.now message
+        × HasSignedText S.Scheme scheme.now sk.now message
         (given_comments trusted_comment.entry None moment)
-        (random_call Z.RandomSource random.old random.new) (string_bytes t)
-        × SigningHeadline (S.accepts scheme.now) (S.public_of scheme.now) sk.now message
-        (given_comments trusted_comment.entry None moment) (string_bytes t)) }
+        (random_call Z.RandomSource random.old random.new) (string_bytes t)) }
     ensures opened { OnOk result (is_encrypted sk.now ≡ false) }
 
     // On success the random source did not fail.
@@ -191,7 +189,7 @@ pub fn sign_reader<S: Scheme, R: Source, Z: RandomSource>(
     // The refusals: a sealed key, with nothing read or drawn; and with an opened one out of memory,
     // with no new fault of either, a failing reader, with nothing drawn, and a failing random source,
     // once all was read.
-    ensures refused { IfErr result (ReaderSigningFails sk.now
+    ensures refused { IfErr result (KeySigningFails sk.now
         (source_call R.Source data_reader.old data_reader.new)
         (random_call Z.RandomSource random.old random.new)) }
 
@@ -237,11 +235,9 @@ pub fn sign_file<F: Files, S: Scheme, Z: RandomSource>(
     // line feed and the trusted one is trimmed. No byte of std's files is known: that it is the data of
     // the named file, the code and tests show.
     ensures signed { IfOk result (λ t. (message : List ℕ)
-        × IsSignedText (S.signature_of scheme.now) sk.now message
+        × HasSignedText S.Scheme scheme.now sk.now message
         (given_comments trusted_comment.entry None moment)
-        (random_call Z.RandomSource random.old random.new) (string_bytes t)
-        × SigningHeadline (S.accepts scheme.now) (S.public_of scheme.now) sk.now message
-        (given_comments trusted_comment.entry None moment) (string_bytes t)) }
+        (random_call Z.RandomSource random.old random.new) (string_bytes t)) }
     ensures opened { OnOk result (is_encrypted sk.now ≡ false) }
 
     // On success the random source did not fail.
@@ -287,10 +283,8 @@ fn sign_opened_file<S: Scheme, R: Source, Z: RandomSource>(
 ) -> Result<String>
     requires { is_encrypted sk.now ≡ false }
     ensures signed { IfOk result (λ t. (message : List ℕ)
-        × IsSignedText (S.signature_of scheme.now) sk.now message (chosen_of comments.entry)
-        (random_call Z.RandomSource random.old random.new) (string_bytes t)
-        × SigningHeadline (S.accepts scheme.now) (S.public_of scheme.now) sk.now message
-        (chosen_of comments.entry) (string_bytes t)) }
+        × HasSignedText S.Scheme scheme.now sk.now message (chosen_of comments.entry)
+        (random_call Z.RandomSource random.old random.new) (string_bytes t)) }
     ensures random_no_new_fault { OnOk result (Z.random_faults random.new ≡ Z.random_faults random.old) }
     ensures refused { IfErr result (PathSigningFails sk.now (random_call Z.RandomSource random.old random.new)) }
     ensures drawn { HasGiven (Z.random_ahead random.old) (Z.random_ahead random.new) }

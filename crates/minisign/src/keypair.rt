@@ -1,6 +1,6 @@
 //! Pairs of keys, and how they are made.
 
-ghost use Rattle.std.specs.Prelude.{◌≡◌, ℕ, List, ◌++◌, length, string_bytes, None, Ok, Err, IfSome, IfOk, IfErr, OnOk, OnErr};
+ghost use Rattle.std.specs.Prelude.{◌≡◌, ◌⊎◌, ℕ, List, ◌++◌, length, string_bytes, None, Ok, Err, IfSome, IfOk, IfErr, OnOk, OnErr};
 ghost use Rattle.std.specs.Option.{option_copied, option_map};
 ghost use Rattle.std.specs.Str.Iter.{LacksByte};
 ghost use Rattle.minisign_base.specs.Devices.{HasGiven};
@@ -8,19 +8,20 @@ ghost use Rattle.minisign_base.specs.DeviceCalls.{FailsAtPart, TakesPart, prompt
 ghost use Rattle.minisign_base.specs.Fault.{Named};
 ghost use Rattle.minisign_base.specs.declared.faults.NamedFault.TheVariants.{OutOfMemory, WritingFailed};
 ghost use Rattle.minisign.specs.Records.{public_key_bytes, secret_key_bytes};
-ghost use Rattle.minisign.specs.Sealing.{IsUnencrypted, xored_key};
+ghost use Rattle.minisign.specs.Sealing.{unencrypted_key, xored_key};
 ghost use Rattle.minisign.specs.Signing.{DrawFails, HasDrawn};
 ghost use Rattle.minisign_base.specs.Prompts.{ConversationEnds};
 ghost use Rattle.minisign_base.specs.Passwords.{password_of};
 ghost use Rattle.minisign.specs.NewPassword.{IsSealing, choosing_steps, sealing_steps};
 ghost use Rattle.minisign.specs.PublicKeyText.{public_key_text};
 ghost use Rattle.minisign.specs.SecretKeyText.{read_secret_key, secret_key_text};
-ghost use Rattle.minisign.specs.Generation.{AreSeedAndKeynum, HasSealed, IsGenuinePair, IsSealedOf, IsUnsealedPair, OpensOnlyTo, OpensToPair, PartsFail, RawPairFails, SealedPairFails, SealedTextsFail, WritingFails, public_key_of, secret_of, unsealed_key};
+ghost use Rattle.minisign.specs.Generation.{AreSeedAndKeynum, HasSealed, IsGenuinePair, IsSealedOf, IsUnsealedPair, OpensOnlyTo, OpensToPair, PartsFail, RawPairFails, SealedPairFails, SealedTextsFail, public_key_of, secret_of, unsealed_key};
 ghost use Rattle.minisign.specs.OpenedTexts.{read_unencrypted_key};
 
-use crate::constants::SIGALG;
+use crate::constants::{MEMLIMIT, OPSLIMIT, SIGALG};
 use crate::drawing::{draw, draw_two};
 use crate::keynum::KeynumPK;
+use crate::making::Sealing;
 use crate::public_key::PublicKey;
 use crate::secret_key::SecretKey;
 use minisign_base::devices::random_sources::RandomSource;
@@ -50,7 +51,7 @@ pub(crate) struct Drawn {
 }
 
 impl KeyPair {
-    /// Makes a pair that is not sealed, of 32 random bytes of a seed and then 8 of an identifier.
+    /// Makes a pair that is not sealed, of 32 random bytes of a seed and then 8 of a key ID.
     ///
     /// Takes no memory: it succeeds unless the random source failed.
     pub fn generate_unencrypted_keypair<S: Scheme, Z: RandomSource>(
@@ -58,16 +59,16 @@ impl KeyPair {
         random: &mut Z,
     ) -> Result<KeyPair>
         // The pair is the one that its definition makes of the bytes that were drawn: 32 of a seed,
-        // 8 of an identifier, and for a sealed one 32 of a salt.
+        // 8 of a key ID, and for a sealed one 32 of a salt.
         ensures made { IfOk result
             (λ pair. IsUnsealedPair (S.public_of scheme.now)
             (random_call Z.RandomSource random.old random.new) pair.pk pair.sk) }
 
         // The two keys belong together: the secret one is genuine, not sealed, and the public one
-        // has its public half and its identifier.
+        // has its public half and its key ID.
         ensures genuine { IfOk result
             (λ pair. IsGenuinePair (S.public_of scheme.now) pair.pk pair.sk) }
-        ensures unencrypted { IfOk result (λ pair. IsUnencrypted pair.sk) }
+        ensures unencrypted { IfOk result (λ pair. unencrypted_key pair.sk ≡ Ok pair.sk) }
 
         // Each text that reads as an unsealed pair's secret key is accepted by
         // `SecretKey::from_unencrypted_box`.
@@ -110,7 +111,7 @@ impl KeyPair {
             (random_call Z.RandomSource random.old random.new) pair.pk pair.sk) }
         ensures genuine { IfOk result
             (λ pair. IsGenuinePair (S.public_of scheme.now) pair.pk pair.sk) }
-        ensures unencrypted { IfOk result (λ pair. IsUnencrypted pair.sk) }
+        ensures unencrypted { IfOk result (λ pair. unencrypted_key pair.sk ≡ Ok pair.sk) }
 
         // The sinks took the raw bytes of both keys, and did not fail.
         ensures public { IfOk result
@@ -142,7 +143,7 @@ impl KeyPair {
     }
 
     /// Makes a pair whose secret key is sealed under a password, of 32 random bytes of a seed, then
-    /// 8 of an identifier, and then 32 of a salt. All of them are drawn before anything is asked.
+    /// 8 of a key ID, and then 32 of a salt. All of them are drawn before anything is asked.
     ///
     /// Where no `password` is passed in, the prompt says what it is for, asks for it twice, and
     /// tells of the derivation, which takes some 32 MiB of memory; otherwise the prompt is left
@@ -160,7 +161,7 @@ impl KeyPair {
         prompt: &mut Prompt<R, W>,
     ) -> Result<KeyPair>
         // The pair is the one that its definition makes of the bytes that were drawn: 32 of a seed,
-        // 8 of an identifier, and for a sealed one 32 of a salt.
+        // 8 of a key ID, and for a sealed one 32 of a salt.
         //
         // A sealed pair's secret key opens under the password that was passed in or typed, and is
         // genuine then; each text that reads as it opens too, to this key and no other (`opens`). A
@@ -400,8 +401,10 @@ fn write_parts<P: Sink, K: Sink>(
         (TakesPart (sink_call P.Sink pk_sink.old pk_sink.new) public.now) }
     ensures secret { OnOk result
         (TakesPart (sink_call K.Sink sk_sink.old sk_sink.new) secret.now) }
-    ensures refused { IfErr result (WritingFails (sink_call P.Sink pk_sink.old pk_sink.new)
-        (sink_call K.Sink sk_sink.old sk_sink.new) public.now secret.now) }
+    ensures refused { IfErr result (λ e. (e ≡ Named WritingFailed)
+        × ((FailsAtPart (sink_call P.Sink pk_sink.old pk_sink.new) public.now × (sk_sink.new ≡ sk_sink.old))
+        ⊎ (TakesPart (sink_call P.Sink pk_sink.old pk_sink.new) public.now
+        × FailsAtPart (sink_call K.Sink sk_sink.old sk_sink.new) secret.now))) }
 {
     write_part(pk_sink, public)?;
     write_part(sk_sink, secret)
@@ -416,7 +419,7 @@ fn write_part<W: Sink>(sink: &mut W, part: &[u8]) -> Result<()>
     put_and_flush(sink, part).map_err(|_| NamedFault::WritingFailed.into())
 }
 
-// The pair of a seed under an identifier, sealed with a salt under a password.
+// The pair of a seed under a key ID, sealed with a salt under a password.
 pub(crate) fn make_sealed_pair<S: Scheme>(
     alloc: Global,
     scheme: &S,
@@ -428,11 +431,17 @@ pub(crate) fn make_sealed_pair<S: Scheme>(
     ensures refused { IfErr result (λ e. e ≡ Named OutOfMemory) }
 {
     let KeyPair { pk, sk } = make_pair(scheme, &drawn.seed, drawn.keynum);
-    let sk = sk.seal(alloc, drawn.salt, password)?;
+    let sealing = Sealing {
+        salt: drawn.salt,
+        operations_limit: OPSLIMIT,
+        memory_limit: MEMLIMIT,
+    };
+    let sk = sk.seal_by(alloc, password, sealing, 1)?;
     Ok(KeyPair { pk, sk })
 }
 
-// The random bytes of a sealed pair: a seed, an identifier, and a salt.
+// The random bytes of a sealed pair: a seed, a key ID, and a salt.
+#[tactic(auto, using(crate::proofs::Beginnings::given_behind))]
 pub(crate) fn draw_with_salt<Z: RandomSource>(random: &mut Z) -> Result<Drawn>
     ensures drawn { IfOk result
         (λ z. HasDrawn (random_call Z.RandomSource random.old random.new)
@@ -449,7 +458,7 @@ pub(crate) fn draw_with_salt<Z: RandomSource>(random: &mut Z) -> Result<Drawn>
     Ok(Drawn { seed, keynum, salt })
 }
 
-// The pair of a seed under an identifier, not sealed.
+// The pair of a seed under a key ID, not sealed.
 fn make_pair<S: Scheme>(scheme: &S, seed: &[u8; 32], keynum: [u8; 8]) -> KeyPair
     ensures public { result.pk ≡ public_key_of (S.public_of scheme.now) seed.now keynum }
     ensures secret { result.sk ≡ unsealed_key keynum (secret_of (S.public_of scheme.now) seed.now) }

@@ -34,7 +34,7 @@ pub struct Sealing {
 }
 
 impl SecretKey {
-    /// The secret key of its parts, which is not sealed: an identifier of 8 bytes, and 64 secret
+    /// The secret key of its parts, which is not sealed: a key ID of 8 bytes, and 64 secret
     /// bytes, those of a seed and of its public key. Its salt and its limits are zeros. Takes no
     /// memory.
     #[tactic(auto, unfolding(crate::specs::Generation::unsealed_key))]
@@ -61,7 +61,13 @@ impl SecretKey {
 
     // Seals a key that is not sealed, with every k-th row of scrypt kept. Limits that are not
     // allowed are refused before anything is derived.
-    fn seal_by(self, alloc: Global, password: &[u8], sealing: Sealing, k: u64) -> Result<SecretKey>
+    pub(crate) fn seal_by(
+        self,
+        alloc: Global,
+        password: &[u8],
+        sealing: Sealing,
+        k: u64,
+    ) -> Result<SecretKey>
         requires { 1 ≤ k }
         ensures sealed { (keynum secret : List ℕ) → self ≡ unsealed_key keynum secret
             → IfOk result (λ sk. sk ≡ made_key keynum secret (Some password.now) sealing) }
@@ -77,7 +83,7 @@ impl SecretKey {
     }
 }
 
-/// Makes the text of a secret key of its parts: an identifier of 8 bytes, and 64 secret bytes,
+/// Makes the text of a secret key of its parts: a key ID of 8 bytes, and 64 secret bytes,
 /// those of a seed and of its public key. With a password the key is sealed under it, with the salt
 /// and the limits of `sealing`; without one it is not sealed, `sealing` is not looked at, and the
 /// text has zeros for the salt and the limits.
@@ -140,9 +146,9 @@ fn make_sealed(
 }
 
 /// Makes the text of the public key of these parts, which is the one of the secret key that
-/// `make_secret_key` makes of them: the last 32 of the secret bytes, under the identifier. It has 77
+/// `make_secret_key` makes of them: the last 32 of the secret bytes, under the key ID. It has 77
 /// bytes more than the comment, which stands in its first line; Minisign's own comment is
-/// `minisign public key ` and the identifier, read little endian, in upper hexadecimal digits
+/// `minisign public key ` and the key ID, read little endian, in upper hexadecimal digits
 /// without leading zeros.
 ///
 /// Only running out of memory is refused. A comment with a line feed is written as it stands, and

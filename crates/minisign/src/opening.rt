@@ -1,11 +1,10 @@
 //! The key of a text: opened with a password where it is sealed.
 
-ghost use Rattle.std.specs.Prelude.{◌≡◌, ◌≤◌, ◌⊎◌, ℕ, List, None, Some, Ok, Err, false, string_bytes, IfOk, IfErr, OnOk};
-ghost use Rattle.std.specs.Result.{result_err};
+ghost use Rattle.std.specs.Prelude.{◌≡◌, ◌≤◌, ◌⊎◌, ℕ, List, None, Some, Ok, Err, false, string_bytes, IfOk, IfErr, IsErrAnd, MatchResult, OnOk};
 ghost use Rattle.std.specs.Option.{option_map};
 ghost use Rattle.minisign.specs.Headline.{OpeningHeadline};
-ghost use Rattle.minisign.specs.Sealing.{checksum_refusal, is_encrypted, open_sealed, sealed_by_scrypt};
-ghost use Rattle.minisign.specs.Opening.{IsFileOpening, IsOpening, ending_steps, opening_steps, telling_steps};
+ghost use Rattle.minisign.specs.Sealing.{is_encrypted, open_sealed, restored_key, sealed_by_scrypt};
+ghost use Rattle.minisign.specs.Opening.{IsOpening, ending_steps, opening_steps, telling_steps};
 ghost use Rattle.minisign.specs.PromptTexts.{asking_text, deriving_text, done_text};
 ghost use Rattle.minisign_base.specs.DeviceCalls.{prompt_call};
 ghost use Rattle.minisign_base.specs.Prompts.{ConversationEnds, Say, StepEnds, asking_steps};
@@ -13,6 +12,7 @@ ghost use Rattle.minisign_base.specs.Passwords.{password_of};
 ghost use Rattle.minisign_base.specs.Steps.{without_value};
 ghost use Rattle.minisign.specs.OpenedTexts.{read_unencrypted_key};
 ghost use Rattle.minisign.specs.SecretKeyText.{read_secret_key};
+ghost use Rattle.minisign.specs.TextFiles.{IsTextFileFault};
 ghost use Rattle.minisign.specs.Texts.{IsReadOrNoMemory};
 
 use crate::constants::{KDF_ALG, KDF_NONE};
@@ -75,8 +75,9 @@ impl SecretKey {
         // refuses a text.
         //
         // Until the file was read the prompt is left alone.
-        ensures opens { IsFileOpening (prompt_call R.Source W.Sink prompt.old prompt.new)
-            (option_map string_bytes password) None result }
+        ensures opens { (IsErrAnd result IsTextFileFault × (prompt.new ≡ prompt.old))
+            ⊎ ((text : List ℕ) × IsOpening (prompt_call R.Source W.Sink prompt.old prompt.new)
+            (option_map string_bytes password) text None result) }
     {
         let text = read_text_file(files, alloc, path)?;
         SecretKey::from_box(alloc, SecretKeyBox::from(text), password, prompt)
@@ -310,7 +311,7 @@ impl SecretKey {
     // Says that the key was derived, and only then tests that opening restored the checksum.
     fn finish_telling<R: Source, W: Sink>(&self, prompt: &mut Prompt<R, W>) -> Result<()>
         ensures ended { ConversationEnds (prompt_call R.Source W.Sink prompt.old prompt.new) (ending_steps self.now) result }
-        ensures restored { OnOk result (checksum_refusal self.now ≡ None) }
+        ensures restored { OnOk result (restored_key self.now ≡ Ok self.now) }
     {
         say_done(prompt)?;
         self.test_restored()
@@ -329,7 +330,7 @@ impl SecretKey {
 
     // Tests that opening restored the checksum.
     fn test_restored(&self) -> Result<()>
-        ensures { checksum_refusal self.now ≡ result_err result }
+        ensures { MatchResult result (λ _. restored_key self.now ≡ Ok self.now) (λ e. restored_key self.now ≡ Err e) }
     {
         if self.keynum_sk.chk != self.read_checksum() {
             return Err(NamedFault::WrongPassword.into());

@@ -5,10 +5,10 @@ ghost use Rattle.std.specs.Int.{to_le_bytes, w64};
 ghost use Rattle.std.specs.Simd.Lanes.{zip2};
 ghost use Rattle.minisign_base.specs.Fault.{Named};
 ghost use Rattle.minisign_base.specs.declared.faults.NamedFault.TheVariants.{OutOfMemory};
-ghost use Rattle.minisign.specs.Generation.{key_to_seal, opened_key, sealed_key, unsealed_key};
-ghost use Rattle.minisign.specs.Sealing.{key_limits, key_numbers, key_xor, stream_of, work_refusal, xored_key};
+ghost use Rattle.minisign.specs.Generation.{key_to_seal, unsealed_key};
+ghost use Rattle.minisign.specs.Sealing.{allowed_work, key_limits, key_numbers, key_xor, stream_of, xored_key};
 
-use crate::constants::{KDF_ALG, MEMLIMIT, OPSLIMIT};
+use crate::constants::KDF_ALG;
 use crate::secret_key::SecretKey;
 use minisign_base::helpers::{load_u64_le, raw_scrypt_params, store_u64_le};
 use minisign_base::{NamedFault, Params, Result};
@@ -30,20 +30,6 @@ pub(crate) struct Derivation {
 }
 
 impl SecretKey {
-    // Seals a key that is not sealed, with a salt and the limits by default.
-    pub(crate) fn seal(self, alloc: Global, salt: [u8; 32], password: &[u8]) -> Result<SecretKey>
-        ensures sealed { (keynum secret : List ℕ) → self ≡ unsealed_key keynum secret
-            → IfOk result (λ k. k ≡ sealed_key keynum secret salt password.now) }
-        ensures opened { (keynum secret : List ℕ) → self ≡ unsealed_key keynum secret
-            → IfOk result (λ k. xored_key k password.now ≡ opened_key keynum secret salt) }
-        ensures refused { IfErr result (λ e. e ≡ Named OutOfMemory) }
-    {
-        let mut sk = self.with_limits(salt, OPSLIMIT, MEMLIMIT);
-        let derivation = Derivation { bound: None, k: 1 };
-        sk.apply_stream(alloc, password, derivation)?;
-        Ok(sk)
-    }
-
     // Names the key derivation, its salt and its limits.
     #[tactic(auto, unfolding(crate::specs::Generation::key_to_seal))]
     pub(crate) fn with_limits(self, salt: [u8; 32], opslimit: u64, memlimit: u64) -> SecretKey
@@ -73,10 +59,10 @@ impl SecretKey {
         requires { 1 ≤ derivation.k }
         ensures xored { OnOk result (self.new ≡ xored_key self.old password.now) }
         ensures restores { OnOk result (xored_key self.new password.now ≡ self.old) }
-        ensures allowed { OnOk result (work_refusal self.old derivation.bound ≡ None) }
-        ensures refused { IfErr result
-            (λ e. ((e ≡ Named OutOfMemory) × (work_refusal self.old derivation.bound ≡ None))
-            ⊎ (work_refusal self.old derivation.bound ≡ Some e)) }
+        ensures allowed { OnOk result (allowed_work self.old derivation.bound ≡ Ok (key_numbers self.old)) }
+        ensures refused { IfErr result (λ e.
+            ((e ≡ Named OutOfMemory) × (allowed_work self.old derivation.bound ≡ Ok (key_numbers self.old)))
+            ⊎ (allowed_work self.old derivation.bound ≡ Err e)) }
         ensures same { OnErr result (self.new ≡ self.old) }
     {
         let stream = derive_stream(alloc, self, password, derivation)?;
@@ -118,9 +104,10 @@ fn derive_stream(
 ) -> Result<[u8; 104]>
     requires { 1 ≤ derivation.k }
     ensures stream { IfOk result (λ s. s ≡ stream_of sk.now password.now) }
-    ensures allowed { OnOk result (work_refusal sk.now derivation.bound ≡ None) }
-    ensures refused { IfErr result (λ e. ((e ≡ Named OutOfMemory) × (work_refusal sk.now derivation.bound ≡ None))
-        ⊎ (work_refusal sk.now derivation.bound ≡ Some e)) }
+    ensures allowed { OnOk result (allowed_work sk.now derivation.bound ≡ Ok (key_numbers sk.now)) }
+    ensures refused { IfErr result (λ e.
+        ((e ≡ Named OutOfMemory) × (allowed_work sk.now derivation.bound ≡ Ok (key_numbers sk.now)))
+        ⊎ (allowed_work sk.now derivation.bound ≡ Err e)) }
 {
     let params = bounded_params(sk, derivation.bound)?;
     let mut stream = [0u8; 104];
@@ -140,8 +127,8 @@ fn derive_stream(
 #[tactic(auto, using(crate::proofs::SealingLimits::allowed_numbers))]
 fn bounded_params(sk: &SecretKey, bound: Option<u32>) -> Result<Params>
     ensures { MatchResult result
-        (λ v. (key_numbers sk.now ≡ v) × (work_refusal sk.now bound ≡ None))
-        (λ e. work_refusal sk.now bound ≡ Some e) }
+        (λ v. (key_numbers sk.now ≡ v) × (allowed_work sk.now bound ≡ Ok v))
+        (λ e. allowed_work sk.now bound ≡ Err e) }
 {
     let params = key_params(sk)?;
     match bound {

@@ -17,7 +17,7 @@ use std::fmt;
 use std::marker::Model;
 
 /// A secret key: an algorithm of 2 bytes, the key derivation of 2, the checksum's algorithm of 2, a
-/// salt of 32, the limits of the key derivation of 8 each, and then an identifier of 8, a secret of
+/// salt of 32, the limits of the key derivation of 8 each, and then a key ID of 8, a secret of
 /// 64 and a checksum of 32, which are sealed where the key is. The two algorithms are kept as they
 /// were read and never tested.
 #[derive(Clone, Drop)]
@@ -74,7 +74,7 @@ impl SecretKey {
         self.keynum_sk.chk = self.read_checksum();
     }
 
-    /// The identifier, 8 bytes, as it stands: of a sealed key the sealed one.
+    /// The key ID, 8 bytes, as it stands: of a sealed key the sealed one.
     pub fn keynum(&self) -> &[u8]
         ensures { result.now ≡ self.now.keynum }
     {

@@ -10,7 +10,7 @@ ghost use Rattle.minisign_base.specs.declared.faults.NamedFault.TheVariants.{Out
 ghost use Rattle.minisign.specs.Reading.{ReadsWhole};
 ghost use Rattle.minisign.specs.Sealing.{is_encrypted};
 ghost use Rattle.minisign.specs.Acceptance.{accepts_comments};
-ghost use Rattle.minisign.specs.Signing.{AreChosenReadBack, DrawFails, IsSigned, OpenedSigningFails, RunsOutDrawing, SigningFails, VouchesWhereGenuine, chosen_of, comments_or_defaults, default_trusted_comment, default_untrusted_comment, given_comments};
+ghost use Rattle.minisign.specs.Signing.{AreChosenReadBack, DrawFails, HasSignedBox, OpenedSigningFails, RunsOutDrawing, SigningFails, chosen_of, comments_or_defaults, default_trusted_comment, default_untrusted_comment, given_comments};
 
 use crate::comment_signature::accepts_comments;
 use crate::constants::{DEFAULT_COMMENT, SIGALG_PREHASHED};
@@ -64,10 +64,9 @@ pub fn sign<S: Scheme, R: Source, Z: RandomSource>(
     // the same key ID, whatever the comments (`VouchesWhereGenuine`).
     ensures signed { IfOk result
         (λ x. (message : List ℕ) × ReadsWhole R.Source data_reader.old data_reader.new message
-        × IsSigned (S.signature_of scheme.now) sk.now message
+        × HasSignedBox S.Scheme scheme.now sk.now message
         (given_comments trusted_comment.entry untrusted_comment.entry moment)
-        (random_call Z.RandomSource random.old random.new) x
-        × VouchesWhereGenuine (S.accepts scheme.now) (S.public_of scheme.now) sk.now message x) }
+        (random_call Z.RandomSource random.old random.new) x) }
 
     // On success the key is not sealed.
     ensures opened { OnOk result (is_encrypted sk.now ≡ false) }
@@ -81,11 +80,10 @@ pub fn sign<S: Scheme, R: Source, Z: RandomSource>(
     ensures random_no_new_fault { OnOk result (Z.random_faults random.new ≡ Z.random_faults random.old) }
 
     // A key is refused as sealed exactly when it is sealed, with nothing read or drawn
-    // (`KeyIsSealed`). `reading failed` comes only if the source's count of faults rose, with
-    // nothing drawn (`DataFails`); `random source failed` only if that source's count did, once all
-    // the data was read (`DrawFails`); out of memory only if neither count rose (`RunsOutSigning`); a
-    // given public key is refused exactly when its 32 bytes do not accept the comment signature
-    // (`GivenKeyRefuses`).
+    // (`KeySigningFails`). `reading failed` comes only if the source's count of faults rose, with
+    // nothing drawn; `random source failed` only if that source's count did, once all the data was
+    // read; out of memory only if neither count rose (`OpenedSigningFails`); a given public key is
+    // refused exactly when its 32 bytes do not accept the comment signature (`RefusesSigned`).
     ensures refused { IfErr result
         (SigningFails (S.accepts scheme.now) (S.signature_of scheme.now)
         (option_copied pk.entry) sk.now
@@ -112,6 +110,7 @@ pub fn sign<S: Scheme, R: Source, Z: RandomSource>(
 
 /// A law, for which nothing is done: the comments that a signature gets where none are given meet
 /// what the headlines ask of comments, whatever the moment is.
+#[tactic(auto, using(crate::proofs::DefaultComments::defaults_kept))]
 pub fn default_comments_are_read_back(moment: u64)
     // The default comments are read back as they were written.
     ensures { AreChosenReadBack (comments_or_defaults None None moment) }
@@ -128,9 +127,8 @@ pub(crate) fn sign_data<S: Scheme, R: Source, Z: RandomSource>(
 ) -> Result<SignatureBox>
     ensures signed { IfOk result
         (λ x. (message : List ℕ) × ReadsWhole R.Source data_reader.old data_reader.new message
-        × IsSigned (S.signature_of scheme.now) sk.now message (chosen_of comments.entry)
-        (random_call Z.RandomSource random.old random.new) x
-        × VouchesWhereGenuine (S.accepts scheme.now) (S.public_of scheme.now) sk.now message x) }
+        × HasSignedBox S.Scheme scheme.now sk.now message (chosen_of comments.entry)
+        (random_call Z.RandomSource random.old random.new) x) }
     ensures no_new_fault { OnOk result (Z.random_faults random.new ≡ Z.random_faults random.old) }
     ensures refused { IfErr result
         (OpenedSigningFails (source_call R.Source data_reader.old data_reader.new)
@@ -182,9 +180,9 @@ fn make_box<S: Scheme, Z: RandomSource>(
     random: &mut Z,
 ) -> Result<SignatureBox>
     ensures signed { IfOk result (λ x. (message : List ℕ) → digest.now ≡ blake2b_digest 64 message →
-        IsSigned (S.signature_of scheme.now) sk.now message (record { trusted = string_bytes trusted_comment; untrusted = string_bytes untrusted_comment })
-        (random_call Z.RandomSource random.old random.new) x
-        × VouchesWhereGenuine (S.accepts scheme.now) (S.public_of scheme.now) sk.now message x) }
+        HasSignedBox S.Scheme scheme.now sk.now message
+        (record { trusted = string_bytes trusted_comment; untrusted = string_bytes untrusted_comment })
+        (random_call Z.RandomSource random.old random.new) x) }
     ensures no_new_fault { OnOk result (Z.random_faults random.new ≡ Z.random_faults random.old) }
     ensures refused { IfErr result
         (λ e. RunsOutDrawing (random_call Z.RandomSource random.old random.new) e

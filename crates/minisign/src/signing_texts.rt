@@ -9,7 +9,7 @@ ghost use Rattle.minisign.specs.Reading.{IsAhead, ReadsWhole};
 ghost use Rattle.minisign.specs.Sealing.{is_encrypted};
 ghost use Rattle.minisign.specs.Signing.{OpenedSigningFails, chosen_of, given_comments};
 ghost use Rattle.minisign.specs.Headline.{SigningHeadline};
-ghost use Rattle.minisign.specs.SigningTexts.{GivesKey, IsKeyOf, IsSignedText, TextSigningFails};
+ghost use Rattle.minisign.specs.SigningTexts.{GivesKey, HasSignedText, IsKeyOf, IsSignedText, TextSigningFails};
 
 use crate::constants::KDF_NONE;
 use crate::sealing::Derivation;
@@ -115,10 +115,8 @@ pub(crate) fn sign_opened<S: Scheme, R: Source, Z: RandomSource>(
     requires { is_encrypted sk.now ≡ false }
     ensures signed { IfOk result
         (λ t. (message : List ℕ) × ReadsWhole R.Source data_reader.old data_reader.new message
-        × IsSignedText (S.signature_of scheme.now) sk.now message (chosen_of comments.entry)
-        (random_call Z.RandomSource random.old random.new) (string_bytes t)
-        × SigningHeadline (S.accepts scheme.now) (S.public_of scheme.now) sk.now message
-        (chosen_of comments.entry) (string_bytes t)) }
+        × HasSignedText S.Scheme scheme.now sk.now message (chosen_of comments.entry)
+        (random_call Z.RandomSource random.old random.new) (string_bytes t)) }
     ensures random_no_new_fault { OnOk result (Z.random_faults random.new ≡ Z.random_faults random.old) }
     ensures refused { IfErr result
         (OpenedSigningFails (source_call R.Source data_reader.old data_reader.new)

@@ -6,7 +6,7 @@ use Rattle.minisign_base.specs.Devices.{AppendsFront}
 use Rattle.minisign_base.specs.Fault.{Fault}
 use Rattle.minisign_base.specs.DeviceCalls.{PromptCall}
 use Rattle.minisign_base.specs.Prompts.{Allocate, ConversationEnds, Hear, Say, Step, Test, written}
-use Rattle.minisign_base.specs.SinkLaws.{AppendsFront-after, AppendsFront-keeps, AppendsFront-more}
+use Rattle.minisign_base.proofs.SinkLaws.{AppendsFront-after, AppendsFront-keeps, AppendsFront-more}
 
 -- a writer that was left alone
 nothing_taken : {R W : Type 0} (p : PromptCall R W) (bytes : List ℕ) → p.new.writer ≡ p.old.writer

@@ -6,4 +6,8 @@ mod HandedOn
 pub mod LeastCost
 pub mod Facts
 mod PromptLines
+pub mod SinkLaws
+pub mod StepLaws
+pub mod PromptLaws
 mod ConversationTexts
+pub mod Laws

@@ -6,7 +6,7 @@ use Rattle.minisign_base.specs.declared.errors.ErrorKind.TheVariants as kind
 use Rattle.minisign_base.specs.declared.faults.NamedFault.{NamedFault}
 use Rattle.minisign_base.specs.declared.faults.NamedFault.TheVariants as fault
 
--- a number, a kind, and what the fault says without its identifiers
+-- a number, a kind, and what the fault says without its key IDs
 pub record FaultRow : Type 0 where
   pub number : ℕ
   pub kind : ErrorKind

@@ -1,4 +1,4 @@
--- How a key's identifier is shown.
+-- How a key ID is shown.
 use Rattle.std.specs.Prelude.{ℕ, zero, suc, ◌-◌, ◌/◌, ◌%◌, ◌^◌, true, false, List, [], ◌∷◌}
 use Rattle.std.specs.Fmt.{digit_glyph, digits, format_spec, padded_integral}
 use Rattle.std.specs.Int.{from_le_bytes, w64}

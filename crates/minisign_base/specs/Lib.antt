@@ -8,11 +8,8 @@ pub mod Identifiers
 pub mod Limits
 pub mod Members
 pub mod Passwords
-pub mod PromptLaws
 pub mod Prompts
 pub mod Scheme
-pub mod SinkLaws
-pub mod StepLaws
 pub mod Steps
 pub mod Toy
 pub mod ToyLaw

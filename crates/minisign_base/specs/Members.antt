@@ -1,11 +1,12 @@
--- What contracts see of a device, as one value: the ghost members of its trait. A clause writes it `S.Source`,
--- `W.Sink` or `Z.RandomSource`, also where `S` is a `Rereader`, whose own member is `S.steady`.
+-- What contracts see of a device or of a scheme, as one value: the ghost members of its trait. A clause writes it
+-- `S.Source`, `W.Sink`, `Z.RandomSource` or `S.Scheme`, also where `S` is a `Rereader`, whose own member is `S.steady`.
 --
 -- The traits' own contracts cannot cite what takes these records, since the records come of the traits: so the
 -- records of the calls in `Devices` take the members one by one.
 use Rattle.minisign_base.specs.declared.devices.random_sources.RandomSource as random_source
 use Rattle.minisign_base.specs.declared.devices.sinks.Sink as sink
 use Rattle.minisign_base.specs.declared.devices.sources.Source as source
+use Rattle.minisign_base.specs.declared.scheme.Scheme as scheme
 
 -- a source: `ahead`, `behind`, `since`, `is_marked`, `left` and `faults`
 abbrev pub SourceOf : Type 0 → Type 1
@@ -18,3 +19,7 @@ SinkOf W = sink.Ghosts W
 -- a random source: `random_ahead` and `random_faults`
 abbrev pub RandomOf : Type 0 → Type 1
 RandomOf Z = random_source.Ghosts Z
+
+-- a signature scheme: `public_of`, `signature_of` and `accepts`
+abbrev pub SchemeOf : Type 0 → Type 1
+SchemeOf S = scheme.Ghosts S

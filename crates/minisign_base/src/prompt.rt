@@ -123,12 +123,11 @@ fn put_text<W: Sink>(writer: &mut W, text: &str) -> Result<()>
 // before it are no part of it. No more than 1026 bytes are read, one at a time.
 fn read_line<R: Source>(source: &mut R, line: &mut [u8]) -> Result<usize>
     requires { length line.old ≡ 1026 }
-    ensures outcome { MatchResult result
-        (λ n. (bytes : List ℕ)
+    ensures read { IfOk result (λ n. (bytes : List ℕ)
         × HasReadLine (source_call R.Source source.old source.new) bytes
-        × (n ≤ length line.new) × (password_of bytes ≡ accepted_line (take n line.new)))
-        (λ e. ((e ≡ Named ReadingFailed)
-        × HasFailedInLine (source_call R.Source source.old source.new))
+        × (n ≤ length line.new) × (password_of bytes ≡ accepted_line (take n line.new))) }
+    ensures refused { IfErr result (λ e.
+        ((e ≡ Named ReadingFailed) × HasFailedInLine (source_call R.Source source.old source.new))
         ⊎ ((bytes : List ℕ)
         × HasReadLine (source_call R.Source source.old source.new) bytes
         × (password_of bytes ≡ Err e))) }

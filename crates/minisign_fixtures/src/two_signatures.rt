@@ -1,7 +1,7 @@
 //! A scheme that shows which signatures a box holds.
 
 ghost use Rattle.std.specs.Prelude.{if◌then◌else◌, bytes_eq};
-ghost use Rattle.minisign_fixtures.specs.Equal.{bytes_eq-same};
+ghost use Rattle.std.proofs.lemmas.Slice.Eq.{bytes_eq-Decides};
 
 use minisign_base::scheme::Scheme;
 
@@ -57,5 +57,5 @@ impl Scheme for TwoSignatures {
         }
     }
 
-    ghost accepts_own = { λ s _ m _ _ _ _ _. bytes_eq-same (if bytes_eq m s.message then s.signature else s.other) };
+    ghost accepts_own = { λ s _ m _ _ _ _ _. (bytes_eq-Decides (if bytes_eq m s.message then s.signature else s.other) _).1 refl };
 }

@@ -1,5 +1,5 @@
 use Rattle.std.proofs.Common.{[], refl, rules}
-use Rattle.minisign_base.specs.SinkLaws.{AppendsFront-keeps}
+use Rattle.minisign_base.proofs.Laws.{AppendsFront-keeps}
 use Rattle.minisign.proofs.Beginnings.{passed_on}
 use Rattle.minisign.proofs.Copies.{front_of_given, front_of_nothing, keeps_same}
 use Rattle.minisign.proofs.copying.copy_hashed.Goals as goal

@@ -1,7 +1,7 @@
 use Rattle.std.proofs.Common.{◌∙◌, ℕ, append_assoc, inr, rules, subst}
 use Rattle.std.proofs.KnownBytes.{Appends-trans, Consumes-trans}
 use Rattle.minisign_base.specs.Devices.{Rose}
-use Rattle.minisign_base.specs.SinkLaws.{AppendsFront-after}
+use Rattle.minisign_base.proofs.Laws.{AppendsFront-after}
 use Rattle.minisign.proofs.Beginnings.{consumed, passed_on}
 use Rattle.minisign.proofs.Copies.{front_of_ahead, front_of_all, front_of_given, given_more, given_still, keeps_same}
 use Rattle.minisign.proofs.copying.copy_pieces.Goals as goal

@@ -1,7 +1,7 @@
 use Rattle.std.proofs.Common.{Ok, Err, Bool, true, false, not, ◌≡◌, ◌∷◌, ◌++◌, [], string_bytes, sym, inl, inr, refl}
 use Rattle.std.proofs.lemmas.Slice.Eq.{bytes_eq-Decides}
 use Rattle.minisign_base.specs.DeviceCalls.{prompt_call}
-use Rattle.minisign_base.specs.PromptLaws.{second_ended, stopped_first, typed_is}
+use Rattle.minisign_base.proofs.Laws.{second_ended, stopped_first, typed_is}
 use Rattle.minisign_base.specs.Prompts.{Test, asking_steps}
 use Rattle.minisign_base.specs.Passwords.{typed_password}
 use Rattle.minisign.proofs.Beginnings.{passed_up}

@@ -7,13 +7,10 @@ use Rattle.minisign.proofs.signing.sign.Goals as goal
 
 pub returns-in_err-test_given_key-clause-refused : goal.returns-in_err-test_given_key-clause-refused
 returns-in_err-test_given_key-clause-refused g c =
-    let (message, read, signed, genuine) = c.in_ok-signature_box.ensures.signed in
+    let (message, read, (signed, genuine)) = c.in_ok-signature_box.ensures.signed in
     let opened : is_encrypted c.args.sk.now ≡ false = cc in
     passed_up c.from_residual-in_err-test_given_key.result c.in_err-test_given_key.field-0.0 _ c.from_residual-in_err-test_given_key.ensures.1
-    (inr (
-      opened,
-      elim c.in_err-test_given_key.ensures.refused [
-        | inl out_of_memory ↦ inl ((out_of_memory, c.in_ok-signature_box.ensures.no_new_fault), read.no_new_fault)
-        | inr refused ↦ inr (inr (message, read, inr (refused_by_given _ _ (option_copied c.args.pk) _ _ _ _ _ _ signed refused)))
-      ],
-    ))
+    (elim c.in_err-test_given_key.ensures.refused [
+      | inl out_of_memory ↦ inl (inr (opened, inl ((out_of_memory, c.in_ok-signature_box.ensures.no_new_fault), read.no_new_fault)))
+      | inr refused ↦ inr (refused_by_given _ _ (option_copied c.args.pk) _ message _ _ _ _ _ opened read signed refused)
+    ])

@@ -8,7 +8,7 @@ use Rattle.minisign.proofs.signing_texts.sign_texts.Goals as goal
 pub returns-clause-headline : goal.returns-clause-headline
 returns-clause-headline g c =
     IfOk-weaker c.sign_opened.result _ _
-    (λ t (message, read, signed, headline). (
+    (λ t (message, read, (signed, headline)). (
       c.in_ok-sk.sk,
       message,
       read.given,
@@ -21,5 +21,5 @@ returns-clause-headline g c =
 pub returns-clause-signed : goal.returns-clause-signed
 returns-clause-signed g c =
     IfOk-weaker c.sign_opened.result _ _
-    (λ t (message, read, signed, headline). (c.in_ok-sk.sk, message, c.in_ok-sk.ensures.gives, read, signed, headline))
+    (λ t (message, read, (signed, headline)). (c.in_ok-sk.sk, message, c.in_ok-sk.ensures.gives, read, signed, headline))
     c.sign_opened.ensures.signed

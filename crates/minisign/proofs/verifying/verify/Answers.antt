@@ -1,6 +1,6 @@
 use Rattle.std.proofs.lemmas.Result.{MatchResult-weaker}
 use Rattle.minisign_base.specs.DeviceCalls.{rereader_call, sink_call, unused}
-use Rattle.minisign_base.specs.SinkLaws.{AppendsFront-keeps}
+use Rattle.minisign_base.proofs.Laws.{AppendsFront-keeps}
 use Rattle.minisign.proofs.Beginnings.{on_err_of, passed_up}
 use Rattle.minisign.proofs.Copies.{front_of_all, keeps_same}
 use Rattle.minisign.proofs.Passes.{copying_succeeds, first_pass, judged_signed, uncopied, unjudged, unread, unsaid}

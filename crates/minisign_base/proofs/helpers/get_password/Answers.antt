@@ -2,7 +2,7 @@ use Rattle.std.proofs.Common.{[], Ok, Err, inl, inr, refl, sym, ap, subst, ⊎_e
 use Rattle.std.specs.Result.{result_err}
 use Rattle.minisign_base.specs.DeviceCalls.{prompt_call}
 use Rattle.minisign_base.specs.Prompts.{ConversationEnds, marking_steps}
-use Rattle.minisign_base.specs.PromptLaws.{typed_is}
+use Rattle.minisign_base.proofs.PromptLaws.{typed_is}
 use Rattle.minisign_base.proofs.HandedOn.{handed_on}
 use Rattle.minisign_base.proofs.helpers.get_password.Goals as goal
 

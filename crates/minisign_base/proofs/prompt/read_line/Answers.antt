@@ -7,8 +7,8 @@ use Rattle.minisign_base.specs.Passwords.{accepted_line, line_length, read_count
 use Rattle.minisign_base.proofs.PromptLines.{line_length-append, line_length-feed, password_of-end, password_of-feed, password_of-long, password_of-nothing, read_front, read_whole, told, told_all}
 use Rattle.minisign_base.proofs.prompt.read_line.Goals as goal
 
-pub returns-in-Some-eq10 : goal.returns-in-Some-eq10
-returns-in-Some-eq10 g c =
+pub returns-in-Some-eq10-clause-read : goal.returns-in-Some-eq10-clause-read
+returns-in-Some-eq10-clause-read g c =
     let used = c.bytes.used in
     let line = c.bytes.line in
     let n = c.without_carriage_return.result in
@@ -22,38 +22,33 @@ returns-in-Some-eq10 g c =
     let given : length (done ++ 10 ∷ []) ≡ used + 1 = length-append done (10 ∷ []) ∙ ap (λ (k : ℕ). k + 1) size in
     let stands : line_length ((done ++ 10 ∷ []) ++ rest) ≡ length done = line_length-feed done rest unfinished in
     let bound : n ≤ used = omega (arith, c.without_carriage_return.ensures.bound, size) in
-    let front : take n done ≡ take n line = take-take n used line bound in
-    record {
-      outcome = (
-        (done ++ 10 ∷ []) ++ rest,
-        read_front (source_call g.R.Source c.args.source.now c.next_byte.new.source) (done ++ 10 ∷ []) rest ahead unread
-            (omega (arith, given, stands, size, short))
-            (omega (arith, given, byte.1, c.bytes.invariant.left))
-            (c.in_ok-next_byte.ensures.no_new_fault ∙ c.bytes.invariant.no_new_fault),
-        omega (arith, bound),
-        password_of-feed done rest unfinished (omega (arith, size, short)) ∙ ap accepted_line (sym c.without_carriage_return.ensures.line ∙ front),
-      );
-    }
+    let front : take n done ≡ take n line = take-take n used line bound in (
+      (done ++ 10 ∷ []) ++ rest,
+      read_front (source_call g.R.Source c.args.source.now c.next_byte.new.source) (done ++ 10 ∷ []) rest ahead unread
+          (omega (arith, given, stands, size, short))
+          (omega (arith, given, byte.1, c.bytes.invariant.left))
+          (c.in_ok-next_byte.ensures.no_new_fault ∙ c.bytes.invariant.no_new_fault),
+      omega (arith, bound),
+      password_of-feed done rest unfinished (omega (arith, size, short)) ∙ ap accepted_line (sym c.without_carriage_return.ensures.line ∙ front),
+    )
 
-pub returns-in-None : goal.returns-in-None
-returns-in-None g c =
+pub returns-in-None-clause-refused : goal.returns-in-None-clause-refused
+returns-in-None-clause-refused g c =
     let byte = rw c.in-None.is at c.in_ok-next_byte.ensures.byte in
     let none : take c.bytes.used c.bytes.line ≡ [] = ap (λ (k : ℕ). take k c.bytes.line) c.if-used-eq0.true in
     let given = subst (λ (done : List ℕ). Consumes (g.R.Source.ahead c.args.source.now) (g.R.Source.ahead c.bytes.source) done) none c.bytes.invariant.given in
     let (ahead, unread) = told_all _ _ _ (Consumes-trans _ _ _ _ _ given byte.0) byte.1 in
-    record {
-      outcome = inr (
-        [],
-        read_whole (source_call g.R.Source c.args.source.now c.next_byte.new.source) [] ahead unread
-            (omega arith)
-            (omega (arith, byte.2, c.bytes.invariant.left, c.if-used-eq0.true))
-            (c.in_ok-next_byte.ensures.no_new_fault ∙ c.bytes.invariant.no_new_fault),
-        password_of-nothing ∙ sym (ap Err c.into.ensures),
-      );
-    }
+    inr (
+      [],
+      read_whole (source_call g.R.Source c.args.source.now c.next_byte.new.source) [] ahead unread
+          (omega arith)
+          (omega (arith, byte.2, c.bytes.invariant.left, c.if-used-eq0.true))
+          (c.in_ok-next_byte.ensures.no_new_fault ∙ c.bytes.invariant.no_new_fault),
+      password_of-nothing ∙ sym (ap Err c.into.ensures),
+    )
 
-pub returns-in-None-2 : goal.returns-in-None-2
-returns-in-None-2 g c =
+pub returns-in-None-2-clause-read : goal.returns-in-None-2-clause-read
+returns-in-None-2-clause-read g c =
     let used = c.bytes.used in
     let line = c.bytes.line in
     let done : List ℕ = take used line in
@@ -62,21 +57,18 @@ returns-in-None-2 g c =
     let some : 0 < used = omega (arith, c.if-used-eq0.false) in
     let byte = rw c.in-None.is at c.in_ok-next_byte.ensures.byte in
     let (ahead, unread) = told_all _ _ _ (Consumes-trans _ _ _ _ _ c.bytes.invariant.given byte.0) byte.1 in
-    let all : done ++ [] ≡ done = append-nil done in
-    record {
-      outcome = (
-        done,
-        read_whole (source_call g.R.Source c.args.source.now c.next_byte.new.source) done (rw all at ahead) unread
-            (omega (arith, size, unfinished))
-            (omega (arith, size, byte.2, c.bytes.invariant.left))
-            (c.in_ok-next_byte.ensures.no_new_fault ∙ c.bytes.invariant.no_new_fault),
-        omega arith,
-        password_of-end done unfinished (omega (arith, size, some)) (omega arith),
-      );
-    }
+    let all : done ++ [] ≡ done = append-nil done in (
+      done,
+      read_whole (source_call g.R.Source c.args.source.now c.next_byte.new.source) done (rw all at ahead) unread
+          (omega (arith, size, unfinished))
+          (omega (arith, size, byte.2, c.bytes.invariant.left))
+          (c.in_ok-next_byte.ensures.no_new_fault ∙ c.bytes.invariant.no_new_fault),
+      omega arith,
+      password_of-end done unfinished (omega (arith, size, some)) (omega arith),
+    )
 
-pub returns : goal.returns
-returns g c =
+pub returns-clause-refused : goal.returns-clause-refused
+returns-clause-refused g c =
     let used = c.bytes.used in
     let line = c.bytes.line in
     let all : used ≡ 1026 = omega arith in
@@ -85,10 +77,8 @@ returns g c =
     let unfinished : line_length done ≡ length done = c.bytes.invariant.unfinished ∙ sym size in
     let (rest, ahead, unread) = told _ _ _ c.bytes.invariant.given in
     let count : length done ≡ read_count (done ++ rest) = omega (arith, size, all, line_length-append done rest unfinished) in
-    record {
-      outcome = inr (
-        done ++ rest,
-        read_front (source_call g.R.Source c.args.source.now c.bytes.source) done rest ahead unread count (omega (arith, size, c.bytes.invariant.left)) c.bytes.invariant.no_new_fault,
-        password_of-long done rest unfinished (size ∙ all) ∙ sym (ap Err c.into-2.ensures),
-      );
-    }
+    inr (
+      done ++ rest,
+      read_front (source_call g.R.Source c.args.source.now c.bytes.source) done rest ahead unread count (omega (arith, size, c.bytes.invariant.left)) c.bytes.invariant.no_new_fault,
+      password_of-long done rest unfinished (size ∙ all) ∙ sym (ap Err c.into-2.ensures),
+    )

@@ -1,25 +1,16 @@
-use Rattle.std.proofs.Common.{subst, sym}
-use Rattle.minisign.specs.Sealing.{IsUnencrypted}
-use Rattle.minisign.proofs.GeneratedKeys.{seed_and_keynum, unsealed_is_unencrypted, unsealed_pair}
-use Rattle.minisign.proofs.Openings.{unencrypted_taken, unencrypted_text}
+use Rattle.std.proofs.Common.{◌≡◌, Ok, subst, sym}
+use Rattle.minisign.specs.Sealing.{unencrypted_key}
+use Rattle.minisign.proofs.GeneratedKeys.{seed_and_keynum, unsealed_pair}
+use Rattle.minisign.proofs.MadeKeys.{unsealed_is_unencrypted}
+use Rattle.minisign.proofs.Openings.{unencrypted_text}
 use Rattle.minisign.proofs.keypair.KeyPair.generate_unencrypted_keypair.Goals as goal
-
-pub returns-clause-made : goal.returns-clause-made
-returns-clause-made g c = record {
-  seed = c.in_ok-seed.seed;
-  keynum = c.in_ok-seed.keynum;
-  lengths = seed_and_keynum _ _ c.in_ok-seed.ensures.first c.in_ok-seed.ensures.second;
-  drawn = c.in_ok-seed.ensures.drawn;
-  public = c.make_pair.ensures.public;
-  secret = c.make_pair.ensures.secret;
-}
 
 pub returns-clause-genuine : goal.returns-clause-genuine
 returns-clause-genuine g c =
     unsealed_pair _ c.in_ok-seed.seed c.in_ok-seed.keynum _ _ (seed_and_keynum _ _ c.in_ok-seed.ensures.first c.in_ok-seed.ensures.second) c.make_pair.ensures.public c.make_pair.ensures.secret
 
 pub returns-clause-unencrypted : goal.returns-clause-unencrypted
-returns-clause-unencrypted g c = subst IsUnencrypted (sym c.make_pair.ensures.secret) (unsealed_is_unencrypted _ _)
+returns-clause-unencrypted g c = subst (λ k. unencrypted_key k ≡ Ok k) (sym c.make_pair.ensures.secret) (unsealed_is_unencrypted _ _)
 
 pub returns-clause-texts : goal.returns-clause-texts
-returns-clause-texts g c = λ text read. unencrypted_text text _ _ read (unencrypted_taken _ (returns-clause-unencrypted g c))
+returns-clause-texts g c = λ text read. unencrypted_text text _ _ read (returns-clause-unencrypted g c)

@@ -1,6 +1,6 @@
 use Rattle.std.proofs.Common.{Ok, Err, string_bytes, sym, subst}
 use Rattle.minisign_base.specs.DeviceCalls.{prompt_call}
-use Rattle.minisign_base.specs.PromptLaws.{second_ended, stopped_first, typed_is}
+use Rattle.minisign_base.proofs.Laws.{second_ended, stopped_first, typed_is}
 use Rattle.minisign_base.specs.Prompts.{ConversationEnds, asking_steps}
 use Rattle.minisign_base.specs.Passwords.{typed_password}
 use Rattle.minisign.proofs.Beginnings.{passed_up, told_fault, told_value}

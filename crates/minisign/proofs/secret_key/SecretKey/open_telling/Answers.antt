@@ -1,20 +1,16 @@
-use Rattle.std.proofs.Common.{inl, inr, refl, ⊎_elim}
+use Rattle.std.proofs.Common.{ap, inl, inr, refl, ⊎_elim}
+use Rattle.std.specs.Result.{result_err}
 use Rattle.std.proofs.lemmas.Result.{err_from_is_err_and}
 use Rattle.minisign.proofs.Openings.{opened_so}
 use Rattle.minisign.proofs.secret_key.SecretKey.open_telling.Goals as goal
-
-pub returns-in_err-say_deriving-clause-ended : goal.returns-in_err-say_deriving-clause-ended
-returns-in_err-say_deriving-clause-ended g c =
-    let p = err_from_is_err_and c.from_residual.result c.from_residual.ensures.1 in
-    rw (p.1, p.2) (inl c.in_err-say_deriving.ensures.ended)
 
 pub returns-in_err-apply_stream-clause-ended : goal.returns-in_err-apply_stream-clause-ended
 returns-in_err-apply_stream-clause-ended g c =
     let said = c.say_deriving.new.prompt in
     let p = err_from_is_err_and c.from_residual-in_err-apply_stream.result c.from_residual-in_err-apply_stream.ensures.1 in
     rw (p.1, p.2) (⊎_elim
-    (λ (memory, work). inr (said, c.in_ok-say_deriving.ensures.ended, inr (said, (work, refl), inl ((memory, tt), refl))))
-    (λ work. inr (said, c.in_ok-say_deriving.ensures.ended, inl (work, refl)))
+    (λ (memory, work). inr (said, c.in_ok-say_deriving.ensures.ended, inr (said, (ap result_err work, refl), inl ((memory, tt), refl))))
+    (λ work. inr (said, c.in_ok-say_deriving.ensures.ended, inl (ap result_err work, refl)))
     c.in_err-apply_stream.ensures.refused)
 
 pub returns-in_err-finish_telling-clause-ended : goal.returns-in_err-finish_telling-clause-ended
@@ -22,14 +18,14 @@ returns-in_err-finish_telling-clause-ended g c =
     let said = c.say_deriving.new.prompt in
     let refused = rw c.in_ok-apply_stream.ensures.xored at c.in_err-finish_telling.ensures.ended in
     let p = err_from_is_err_and c.from_residual-in_err-finish_telling.result c.from_residual-in_err-finish_telling.ensures.1 in
-    rw (p.1, p.2) (inr (said, c.in_ok-say_deriving.ensures.ended, inr (said, (c.in_ok-apply_stream.ensures.allowed, refl), inr (said, (tt, refl), refused))))
+    rw (p.1, p.2) (inr (said, c.in_ok-say_deriving.ensures.ended, inr (said, (ap result_err c.in_ok-apply_stream.ensures.allowed, refl), inr (said, (tt, refl), refused))))
 
 pub returns-clause-opened : goal.returns-clause-opened
 returns-clause-opened g c =
-    opened_so c.args.self _ c.args.password.now c.args.derivation.bound c.in_ok-apply_stream.ensures.xored c.in_ok-apply_stream.ensures.allowed c.in_ok-finish_telling.ensures.restored
+    opened_so c.args.self _ c.args.password.now c.args.derivation.bound _ c.in_ok-apply_stream.ensures.xored c.in_ok-apply_stream.ensures.allowed c.in_ok-finish_telling.ensures.restored
 
 pub returns-clause-ended : goal.returns-clause-ended
 returns-clause-ended g c =
     let said = c.say_deriving.new.prompt in
     let ended = rw c.in_ok-apply_stream.ensures.xored at c.in_ok-finish_telling.ensures.ended in
-    (said, c.in_ok-say_deriving.ensures.ended, (said, (c.in_ok-apply_stream.ensures.allowed, refl), (said, (tt, refl), ended)))
+    (said, c.in_ok-say_deriving.ensures.ended, (said, (ap result_err c.in_ok-apply_stream.ensures.allowed, refl), (said, (tt, refl), ended)))

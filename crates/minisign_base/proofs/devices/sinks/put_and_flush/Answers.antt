@@ -1,4 +1,4 @@
-use Rattle.minisign_base.specs.SinkLaws.{AppendsFront-whole}
+use Rattle.minisign_base.proofs.SinkLaws.{AppendsFront-whole}
 use Rattle.minisign_base.proofs.devices.sinks.put_and_flush.Goals as goal
 
 pub returns-in-Err-clause-front : goal.returns-in-Err-clause-front

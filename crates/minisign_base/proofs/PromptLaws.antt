@@ -6,7 +6,7 @@ use Rattle.minisign_base.specs.Fault.{Fault}
 use Rattle.minisign_base.specs.DeviceCalls.{PromptCall}
 use Rattle.minisign_base.specs.Prompts.{ConversationEnds, Step, StepEnds}
 use Rattle.minisign_base.specs.Passwords.{password_of, typed_password}
-use Rattle.minisign_base.specs.StepLaws.{first_stopped, second_ends}
+use Rattle.minisign_base.proofs.StepLaws.{first_stopped, second_ends}
 use Rattle.minisign_base.specs.declared.prompt.Prompt.{Prompt}
 
 -- the password that was typed
