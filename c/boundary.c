@@ -330,3 +330,28 @@ enum minisign_error minisign_judge_comment(const uint8_t *comment, size_t commen
                                                               READ(file, file_len), file_len, numbering, kept,
                                                               number);
 }
+
+PROVED(uint32_t, minisign_check_comment, (const uint8_t *, size_t, const uint8_t *, size_t, uint32_t, uint32_t,
+                                          const uint8_t *, size_t, uint32_t *, uint64_t *));
+
+enum minisign_error minisign_check_comment(const uint8_t *comment, size_t comment_len, const uint8_t *file,
+                                           size_t file_len, uint32_t numbering, uint32_t is_first,
+                                           const uint8_t *record, size_t record_len, uint32_t *offer,
+                                           uint64_t *number)
+{
+    return (enum minisign_error) CALL(minisign_check_comment)(READ(comment, comment_len), comment_len,
+                                                              READ(file, file_len), file_len, numbering, is_first,
+                                                              READ(record, record_len), record_len, offer, number);
+}
+
+PROVED(uint32_t, minisign_check_first_comment, (const uint8_t *, size_t, const uint8_t *, size_t, uint32_t,
+                                                uint32_t, uint32_t *, uint64_t *));
+
+enum minisign_error minisign_check_first_comment(const uint8_t *comment, size_t comment_len, const uint8_t *file,
+                                                 size_t file_len, uint32_t numbering, uint32_t is_first,
+                                                 uint32_t *offer, uint64_t *number)
+{
+    return (enum minisign_error) CALL(minisign_check_first_comment)(READ(comment, comment_len), comment_len,
+                                                                    READ(file, file_len), file_len, numbering,
+                                                                    is_first, offer, number);
+}

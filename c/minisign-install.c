@@ -1,6 +1,7 @@
 /* SPDX-License-Identifier: MIT */
 /*
- * minisign-install PK DATA SIG PLACE: installs an update that two texts vouch for, and nothing else.
+ * minisign-install PK DATA SIG PLACE: installs an update that two texts vouch for, and nothing else. With --check it
+ * only tells, by the signature alone, whether there is a newer one.
  *
  * The machine of minisign.h says which call is due, and judges: the texts, the data as it was staged, and the comment
  * that was signed with it. This program makes the call that is due (folder.h) and tells how it went; libsodium says
@@ -304,6 +305,56 @@ static void install(minisign_installation *machine, const struct request *reques
     }
 }
 
+/* ---- Whether there is a newer one ---- */
+
+/* Has Ed25519 answer whether the key has signed the comment, which stands behind the signature in the message. */
+static enum minisign_error ask_comment(minisign_questions *q, uint8_t *message, size_t room)
+{
+    minisign_state state;
+    enum minisign_error error;
+
+    minisign_init(&state);
+    error = minisign_ask(&state, &key, signature.bytes, signature.len, 0, q, message, room);
+    return error == MINISIGN_OK ? minisign_comment_verdict(
+                                      &state, answer_of(q->comment_signature, message, q->message_len, q->public_key))
+                                : error;
+}
+
+/* Tells what the update is beside the kept number: nothing is written, and no lock is taken. */
+static enum minisign_error check(const struct request *request, struct folder *folder, uint32_t *offer)
+{
+    static uint8_t message[TEXT_BYTES];
+    const char *name = wanted_name(request, folder);
+    const uint8_t *comment = message + 64, *file = (const uint8_t *) name;
+    uint32_t is_first = request->is_first ? 1 : 0;
+    uint8_t record[RECORD_BYTES];
+    size_t len = 0;
+    bool is_there = false;
+    minisign_questions q;
+    uint64_t number;
+    enum minisign_error error = ask_comment(&q, message, sizeof message);
+
+    error = error == MINISIGN_OK ? open_folder(folder) : error;
+    error = error == MINISIGN_OK ? read_record(folder, record, &len, &is_there) : error;
+    if (error != MINISIGN_OK) {
+        return error;
+    }
+    return is_there ? minisign_check_comment(comment, q.message_len - 64, file, strlen(name), request->numbering, is_first,
+                                             record, len, offer, &number)
+                    : minisign_check_first_comment(comment, q.message_len - 64, file, strlen(name), request->numbering,
+                                                   is_first, offer, &number);
+}
+
+static enum status status_of_offer(uint32_t offer)
+{
+    switch ((enum minisign_offer) offer) {
+    case MINISIGN_OFFER_NEWER: return INSTALLED;
+    case MINISIGN_OFFER_SAME: return SAME;
+    case MINISIGN_OFFER_OLDER: return OLDER;
+    }
+    abort();
+}
+
 /* ---- What came of it ---- */
 
 static enum status status_of(enum minisign_error error)
@@ -437,6 +488,12 @@ int main(int argc, char *argv[])
         return status_of(error);
     }
     read_text(&signature, request.signature);
+    if (request.is_check) {
+        uint32_t offer;
+
+        error = check(&request, &folder, &offer);
+        return error == MINISIGN_OK ? status_of_offer(offer) : report(&request, &(struct data) { 0 }, &folder, error);
+    }
     data = open_data(&request);
     error = data.is_regular ? MINISIGN_OK : receive_data(&data, &request, &folder);
     if (error == MINISIGN_OK) {

@@ -11,12 +11,16 @@
 
 #include "report.h"
 
-#define USAGE "usage: minisign-install [OPTION ..] PK DATA SIG PLACE"
+#define USAGE \
+    "usage: minisign-install [OPTION ..] PK DATA SIG PLACE\n" \
+    "       minisign-install --check [OPTION ..] PK SIG PLACE"
 
 #define HELP \
     "Installs DATA at PLACE if the texts of the public key PK and of the signature\n" \
     "SIG vouch for it as the update that is wanted.\n" \
     "\n" \
+    "  --check            do not install: tell by SIG alone whether the update is\n" \
+    "                     newer than what is kept beside PLACE; writes nothing\n" \
     "  --first            take the update also where no number of FIELD is kept\n" \
     "                     beside PLACE\n" \
     "  --numbering FIELD  the update's number is the field `timestamp` of the signed\n" \
@@ -33,14 +37,15 @@
     "  --version          show the version of the program\n" \
     "\n" \
     "Each option comes at most once, anywhere before `--`. It ends with\n" \
-    "  0  the update was installed, or what was asked for was shown\n" \
+    "  0  the update was installed, or is newer, or what was asked for was shown\n" \
     "  1  a file could not be used, memory ran out, or no random bytes came\n" \
     "  2  the words are no request\n" \
     "  3  the update is refused\n" \
     "  4  the update is older than what was installed\n" \
     "  5  another installation is at work at this place\n" \
     "  6  the update stands there, but a crash may bring back what stood there before\n" \
-    "  7  no number of FIELD is kept beside PLACE, and `--first` was not given\n"
+    "  7  no number of FIELD is kept beside PLACE, and `--first` was not given\n" \
+    "  8  with `--check`: the update has the number that is kept\n"
 
 enum { PATHS = 4 };
 
@@ -51,6 +56,7 @@ static const char *const valued[VALUED] = { "--numbering", "--name", "--mode", "
 
 /* What the words say that were read: the values as they were written, or NULL. */
 struct line {
+    bool is_check;
     bool is_first;
     const char *values[VALUED];
     const char *paths[PATHS];
@@ -81,6 +87,31 @@ static void add_path(struct line *line, const char *word)
     line->paths[line->count++] = word;
 }
 
+/* An option without a value, which comes at most once. */
+static void add_flag(bool *flag, const char *word)
+{
+    if (*flag) {
+        misuse(word, "it came before");
+    }
+    *flag = true;
+}
+
+/* A check names no data, and what concerns data alone is no part of it. */
+static void judge_line(const struct line *line)
+{
+    if (line->is_check && line->count == PATHS) {
+        misuse(line->paths[PATHS - 1], "with `--check` there are three paths, and this is a fourth");
+    }
+    for (int option = MODE; line->is_check && option <= MOST; option++) {
+        if (line->values[option] != NULL) {
+            misuse(valued[option], "it does not go with `--check`");
+        }
+    }
+    if (line->count < PATHS - (line->is_check ? 1 : 0)) {
+        misuse(NULL, line->is_check ? "there are fewer than three paths" : "there are fewer than four paths");
+    }
+}
+
 static int valued_of(const char *word)
 {
     int option = 0;
@@ -105,10 +136,9 @@ static struct line read_line(int argc, char *argv[])
         } else if (strcmp(word, "--") == 0) {
             is_ended = true;
         } else if (strcmp(word, "--first") == 0) {
-            if (line.is_first) {
-                misuse(word, "it came before");
-            }
-            line.is_first = true;
+            add_flag(&line.is_first, word);
+        } else if (strcmp(word, "--check") == 0) {
+            add_flag(&line.is_check, word);
         } else if (option == VALUED) {
             misuse(word, "there is no such option");
         } else if (line.values[option] != NULL) {
@@ -119,9 +149,7 @@ static struct line read_line(int argc, char *argv[])
             line.values[option] = argv[i];
         }
     }
-    if (line.count < PATHS) {
-        misuse(NULL, "there are fewer than four paths");
-    }
+    judge_line(&line);
     return line;
 }
 
@@ -196,6 +224,7 @@ struct request read_request(int argc, char *argv[])
         show("minisign-install " MINISIGN_VERSION_TEXT "\n", "");
     }
     line = read_line(argc, argv);
+    request.is_check = line.is_check;
     request.is_first = line.is_first;
     request.numbering = numbering_of(line.values[NUMBERING]);
     request.name = line.values[NAME];
@@ -207,8 +236,8 @@ struct request read_request(int argc, char *argv[])
         request.most = bytes_of(line.values[MOST]);
     }
     request.key = line.paths[0];
-    request.data = line.paths[1];
-    request.signature = line.paths[2];
-    request.place = line.paths[3];
+    request.data = line.is_check ? NULL : line.paths[1];
+    request.signature = line.paths[line.count - 2];
+    request.place = line.paths[line.count - 1];
     return request;
 }

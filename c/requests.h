@@ -13,6 +13,8 @@
 
 /* An installation that is asked for. */
 struct request {
+    /* Whether it is only asked if there is anything newer: no data is named then. */
+    bool is_check;
     /* Whether no number need be kept beside the place. */
     bool is_first;
     /* Which field of the signed comment has the number. */

@@ -919,6 +919,38 @@ MINISIGN_MUST_USE enum minisign_error minisign_judge_comment(
     const uint8_t *comment, size_t comment_len, const uint8_t *file, size_t file_len, uint32_t numbering, uint64_t kept,
     uint64_t *number);
 
+/* What an update is beside the one whose number is kept. */
+/* Offers, made by tools/header.py. */
+enum minisign_offer {
+    /* Its number is greater, or no number of the field is kept, at a first installation. */
+    MINISIGN_OFFER_NEWER = 1,
+    /* Its number is the kept one. */
+    MINISIGN_OFFER_SAME = 2,
+    /* Its number is below the kept one. */
+    MINISIGN_OFFER_OLDER = 3
+};
+/* The end of the offers. */
+
+/*
+ * Whether an update is newer than what is kept, by its signed comment: before its data is there. The comment is one
+ * that minisign_comment_verdict has vouched for, which can be asked before a byte was fed: behind minisign_ask it stands
+ * in the message, behind the 64 bytes of the signature. Nothing vouches for the data. The record is that of a place, as
+ * minisign_install_record takes it, read whole and without the lock; or there is none.
+ *
+ * Writes a number of enum minisign_offer, and the number of the update. With is_first 1 an update is newer where no
+ * number of the field is kept; otherwise is_first is 0.
+ *
+ * After an error nothing is written. The errors, in this order: MINISIGN_BAD_FIRST_FLAG; MINISIGN_BAD_NUMBERING;
+ * MINISIGN_NOT_UTF8 of the comment or the name; MINISIGN_NO_RECORD, MINISIGN_DAMAGED_RECORD, MINISIGN_KEPT_BY_TIMESTAMP,
+ * MINISIGN_KEPT_BY_VERSION, where is_first is 0; MINISIGN_OTHER_FILE; MINISIGN_NO_NUMBER. Does not allocate.
+ */
+MINISIGN_MUST_USE enum minisign_error minisign_check_comment(
+    const uint8_t *comment, size_t comment_len, const uint8_t *file, size_t file_len, uint32_t numbering,
+    uint32_t is_first, const uint8_t *record, size_t record_len, uint32_t *offer, uint64_t *number);
+MINISIGN_MUST_USE enum minisign_error minisign_check_first_comment(
+    const uint8_t *comment, size_t comment_len, const uint8_t *file, size_t file_len, uint32_t numbering,
+    uint32_t is_first, uint32_t *offer, uint64_t *number);
+
 #ifdef __cplusplus
 }
 #endif

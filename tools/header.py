@@ -43,6 +43,7 @@ HOST_NUMBERS = "crates/minisign_install/src/host_numbers.rt"
 HOSTED = "crates/minisign_install/src/hosted.rt"
 ORDER = "crates/minisign_install/src/order.rt"
 COMMENTS = "crates/minisign_install/src/comments.rt"
+CHECKING = "crates/minisign_install/src/checking.rt"
 
 # Named faults with this number or a greater one are answered by no call of the header, but for those that a host may tell.
 UNANSWERED = 46
@@ -184,6 +185,15 @@ def numbering_text():
         raise Unreadable("the numberings and their numbers differ")
     return variants_text("minisign_numbering", "NUMBERING_",
                          [Number(int(number), it, comments[it], "") for number, it in numbers.items()])
+
+
+def offer_text():
+    """The enum of what an update is beside the kept number."""
+    comments = comments_of(CHECKING, "Offer")
+    numbers = match_arms((HOST_NUMBERS, "Offer", "number"), r"Offer::(\w+) => (\d+),")
+    if set(comments) != set(numbers):
+        raise Unreadable("the offers and their numbers differ")
+    return variants_text("minisign_offer", "OFFER_", [Number(int(numbers[it][0]), it, comment, "") for it, comment in comments.items()])
 
 
 def variants_text(enum, prefix, numbers):
@@ -362,6 +372,7 @@ def header_text(numbers):
     header = between(HEADER, "/* Calls of installing, made by tools/header.py. */", "/* The end of the calls. */", due_text(), header)
     header = between(HEADER, "/* Numberings, made by tools/header.py. */", "/* The end of the numberings. */",
                      numbering_text(), header)
+    header = between(HEADER, "/* Offers, made by tools/header.py. */", "/* The end of the offers. */", offer_text(), header)
     for name in ("verify.c", "sign.c"):
         header = between(HEADER, f" * The example, made by tools/header.py from {EXAMPLES}/{name}.",
                          " * The end of the example.", example_text(name), header)

@@ -18,6 +18,7 @@ ghost use Rattle.minisign_external.specs.Making.{HoldsPublicKey, HoldsSecretKey,
 ghost use Rattle.minisign_external.specs.Signing.{AreReadByMinisign, GivesSecretKey, HoldsKey, HoldsText, IsOpeningNumber, IsWritingNumber, comments_of, is_opened, passed_in, public_value_of, taken_key, told_public_key};
 ghost use Rattle.minisign_external.specs.declared.public_keys.PublicKeyValue.{PublicKeyValue};
 ghost use Rattle.minisign_external.specs.declared.state.Misuse.TheVariants.{BadFirstFlag, BadNumbering, BadPasswordFlag, NoRoom, NotDue};
+ghost use Rattle.minisign_install.specs.Checking.{HasChecked, IsCheckNumber};
 ghost use Rattle.minisign_install.specs.Comments.{Says};
 ghost use Rattle.minisign_install.specs.HostNumbers.{IsHostMeaning, numbering_number};
 ghost use Rattle.minisign_install.specs.Hosted.{CannotBeFed, CannotFail, CannotGo, GivesUpdateNumber, CallHasFailed, HasGone, HasReadRecord, HasReadBack, IsAnswerNumber, IsAskNumber, IsAsking, IsCommentNumber, IsDue, due_number, due_of, numbering_of, wanted_by};
@@ -36,6 +37,7 @@ use minisign_external::secrets::{SecretKeyValue, open_secret_key};
 use minisign_external::signed_texts::{write_comment_message, write_signed_text};
 use minisign_external::state::{Misuse, Questions, Refusal, State};
 use minisign_install::Numbering;
+use minisign_install::checking::check_comment_offer;
 use minisign_install::host_numbers::write_error_text;
 use minisign_install::hosted::Installation;
 use minisign_install::hosted_judging::judge_comment;
@@ -650,6 +652,77 @@ pub extern "C" fn minisign_judge_comment(
     match judge_comment(comment, file, numbering, kept) {
         Ok(told) => {
             *number = told;
+            0
+        }
+        Err(fault) => fault.number(),
+    }
+}
+
+/// What an update is beside the kept number, by its signed comment and by the bytes of the record.
+#[unsafe(no_mangle)]
+pub extern "C" fn minisign_check_comment(
+    comment: &[u8],
+    file: &[u8],
+    numbering: u32,
+    is_first: u32,
+    record: &[u8],
+    offer: &mut u32,
+    number: &mut u64,
+) -> u32
+    // What the update is beside the kept number, and its own number, are told exactly where the comment and the name are
+    // UTF-8, the record has a number of the field, or this is the first installation, and the comment names the file and has
+    // a number of the field.
+    ensures checked { result ≡ 0 → HasChecked comment.now file.now numbering is_first (Some record.now) offer.new number.new }
+
+    // Otherwise the number is that of the first reason, and nothing is written.
+    ensures refused { 0 < result → IsCheckNumber comment.now file.now numbering is_first (Some record.now) result }
+    ensures kept { 0 < result → (offer.new ≡ offer.old) × (number.new ≡ number.old) }
+{
+    check(comment, file, numbering, is_first, Some(record), offer, number)
+}
+
+/// The same where there is no record.
+#[unsafe(no_mangle)]
+pub extern "C" fn minisign_check_first_comment(
+    comment: &[u8],
+    file: &[u8],
+    numbering: u32,
+    is_first: u32,
+    offer: &mut u32,
+    number: &mut u64,
+) -> u32
+    // The same where there is no record.
+    ensures checked { result ≡ 0 → HasChecked comment.now file.now numbering is_first None offer.new number.new }
+    ensures refused { 0 < result → IsCheckNumber comment.now file.now numbering is_first None result }
+    ensures kept { 0 < result → (offer.new ≡ offer.old) × (number.new ≡ number.old) }
+{
+    check(comment, file, numbering, is_first, None, offer, number)
+}
+
+// What an update is beside what was found of the record.
+fn check(
+    comment: &[u8],
+    file: &[u8],
+    numbering: u32,
+    is_first: u32,
+    found: Option<&[u8]>,
+    offer: &mut u32,
+    number: &mut u64,
+) -> u32
+    ensures checked { result ≡ 0 → HasChecked comment.now file.now numbering is_first (option_map (λ b. b.now) found) offer.new number.new }
+    ensures refused { 0 < result → IsCheckNumber comment.now file.now numbering is_first (option_map (λ b. b.now) found) result }
+    ensures kept { 0 < result → (offer.new ≡ offer.old) × (number.new ≡ number.old) }
+{
+    if is_first > 1 {
+        return Misuse::BadFirstFlag.number();
+    }
+    let Some(numbering) = Numbering::of_number(numbering) else {
+        return Misuse::BadNumbering.number();
+    };
+    match check_comment_offer(comment, file, numbering, is_first == 1, found) {
+        Ok((told, told_number)) => {
+            *offer = told.number();
+            *number = told_number;
             0
         }
         Err(fault) => fault.number(),

@@ -1,4 +1,5 @@
 mod Bounds
+mod Checks
 mod Counts
 mod Driven
 mod Driving

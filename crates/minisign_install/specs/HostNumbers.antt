@@ -2,6 +2,8 @@
 use Rattle.std.specs.Prelude.{◌≡◌, ℕ, List}
 use Rattle.minisign_external.specs.Numbers.{IsMeaning, fault_number}
 use Rattle.minisign_install.specs.Faults.{install_row}
+use Rattle.minisign_install.specs.declared.checking.Offer.{Offer}
+use Rattle.minisign_install.specs.declared.checking.Offer.TheVariants.{Newer, Same, Older}
 use Rattle.minisign_install.specs.declared.comments.Numbering.{Numbering}
 use Rattle.minisign_install.specs.declared.comments.Numbering.TheVariants.{Timestamp, Version}
 use Rattle.minisign_install.specs.declared.faults.InstallFault.{InstallFault}
@@ -38,3 +40,9 @@ pub record IsHostMeaning (n : ℕ) (text : List ℕ) : Type 0 where
 abbrev pub numbering_number : Numbering → ℕ
 numbering_number Timestamp = 0
 numbering_number Version = 1
+
+-- the numbers of what an update is beside the kept number
+abbrev pub offer_number : Offer → ℕ
+offer_number Newer = 1
+offer_number Same = 2
+offer_number Older = 3

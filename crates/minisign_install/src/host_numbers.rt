@@ -3,8 +3,9 @@
 
 ghost use Rattle.std.specs.Prelude.{◌≡◌, ◌<◌, ℕ, List, length, Some, None, IfSome, MatchOption};
 ghost use Rattle.minisign_external.specs.Numbers.{WritesCut};
-ghost use Rattle.minisign_install.specs.HostNumbers.{IsHostMeaning, install_number, numbering_number};
+ghost use Rattle.minisign_install.specs.HostNumbers.{IsHostMeaning, install_number, numbering_number, offer_number};
 
+use crate::checking::Offer;
 use crate::comments::Numbering;
 use crate::faults::InstallFault;
 use minisign_external::numbers;
@@ -84,6 +85,20 @@ impl Numbering {
             0 => Some(Numbering::Timestamp),
             1 => Some(Numbering::Version),
             _ => None,
+        }
+    }
+}
+
+impl Offer {
+    /// The number of what an update is beside the kept number.
+    pub fn number(self) -> u32
+        // A newer update has the number 1, the kept one 2, and an older one 3.
+        ensures { result ≡ offer_number self }
+    {
+        match self {
+            Offer::Newer => 1,
+            Offer::Same => 2,
+            Offer::Older => 3,
         }
     }
 }

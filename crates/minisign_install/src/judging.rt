@@ -164,7 +164,7 @@ fn answers<S: Scheme>(scheme: &S, questions: &Questions, message: &[u8]) -> (boo
 
 // The fault of a refusal. A wrong use never comes here: the state is fed, and then asked, and there
 // is room for the message.
-fn fault_of(refusal: Refusal) -> PError
+pub(crate) fn fault_of(refusal: Refusal) -> PError
     ensures { (e : Fault) → refusal ≡ Refused e → result ≡ e }
 {
     match refusal {
