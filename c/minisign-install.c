@@ -18,6 +18,7 @@
 #include <stdlib.h>
 #include <string.h>
 #include <sys/stat.h>
+#include <time.h>
 #include <unistd.h>
 
 #include <sodium.h>
@@ -249,6 +250,15 @@ static const char *wanted_name(const struct request *request, const struct folde
     return request->name == NULL ? folder->place.name : request->name;
 }
 
+/* The moment that the clock shows, in seconds since the beginning of 1970. A clock that shows an earlier one is wrong, and
+ * counts as the last moment that there is: so what expires has expired. */
+static uint64_t now(void)
+{
+    time_t shown = time(NULL);
+
+    return shown < 0 ? UINT64_MAX : (uint64_t) shown;
+}
+
 /* Has Ed25519 answer the questions, where the texts do not refuse already. The message has room enough. */
 static void answer(minisign_installation *machine, const struct request *request, const struct folder *folder)
 {
@@ -256,8 +266,8 @@ static void answer(minisign_installation *machine, const struct request *request
     const char *name = wanted_name(request, folder);
     minisign_questions q;
 
-    if (minisign_install_ask(machine, &key, signature.bytes, signature.len, (const uint8_t *) name, strlen(name), &q, message,
-                             sizeof message)
+    if (minisign_install_ask(machine, &key, signature.bytes, signature.len, (const uint8_t *) name, strlen(name), now(), &q,
+                             message, sizeof message)
         == MINISIGN_OK) {
         enum minisign_answer first = answer_of(q.signature, q.digest, sizeof q.digest, q.public_key);
         enum minisign_answer second = answer_of(q.comment_signature, message, q.message_len, q.public_key);
@@ -339,10 +349,10 @@ static enum minisign_error check(const struct request *request, struct folder *f
     if (error != MINISIGN_OK) {
         return error;
     }
-    return is_there ? minisign_check_comment(comment, q.message_len - 64, file, strlen(name), request->numbering, is_first,
-                                             record, len, offer, &number)
+    return is_there ? minisign_check_comment(comment, q.message_len - 64, file, strlen(name), request->numbering, now(),
+                                             is_first, record, len, offer, &number)
                     : minisign_check_first_comment(comment, q.message_len - 64, file, strlen(name), request->numbering,
-                                                   is_first, offer, &number);
+                                                   now(), is_first, offer, &number);
 }
 
 static enum status status_of_offer(uint32_t offer)
@@ -366,6 +376,7 @@ static enum status status_of(enum minisign_error error)
     case MINISIGN_WRITING_FAILED:
     case MINISIGN_RANDOM_SOURCE_FAILED: return FAILED;
     case MINISIGN_OLDER_UPDATE: return OLDER;
+    case MINISIGN_EXPIRED: return EXPIRED;
     case MINISIGN_PLACE_IN_USE: return IN_USE;
     case MINISIGN_FOLDER_NOT_ON_DISK: return NOT_ON_DISK;
     case MINISIGN_NO_RECORD:

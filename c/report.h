@@ -24,7 +24,9 @@ enum status {
     /* No number of the field is kept beside the place. */
     UNRECORDED = 7,
     /* The update has the number that is kept. */
-    SAME = 8
+    SAME = 8,
+    /* The update has expired. */
+    EXPIRED = 9
 };
 
 /* Says of a file what is wrong with it. */

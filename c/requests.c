@@ -45,7 +45,8 @@
     "  5  another installation is at work at this place\n" \
     "  6  the update stands there, but a crash may bring back what stood there before\n" \
     "  7  no number of FIELD is kept beside PLACE, and `--first` was not given\n" \
-    "  8  with `--check`: the update has the number that is kept\n"
+    "  8  with `--check`: the update has the number that is kept\n" \
+    "  9  the update has expired\n"
 
 enum { PATHS = 4 };
 

@@ -168,7 +168,7 @@ vouched_with accepts pk_text sig_text message v = record { vouched = v; comments
 module _ (accepts : Verifier) (terms : Terms) (kept : ℕ) (m comment : List ℕ) where
   -- the texts vouch for the data: it is an update, or the comment is refused
   pub judged_comment : (S : Type 0) (r : Result ℕ InstallFault) → TextsVouchWith accepts terms.pk_text terms.sig_text m false comment
-      → MatchResult r (λ n. Says comment terms.file terms.numbering n × (kept ≤ n)) (IsCommentRefused terms kept comment)
+      → MatchResult r (λ n. Says comment terms.file terms.numbering terms.moment n × (kept ≤ n)) (IsCommentRefused terms kept comment)
       → MatchResult r (IsUpdate accepts terms kept m) (λ e. IsLibraryFault (λ f. (f ≡ Named OutOfMemory) × S) e ⊎ IsDataRefused accepts terms kept m e)
   judged_comment S (Ok n) vouched (says, newer) = record { comment = comment; vouched = vouched; says = says; newer = newer }
   judged_comment S (Err e) vouched refused = inr (inr (comment, vouched, refused))

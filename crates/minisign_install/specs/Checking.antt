@@ -46,11 +46,11 @@ offer_beside (Some kept) n = if nat_le n kept then (if n == kept then Same else 
 offer_beside None n = Newer
 
 -- What is answered of a signed comment by what the record was found to hold: the record is refused as installing refuses
--- it; otherwise the comment is, for another reason than its age; otherwise its number is told, and what that is beside the
+-- it; otherwise the comment is, for another reason than its number; otherwise its number is told, and what that is beside the
 -- kept one.
 abbrev pub IsOffered : Terms → Bool → Option (List ℕ) → List ℕ → Result (Offer × ℕ) InstallFault → Type 0
 IsOffered terms first found comment (Ok (offer, n)) =
-    (kept : Option ℕ) × IsKeptOrNone terms.numbering first found kept × Says comment terms.file terms.numbering n × (offer ≡ offer_beside kept n)
+    (kept : Option ℕ) × IsKeptOrNone terms.numbering first found kept × Says comment terms.file terms.numbering terms.moment n × (offer ≡ offer_beside kept n)
 IsOffered terms first found comment (Err e) =
     IsRecordRefused terms.numbering first found e
     ⊎ ((kept : Option ℕ) × IsKeptOrNone terms.numbering first found kept × IsCommentRefused terms 0 comment e)
@@ -84,15 +84,15 @@ CommentChecksSo comment terms first found r =
 -- == The same by numbers ==
 
 -- a check was answered: the offer has this number
-abbrev pub HasChecked : List ℕ → List ℕ → ℕ → ℕ → Option (List ℕ) → ℕ → ℕ → Type 0
-HasChecked comment file numbering first found offer n =
+abbrev pub HasChecked : List ℕ → List ℕ → ℕ → ℕ → ℕ → Option (List ℕ) → ℕ → ℕ → Type 0
+HasChecked comment file numbering moment first found offer n =
     (first < 2) × (k : Numbering) × (numbering ≡ numbering_number k) × (told : Offer) × (offer ≡ offer_number told)
-    × CommentChecksSo comment (wanted_by [] [] file k) (first == 1) found (Ok (told, n))
+    × CommentChecksSo comment (wanted_by [] [] file k moment) (first == 1) found (Ok (told, n))
 
 -- it is refused: for a number that is neither 0 nor 1, that of the first flag first; or for the first reason
-abbrev pub IsCheckNumber : List ℕ → List ℕ → ℕ → ℕ → Option (List ℕ) → ℕ → Type 0
-IsCheckNumber comment file numbering first found error =
+abbrev pub IsCheckNumber : List ℕ → List ℕ → ℕ → ℕ → ℕ → Option (List ℕ) → ℕ → Type 0
+IsCheckNumber comment file numbering moment first found error =
     ((error ≡ misuse_number BadFirstFlag) × (1 < first))
     ⊎ ((error ≡ misuse_number BadNumbering) × (first < 2) × (1 < numbering))
     ⊎ ((first < 2) × (k : Numbering) × (numbering ≡ numbering_number k) × (e : InstallFault) × (error ≡ install_number e)
-    × CommentChecksSo comment (wanted_by [] [] file k) (first == 1) found (Err e))
+    × CommentChecksSo comment (wanted_by [] [] file k moment) (first == 1) found (Err e))

@@ -45,7 +45,7 @@ pub enum Offer {
 ///
 /// The refusals come in this order: want of memory; the first failing case of the public key text, of the signature text,
 /// and of the signature of its comment under the key; a record that cannot be read; one that installing refuses; a comment
-/// that names another file, or has no number. Takes as much memory as the text of the signature has bytes, and the record.
+/// that names another file, has no number, or has expired. Takes as much memory as the text of the signature has bytes, and the record.
 pub fn check_update<S: Scheme, F: Folder>(
     alloc: Global,
     scheme: &S,
@@ -62,8 +62,8 @@ pub fn check_update<S: Scheme, F: Folder>(
 {
     match comment_of(alloc, scheme, wanted.pk_text, wanted.sig_text) {
         Ok(comment) => match folder.read_record(alloc) {
-            Ok(Some(bytes)) => offered(comment, wanted.file, wanted.numbering, is_first, Some(bytes.as_slice())),
-            Ok(None) => offered(comment, wanted.file, wanted.numbering, is_first, None),
+            Ok(Some(bytes)) => offered(comment, wanted.file, wanted.numbering, wanted.moment, is_first, Some(bytes.as_slice())),
+            Ok(None) => offered(comment, wanted.file, wanted.numbering, wanted.moment, is_first, None),
             Err(_) => Err(NamedFault::ReadingFailed.into()),
         },
         Err(fault) => Err(InstallFault::Library(fault)),
@@ -78,11 +78,12 @@ pub fn check_comment_offer(
     comment: &[u8],
     file: &[u8],
     numbering: Numbering,
+    moment: u64,
     is_first: bool,
     found: Option<&[u8]>,
 ) -> Result<(Offer, u64), InstallFault>
     // The comment and the name have to be UTF-8; then the answer is the one by what the record was found to hold.
-    ensures outcome { CommentChecksSo comment.now (wanted_by [] [] file.now numbering) is_first (option_map (λ b. b.now) found) result }
+    ensures outcome { CommentChecksSo comment.now (wanted_by [] [] file.now numbering moment) is_first (option_map (λ b. b.now) found) result }
 {
     let Ok(comment) = str::from_utf8(comment) else {
         return Err(NamedFault::NotUtf8.into());
@@ -90,7 +91,7 @@ pub fn check_comment_offer(
     let Ok(file) = str::from_utf8(file) else {
         return Err(NamedFault::NotUtf8.into());
     };
-    offered(comment, file, numbering, is_first, found)
+    offered(comment, file, numbering, moment, is_first, found)
 }
 
 // What is answered of a signed comment, by what the record was found to hold.
@@ -98,13 +99,14 @@ fn offered(
     comment: &str,
     file: &str,
     numbering: Numbering,
+    moment: u64,
     is_first: bool,
     found: Option<&[u8]>,
 ) -> Result<(Offer, u64), InstallFault>
-    ensures { (pk_text sig_text : List ℕ) → IsOffered (wanted_by pk_text sig_text file.now numbering) is_first (option_map (λ b. b.now) found) comment.now result }
+    ensures { (pk_text sig_text : List ℕ) → IsOffered (wanted_by pk_text sig_text file.now numbering moment) is_first (option_map (λ b. b.now) found) comment.now result }
 {
     match kept_in(found, numbering, is_first) {
-        Ok(kept) => match check_comment(comment, file, numbering, 0) {
+        Ok(kept) => match check_comment(comment, file, numbering, moment, 0) {
             Ok(number) => Ok((beside(kept, number), number)),
             Err(fault) => Err(fault),
         },

@@ -28,6 +28,8 @@ impl InstallFault {
             FolderNotOnDisk => 52,
             KeptByTimestamp => 53,
             KeptByVersion => 54,
+            Expired => 55,
+            BadExpiry => 56,
         }
     }
 }
@@ -49,6 +51,8 @@ pub fn error_text(number: u32) -> &'static str
         52 => "installed, but the folder could not be brought to the disk",
         53 => "the number that is kept beside the place is a timestamp, and no version",
         54 => "the number that is kept beside the place is a version, and no timestamp",
+        55 => "the update has expired",
+        56 => "the signed comment does not say once, in a number, when it expires",
         _ => numbers::error_text(number),
     }
 }
