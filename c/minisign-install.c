@@ -55,7 +55,7 @@ struct data {
     struct steps verified;
 };
 
-static minisign_public_key key;
+static minisign_public_key keys[MOST_KEYS];
 static struct text signature;
 static uint8_t piece[PIECE_BYTES];
 
@@ -109,13 +109,56 @@ static void read_text(struct text *text, const char *file)
     }
 }
 
-/* Reads the public key of a file; a text that is none is the library's to name. */
-static enum minisign_error read_key(const char *file)
+/* Says of a file what an error of the library means. */
+static void say_error(const char *file, enum minisign_error error)
+{
+    char text[MINISIGN_ERROR_TEXT_BYTES];
+
+    minisign_error_text(error, text, sizeof text);
+    say(file, text);
+}
+
+/* Ends the program where what should be a public key is none: why, is the library's to name. */
+static void must_be_key(const char *shown, enum minisign_error error)
+{
+    if (error != MINISIGN_OK) {
+        say_error(shown, error);
+        exit(REFUSED);
+    }
+}
+
+/* Reads the public key of a file, or those that are named themselves. */
+static void read_keys(const struct request *request)
 {
     static struct text text;
 
-    read_text(&text, file);
-    return minisign_read_public_key(text.bytes, text.len, &key);
+    for (int i = 0; i < request->key_count; i++) {
+        const char *base64 = request->keys[i];
+
+        must_be_key(base64, minisign_read_bare_public_key((const uint8_t *) base64, strlen(base64), &keys[i]));
+    }
+    if (request->key_count == 0) {
+        read_text(&text, request->key);
+        must_be_key(request->key, minisign_read_public_key(text.bytes, text.len, &keys[0]));
+    }
+}
+
+/* The key that has to have made the signature: of two the second where the signature has its key ID and not that of the
+ * first. */
+static const minisign_public_key *key_of_signature(const struct request *request)
+{
+    static uint8_t message[TEXT_BYTES];
+    minisign_questions q;
+    minisign_state state;
+
+    for (int i = 0; i < request->key_count; i++) {
+        minisign_init(&state);
+        if (minisign_ask(&state, &keys[i], signature.bytes, signature.len, 0, &q, message, sizeof message)
+            != MINISIGN_DIFFERENT_KEY_IDS) {
+            return &keys[i];
+        }
+    }
+    return &keys[0];
 }
 
 static struct data open_data(const struct request *request)
@@ -266,7 +309,7 @@ static void answer(minisign_installation *machine, const struct request *request
     const char *name = wanted_name(request, folder);
     minisign_questions q;
 
-    if (minisign_install_ask(machine, &key, signature.bytes, signature.len, (const uint8_t *) name, strlen(name), now(), &q,
+    if (minisign_install_ask(machine, key_of_signature(request), signature.bytes, signature.len, (const uint8_t *) name, strlen(name), now(), &q,
                              message, sizeof message)
         == MINISIGN_OK) {
         enum minisign_answer first = answer_of(q.signature, q.digest, sizeof q.digest, q.public_key);
@@ -318,13 +361,13 @@ static void install(minisign_installation *machine, const struct request *reques
 /* ---- Whether there is a newer one ---- */
 
 /* Has Ed25519 answer whether the key has signed the comment, which stands behind the signature in the message. */
-static enum minisign_error ask_comment(minisign_questions *q, uint8_t *message, size_t room)
+static enum minisign_error ask_comment(const minisign_public_key *key, minisign_questions *q, uint8_t *message, size_t room)
 {
     minisign_state state;
     enum minisign_error error;
 
     minisign_init(&state);
-    error = minisign_ask(&state, &key, signature.bytes, signature.len, 0, q, message, room);
+    error = minisign_ask(&state, key, signature.bytes, signature.len, 0, q, message, room);
     return error == MINISIGN_OK ? minisign_comment_verdict(
                                       &state, answer_of(q->comment_signature, message, q->message_len, q->public_key))
                                 : error;
@@ -342,7 +385,7 @@ static enum minisign_error check(const struct request *request, struct folder *f
     bool is_there = false;
     minisign_questions q;
     uint64_t number;
-    enum minisign_error error = ask_comment(&q, message, sizeof message);
+    enum minisign_error error = ask_comment(key_of_signature(request), &q, message, sizeof message);
 
     error = error == MINISIGN_OK ? open_folder(folder) : error;
     error = error == MINISIGN_OK ? read_record(folder, record, &len, &is_there) : error;
@@ -405,15 +448,6 @@ static const char *blamed(const struct request *request, enum minisign_error err
     case MINISIGN_FOLDER_NOT_ON_DISK: return request->place;
     default: return request->signature;
     }
-}
-
-/* Says of a file what an error of the library means. */
-static void say_error(const char *file, enum minisign_error error)
-{
-    char text[MINISIGN_ERROR_TEXT_BYTES];
-
-    minisign_error_text(error, text, sizeof text);
-    say(file, text);
 }
 
 /* Says of a file why the update is refused, and what may be done about it. */
@@ -493,11 +527,7 @@ int main(int argc, char *argv[])
         say(request.place, "libsodium could not be started");
         return FAILED;
     }
-    error = read_key(request.key);
-    if (error != MINISIGN_OK) {
-        say_error(request.key, error);
-        return status_of(error);
-    }
+    read_keys(&request);
     read_text(&signature, request.signature);
     if (request.is_check) {
         uint32_t offer;

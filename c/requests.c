@@ -11,18 +11,19 @@
 
 #include "report.h"
 
-#define USAGE \
-    "usage: minisign-install [OPTION ..] PK DATA SIG PLACE\n" \
-    "       minisign-install --check [OPTION ..] PK SIG PLACE"
+#define USAGE "usage: minisign-install [OPTION ..] PK DATA SIG PLACE"
 
 #define HELP \
     "Installs DATA at PLACE if the texts of the public key PK and of the signature\n" \
     "SIG vouch for it as the update that is wanted.\n" \
     "\n" \
-    "  --check            do not install: tell by SIG alone whether the update is\n" \
-    "                     newer than what is kept beside PLACE; writes nothing\n" \
+    "  --check            do not install, but tell by SIG alone whether the update is\n" \
+    "                     newer than what is kept beside PLACE: DATA is not named,\n" \
+    "                     and nothing is written\n" \
     "  --first            take the update also where no number of FIELD is kept\n" \
     "                     beside PLACE\n" \
+    "  --key KEY          the public key itself, in base64: PK is not named then;\n" \
+    "                     given twice, either key will do\n" \
     "  --numbering FIELD  the update's number is the field `timestamp` of the signed\n" \
     "                     comment, as without this option, or `version`\n" \
     "  --name NAME        the name that the signed comment has to have for the file;\n" \
@@ -36,7 +37,8 @@
     "  -h, --help         show this\n" \
     "  --version          show the version of the program\n" \
     "\n" \
-    "Each option comes at most once, anywhere before `--`. It ends with\n" \
+    "Each option comes at most once, but `--key` twice, anywhere before `--`. It\n" \
+    "ends with\n" \
     "  0  the update was installed, or is newer, or what was asked for was shown\n" \
     "  1  a file could not be used, memory ran out, or no random bytes came\n" \
     "  2  the words are no request\n" \
@@ -51,15 +53,17 @@
 enum { PATHS = 4 };
 
 /* The options that a value follows. */
-enum valued { NUMBERING, NAME, MODE, MOST, VALUED };
+enum valued { NUMBERING, NAME, MODE, MOST, KEY, VALUED };
 
-static const char *const valued[VALUED] = { "--numbering", "--name", "--mode", "--most" };
+static const char *const valued[VALUED] = { "--numbering", "--name", "--mode", "--most", "--key" };
 
 /* What the words say that were read: the values as they were written, or NULL. */
 struct line {
     bool is_check;
     bool is_first;
     const char *values[VALUED];
+    const char *keys[MOST_KEYS];
+    int key_count;
     const char *paths[PATHS];
     int count;
 };
@@ -97,19 +101,46 @@ static void add_flag(bool *flag, const char *word)
     *flag = true;
 }
 
-/* A check names no data, and what concerns data alone is no part of it. */
+/* Keeps the value of an option, which comes at most once, but for that of a key. */
+static void add_value(struct line *line, int option, const char *value)
+{
+    if (option == KEY) {
+        if (line->key_count == MOST_KEYS) {
+            misuse(valued[option], "it came twice before");
+        }
+        line->keys[line->key_count++] = value;
+    } else if (line->values[option] != NULL) {
+        misuse(valued[option], "it came before");
+    } else {
+        line->values[option] = value;
+    }
+}
+
+/* How many paths there have to be: a check has no data, and where keys are named themselves there is no file of one. */
+static int paths_of(const struct line *line)
+{
+    return PATHS - (line->is_check ? 1 : 0) - (line->key_count > 0 ? 1 : 0);
+}
+
+/* Ends the program where there are more or fewer paths than there have to be, or what goes with an installation alone. */
 static void judge_line(const struct line *line)
 {
-    if (line->is_check && line->count == PATHS) {
-        misuse(line->paths[PATHS - 1], "with `--check` there are three paths, and this is a fourth");
+    static const char *const fewer[] = { "there are fewer than two paths", "there are fewer than three paths",
+                                         "there are fewer than four paths" };
+    static const char *const more[] = { "there are two paths, and this is a third", "there are three paths, and this is a fourth",
+                                        "there are four paths, and this is a fifth" };
+    int wanted = paths_of(line);
+
+    if (line->count > wanted) {
+        misuse(line->paths[wanted], more[wanted - 2]);
     }
     for (int option = MODE; line->is_check && option <= MOST; option++) {
         if (line->values[option] != NULL) {
             misuse(valued[option], "it does not go with `--check`");
         }
     }
-    if (line->count < PATHS - (line->is_check ? 1 : 0)) {
-        misuse(NULL, line->is_check ? "there are fewer than three paths" : "there are fewer than four paths");
+    if (line->count < wanted) {
+        misuse(NULL, fewer[wanted - 2]);
     }
 }
 
@@ -142,12 +173,10 @@ static struct line read_line(int argc, char *argv[])
             add_flag(&line.is_check, word);
         } else if (option == VALUED) {
             misuse(word, "there is no such option");
-        } else if (line.values[option] != NULL) {
-            misuse(word, "it came before");
         } else if (++i == argc) {
             misuse(NULL, "a value has to follow the last word");
         } else {
-            line.values[option] = argv[i];
+            add_value(&line, option, argv[i]);
         }
     }
     judge_line(&line);
@@ -236,8 +265,10 @@ struct request read_request(int argc, char *argv[])
     if (line.values[MOST] != NULL) {
         request.most = bytes_of(line.values[MOST]);
     }
-    request.key = line.paths[0];
-    request.data = line.is_check ? NULL : line.paths[1];
+    memcpy(request.keys, line.keys, sizeof request.keys);
+    request.key_count = line.key_count;
+    request.key = line.key_count > 0 ? NULL : line.paths[0];
+    request.data = line.is_check ? NULL : line.paths[line.count - 3];
     request.signature = line.paths[line.count - 2];
     request.place = line.paths[line.count - 1];
     return request;
