@@ -45,6 +45,8 @@ PROGRAM = os.path.join(HERE, "..", "..", "crates", "minisign_installer", "out", 
 STAGE = ".place.stage-"
 # A key that has signed nothing here.
 OTHER_KEY = "RWQf6LRCGA9i53mlYecO4IzT51TGPpvWucNSCh1CBM0QTaLn73Y7GFO3"
+# When an update expires.
+SOON, PAST = "\\texpires:99999999999", "\\texpires:1700000000"
 USAGE = b"usage: minisign-install [OPTION ..] PK DATA SIG PLACE (--help shows the options)\n"
 PK = "key.pub"
 OLD, NEW = b"old" * 1000, b"new" * 50000
@@ -1173,6 +1175,8 @@ def cases(it):
         yield f"a {kind} at the place", lambda make=make, said=said.encode(): it.on_other(make, said)
     yield from word_cases(it)
     if it.kind.is_in_c:
+        yield from expiry_cases(it)
+    if it.kind.has_checks:
         yield from check_cases(it)
     yield "a first installation with a mode", it.first_mode
     yield "a bound on the data", it.bounded
@@ -1220,8 +1224,20 @@ def cases(it):
     yield "while another holds the lock", it.while_locked
 
 
+def expiry_cases(it):
+    """What expires, or does not say when it does."""
+    soon, past = SOON, PAST
+    for what, status, more, said in [
+        ("has expired", EXPIRED, past, b"error: bad.sig: the update has expired\n"),
+        ("expires twice", REFUSED, past + soon, b"error: bad.sig: the signed comment does not say once, in a number, when it expires\n"),
+        ("expires at no moment", REFUSED, "\texpires:soon", b"error: bad.sig: the signed comment does not say once, in a number, when it expires\n"),
+    ]:
+        yield f"an update that {what}", lambda status=status, more=more, said=said: it.refuses(said, status=status, more=more)
+    yield "an update that expires later", lambda: it.takes([PK, "new", "new.sig", PLACE], more=soon)
+
+
 def check_cases(it):
-    """Whether there is a newer one, which the program in C alone tells; what expires; and keys that are named themselves."""
+    """Whether there is a newer one, and keys that are named themselves."""
     version = ("--numbering", "version")
     soon, past = "\texpires:99999999999", "\texpires:1700000000"
     checks = [
@@ -1253,13 +1269,6 @@ def check_cases(it):
     yield "a check: no folder", lambda: it.checks_where("none/place", FAILED, b"error: none: there is no such folder\n")
     yield "a check: a record that is a folder", lambda: it.checks_where(PLACE, FAILED, b"error: ./.place.number: what stands there is no regular file\n")
     yield "a check: while the place is locked", it.checks_unlocked
-    for what, status, more, said in [
-        ("has expired", EXPIRED, past, b"error: bad.sig: the update has expired\n"),
-        ("expires twice", REFUSED, past + soon, b"error: bad.sig: the signed comment does not say once, in a number, when it expires\n"),
-        ("expires at no moment", REFUSED, "\texpires:soon", b"error: bad.sig: the signed comment does not say once, in a number, when it expires\n"),
-    ]:
-        yield f"an update that {what}", lambda status=status, more=more, said=said: it.refuses(said, status=status, more=more)
-    yield "an update that expires later", lambda: it.takes([PK, "new", "new.sig", PLACE], more=soon)
     yield "keys that are named themselves", it.names_keys
     yield "a key that is too short", lambda: it.refuses_key("RWQ", b"error: RWQ: base64 conversion failed - was an actual public key given?\n")
     yield "a key that is no base64", lambda: it.refuses_key("*" * 56, b"error: " + b"*" * 56 + b": base64 conversion failed - was an actual public key given?: invalid base64\n")

@@ -1,9 +1,10 @@
 -- Whether the comment of the text of a signature was signed by the key of a text.
-use Rattle.std.proofs.Common.{◌≡◌, ◌∙◌, inl, inr, ◌+◌, if◌then◌else◌, nat_le, ℕ, Bool, true, false, List, length, ap, cc, sym, subst, refl}
+use Rattle.std.proofs.Common.{◌≡◌, ◌⊎◌, ◌∙◌, inl, inr, ◌+◌, if◌then◌else◌, nat_le, ℕ, Bool, true, false, List, length, ap, cc, sym, subst, refl}
+use Rattle.std.specs.Prelude.{MatchResult}
 use Rattle.std.specs.declared.result.Result.{Result}
 use Rattle.std.specs.declared.result.Result.TheVariants.{Ok, Err}
 use Rattle.minisign_base.specs.Fault.{Fault, Named}
-use Rattle.minisign_base.specs.declared.faults.NamedFault.TheVariants.{CommentSignatureRefused}
+use Rattle.minisign_base.specs.declared.faults.NamedFault.TheVariants.{CommentSignatureRefused, OutOfMemory}
 use Rattle.minisign.specs.Acceptance.{Verifier, accepts_comment}
 use Rattle.minisign.specs.PublicKeyText.{read_public_key}
 use Rattle.minisign.specs.Records.{PublicKeyRecord}
@@ -83,3 +84,10 @@ unasked accepts s pk_text sig_text m v room (Refused e) f fed keyed (inr (marked
 -- the text of the key is refused
 pub no_key_no_comment : (accepts : Verifier) (pk_text sig_text : List ℕ) (e : Fault) → read_public_key pk_text ≡ Err e → signed_comment accepts pk_text sig_text ≡ Err e
 no_key_no_comment accepts pk_text sig_text e read = rw read refl
+
+-- memory may run out besides
+pub or_memory : {T : Type 0} (x : Result (List ℕ) Fault) (bytes : T → List ℕ) (r : Result T Fault)
+    → MatchResult r (λ t. x ≡ Ok (bytes t)) (λ e. x ≡ Err e)
+    → MatchResult r (λ t. x ≡ Ok (bytes t)) (λ e. (e ≡ Named OutOfMemory) ⊎ (x ≡ Err e))
+or_memory x bytes (Ok t) is = is
+or_memory x bytes (Err e) is = inr is

@@ -3,6 +3,7 @@ mod Checks
 mod Counts
 mod Driven
 mod Driving
+mod Expiry
 mod Fields
 mod InMemory
 mod Installs

@@ -119,9 +119,13 @@ fn beside(kept: Option<u64>, number: u64) -> Offer
     ensures { result ≡ offer_beside kept number }
 {
     match kept {
-        Some(kept) if number > kept => Offer::Newer,
-        Some(kept) if number == kept => Offer::Same,
-        Some(_) => Offer::Older,
+        Some(kept) => {
+            if number <= kept {
+                if number == kept { Offer::Same } else { Offer::Older }
+            } else {
+                Offer::Newer
+            }
+        }
         None => Offer::Newer,
     }
 }

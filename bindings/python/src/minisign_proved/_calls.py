@@ -169,10 +169,10 @@ class Installation:
         answer: int = getattr(_library, f"minisign_install_{call}")(self._at, *arguments)
         return answer
 
-    def judge(self, key: PublicKey, signature: bytes, name: bytes, accepts: Accepts) -> Tuple[str]:
+    def judge(self, key: PublicKey, signature: bytes, name: bytes, now: int, accepts: Accepts) -> Tuple[str]:
         """Has the questions answered. What comes of it the installation keeps: so nothing more is told."""
         try:
-            questions = _Questions(_library.minisign_install_ask, self._at, key, signature, *_sized(name))
+            questions = _Questions(_library.minisign_install_ask, self._at, key, signature, *_sized(name), now)
             self.tell("answer", *questions.answers(accepts, bytes(questions._q.digest)))
         except MinisignError:
             pass

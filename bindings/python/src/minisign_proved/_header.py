@@ -53,6 +53,10 @@ DUE_REFUSED = 20
 NUMBERING_TIMESTAMP = 0
 NUMBERING_VERSION = 1
 
+OFFER_NEWER = 1
+OFFER_SAME = 2
+OFFER_OLDER = 3
+
 
 class State(Structure):
     _fields_ = [
@@ -156,7 +160,7 @@ def declare(library: CDLL, error: Callable[[int], object]) -> None:
     library.minisign_install_piece.restype = error
     library.minisign_install_piece.argtypes = (POINTER(Installation), c_void_p, c_size_t)
     library.minisign_install_ask.restype = error
-    library.minisign_install_ask.argtypes = (POINTER(Installation), POINTER(PublicKey), c_void_p, c_size_t, c_void_p, c_size_t, POINTER(Questions), c_void_p, c_size_t)
+    library.minisign_install_ask.argtypes = (POINTER(Installation), POINTER(PublicKey), c_void_p, c_size_t, c_void_p, c_size_t, c_uint64, POINTER(Questions), c_void_p, c_size_t)
     library.minisign_install_answer.restype = error
     library.minisign_install_answer.argtypes = (POINTER(Installation), c_uint32, c_uint32)
     library.minisign_install_number_text.restype = c_size_t
@@ -164,4 +168,8 @@ def declare(library: CDLL, error: Callable[[int], object]) -> None:
     library.minisign_install_error.restype = error
     library.minisign_install_error.argtypes = (POINTER(Installation),)
     library.minisign_judge_comment.restype = error
-    library.minisign_judge_comment.argtypes = (c_void_p, c_size_t, c_void_p, c_size_t, c_uint32, c_uint64, POINTER(c_uint64))
+    library.minisign_judge_comment.argtypes = (c_void_p, c_size_t, c_void_p, c_size_t, c_uint32, c_uint64, c_uint64, POINTER(c_uint64))
+    library.minisign_check_comment.restype = error
+    library.minisign_check_comment.argtypes = (c_void_p, c_size_t, c_void_p, c_size_t, c_uint32, c_uint64, c_uint32, c_void_p, c_size_t, POINTER(c_uint32), POINTER(c_uint64))
+    library.minisign_check_first_comment.restype = error
+    library.minisign_check_first_comment.argtypes = (c_void_p, c_size_t, c_void_p, c_size_t, c_uint32, c_uint64, c_uint32, POINTER(c_uint32), POINTER(c_uint64))

@@ -7,6 +7,7 @@ import fcntl
 import os
 import re
 import stat
+import time
 from contextlib import ExitStack, closing, suppress
 from io import UnsupportedOperation
 from typing import IO, Callable, Dict, List, Optional, Tuple, Union, cast
@@ -270,6 +271,13 @@ def _run(at: _calls.Installation, calls: Dict[int, Callable[[], Told]]) -> None:
         raise refused from trouble
 
 
+def _now() -> int:
+    """The moment that the clock shows, in seconds since the beginning of 1970. A clock that shows an earlier one is wrong: what expires
+    has expired then."""
+    shown = int(time.time())
+    return shown if shown >= 0 else 2 ** 64 - 1
+
+
 def install(key: PublicKey, data: Union[Path, IO[bytes]], signature: Signature, place: Path, *, first: bool = False,
             numbering: str = "timestamp", name: Optional[str] = None, mode: Optional[int] = None, most: Optional[int] = None,
             progress: Optional[Progress] = None) -> None:
@@ -280,8 +288,8 @@ def install(key: PublicKey, data: Union[Path, IO[bytes]], signature: Signature, 
     number: `timestamp` or `version`. `name` is the file that the signed comment has to name, otherwise the last part of `place`.
     `mode` has the permissions, otherwise they are those of the file at the place, or 0o600. Data of more than `most` bytes is refused.
 
-    Raises the errors of verifying; OtherFile, NoNumber, OlderUpdate; PlaceInUse; NoRecord, DamagedRecord, KeptByTimestamp,
-    KeptByVersion; TooLong; ReadingFailed, WritingFailed, RandomSourceFailed, OutOfMemory. Then the place is as before. With
+    Raises the errors of verifying; OtherFile, NoNumber, BadExpiry, Expired, OlderUpdate; PlaceInUse; NoRecord, DamagedRecord,
+    KeptByTimestamp, KeptByVersion; TooLong; ReadingFailed, WritingFailed, RandomSourceFailed, OutOfMemory. Then the place is as before. With
     FolderNotOnDisk the update stands there, and a crash may bring back what stood there before. `__cause__` says which call failed.
     What `progress` raises comes out of it, but an OSError or an error of this package only as what another one came from. After an
     interruption, as KeyboardInterrupt, the update may stand there or not.
@@ -297,7 +305,7 @@ def install(key: PublicKey, data: Union[Path, IO[bytes]], signature: Signature, 
         _run(at, {
             h.DUE_LOCK: folder.lock_place, h.DUE_CLEAR: folder.remove_leftovers, h.DUE_READ_RECORD: folder.read_record,
             h.DUE_CREATE: lambda: folder.create(update), h.DUE_COPY: lambda: folder.copy(source), h.DUE_READ_BACK: folder.read_back,
-            h.DUE_ANSWER: lambda: at.judge(key._read, signature.text, os.fsencode(name or folder.place), ed25519().accepts),
+            h.DUE_ANSWER: lambda: at.judge(key._read, signature.text, os.fsencode(name or folder.place), _now(), ed25519().accepts),
             h.DUE_TAKE_RIGHTS: folder.take_rights, h.DUE_SETTLE: lambda: os.fsync(update.fd),
             h.DUE_CREATE_RECORD: lambda: folder.create(number), h.DUE_WRITE_RECORD: lambda: folder.write(number, at.number_text()),
             h.DUE_SETTLE_RECORD: folder.settle_record, h.DUE_RENAME_RECORD: lambda: folder.rename(number, folder.record),
