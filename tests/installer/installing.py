@@ -46,7 +46,7 @@ STAGE = ".place.stage-"
 # A key that has signed nothing here.
 OTHER_KEY = "RWQf6LRCGA9i53mlYecO4IzT51TGPpvWucNSCh1CBM0QTaLn73Y7GFO3"
 # When an update expires.
-SOON, PAST = "\\texpires:99999999999", "\\texpires:1700000000"
+SOON, PAST = "\texpires:99999999999", "\texpires:1700000000"
 USAGE = b"usage: minisign-install [OPTION ..] PK DATA SIG PLACE (--help shows the options)\n"
 PK = "key.pub"
 OLD, NEW = b"old" * 1000, b"new" * 50000
@@ -1239,7 +1239,7 @@ def expiry_cases(it):
 def check_cases(it):
     """Whether there is a newer one, and keys that are named themselves."""
     version = ("--numbering", "version")
-    soon, past = "\texpires:99999999999", "\texpires:1700000000"
+    soon, past = SOON, PAST
     checks = [
         ("a newer one", 0, (), {}),
         ("the same", SAME, (), {"number": 5}),
