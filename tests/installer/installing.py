@@ -1267,7 +1267,7 @@ def check_cases(it):
         yield f"a check: {what}", lambda status=status, options=options, how=how: it.checks(status, *options, **how)
     yield "a check: a changed comment", it.checks_changed_comment
     yield "a check: no folder", lambda: it.checks_where("none/place", FAILED, b"error: none: there is no such folder\n")
-    yield "a check: a record that is a folder", lambda: it.checks_where(PLACE, FAILED, b"error: ./.place.number: what stands there is no regular file\n")
+    yield "a check: a record that is a folder", lambda: it.checks_where(PLACE, FAILED, b"error: ./.place.number: a folder stands there\n")
     yield "a check: while the place is locked", it.checks_unlocked
     yield "keys that are named themselves", it.names_keys
     yield "a key that is too short", lambda: it.refuses_key("RWQ", b"error: RWQ: base64 conversion failed - was an actual public key given?\n")
