@@ -1,5 +1,5 @@
 -- Whether the comment of the text of a signature was signed by the key of a text.
-use Rattle.std.proofs.Common.{◌≡◌, ◌⊎◌, ◌∙◌, inl, inr, ◌+◌, if◌then◌else◌, nat_le, ℕ, Bool, true, false, List, length, ap, cc, sym, subst, refl}
+use Rattle.std.proofs.Common.{◌≡◌, ◌⊎◌, ◌∙◌, inl, inr, ◌+◌, ◌==◌, ◌||◌, if◌then◌else◌, nat_le, ℕ, Bool, true, false, List, length, ap, sym, subst, refl}
 use Rattle.std.specs.Prelude.{MatchResult}
 use Rattle.std.specs.declared.result.Result.{Result}
 use Rattle.std.specs.declared.result.Result.TheVariants.{Ok, Err}
@@ -24,7 +24,7 @@ use Rattle.minisign_install.proofs.Judgements.{no_room}
 
 -- a state that has told its digest was begun
 pub told_is_begun : (s : State) → IsMarkedTold s → is_begun s ≡ true
-told_is_begun s told = rw told refl
+told_is_begun s told = ap (λ (m : ℕ). (m == fed_mark) || (m == told_mark)) told
 
 -- == A verdict on the comment ==
 
@@ -37,17 +37,24 @@ refused_so : (x : Result (List ℕ) Fault) (r : Refusal) (f : Fault) → ((e : F
 refused_so (Ok comment) r f is h = cc h
 refused_so (Err e) r f is h = let same : Refused e ≡ r = cc h in ap (λ g. Err g) (sym (is e (sym same)))
 
+-- what comes of a text that reads so
+abbrev of_text : Verifier → PublicKeyValue → Result SignatureTextRecord Fault → Result (List ℕ) Fault
+of_text accepts v r = and_then r (λ t. require (accepts_comment accepts (key_of v) t.signature t.comments) CommentSignatureRefused (Ok t.comments.trusted))
+
+abbrev of_key : Verifier → List ℕ → Result PublicKeyRecord Fault → Result (List ℕ) Fault
+of_key accepts sig_text r = and_then r (λ key. comment_verdict_under accepts (value_of key) sig_text false)
+
 -- where a text is read as the key, what it decides is what the key does
 keyed_comment : (accepts : Verifier) (pk_text sig_text : List ℕ) (v : PublicKeyValue) → IsKeyText pk_text v → signed_comment accepts pk_text sig_text ≡ comment_verdict_under accepts v sig_text false
 keyed_comment accepts pk_text sig_text v keyed =
-    rw keyed.read (ap (λ (w : PublicKeyValue). comment_verdict_under accepts w sig_text false) (sym keyed.same))
+    ap (of_key accepts sig_text) keyed.read ∙ ap (λ (w : PublicKeyValue). comment_verdict_under accepts w sig_text false) (sym keyed.same)
 
 module _ (accepts : Verifier) (pk_text sig_text comment : List ℕ) (v : PublicKeyValue) (keyed : IsKeyText pk_text v) where
   -- the verdict was yes: this is the comment that was signed
   pub comment_is : (t : SignatureTextRecord) → read_under v false sig_text ≡ Ok t → comment ≡ t.comments.trusted
       → Ok tt ≡ given_verdict (comment_verdict_under accepts v sig_text false) → signed_comment accepts pk_text sig_text ≡ Ok comment
   comment_is t opens is given =
-      let judged : comment_verdict_under accepts v sig_text false ≡ require (accepts_comment accepts (key_of v) t.signature t.comments) CommentSignatureRefused (Ok t.comments.trusted) = rw opens refl in
+      let judged : comment_verdict_under accepts v sig_text false ≡ require (accepts_comment accepts (key_of v) t.signature t.comments) CommentSignatureRefused (Ok t.comments.trusted) = ap (of_text accepts v) opens in
       keyed_comment accepts pk_text sig_text v keyed ∙ judged
       ∙ granted (accepts_comment accepts (key_of v) t.signature t.comments) t.comments.trusted (ap given_verdict (sym judged) ∙ sym given)
       ∙ ap (λ c. Ok c) (sym is)
@@ -60,7 +67,10 @@ module _ (accepts : Verifier) (pk_text sig_text comment : List ℕ) (v : PublicK
 
 -- == Asking was refused ==
 
-lacks : (b : Bool) (e : Fault) → (if b then Ok tt else Err (WrongUse NoRoom)) ≡ Err (Refused e) → ⊥
+abbrev room_of : Bool → Result Unit Refusal
+room_of b = if b then Ok tt else Err (WrongUse NoRoom)
+
+lacks : (b : Bool) (e : Fault) → room_of b ≡ Err (Refused e) → ⊥
 lacks true e h = cc h
 lacks false e h = cc h
 
@@ -78,12 +88,12 @@ unasked accepts s pk_text sig_text m v room (WrongUse w) f fed keyed (inr (marke
 unasked accepts s pk_text sig_text m v room (Refused e) f fed keyed (inl none) roomy is = absurd none
 unasked accepts s pk_text sig_text m v room (Refused e) f fed keyed (inr (marked, why)) roomy is =
     let under : read_under v false sig_text ≡ Err e = unread (read_under v false sig_text) room e why in
-    let judged : comment_verdict_under accepts v sig_text false ≡ Err e = rw under refl in
+    let judged : comment_verdict_under accepts v sig_text false ≡ Err e = ap (of_text accepts v) under in
     keyed_comment accepts pk_text sig_text v keyed ∙ judged ∙ ap (λ g. Err g) (sym (is e refl))
 
 -- the text of the key is refused
 pub no_key_no_comment : (accepts : Verifier) (pk_text sig_text : List ℕ) (e : Fault) → read_public_key pk_text ≡ Err e → signed_comment accepts pk_text sig_text ≡ Err e
-no_key_no_comment accepts pk_text sig_text e read = rw read refl
+no_key_no_comment accepts pk_text sig_text e read = ap (of_key accepts sig_text) read
 
 -- memory may run out besides
 pub or_memory : {T : Type 0} (x : Result (List ℕ) Fault) (bytes : T → List ℕ) (r : Result T Fault)
