@@ -714,8 +714,8 @@ fn check(
     offer: &mut u32,
     number: &mut u64,
 ) -> u32
-    ensures checked { result ≡ 0 → HasChecked comment.now file.now numbering moment is_first (option_map (λ b. b.now) found) offer.new number.new }
-    ensures refused { 0 < result → IsCheckNumber comment.now file.now numbering moment is_first (option_map (λ b. b.now) found) result }
+    ensures checked { result ≡ 0 → HasChecked comment.now file.now numbering moment is_first (option_map (λ b. b.now) found.entry) offer.new number.new }
+    ensures refused { 0 < result → IsCheckNumber comment.now file.now numbering moment is_first (option_map (λ b. b.now) found.entry) result }
     ensures kept { 0 < result → (offer.new ≡ offer.old) × (number.new ≡ number.old) }
 {
     if is_first > 1 {

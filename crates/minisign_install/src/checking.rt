@@ -83,7 +83,7 @@ pub fn check_comment_offer(
     found: Option<&[u8]>,
 ) -> Result<(Offer, u64), InstallFault>
     // The comment and the name have to be UTF-8; then the answer is the one by what the record was found to hold.
-    ensures outcome { CommentChecksSo comment.now (wanted_by [] [] file.now numbering moment) is_first (option_map (λ b. b.now) found) result }
+    ensures outcome { CommentChecksSo comment.now (wanted_by [] [] file.now numbering moment) is_first (option_map (λ b. b.now) found.entry) result }
 {
     let Ok(comment) = str::from_utf8(comment) else {
         return Err(NamedFault::NotUtf8.into());
@@ -103,7 +103,7 @@ fn offered(
     is_first: bool,
     found: Option<&[u8]>,
 ) -> Result<(Offer, u64), InstallFault>
-    ensures { (pk_text sig_text : List ℕ) → IsOffered (wanted_by pk_text sig_text file.now numbering moment) is_first (option_map (λ b. b.now) found) comment.now result }
+    ensures { (pk_text sig_text : List ℕ) → IsOffered (wanted_by pk_text sig_text file.now numbering moment) is_first (option_map (λ b. b.now) found.entry) comment.now result }
 {
     match kept_in(found, numbering, is_first) {
         Ok(kept) => match check_comment(comment, file, numbering, moment, 0) {
@@ -137,7 +137,7 @@ fn kept_in(
     numbering: Numbering,
     is_first: bool,
 ) -> Result<Option<u64>, InstallFault>
-    ensures { MatchResult result (IsKeptOrNone numbering is_first (option_map (λ b. b.now) found)) (IsRecordRefused numbering is_first (option_map (λ b. b.now) found)) }
+    ensures { MatchResult result (IsKeptOrNone numbering is_first (option_map (λ b. b.now) found.entry)) (IsRecordRefused numbering is_first (option_map (λ b. b.now) found.entry)) }
 {
     match found {
         Some(bytes) => match number_for(bytes, numbering) {

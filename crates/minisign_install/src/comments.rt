@@ -93,7 +93,7 @@ fn check_expiry(comment: &str, moment: u64) -> Result<(), InstallFault>
 
 // Whether one of the fields that are left, where there are any, begins with the label.
 fn is_named_again(rest: Option<&str>, label: &str) -> bool
-    ensures { MatchOption rest (result ≡ false) (λ more. (result ≡ false → values_of label.now more.now ≡ []) × (result ≡ true → values_of label.now more.now ≢ [])) }
+    ensures { MatchOption rest.entry (result ≡ false) (λ more. (result ≡ false → values_of label.now more.now ≡ []) × (result ≡ true → values_of label.now more.now ≢ [])) }
 {
     match rest {
         Some(more) => first_value(more, label).is_some(),
