@@ -61,13 +61,13 @@ pub record PlacesBehind (accepts : Verifier) (terms : Terms) (kept : ℕ) (old n
   pub there : Keeps terms.numbering n point.now
   pub placed : BringsOnly (IsPlaced accepts terms kept n) point new
   pub number : All (KeepsAt terms.numbering n) placed.since
-  pub lasts : Keeps terms.numbering n new.moment
+  pub lasts : Keeps terms.numbering n new.now
 
 -- A number that the record has for the field stays there until a greater one or the same takes its place, at each moment
 -- since and after a crash at any.
 abbrev pub NeverFalls : Numbering → Run → Run → Type 0
 NeverFalls numbering old new =
-    (k : ℕ) → Keeps numbering k old.now → (since : List RunStep) × (new.steps ≡ since ++ old.steps) × All (KeepsAt numbering k) since × Keeps numbering k new.moment
+    (k : ℕ) → Keeps numbering k old.now → (since : List RunStep) × (new.steps ≡ since ++ old.steps) × All (KeepsAt numbering k) since × Keeps numbering k new.now
 
 -- Only what is to be installed was brought, and the number went first.
 pub record PlacesOnly (accepts : Verifier) (terms : Terms) (kept : ℕ) (old new : Run) : Type 0 where

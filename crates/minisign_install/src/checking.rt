@@ -1,7 +1,7 @@
 //! Whether an update is newer than what is kept, from its signature alone: before its data is there. Nothing is written,
 //! and no lock is taken.
 
-ghost use Rattle.std.specs.Prelude.{◌≡◌, ◌≤◌, ℕ, List, Option, Ok, Err, false, option_map, IfErr, IfOk, MatchResult, length, take};
+ghost use Rattle.std.specs.Prelude.{◌≡◌, ◌⊎◌, ◌≤◌, ℕ, [], List, Option, Ok, Err, false, option_map, IfErr, IfOk, MatchResult, length, take};
 ghost use Rattle.std.specs.Str.{IsUtf8};
 ghost use Rattle.minisign_base.specs.Fault.{Fault, Named};
 ghost use Rattle.minisign_base.specs.declared.faults.NamedFault.TheVariants.{OutOfMemory};
@@ -62,8 +62,22 @@ pub fn check_update<S: Scheme, F: Folder>(
 {
     match comment_of(alloc, scheme, wanted.pk_text, wanted.sig_text) {
         Ok(comment) => match folder.read_record(alloc) {
-            Ok(Some(bytes)) => offered(comment, wanted.file, wanted.numbering, wanted.moment, is_first, Some(bytes.as_slice())),
-            Ok(None) => offered(comment, wanted.file, wanted.numbering, wanted.moment, is_first, None),
+            Ok(Some(bytes)) => offered(
+                comment,
+                wanted.file,
+                wanted.numbering,
+                wanted.moment,
+                is_first,
+                Some(bytes.as_slice()),
+            ),
+            Ok(None) => offered(
+                comment,
+                wanted.file,
+                wanted.numbering,
+                wanted.moment,
+                is_first,
+                None,
+            ),
             Err(_) => Err(NamedFault::ReadingFailed.into()),
         },
         Err(fault) => Err(InstallFault::Library(fault)),
@@ -121,7 +135,11 @@ fn beside(kept: Option<u64>, number: u64) -> Offer
     match kept {
         Some(kept) => {
             if number <= kept {
-                if number == kept { Offer::Same } else { Offer::Older }
+                if number == kept {
+                    Offer::Same
+                } else {
+                    Offer::Older
+                }
             } else {
                 Offer::Newer
             }
@@ -161,7 +179,12 @@ fn comment_of<'a, S: Scheme>(
         (λ e. (e ≡ Named OutOfMemory) ⊎ (signed_comment (S.accepts scheme.now) pk_text.now sig_text.now ≡ Err e)) }
 {
     let mut message = zeros(alloc, sig_text.len())?;
-    judged_comment(scheme, pk_text.as_bytes(), sig_text.as_bytes(), &mut message)
+    judged_comment(
+        scheme,
+        pk_text.as_bytes(),
+        sig_text.as_bytes(),
+        &mut message,
+    )
 }
 
 // Reads the key, asks about the comment, has the scheme answer, and gives the verdict on it. The message of the question is

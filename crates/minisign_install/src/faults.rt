@@ -87,7 +87,9 @@ impl fmt::Display for InstallFault {
                 "the number that is kept beside the place is a version, and no timestamp",
             ),
             Expired => f.write_str("the update has expired"),
-            BadExpiry => f.write_str("the signed comment does not say once, in a number, when it expires"),
+            BadExpiry => f.write_str(
+                "the signed comment does not say once, in a number, when it expires",
+            ),
         }
     }
 }

@@ -83,7 +83,13 @@ pub(crate) fn judge<S: Scheme>(
         (λ e. IsLibraryFault (λ f. (f ≡ Named OutOfMemory) × (state.new ≡ state.old)) e ⊎ IsDataRefused (S.accepts scheme.now) (terms_of wanted.entry) kept m e) }
 {
     match vouch(alloc, scheme, wanted.pk_text, wanted.sig_text, state) {
-        Ok(comment) => match check_comment(comment, wanted.file, wanted.numbering, wanted.moment, kept) {
+        Ok(comment) => match check_comment(
+            comment,
+            wanted.file,
+            wanted.numbering,
+            wanted.moment,
+            kept,
+        ) {
             Ok(number) => Ok(number),
             Err(fault) => Err(fault),
         },
