@@ -17,7 +17,7 @@ returns-in-Ok-comment_verdict g c = λ pk_utf8 sig_utf8 room.
     let (digest, has) = c.in-Ok.ensures.digest [] c.new-state.ensures.fed in
     let answers = answers_so accepts key a.sig_text.now [] t opens c.ask_fed.new.questions c.ask_fed.new.message _ _ are digest refl c.answer.ensures in
     comment_is accepts a.pk_text.now a.sig_text.now c.in-Ok.comment.now key keyed t opens comment
-    (c.in-Ok-comment_verdict.ensures.verdict key a.sig_text.now false accepts asked answers.to_second (told_is_begun _ told))
+    (c.in-Ok-comment_verdict.ensures.verdict key a.sig_text.now false accepts asked answers.to_second (told_is_begun c.ask_fed.new.self told))
 
 pub returns-in-Err-comment_verdict : goal.returns-in-Err-comment_verdict
 returns-in-Err-comment_verdict g c = λ pk_utf8 sig_utf8 room.
@@ -30,7 +30,7 @@ returns-in-Err-comment_verdict g c = λ pk_utf8 sig_utf8 room.
     let (digest, has) = c.in-Ok.ensures.digest [] c.new-state.ensures.fed in
     let answers = answers_so accepts key a.sig_text.now [] t opens c.ask_fed.new.questions c.ask_fed.new.message _ _ are digest refl c.answer.ensures in
     comment_refused accepts a.pk_text.now a.sig_text.now c.in-Ok.comment.now key keyed c.in-Err-comment_verdict.refusal _ c.fault_of.ensures
-    (c.in-Err-comment_verdict.ensures.verdict key a.sig_text.now false accepts asked answers.to_second (told_is_begun _ told))
+    (c.in-Err-comment_verdict.ensures.verdict key a.sig_text.now false accepts asked answers.to_second (told_is_begun c.ask_fed.new.self told))
 
 pub returns-in-Err : goal.returns-in-Err
 returns-in-Err g c = λ pk_utf8 sig_utf8 room.
