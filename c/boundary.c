@@ -286,15 +286,16 @@ enum minisign_error minisign_install_piece(minisign_installation *installation, 
 }
 
 PROVED(uint32_t, minisign_install_ask, (minisign_installation *, const minisign_public_key *, const uint8_t *,
-                                        size_t, const uint8_t *, size_t, minisign_questions *, uint8_t *, size_t));
+                                        size_t, const uint8_t *, size_t, uint64_t, minisign_questions *, uint8_t *,
+                                        size_t));
 
 enum minisign_error minisign_install_ask(minisign_installation *installation, const minisign_public_key *key,
                                          const uint8_t *sig_text, size_t sig_text_len, const uint8_t *file,
-                                         size_t file_len, minisign_questions *questions, uint8_t *message,
-                                         size_t room)
+                                         size_t file_len, uint64_t now, minisign_questions *questions,
+                                         uint8_t *message, size_t room)
 {
     return (enum minisign_error) CALL(minisign_install_ask)(installation, key, READ(sig_text, sig_text_len),
-                                                            sig_text_len, READ(file, file_len), file_len,
+                                                            sig_text_len, READ(file, file_len), file_len, now,
                                                             questions, WRITTEN(message, room), room);
 }
 
@@ -321,12 +322,39 @@ enum minisign_error minisign_install_error(const minisign_installation *installa
 }
 
 PROVED(uint32_t, minisign_judge_comment, (const uint8_t *, size_t, const uint8_t *, size_t, uint32_t, uint64_t,
-                                          uint64_t *));
+                                          uint64_t, uint64_t *));
 
 enum minisign_error minisign_judge_comment(const uint8_t *comment, size_t comment_len, const uint8_t *file,
-                                           size_t file_len, uint32_t numbering, uint64_t kept, uint64_t *number)
+                                           size_t file_len, uint32_t numbering, uint64_t now, uint64_t kept,
+                                           uint64_t *number)
 {
     return (enum minisign_error) CALL(minisign_judge_comment)(READ(comment, comment_len), comment_len,
-                                                              READ(file, file_len), file_len, numbering, kept,
+                                                              READ(file, file_len), file_len, numbering, now, kept,
                                                               number);
+}
+
+PROVED(uint32_t, minisign_check_comment, (const uint8_t *, size_t, const uint8_t *, size_t, uint32_t, uint64_t,
+                                          uint32_t, const uint8_t *, size_t, uint32_t *, uint64_t *));
+
+enum minisign_error minisign_check_comment(const uint8_t *comment, size_t comment_len, const uint8_t *file,
+                                           size_t file_len, uint32_t numbering, uint64_t now, uint32_t is_first,
+                                           const uint8_t *record, size_t record_len, uint32_t *offer,
+                                           uint64_t *number)
+{
+    return (enum minisign_error) CALL(minisign_check_comment)(READ(comment, comment_len), comment_len,
+                                                              READ(file, file_len), file_len, numbering, now,
+                                                              is_first, READ(record, record_len), record_len,
+                                                              offer, number);
+}
+
+PROVED(uint32_t, minisign_check_first_comment, (const uint8_t *, size_t, const uint8_t *, size_t, uint32_t,
+                                                uint64_t, uint32_t, uint32_t *, uint64_t *));
+
+enum minisign_error minisign_check_first_comment(const uint8_t *comment, size_t comment_len, const uint8_t *file,
+                                                 size_t file_len, uint32_t numbering, uint64_t now,
+                                                 uint32_t is_first, uint32_t *offer, uint64_t *number)
+{
+    return (enum minisign_error) CALL(minisign_check_first_comment)(READ(comment, comment_len), comment_len,
+                                                                    READ(file, file_len), file_len, numbering, now,
+                                                                    is_first, offer, number);
 }

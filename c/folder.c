@@ -285,8 +285,7 @@ static enum minisign_error lock_file(struct folder *folder, const struct opened 
     return MINISIGN_OK;
 }
 
-/* Opens the folder, where that was not done before. */
-static enum minisign_error open_folder(struct folder *folder)
+enum minisign_error open_folder(struct folder *folder)
 {
     if (folder->fd < 0) {
         AGAIN(folder->fd, open(folder->itself.shown, O_RDONLY | O_DIRECTORY | O_CLOEXEC));

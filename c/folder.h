@@ -69,6 +69,9 @@ bool say_trouble(const struct folder *folder);
  * Each answers MINISIGN_OK where it was done, and else why it failed.
  */
 
+/* Opens the folder, where it is not open yet. */
+enum minisign_error open_folder(struct folder *folder);
+
 /* Locks the place by the lock file: MINISIGN_PLACE_IN_USE where another run holds the lock. The lock file becomes that
  * of whoever may go on after this run, as far as that is allowed, but none that was found is given away. */
 enum minisign_error lock_place(struct folder *folder);

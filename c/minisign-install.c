@@ -1,6 +1,7 @@
 /* SPDX-License-Identifier: MIT */
 /*
- * minisign-install PK DATA SIG PLACE: installs an update that two texts vouch for, and nothing else.
+ * minisign-install PK DATA SIG PLACE: installs an update that two texts vouch for, and nothing else. With --check it
+ * only tells, by the signature alone, whether there is a newer one.
  *
  * The machine of minisign.h says which call is due, and judges: the texts, the data as it was staged, and the comment
  * that was signed with it. This program makes the call that is due (folder.h) and tells how it went; libsodium says
@@ -17,6 +18,7 @@
 #include <stdlib.h>
 #include <string.h>
 #include <sys/stat.h>
+#include <time.h>
 #include <unistd.h>
 
 #include <sodium.h>
@@ -53,7 +55,7 @@ struct data {
     struct steps verified;
 };
 
-static minisign_public_key key;
+static minisign_public_key keys[MOST_KEYS];
 static struct text signature;
 static uint8_t piece[PIECE_BYTES];
 
@@ -107,13 +109,56 @@ static void read_text(struct text *text, const char *file)
     }
 }
 
-/* Reads the public key of a file; a text that is none is the library's to name. */
-static enum minisign_error read_key(const char *file)
+/* Says of a file what an error of the library means. */
+static void say_error(const char *file, enum minisign_error error)
+{
+    char text[MINISIGN_ERROR_TEXT_BYTES];
+
+    minisign_error_text(error, text, sizeof text);
+    say(file, text);
+}
+
+/* Ends the program where what should be a public key is none: why, is the library's to name. */
+static void must_be_key(const char *shown, enum minisign_error error)
+{
+    if (error != MINISIGN_OK) {
+        say_error(shown, error);
+        exit(REFUSED);
+    }
+}
+
+/* Reads the public key of a file, or those that are named themselves. */
+static void read_keys(const struct request *request)
 {
     static struct text text;
 
-    read_text(&text, file);
-    return minisign_read_public_key(text.bytes, text.len, &key);
+    for (int i = 0; i < request->key_count; i++) {
+        const char *base64 = request->keys[i];
+
+        must_be_key(base64, minisign_read_bare_public_key((const uint8_t *) base64, strlen(base64), &keys[i]));
+    }
+    if (request->key_count == 0) {
+        read_text(&text, request->key);
+        must_be_key(request->key, minisign_read_public_key(text.bytes, text.len, &keys[0]));
+    }
+}
+
+/* The key that has to have made the signature: of two the second where the signature has its key ID and not that of the
+ * first. */
+static const minisign_public_key *key_of_signature(const struct request *request)
+{
+    static uint8_t message[TEXT_BYTES];
+    minisign_questions q;
+    minisign_state state;
+
+    for (int i = 0; i < request->key_count; i++) {
+        minisign_init(&state);
+        if (minisign_ask(&state, &keys[i], signature.bytes, signature.len, 0, &q, message, sizeof message)
+            != MINISIGN_DIFFERENT_KEY_IDS) {
+            return &keys[i];
+        }
+    }
+    return &keys[0];
 }
 
 static struct data open_data(const struct request *request)
@@ -248,6 +293,15 @@ static const char *wanted_name(const struct request *request, const struct folde
     return request->name == NULL ? folder->place.name : request->name;
 }
 
+/* The moment that the clock shows, in seconds since the beginning of 1970. A clock that shows an earlier one is wrong, and
+ * counts as the last moment that there is: so what expires has expired. */
+static uint64_t now(void)
+{
+    time_t shown = time(NULL);
+
+    return shown < 0 ? UINT64_MAX : (uint64_t) shown;
+}
+
 /* Has Ed25519 answer the questions, where the texts do not refuse already. The message has room enough. */
 static void answer(minisign_installation *machine, const struct request *request, const struct folder *folder)
 {
@@ -255,8 +309,8 @@ static void answer(minisign_installation *machine, const struct request *request
     const char *name = wanted_name(request, folder);
     minisign_questions q;
 
-    if (minisign_install_ask(machine, &key, signature.bytes, signature.len, (const uint8_t *) name, strlen(name), &q, message,
-                             sizeof message)
+    if (minisign_install_ask(machine, key_of_signature(request), signature.bytes, signature.len, (const uint8_t *) name, strlen(name), now(), &q,
+                             message, sizeof message)
         == MINISIGN_OK) {
         enum minisign_answer first = answer_of(q.signature, q.digest, sizeof q.digest, q.public_key);
         enum minisign_answer second = answer_of(q.comment_signature, message, q.message_len, q.public_key);
@@ -304,6 +358,56 @@ static void install(minisign_installation *machine, const struct request *reques
     }
 }
 
+/* ---- Whether there is a newer one ---- */
+
+/* Has Ed25519 answer whether the key has signed the comment, which stands behind the signature in the message. */
+static enum minisign_error ask_comment(const minisign_public_key *key, minisign_questions *q, uint8_t *message, size_t room)
+{
+    minisign_state state;
+    enum minisign_error error;
+
+    minisign_init(&state);
+    error = minisign_ask(&state, key, signature.bytes, signature.len, 0, q, message, room);
+    return error == MINISIGN_OK ? minisign_comment_verdict(
+                                      &state, answer_of(q->comment_signature, message, q->message_len, q->public_key))
+                                : error;
+}
+
+/* Tells what the update is beside the kept number: nothing is written, and no lock is taken. */
+static enum minisign_error check(const struct request *request, struct folder *folder, uint32_t *offer)
+{
+    static uint8_t message[TEXT_BYTES];
+    const char *name = wanted_name(request, folder);
+    const uint8_t *comment = message + 64, *file = (const uint8_t *) name;
+    uint32_t is_first = request->is_first ? 1 : 0;
+    uint8_t record[RECORD_BYTES];
+    size_t len = 0;
+    bool is_there = false;
+    minisign_questions q;
+    uint64_t number;
+    enum minisign_error error = ask_comment(key_of_signature(request), &q, message, sizeof message);
+
+    error = error == MINISIGN_OK ? open_folder(folder) : error;
+    error = error == MINISIGN_OK ? read_record(folder, record, &len, &is_there) : error;
+    if (error != MINISIGN_OK) {
+        return error;
+    }
+    return is_there ? minisign_check_comment(comment, q.message_len - 64, file, strlen(name), request->numbering, now(),
+                                             is_first, record, len, offer, &number)
+                    : minisign_check_first_comment(comment, q.message_len - 64, file, strlen(name), request->numbering,
+                                                   now(), is_first, offer, &number);
+}
+
+static enum status status_of_offer(uint32_t offer)
+{
+    switch ((enum minisign_offer) offer) {
+    case MINISIGN_OFFER_NEWER: return INSTALLED;
+    case MINISIGN_OFFER_SAME: return SAME;
+    case MINISIGN_OFFER_OLDER: return OLDER;
+    }
+    abort();
+}
+
 /* ---- What came of it ---- */
 
 static enum status status_of(enum minisign_error error)
@@ -315,6 +419,7 @@ static enum status status_of(enum minisign_error error)
     case MINISIGN_WRITING_FAILED:
     case MINISIGN_RANDOM_SOURCE_FAILED: return FAILED;
     case MINISIGN_OLDER_UPDATE: return OLDER;
+    case MINISIGN_EXPIRED: return EXPIRED;
     case MINISIGN_PLACE_IN_USE: return IN_USE;
     case MINISIGN_FOLDER_NOT_ON_DISK: return NOT_ON_DISK;
     case MINISIGN_NO_RECORD:
@@ -343,15 +448,6 @@ static const char *blamed(const struct request *request, enum minisign_error err
     case MINISIGN_FOLDER_NOT_ON_DISK: return request->place;
     default: return request->signature;
     }
-}
-
-/* Says of a file what an error of the library means. */
-static void say_error(const char *file, enum minisign_error error)
-{
-    char text[MINISIGN_ERROR_TEXT_BYTES];
-
-    minisign_error_text(error, text, sizeof text);
-    say(file, text);
 }
 
 /* Says of a file why the update is refused, and what may be done about it. */
@@ -431,12 +527,14 @@ int main(int argc, char *argv[])
         say(request.place, "libsodium could not be started");
         return FAILED;
     }
-    error = read_key(request.key);
-    if (error != MINISIGN_OK) {
-        say_error(request.key, error);
-        return status_of(error);
-    }
+    read_keys(&request);
     read_text(&signature, request.signature);
+    if (request.is_check) {
+        uint32_t offer;
+
+        error = check(&request, &folder, &offer);
+        return error == MINISIGN_OK ? status_of_offer(offer) : report(&request, &(struct data) { 0 }, &folder, error);
+    }
     data = open_data(&request);
     error = data.is_regular ? MINISIGN_OK : receive_data(&data, &request, &folder);
     if (error == MINISIGN_OK) {

@@ -22,7 +22,11 @@ enum status {
     /* The update stands at the place, and a crash may bring back what stood there before. */
     NOT_ON_DISK = 6,
     /* No number of the field is kept beside the place. */
-    UNRECORDED = 7
+    UNRECORDED = 7,
+    /* The update has the number that is kept. */
+    SAME = 8,
+    /* The update has expired. */
+    EXPIRED = 9
 };
 
 /* Says of a file what is wrong with it. */

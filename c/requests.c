@@ -17,8 +17,13 @@
     "Installs DATA at PLACE if the texts of the public key PK and of the signature\n" \
     "SIG vouch for it as the update that is wanted.\n" \
     "\n" \
+    "  --check            do not install, but tell by SIG alone whether the update is\n" \
+    "                     newer than what is kept beside PLACE: DATA is not named,\n" \
+    "                     and nothing is written\n" \
     "  --first            take the update also where no number of FIELD is kept\n" \
     "                     beside PLACE\n" \
+    "  --key KEY          the public key itself, in base64: PK is not named then;\n" \
+    "                     given twice, either key will do\n" \
     "  --numbering FIELD  the update's number is the field `timestamp` of the signed\n" \
     "                     comment, as without this option, or `version`\n" \
     "  --name NAME        the name that the signed comment has to have for the file;\n" \
@@ -33,27 +38,33 @@
     "  -h, --help         show this\n" \
     "  --version          show the version of the program\n" \
     "\n" \
-    "Each option comes at most once, anywhere before `--`. Exit status:\n" \
-    "  0  the update was installed, or what was asked for was shown\n" \
+    "Each option comes at most once, but `--key` twice, anywhere before `--`. Exit\n" \
+    "status:\n" \
+    "  0  the update was installed, or is newer, or what was asked for was shown\n" \
     "  1  a file could not be used, an allocation failed, or no random bytes came\n" \
     "  2  usage error\n" \
     "  3  the update is rejected\n" \
     "  4  the update is older than what was installed\n" \
     "  5  another installation is at work at this place\n" \
     "  6  the update stands there, but a crash may bring back what stood there before\n" \
-    "  7  no number of FIELD is kept beside PLACE, and `--first` was not given\n"
+    "  7  no number of FIELD is kept beside PLACE, and `--first` was not given\n" \
+    "  8  with `--check`: the update has the number that is kept\n" \
+    "  9  the update has expired\n"
 
 enum { PATHS = 4 };
 
 /* The options that a value follows. */
-enum valued { NUMBERING, NAME, MODE, MOST, VALUED };
+enum valued { NUMBERING, NAME, MODE, MOST, KEY, VALUED };
 
-static const char *const valued[VALUED] = { "--numbering", "--name", "--mode", "--most" };
+static const char *const valued[VALUED] = { "--numbering", "--name", "--mode", "--most", "--key" };
 
 /* What the words say that were read: the values as they were written, or NULL. */
 struct line {
+    bool is_check;
     bool is_first;
     const char *values[VALUED];
+    const char *keys[MOST_KEYS];
+    int key_count;
     const char *paths[PATHS];
     int count;
 };
@@ -80,6 +91,58 @@ static void add_path(struct line *line, const char *word)
         misuse(word, "there are four paths, and this is a fifth");
     }
     line->paths[line->count++] = word;
+}
+
+/* An option without a value, which comes at most once. */
+static void add_flag(bool *flag, const char *word)
+{
+    if (*flag) {
+        misuse(word, "it came before");
+    }
+    *flag = true;
+}
+
+/* Keeps the value of an option, which comes at most once, but for that of a key. */
+static void add_value(struct line *line, int option, const char *value)
+{
+    if (option == KEY) {
+        if (line->key_count == MOST_KEYS) {
+            misuse(valued[option], "it came twice before");
+        }
+        line->keys[line->key_count++] = value;
+    } else if (line->values[option] != NULL) {
+        misuse(valued[option], "it came before");
+    } else {
+        line->values[option] = value;
+    }
+}
+
+/* How many paths there have to be: a check has no data, and where keys are named themselves there is no file of one. */
+static int paths_of(const struct line *line)
+{
+    return PATHS - (line->is_check ? 1 : 0) - (line->key_count > 0 ? 1 : 0);
+}
+
+/* Ends the program where there are more or fewer paths than there have to be, or what goes with an installation alone. */
+static void judge_line(const struct line *line)
+{
+    static const char *const fewer[] = { "there are fewer than two paths", "there are fewer than three paths",
+                                         "there are fewer than four paths" };
+    static const char *const more[] = { "there are two paths, and this is a third", "there are three paths, and this is a fourth",
+                                        "there are four paths, and this is a fifth" };
+    int wanted = paths_of(line);
+
+    if (line->count > wanted) {
+        misuse(line->paths[wanted], more[wanted - 2]);
+    }
+    for (int option = MODE; line->is_check && option <= MOST; option++) {
+        if (line->values[option] != NULL) {
+            misuse(valued[option], "it does not go with `--check`");
+        }
+    }
+    if (line->count < wanted) {
+        misuse(NULL, fewer[wanted - 2]);
+    }
 }
 
 static int valued_of(const char *word)
@@ -109,23 +172,18 @@ static struct line read_line(int argc, char *argv[])
         } else if (strcmp(word, "--") == 0) {
             is_ended = true;
         } else if (strcmp(word, "--first") == 0) {
-            if (line.is_first) {
-                misuse(word, "it came before");
-            }
-            line.is_first = true;
+            add_flag(&line.is_first, word);
+        } else if (strcmp(word, "--check") == 0) {
+            add_flag(&line.is_check, word);
         } else if (option == VALUED) {
             misuse(word, "there is no such option");
-        } else if (line.values[option] != NULL) {
-            misuse(word, "it came before");
         } else if (++i == argc) {
             misuse(NULL, "a value has to follow the last word");
         } else {
-            line.values[option] = argv[i];
+            add_value(&line, option, argv[i]);
         }
     }
-    if (line.count < PATHS) {
-        misuse(NULL, "there are fewer than four paths");
-    }
+    judge_line(&line);
     return line;
 }
 
@@ -200,6 +258,7 @@ struct request read_request(int argc, char *argv[])
         show("minisign-install " MINISIGN_VERSION_TEXT "\n", "");
     }
     line = read_line(argc, argv);
+    request.is_check = line.is_check;
     request.is_first = line.is_first;
     request.numbering = numbering_of(line.values[NUMBERING]);
     request.name = line.values[NAME];
@@ -210,9 +269,11 @@ struct request read_request(int argc, char *argv[])
     if (line.values[MOST] != NULL) {
         request.most = bytes_of(line.values[MOST]);
     }
-    request.key = line.paths[0];
-    request.data = line.paths[1];
-    request.signature = line.paths[2];
-    request.place = line.paths[3];
+    memcpy(request.keys, line.keys, sizeof request.keys);
+    request.key_count = line.key_count;
+    request.key = line.key_count > 0 ? NULL : line.paths[0];
+    request.data = line.is_check ? NULL : line.paths[line.count - 3];
+    request.signature = line.paths[line.count - 2];
+    request.place = line.paths[line.count - 1];
     return request;
 }

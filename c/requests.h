@@ -11,8 +11,13 @@
 
 #include "minisign.h"
 
+/* How many public keys may be named: two during a change of keys. */
+#define MOST_KEYS 2
+
 /* An installation that is asked for. */
 struct request {
+    /* Whether it is only asked if there is anything newer: no data is named then. */
+    bool is_check;
     /* Whether no number need be kept beside the place. */
     bool is_first;
     /* Which field of the signed comment has the number. */
@@ -24,7 +29,10 @@ struct request {
     mode_t mode;
     /* How many bytes the data may have. */
     uint64_t most;
+    /* The file of the public key, or NULL where keys are named themselves: each in base64. */
     const char *key;
+    const char *keys[MOST_KEYS];
+    int key_count;
     const char *data;
     const char *signature;
     const char *place;

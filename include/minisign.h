@@ -428,6 +428,11 @@ enum minisign_error {
     /* The number that is kept is a version and not a timestamp, and this was not said to be the first
      * installation. */
     MINISIGN_KEPT_BY_VERSION = 54,
+    /* The update has expired at the moment that the caller passes. */
+    MINISIGN_EXPIRED = 55,
+    /* The trusted comment has more than one field for when the update expires, or one with no number in decimal
+     * digits alone, or none below 2^64. */
+    MINISIGN_BAD_EXPIRY = 56,
     /* A source, a file or a prompt's reader failed at a read. */
     MINISIGN_READING_FAILED = 64,
     /* A sink or a prompt's writer failed at a write or a flush. */
@@ -871,8 +876,9 @@ MINISIGN_MUST_USE enum minisign_error minisign_install_piece(
  * MINISIGN_DUE_ANSWER, first: what Ed25519 has to answer, as minisign_ask and minisign_digest tell it; signatures
  * over the data itself are never taken. The signed comment is judged too: whether it has a field "file:" with
  * exactly this name, and, after the label of the numbering, a number below 2^64 in decimal digits alone that is
- * not below the one that is kept. What came of that is told only after the answers, since nothing vouches for it
- * before.
+ * not below the one that is kept; and whether it has not expired: it has no field "expires:", or one, with a number
+ * of the same form that is greater than now. Both are in seconds since the beginning of 1970, and now is what your
+ * clock shows. What came of that is told only after the answers, since nothing vouches for it before.
  *
  * The errors, in this order: MINISIGN_NOT_DUE; MINISIGN_NOT_UTF8 of the name; those of minisign_ask. After
  * MINISIGN_NOT_DUE, MINISIGN_ALREADY_ASKED and MINISIGN_NO_ROOM nothing changes. After the others the run is
@@ -880,14 +886,14 @@ MINISIGN_MUST_USE enum minisign_error minisign_install_piece(
  */
 MINISIGN_MUST_USE enum minisign_error minisign_install_ask(
     minisign_installation *installation, const minisign_public_key *key, const uint8_t *sig_text, size_t sig_text_len,
-    const uint8_t *file, size_t file_len, minisign_questions *questions, uint8_t *message, size_t room);
+    const uint8_t *file, size_t file_len, uint64_t now, minisign_questions *questions, uint8_t *message, size_t room);
 
 /*
  * MINISIGN_DUE_ANSWER, then: what Ed25519 answered to the two questions. MINISIGN_OK, and MINISIGN_DUE_TAKE_RIGHTS
  * is due, exactly where the texts vouch for what was read back, and the comment that was signed with it names the
- * file and has a number that is not below the one that is kept. Otherwise MINISIGN_DUE_REMOVE is due, and the call
- * answers the first reason: MINISIGN_SIGNATURE_REFUSED, MINISIGN_COMMENT_SIGNATURE_REFUSED, MINISIGN_OTHER_FILE,
- * MINISIGN_NO_NUMBER or MINISIGN_OLDER_UPDATE.
+ * file, has not expired, and has a number that is not below the one that is kept. Otherwise MINISIGN_DUE_REMOVE is
+ * due, and the call answers the first reason: MINISIGN_SIGNATURE_REFUSED, MINISIGN_COMMENT_SIGNATURE_REFUSED,
+ * MINISIGN_OTHER_FILE, MINISIGN_NO_NUMBER, MINISIGN_BAD_EXPIRY, MINISIGN_EXPIRED or MINISIGN_OLDER_UPDATE.
  *
  * MINISIGN_BAD_ANSWER, then MINISIGN_NOT_DUE, MINISIGN_NOT_ASKED: nothing changes.
  */
@@ -909,15 +915,51 @@ enum minisign_error minisign_install_error(const minisign_installation *installa
 /*
  * Judges a signed comment by itself, for programs that install in other ways: one that minisign_verdict has vouched
  * for. Writes its number where the comment has a field "file:" with exactly this name, and, after the label of the
- * numbering, a number below 2^64 in decimal digits alone that is not below kept. Fields end at tabs, and the first
- * with a label counts.
+ * numbering, a number below 2^64 in decimal digits alone that is not below kept, and where it has not expired, as
+ * minisign_install_ask says. Fields end at tabs, and of several with a label the first counts; but "expires:" may
+ * stand there once.
  *
  * After an error the number stays as it was. The errors, in this order: MINISIGN_BAD_NUMBERING; MINISIGN_NOT_UTF8
- * of the comment or the name; MINISIGN_OTHER_FILE; MINISIGN_NO_NUMBER; MINISIGN_OLDER_UPDATE. Does not allocate.
+ * of the comment or the name; MINISIGN_OTHER_FILE; MINISIGN_NO_NUMBER; MINISIGN_BAD_EXPIRY or MINISIGN_EXPIRED;
+ * MINISIGN_OLDER_UPDATE. Does not allocate.
  */
 MINISIGN_MUST_USE enum minisign_error minisign_judge_comment(
-    const uint8_t *comment, size_t comment_len, const uint8_t *file, size_t file_len, uint32_t numbering, uint64_t kept,
-    uint64_t *number);
+    const uint8_t *comment, size_t comment_len, const uint8_t *file, size_t file_len, uint32_t numbering, uint64_t now,
+    uint64_t kept, uint64_t *number);
+
+/* What an update is beside the one whose number is kept. */
+/* Offers, made by tools/header.py. */
+enum minisign_offer {
+    /* Its number is greater, or no number of the field is kept, at a first installation. */
+    MINISIGN_OFFER_NEWER = 1,
+    /* Its number is the kept one. */
+    MINISIGN_OFFER_SAME = 2,
+    /* Its number is below the kept one. */
+    MINISIGN_OFFER_OLDER = 3
+};
+/* The end of the offers. */
+
+/*
+ * Whether an update is newer than what is kept, by its signed comment: before its data is there. The comment is one
+ * that minisign_comment_verdict has vouched for, which can be asked before a byte was fed: behind minisign_ask it stands
+ * in the message, behind the 64 bytes of the signature. Nothing vouches for the data. The record is that of a place, as
+ * minisign_install_record takes it, read whole and without the lock; or there is none.
+ *
+ * Writes a number of enum minisign_offer, and the number of the update, which has to name the file and not to have
+ * expired, as minisign_install_ask says. With is_first 1 an update is newer where no
+ * number of the field is kept; otherwise is_first is 0.
+ *
+ * After an error nothing is written. The errors, in this order: MINISIGN_BAD_FIRST_FLAG; MINISIGN_BAD_NUMBERING;
+ * MINISIGN_NOT_UTF8 of the comment or the name; MINISIGN_NO_RECORD, MINISIGN_DAMAGED_RECORD, MINISIGN_KEPT_BY_TIMESTAMP,
+ * MINISIGN_KEPT_BY_VERSION, where is_first is 0; MINISIGN_OTHER_FILE; MINISIGN_NO_NUMBER; MINISIGN_BAD_EXPIRY or
+ * MINISIGN_EXPIRED. Does not allocate.
+ */
+MINISIGN_MUST_USE enum minisign_error minisign_check_comment(
+    const uint8_t *comment, size_t comment_len, const uint8_t *file, size_t file_len, uint32_t numbering,
+    uint64_t now, uint32_t is_first, const uint8_t *record, size_t record_len, uint32_t *offer, uint64_t *number);
+MINISIGN_MUST_USE enum minisign_error minisign_check_first_comment(
+    const uint8_t *comment, size_t comment_len, const uint8_t *file, size_t file_len, uint32_t numbering,
+    uint64_t now, uint32_t is_first, uint32_t *offer, uint64_t *number);
 
 #ifdef __cplusplus
 }

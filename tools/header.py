@@ -173,6 +173,12 @@ def numbering_text():
     return enum_text("numbering", sorted(numbers_of(comments, {name: number for number, name in found})), "NUMBERING_")
 
 
+def offer_text():
+    """The enum of what an update is beside the kept number."""
+    numbers = arms_of(HOST_NUMBERS, "Offer::number", r"Offer::(\w+) => (\d+),")
+    return enum_text("offer", numbers_of(comments_of("crates/minisign_install/src/checking.rt", "Offer"), numbers), "OFFER_")
+
+
 def answers_text(numbers):
     """The answers of the header, which are the number of no error."""
     found = re.findall(r"^pub const (ANSWER_(?:YES|NO)): u32 = (\d+);$", read(NUMBERS), re.M)
@@ -250,7 +256,8 @@ def header_text(numbers):
     """The header."""
     header = read(HEADER)
     parts = {"Numbers": ("numbers", enum_text("error", numbers, first=["    MINISIGN_OK = 0"])), "Answers": ("answers", answers_text(numbers)),
-             "Calls of installing": ("calls", due_text()), "Numberings": ("numberings", numbering_text())}
+             "Calls of installing": ("calls", due_text()), "Numberings": ("numberings", numbering_text()),
+             "Offers": ("offers", offer_text())}
     for begin, (end, made) in parts.items():
         header = between(header, f"/* {begin}, made by tools/header.py. */", f"/* The end of the {end}. */", made)
     for name in ("verify.c", "sign.c"):

@@ -17,7 +17,7 @@ import time
 import minisign_proved as minisign
 from minisign_proved import installing
 
-FAILED, MISUSED, REFUSED, OLDER, IN_USE, NOT_ON_DISK, UNRECORDED = range(1, 8)
+FAILED, MISUSED, REFUSED, OLDER, IN_USE, NOT_ON_DISK, UNRECORDED, SAME, EXPIRED = range(1, 10)
 UNITS = {"K": 10, "M": 20, "G": 30, "T": 40}
 # What each call is in C; some are broken only where they are named.
 NAMES = {"write": "write", "fsync": "fsync", "rename": "renameat", "unlink": "unlinkat", "fchmod": "fchmod", "fchown": "fchown",
@@ -127,7 +127,7 @@ def say(*words):
 
 def status_of(error):
     """The exit status that `minisign-install` has for an error."""
-    for kinds, status in (((minisign.TooLong,), REFUSED), ((minisign.OlderUpdate,), OLDER), ((minisign.PlaceInUse,), IN_USE),
+    for kinds, status in (((minisign.TooLong,), REFUSED), ((minisign.OlderUpdate,), OLDER), ((minisign.Expired,), EXPIRED), ((minisign.PlaceInUse,), IN_USE),
                           ((minisign.FolderNotOnDisk,), NOT_ON_DISK),
                           ((minisign.NoRecord, minisign.DamagedRecord, minisign.KeptByTimestamp, minisign.KeptByVersion), UNRECORDED),
                           ((minisign.OutOfMemory, minisign.ReadingFailed, minisign.WritingFailed, minisign.RandomSourceFailed), FAILED)):

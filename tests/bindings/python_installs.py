@@ -26,6 +26,7 @@ class PythonInstaller(RealInstaller):
                "fgetxattr", "fremovexattr")
     # (Python itself makes interrupted calls again)
     interrupted = ()
+    has_checks = False
     # The listing of the folder opens nothing, and that the record is read back is told as that.
     calls = RealInstaller.calls.replace(f"open .\nopen {RECORD}\n", f"open {RECORD}\n")
 

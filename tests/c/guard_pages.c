@@ -191,7 +191,7 @@ static minisign_installation *installing(uint32_t due)
         case MINISIGN_DUE_ANSWER: {
             minisign_questions *q = (minisign_questions *) (void *) buffer(sizeof *q);
 
-            error = minisign_install_ask(i, public_key(), (const uint8_t *) SIGNATURE, sizeof SIGNATURE - 1, copied("test", 4), 4, q,
+            error = minisign_install_ask(i, public_key(), (const uint8_t *) SIGNATURE, sizeof SIGNATURE - 1, copied("test", 4), 4, 0, q,
                                          buffer(MESSAGE_LEN), MESSAGE_LEN);
             if (error == MINISIGN_OK) {
                 error = minisign_install_answer(i, MINISIGN_ANSWER_YES, MINISIGN_ANSWER_YES);
@@ -231,7 +231,7 @@ static void installations(void)
         used = 1;
         q = (minisign_questions *) (void *) buffer(sizeof *q);
         CHECK(minisign_install_ask(i, public_key(), copied(SIGNATURE, sizeof SIGNATURE - 1), sizeof SIGNATURE - 1, copied("test", 4),
-                                   4, q, buffer(room), room)
+                                   4, 0, q, buffer(room), room)
               == (room < MESSAGE_LEN ? MINISIGN_NO_ROOM : MINISIGN_OK));
     }
     for (size_t room = 0; room <= MINISIGN_NUMBER_TEXT_BYTES; room++) {
@@ -247,8 +247,25 @@ static void installations(void)
 
         used = 0;
         number = (uint64_t *) (void *) buffer(sizeof *number);
-        CHECK(minisign_judge_comment(copied(comment, len), len, copied("test", 4), 4, MINISIGN_NUMBERING_TIMESTAMP, 0, number)
+        CHECK(minisign_judge_comment(copied(comment, len), len, copied("test", 4), 4, MINISIGN_NUMBERING_TIMESTAMP, 0, 0, number)
               == (len < sizeof comment - 1 ? MINISIGN_OTHER_FILE : MINISIGN_OK));
+    }
+    for (size_t len = 0; len <= 64; len++) {
+        uint64_t *number;
+        uint32_t *offer;
+        uint8_t *record;
+
+        used = 0;
+        number = (uint64_t *) (void *) buffer(sizeof *number);
+        offer = (uint32_t *) (void *) buffer(sizeof *offer);
+        record = copied(zeros, len);
+        memset(record, '0', len);
+        CHECK(minisign_check_comment(copied(comment, sizeof comment - 1), sizeof comment - 1, copied("test", 4), 4,
+                                     MINISIGN_NUMBERING_TIMESTAMP, 0, 0, record, len, offer, number)
+              == (len == 0 ? MINISIGN_DAMAGED_RECORD : MINISIGN_OK));
+        CHECK(minisign_check_first_comment(copied(comment, sizeof comment - 1 - len % 2), sizeof comment - 1 - len % 2,
+                                           copied("test", 4), 4, MINISIGN_NUMBERING_TIMESTAMP, 0, 1, offer, number)
+              == (len % 2 == 0 ? MINISIGN_OK : MINISIGN_OTHER_FILE));
     }
 }
 

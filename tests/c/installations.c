@@ -101,6 +101,9 @@ static const struct row {
 
 #define ROWS (sizeof table / sizeof table[0])
 
+/* The moment that is handed in: the signature of these tests never expires. */
+#define NOW 1000
+
 static minisign_questions questions;
 static uint8_t message[4096];
 
@@ -111,7 +114,7 @@ static enum minisign_error ask_of(minisign_installation *i, const char *signatur
 
     return error != MINISIGN_OK ? error
                                 : minisign_install_ask(i, &key, (const uint8_t *) signature, strlen(signature), (const uint8_t *) file,
-                                                       strlen(file), &questions, message, room);
+                                                       strlen(file), NOW, &questions, message, room);
 }
 
 static enum minisign_error ask(minisign_installation *i)
@@ -459,7 +462,7 @@ static void comment_gives(const char *comment, const char *file, uint32_t number
     uint64_t number = 77;
 
     CHECK(minisign_judge_comment((const uint8_t *) comment, strlen(comment), (const uint8_t *) file, strlen(file), numbering,
-                                 kept, &number)
+                                 NOW, kept, &number)
           == error);
     CHECK(number == (error == MINISIGN_OK ? wanted : 77));
 }
@@ -490,6 +493,77 @@ static void comments(void)
     comment_gives(COMMENT, "test", 2, 0, MINISIGN_BAD_NUMBERING, 0);
     comment_gives("\xff", "test", by_time, 0, MINISIGN_NOT_UTF8, 0);
     comment_gives(COMMENT, "\xff", by_time, 0, MINISIGN_NOT_UTF8, 0);
+
+    /* It expires at a moment that is to come, or has done so; and what does not say when is refused. */
+    comment_gives("file:a\tversion:1\texpires:1001", "a", by_version, 0, MINISIGN_OK, 1);
+    comment_gives("expires:18446744073709551615\tfile:a\tversion:1", "a", by_version, 0, MINISIGN_OK, 1);
+    comment_gives("file:a\tversion:1\texpires:1000", "a", by_version, 0, MINISIGN_EXPIRED, 0);
+    comment_gives("file:a\tversion:1\texpires:0", "a", by_version, 0, MINISIGN_EXPIRED, 0);
+    comment_gives("file:a\tversion:1\texpires:18446744073709551616", "a", by_version, 0, MINISIGN_BAD_EXPIRY, 0);
+    comment_gives("file:a\tversion:1\texpires:", "a", by_version, 0, MINISIGN_BAD_EXPIRY, 0);
+    comment_gives("file:a\tversion:1\texpires:+2000", "a", by_version, 0, MINISIGN_BAD_EXPIRY, 0);
+    comment_gives("file:a\tversion:1\texpires:2000 ", "a", by_version, 0, MINISIGN_BAD_EXPIRY, 0);
+    comment_gives("file:a\tversion:1\texpires:2000\texpires:2000", "a", by_version, 0, MINISIGN_BAD_EXPIRY, 0);
+    comment_gives("expires:1\tfile:a\tversion:1\texpires:2000", "a", by_version, 0, MINISIGN_BAD_EXPIRY, 0);
+    comment_gives("expires:2000\texpires:x\tfile:a\tversion:1", "a", by_version, 0, MINISIGN_BAD_EXPIRY, 0);
+    comment_gives("file:a\tversion:1\texpire:1\tEXPIRES:1\t expires:1", "a", by_version, 0, MINISIGN_OK, 1);
+    /* The name and the number come first, and the age last. */
+    comment_gives("file:a\tversion:1\texpires:1", "b", by_version, 0, MINISIGN_OTHER_FILE, 0);
+    comment_gives("file:a\tversion:x\texpires:1", "a", by_version, 0, MINISIGN_NO_NUMBER, 0);
+    comment_gives("file:a\tversion:1\texpires:1", "a", by_version, 2, MINISIGN_EXPIRED, 0);
+    comment_gives("file:a\tversion:1\texpires:2000", "a", by_version, 2, MINISIGN_OLDER_UPDATE, 0);
+}
+
+/* What a check answers: `offer` of the number 5, or an error. Without a record where that is NULL. */
+static void check_gives(const char *comment, const char *file, uint32_t numbering, uint32_t is_first, const char *record,
+                        enum minisign_error error, uint32_t offer)
+{
+    const uint8_t *bytes = (const uint8_t *) comment, *name = (const uint8_t *) file;
+    uint64_t number = 77;
+    uint32_t told = 77;
+
+    CHECK((record == NULL ? minisign_check_first_comment(bytes, strlen(comment), name, strlen(file), numbering, NOW, is_first,
+                                                         &told, &number)
+                          : minisign_check_comment(bytes, strlen(comment), name, strlen(file), numbering, NOW, is_first,
+                                                   (const uint8_t *) record, strlen(record), &told, &number))
+          == error);
+    CHECK(told == (error == MINISIGN_OK ? offer : 77) && number == (error == MINISIGN_OK ? 5 : 77));
+}
+
+static void checks(void)
+{
+    const uint32_t by_time = MINISIGN_NUMBERING_TIMESTAMP, by_version = MINISIGN_NUMBERING_VERSION;
+    static const char offered[] = "version:5\tfile:a\texpires:2000";
+
+    for (uint32_t is_first = 0; is_first <= 1; is_first++) {
+        check_gives(offered, "a", by_version, is_first, "4", MINISIGN_OK, MINISIGN_OFFER_NEWER);
+        check_gives(offered, "a", by_version, is_first, "version:4\n", MINISIGN_OK, MINISIGN_OFFER_NEWER);
+        check_gives(offered, "a", by_version, is_first, "version:5", MINISIGN_OK, MINISIGN_OFFER_SAME);
+        check_gives(offered, "a", by_version, is_first, "05", MINISIGN_OK, MINISIGN_OFFER_SAME);
+        check_gives(offered, "a", by_version, is_first, "version:6", MINISIGN_OK, MINISIGN_OFFER_OLDER);
+        check_gives(offered, "a", by_version, is_first, "18446744073709551615", MINISIGN_OK, MINISIGN_OFFER_OLDER);
+        check_gives(offered, "b", by_version, is_first, "4", MINISIGN_OTHER_FILE, 0);
+        check_gives(offered, "a", by_time, is_first, "4", MINISIGN_NO_NUMBER, 0);
+        check_gives("version:5\tfile:a\texpires:1000", "a", by_version, is_first, "4", MINISIGN_EXPIRED, 0);
+        check_gives("version:5\tfile:a\texpires:1000", "a", by_version, is_first, "6", MINISIGN_EXPIRED, 0);
+        check_gives("version:5\tfile:a\texpires:x", "a", by_version, is_first, "4", MINISIGN_BAD_EXPIRY, 0);
+        check_gives("\xff", "a", by_version, is_first, "x", MINISIGN_NOT_UTF8, 0);
+        check_gives(offered, "\xff", by_version, is_first, "x", MINISIGN_NOT_UTF8, 0);
+        check_gives(offered, "a", 2, is_first, "4", MINISIGN_BAD_NUMBERING, 0);
+        check_gives(offered, "a", 2, 2, "4", MINISIGN_BAD_FIRST_FLAG, 0);
+    }
+    /* What holds no number of the field is refused as installing refuses it, or counts for nothing. */
+    check_gives(offered, "b", by_version, 0, NULL, MINISIGN_NO_RECORD, 0);
+    check_gives(offered, "b", by_version, 0, "", MINISIGN_DAMAGED_RECORD, 0);
+    check_gives(offered, "b", by_version, 0, "version:x", MINISIGN_DAMAGED_RECORD, 0);
+    check_gives(offered, "b", by_version, 0, "timestamp:9", MINISIGN_KEPT_BY_TIMESTAMP, 0);
+    check_gives(offered, "b", by_time, 0, "version:9", MINISIGN_KEPT_BY_VERSION, 0);
+    check_gives(offered, "a", by_version, 1, NULL, MINISIGN_OK, MINISIGN_OFFER_NEWER);
+    check_gives(offered, "a", by_version, 1, "", MINISIGN_OK, MINISIGN_OFFER_NEWER);
+    check_gives(offered, "a", by_version, 1, "timestamp:9", MINISIGN_OK, MINISIGN_OFFER_NEWER);
+    check_gives(offered, "b", by_version, 1, NULL, MINISIGN_OTHER_FILE, 0);
+    check_gives(offered, "a", 2, 1, NULL, MINISIGN_BAD_NUMBERING, 0);
+    check_gives(offered, "a", 2, 2, NULL, MINISIGN_BAD_FIRST_FLAG, 0);
 }
 
 /* NULL where there are no bytes. */
@@ -498,17 +572,20 @@ static void nulls(void)
     minisign_installation i = at(MINISIGN_DUE_READ_RECORD);
     minisign_public_key key;
     uint64_t number;
+    uint32_t offer;
 
     CHECK(minisign_install_record(&i, NULL, 0) == MINISIGN_OK && minisign_install_error(&i) == MINISIGN_DAMAGED_RECORD);
     i = at(MINISIGN_DUE_READ_BACK);
     CHECK(minisign_install_piece(&i, NULL, 0) == MINISIGN_OK && minisign_install_due(&i) == MINISIGN_DUE_ANSWER);
     CHECK(minisign_read_public_key((const uint8_t *) KEY, sizeof KEY - 1, &key) == MINISIGN_OK);
-    CHECK(minisign_install_ask(&i, &key, (const uint8_t *) SIGNATURE, sizeof SIGNATURE - 1, NULL, 0, &questions, NULL, 0)
+    CHECK(minisign_install_ask(&i, &key, (const uint8_t *) SIGNATURE, sizeof SIGNATURE - 1, NULL, 0, NOW, &questions, NULL, 0)
           == MINISIGN_NO_ROOM);
-    CHECK(minisign_install_ask(&i, &key, NULL, 0, NULL, 0, &questions, NULL, 0) == MINISIGN_MISSING_UNTRUSTED_COMMENT);
+    CHECK(minisign_install_ask(&i, &key, NULL, 0, NULL, 0, NOW, &questions, NULL, 0) == MINISIGN_MISSING_UNTRUSTED_COMMENT);
     i = at(MINISIGN_DUE_WRITE_RECORD);
     CHECK(minisign_install_number_text(&i, NULL, 0) == 0);
-    CHECK(minisign_judge_comment(NULL, 0, NULL, 0, MINISIGN_NUMBERING_TIMESTAMP, 0, &number) == MINISIGN_OTHER_FILE);
+    CHECK(minisign_judge_comment(NULL, 0, NULL, 0, MINISIGN_NUMBERING_TIMESTAMP, NOW, 0, &number) == MINISIGN_OTHER_FILE);
+    CHECK(minisign_check_comment(NULL, 0, NULL, 0, MINISIGN_NUMBERING_TIMESTAMP, NOW, 0, NULL, 0, &offer, &number) == MINISIGN_DAMAGED_RECORD);
+    CHECK(minisign_check_first_comment(NULL, 0, NULL, 0, MINISIGN_NUMBERING_TIMESTAMP, NOW, 1, &offer, &number) == MINISIGN_OTHER_FILE);
 }
 
 int main(void)
@@ -519,6 +596,7 @@ int main(void)
     records();
     answers();
     comments();
+    checks();
     nulls();
     CHECK(requests == 0);
     printf("%u passed, %u failed\n", passed, failed);

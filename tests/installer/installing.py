@@ -43,12 +43,17 @@ from surviving import MEMORY, MOST_CALLS, SmallDisk, content
 
 PROGRAM = os.path.join(HERE, "..", "..", "crates", "minisign_installer", "out", "minisign_installer")
 STAGE = ".place.stage-"
+# A key that has signed nothing here.
+OTHER_KEY = "RWQf6LRCGA9i53mlYecO4IzT51TGPpvWucNSCh1CBM0QTaLn73Y7GFO3"
+# When an update expires.
+SOON, PAST = "\texpires:99999999999", "\texpires:1700000000"
+USAGE = b"usage: minisign-install [OPTION ..] PK DATA SIG PLACE (--help shows the options)\n"
 PK = "key.pub"
 OLD, NEW = b"old" * 1000, b"new" * 50000
 LATER = b"later" * 40000
 
 # The exit statuses.
-FAILED, MISUSED, REFUSED, OLDER, IN_USE, NOT_ON_DISK, UNRECORDED = range(1, 8)
+FAILED, MISUSED, REFUSED, OLDER, IN_USE, NOT_ON_DISK, UNRECORDED, SAME, EXPIRED = range(1, 10)
 
 
 def wait_until_read(pipe):
@@ -60,8 +65,8 @@ def wait_until_read(pipe):
     raise Failure("what came through the pipe was not read")
 
 
-def comment_of(number, names=PLACE, label="timestamp"):
-    return f"{label}:{number}\tfile:{names}\tprehashed".encode()
+def comment_of(number, names=PLACE, label="timestamp", more=""):
+    return f"{label}:{number}\tfile:{names}{more}\tprehashed".encode()
 
 
 # Calls that fail: by which name, which of them, which stages are removed then, and how the run ends.
@@ -282,6 +287,83 @@ class Installing:
             found = set(os.listdir(path))
             if found & set(left) or not found >= set(alike):
                 raise Failure(f"the folder has {sorted(found)}")
+
+    # == Whether there is a newer one ==
+
+    def checks(self, status, *options, said=b"", record=b"timestamp:5", number=6, words=(PK, "new.sig", PLACE), **how):
+        """By the signature alone: nothing is written, and the lock may be held by another."""
+        with self.folder() as path:
+            folder = Folder(path, self.kind)
+            os.remove(os.path.join(path, RECORD))
+            if record is not None:
+                folder.put(RECORD, record)
+            folder.offer("new", NEW, number, **how)
+            os.remove(os.path.join(path, "new"))
+            before = self.all_of(path)
+            ended, text = self.run(folder, [*options, "--check", *words])
+            if ended != status or said is not None and text != said:
+                raise Failure(f"it ended with status {ended} in place of {status}, and said {text}")
+            if self.all_of(path) != before:
+                raise Failure(f"the folder has {os.listdir(path)}")
+
+    @staticmethod
+    def all_of(path):
+        """What a folder has, and when each file was changed."""
+        return {it.name: (content(path, it.name), it.stat().st_mtime_ns, it.stat().st_ino) for it in os.scandir(path)}, os.stat(path).st_mtime_ns
+
+    def checks_changed_comment(self):
+        """A greater number in the comment of an older update is no newer one."""
+        with self.folder() as path:
+            folder = Folder(path, self.kind)
+            folder.offer("bad", NEW, 4)
+            folder.put("bad.sig", folder.holds("bad.sig").replace(b"timestamp:4", b"timestamp:9"))
+            self.check_words(folder, ["--check", PK, "bad.sig", PLACE], REFUSED, self.kind.changed_comment)
+
+    def check_words(self, folder, words, status, said=b""):
+        ended, text = self.run(folder, words)
+        if ended != status or text != said:
+            raise Failure(f"it ended with status {ended} in place of {status}, and said {text}")
+
+    def checks_where(self, away, status, said):
+        """Without a folder, and where the record is no regular file."""
+        with self.folder() as path:
+            folder = Folder(path, self.kind)
+            folder.offer("new", NEW, 6)
+            os.remove(os.path.join(path, RECORD))
+            os.mkdir(os.path.join(path, RECORD))
+            self.check_words(folder, ["--check", PK, "new.sig", away], status, said)
+
+    def checks_unlocked(self):
+        """While another run holds the lock, and by who may only read."""
+        with self.folder() as path:
+            folder = self.installed(path)
+            folder.put(LOCK, b"")
+            with open(os.path.join(path, LOCK), "rb") as lock:
+                fcntl.flock(lock, fcntl.LOCK_EX)
+                self.check_words(folder, ["--check", PK, "new.sig", PLACE], 0)
+
+    # == Keys that are named themselves ==
+
+    def names_keys(self):
+        """One key, two of which the second or the first has signed, and two that have not."""
+        with self.folder() as path:
+            folder = self.installed(path)
+            key, other = self.kind.public_text().split()[-1].decode(), OTHER_KEY
+            self.check_words(folder, ["--key", other, "new", "new.sig", PLACE], REFUSED,
+                             b"error: new.sig: Signature key id is different from public key\n")
+            for words in (["--key", key], ["--key", key, "--key", other], ["--key", other, "--key", key]):
+                folder = self.installed(path)
+                self.check_words(folder, [*words, "--check", "new.sig", PLACE], 0)
+                self.check_words(folder, [*words, "new", "new.sig", PLACE], 0)
+                folder.expect(NEW, b"6")
+                self.check_words(folder, [*words, "--check", "new.sig", PLACE], SAME)
+
+    def refuses_key(self, key, said):
+        with self.folder() as path:
+            folder = self.installed(path)
+            self.check_words(folder, ["--key", key, "new", "new.sig", PLACE], REFUSED, said)
+            if folder.holds(LOCK) is not None:
+                raise Failure("the folder was touched")
 
     # == What stands beside the place ==
 
@@ -1092,6 +1174,10 @@ def cases(it):
             yield f"a {what} that is a {kind}", lambda name=name, make=make, said=said: it.refuses_beside(name, make, said)
         yield f"a {kind} at the place", lambda make=make, said=said.encode(): it.on_other(make, said)
     yield from word_cases(it)
+    if it.kind.is_in_c:
+        yield from expiry_cases(it)
+    if it.kind.has_checks:
+        yield from check_cases(it)
     yield "a first installation with a mode", it.first_mode
     yield "a bound on the data", it.bounded
     yield "progress at a terminal", it.at_terminal
@@ -1136,6 +1222,71 @@ def cases(it):
     yield "four at once", it.at_once
     yield "four slow ones at once", lambda: it.at_once(rounds=8, slow=20000)
     yield "while another holds the lock", it.while_locked
+
+
+def expiry_cases(it):
+    """What expires, or does not say when it does."""
+    soon, past = SOON, PAST
+    for what, status, more, said in [
+        ("has expired", EXPIRED, past, b"error: bad.sig: the update has expired\n"),
+        ("expires twice", REFUSED, past + soon, b"error: bad.sig: the signed comment does not say once, in a number, when it expires\n"),
+        ("expires at no moment", REFUSED, "\texpires:soon", b"error: bad.sig: the signed comment does not say once, in a number, when it expires\n"),
+    ]:
+        yield f"an update that {what}", lambda status=status, more=more, said=said: it.refuses(said, status=status, more=more)
+    yield "an update that expires later", lambda: it.takes([PK, "new", "new.sig", PLACE], more=soon)
+
+
+def check_cases(it):
+    """Whether there is a newer one, and keys that are named themselves."""
+    version = ("--numbering", "version")
+    soon, past = SOON, PAST
+    checks = [
+        ("a newer one", 0, (), {}),
+        ("the same", SAME, (), {"number": 5}),
+        ("an older one", OLDER, (), {"number": 4}),
+        ("a newer one of a number alone", 0, (), {"record": b"5"}),
+        ("a newer version", 0, version, {"record": b"version:5\n", "label": "version"}),
+        ("a first one", 0, ("--first",), {"record": None}),
+        ("a first one of another field", 0, ("--first", *version), {"label": "version"}),
+        ("the same at a first installation", SAME, ("--first",), {"number": 5}),
+        ("another name that is asked for", 0, ("--name", "app"), {"names": "app"}),
+        ("a newer one that expires later", 0, (), {"more": soon}),
+        ("no record", UNRECORDED, (), {"record": None, "said": b"error: place: no number is kept beside the place (`--first` installs all the same)\n"}),
+        ("a record of the other field", UNRECORDED, version,
+         {"label": "version", "said": b"error: place: the number that is kept beside the place is a timestamp, and no version\n"}),
+        ("another file", REFUSED, (), {"names": "app", "said": b"error: new.sig: the signed comment does not name this file (place is wanted, by the place or `--name`)\n"}),
+        ("no number of the field", REFUSED, version, {"record": b"version:5", "said": b"error: new.sig: the signed comment has no such number (version: is the field that is wanted, by `--numbering` or without it)\n"}),
+        ("one that has expired", EXPIRED, (), {"more": past, "said": b"error: new.sig: the update has expired\n"}),
+        ("an older one that has expired", EXPIRED, (), {"number": 4, "more": past, "said": b"error: new.sig: the update has expired\n"}),
+        ("one that expires twice", REFUSED, (), {"more": soon + soon, "said": b"error: new.sig: the signed comment does not say once, in a number, when it expires\n"}),
+        ("a legacy signature", REFUSED, (), {"legacy": True, "said": b"error: new.sig: Legacy signatures are not accepted\n"}),
+        ("no signature", FAILED, (), {"words": (PK, "none.sig", PLACE), "said": b"error: none.sig: No such file or directory (os error 2)\n"}),
+        ("a text that is no signature", REFUSED, (), {"words": (PK, PK, PLACE), "said": None}),
+    ]
+    for what, status, options, how in checks:
+        yield f"a check: {what}", lambda status=status, options=options, how=how: it.checks(status, *options, **how)
+    yield "a check: a changed comment", it.checks_changed_comment
+    yield "a check: no folder", lambda: it.checks_where("none/place", FAILED, b"error: none: there is no such folder\n")
+    yield "a check: a record that is a folder", lambda: it.checks_where(PLACE, FAILED, b"error: ./.place.number: a folder stands there\n")
+    yield "a check: while the place is locked", it.checks_unlocked
+    yield "keys that are named themselves", it.names_keys
+    yield "a key that is too short", lambda: it.refuses_key("RWQ", b"error: RWQ: base64 conversion failed - was an actual public key given?\n")
+    yield "a key that is no base64", lambda: it.refuses_key("*" * 56, b"error: " + b"*" * 56 + b": base64 conversion failed - was an actual public key given?: invalid base64\n")
+    paths = [PK, "new.sig", PLACE]
+    for what, words, said in [
+        ("a check of four paths", ["--check", PK, "new", "new.sig", PLACE], b"error: place: there are three paths, and this is a fourth\n"),
+        ("a check of two paths", ["--check", *paths[1:]], b"error: there are fewer than three paths\n"),
+        ("a check twice", ["--check", *paths, "--check"], b"error: --check: it came before\n"),
+        ("a check with a mode", ["--check", "--mode", "755", *paths], b"error: --mode: it does not go with `--check`\n"),
+        ("a check with a bound", ["--most", "1M", "--check", *paths], b"error: --most: it does not go with `--check`\n"),
+        ("three keys", [*["--key", OTHER_KEY] * 3, "new", "new.sig", PLACE], b"error: --key: it came twice before\n"),
+        ("a key and a file of one", ["--key", OTHER_KEY, PK, "new", "new.sig", PLACE], b"error: place: there are three paths, and this is a fourth\n"),
+        ("a key without data", ["--key", OTHER_KEY, "new.sig", PLACE], b"error: there are fewer than three paths\n"),
+        ("a check with a key and three paths", ["--check", "--key", OTHER_KEY, *paths], b"error: place: there are two paths, and this is a third\n"),
+        ("a check with a key and one path", ["--check", "--key", OTHER_KEY, PLACE], b"error: there are fewer than two paths\n"),
+        ("a key without its value", [*paths, "--key"], b"error: a value has to follow the last word\n"),
+    ]:
+        yield what, lambda words=words, said=said: it.says(words, MISUSED, said + USAGE)
 
 
 def word_cases(it):

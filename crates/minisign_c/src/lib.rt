@@ -18,6 +18,7 @@ ghost use Rattle.minisign_external.specs.Making.{HoldsPublicKey, HoldsSecretKey,
 ghost use Rattle.minisign_external.specs.Signing.{AreReadByMinisign, GivesSecretKey, HoldsKey, HoldsText, IsOpeningNumber, IsWritingNumber, comments_of, is_opened, passed_in, public_value_of, taken_key, told_public_key};
 ghost use Rattle.minisign_external.specs.declared.public_keys.PublicKeyValue.{PublicKeyValue};
 ghost use Rattle.minisign_external.specs.declared.state.Misuse.TheVariants.{BadFirstFlag, BadNumbering, BadPasswordFlag, NoRoom, NotDue};
+ghost use Rattle.minisign_install.specs.Checking.{HasChecked, IsCheckNumber};
 ghost use Rattle.minisign_install.specs.Comments.{Says};
 ghost use Rattle.minisign_install.specs.HostNumbers.{IsHostMeaning, numbering_number};
 ghost use Rattle.minisign_install.specs.Hosted.{CannotBeFed, CannotFail, CannotGo, GivesUpdateNumber, CallHasFailed, HasGone, HasReadRecord, HasReadBack, IsAnswerNumber, IsAskNumber, IsAsking, IsCommentNumber, IsDue, due_number, due_of, numbering_of, wanted_by};
@@ -36,6 +37,7 @@ use minisign_external::secrets::{SecretKeyValue, open_secret_key};
 use minisign_external::signed_texts::{write_comment_message, write_signed_text};
 use minisign_external::state::{Misuse, Questions, Refusal, State};
 use minisign_install::Numbering;
+use minisign_install::checking::check_comment_offer;
 use minisign_install::host_numbers::write_error_text;
 use minisign_install::hosted::Installation;
 use minisign_install::hosted_judging::judge_comment;
@@ -542,6 +544,7 @@ pub extern "C" fn minisign_install_ask(
     key: &PublicKeyValue,
     sig_text: &[u8],
     file: &[u8],
+    moment: u64,
     questions: &mut Questions,
     message: &mut [u8],
 ) -> u32
@@ -552,7 +555,7 @@ pub extern "C" fn minisign_install_ask(
     ensures digest { result ≡ 0 → (m : List ℕ) → IsFedState installation.old.state m → questions.new.digest ≡ blake2b_digest 64 m }
     ensures asking { result ≡ 0 → (kept : ℕ) × IsDue installation.old (Answer kept)
         × ((pk_text : List ℕ) → IsKeyText pk_text key.now
-        → IsAsking installation.new (wanted_by pk_text sig_text.now file.now (numbering_of installation.old)) kept) }
+        → IsAsking installation.new (wanted_by pk_text sig_text.now file.now (numbering_of installation.old) moment) kept) }
 
     // The field that the number stands in stays.
     ensures field { numbering_of installation.new ≡ numbering_of installation.old }
@@ -562,7 +565,7 @@ pub extern "C" fn minisign_install_ask(
     ensures refused { 0 < result → IsAskNumber installation.old installation.new key.now sig_text.now file.now (length message.old) result }
     ensures kept { 0 < result → message.new ≡ message.old }
 {
-    match installation.ask(key, sig_text, file, questions, message) {
+    match installation.ask(key, sig_text, file, moment, questions, message) {
         Ok(()) => 0,
         Err(refusal) => refusal.number(),
     }
@@ -577,8 +580,8 @@ pub extern "C" fn minisign_install_answer(
 ) -> u32
     // **For every relation that answers the two questions so, and every message: 0, and the rights are due, for the
     // number n, exactly where the texts vouch for the message, not by a signature over the data itself, and the comment
-    // that was signed with it names the file and has the number n, which is not below the kept one. Otherwise the stage
-    // is to be removed, for the first reason, whose number is answered.**
+    // that was signed with it names the file, has not expired at the moment of asking, and has the number n, which is not
+    // below the kept one. Otherwise the stage is to be removed, for the first reason, whose number is answered.**
     ensures answer { (terms : Terms) (kept : ℕ) (message : List ℕ) (accepts : Verifier)
         → IsAsking installation.old terms kept → IsAnswer first → IsAnswer second
         → AnswersTexts accepts terms.pk_text terms.sig_text message (first == answer_yes) (second == answer_yes)
@@ -633,23 +636,98 @@ pub extern "C" fn minisign_judge_comment(
     comment: &[u8],
     file: &[u8],
     numbering: u32,
+    moment: u64,
     kept: u64,
     number: &mut u64,
 ) -> u32
-    // The number of the comment is told exactly where the comment and the name are UTF-8, the comment names the file and
-    // has this number, and it is not below the kept one; otherwise the number is that of the first reason, and nothing is
-    // written.
+    // The number of the comment is told exactly where the comment and the name are UTF-8, the comment names the file, has
+    // this number and has not expired, and it is not below the kept one; otherwise the number is that of the first reason,
+    // and nothing is written.
     ensures says { result ≡ 0 → (k : Numbering) × (numbering ≡ numbering_number k) × IsUtf8 comment.now × IsUtf8 file.now
-        × Says comment.now file.now k number.new × (kept ≤ number.new) }
-    ensures refused { 0 < result → IsCommentNumber comment.now file.now numbering kept result }
+        × Says comment.now file.now k moment number.new × (kept ≤ number.new) }
+    ensures refused { 0 < result → IsCommentNumber comment.now file.now numbering moment kept result }
     ensures kept { 0 < result → number.new ≡ number.old }
 {
     let Some(numbering) = Numbering::of_number(numbering) else {
         return Misuse::BadNumbering.number();
     };
-    match judge_comment(comment, file, numbering, kept) {
+    match judge_comment(comment, file, numbering, moment, kept) {
         Ok(told) => {
             *number = told;
+            0
+        }
+        Err(fault) => fault.number(),
+    }
+}
+
+/// What an update is beside the kept number, by its signed comment and by the bytes of the record.
+#[unsafe(no_mangle)]
+pub extern "C" fn minisign_check_comment(
+    comment: &[u8],
+    file: &[u8],
+    numbering: u32,
+    moment: u64,
+    is_first: u32,
+    record: &[u8],
+    offer: &mut u32,
+    number: &mut u64,
+) -> u32
+    // What the update is beside the kept number, and its own number, are told exactly where the comment and the name are
+    // UTF-8, the record has a number of the field, or this is the first installation, and the comment names the file, has a
+    // number of the field, and has not expired.
+    ensures checked { result ≡ 0 → HasChecked comment.now file.now numbering moment is_first (Some record.now) offer.new number.new }
+
+    // Otherwise the number is that of the first reason, and nothing is written.
+    ensures refused { 0 < result → IsCheckNumber comment.now file.now numbering moment is_first (Some record.now) result }
+    ensures kept { 0 < result → (offer.new ≡ offer.old) × (number.new ≡ number.old) }
+{
+    check(comment, file, numbering, moment, is_first, Some(record), offer, number)
+}
+
+/// The same where there is no record.
+#[unsafe(no_mangle)]
+pub extern "C" fn minisign_check_first_comment(
+    comment: &[u8],
+    file: &[u8],
+    numbering: u32,
+    moment: u64,
+    is_first: u32,
+    offer: &mut u32,
+    number: &mut u64,
+) -> u32
+    // The same where there is no record.
+    ensures checked { result ≡ 0 → HasChecked comment.now file.now numbering moment is_first None offer.new number.new }
+    ensures refused { 0 < result → IsCheckNumber comment.now file.now numbering moment is_first None result }
+    ensures kept { 0 < result → (offer.new ≡ offer.old) × (number.new ≡ number.old) }
+{
+    check(comment, file, numbering, moment, is_first, None, offer, number)
+}
+
+// What an update is beside what was found of the record.
+fn check(
+    comment: &[u8],
+    file: &[u8],
+    numbering: u32,
+    moment: u64,
+    is_first: u32,
+    found: Option<&[u8]>,
+    offer: &mut u32,
+    number: &mut u64,
+) -> u32
+    ensures checked { result ≡ 0 → HasChecked comment.now file.now numbering moment is_first (option_map (λ b. b.now) found.entry) offer.new number.new }
+    ensures refused { 0 < result → IsCheckNumber comment.now file.now numbering moment is_first (option_map (λ b. b.now) found.entry) result }
+    ensures kept { 0 < result → (offer.new ≡ offer.old) × (number.new ≡ number.old) }
+{
+    if is_first > 1 {
+        return Misuse::BadFirstFlag.number();
+    }
+    let Some(numbering) = Numbering::of_number(numbering) else {
+        return Misuse::BadNumbering.number();
+    };
+    match check_comment_offer(comment, file, numbering, moment, is_first == 1, found) {
+        Ok((told, told_number)) => {
+            *offer = told.number();
+            *number = told_number;
             0
         }
         Err(fault) => fault.number(),

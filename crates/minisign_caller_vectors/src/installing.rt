@@ -8,7 +8,7 @@ use minisign_base::devices::random_sources::FixedRandom;
 use minisign_base::devices::sources::SliceSource;
 use minisign_base::toy::ToyScheme;
 use minisign_install::memory::{MemoryFolder, install_in_memory};
-use minisign_install::{InstallFault, Name, Numbering, Wanted};
+use minisign_install::{InstallFault, Name, Numbering, Offer, Wanted, check_update};
 use std::alloc::Global;
 
 const KEY_TEXT: &str =
@@ -25,6 +25,21 @@ const SECOND: &str =
 // The same with the comment `file:app`, a tab and `timestamp:+6`, in which no number in digits alone stands.
 const SIGN: &str =
     "untrusted comment: c\nRUQBAgMEBQYHCAAAAAAAAAAAAAAAAAAAAAAAAAAAAAAAAAAAAAAAAAAA/4bmf7Gc8IMqobS6xZ4S2sjS+HmqkH3Styw7qQa1i8M=\ntrusted comment: file:app\ttimestamp:+6\nAAAAAAAAAAAAAAAAAAAAAAAAAAAAAAAAAAAAAAAAAADDtdBA0afaqXmPh436tzzh//iYCMbKJ4jtdmHzXO/RmQ==\n";
+
+// Over `second`, with `file:app`, `timestamp:6` and `expires:2000` in the comment.
+const EXPIRING: &str =
+    "untrusted comment: c\nRUQBAgMEBQYHCAAAAAAAAAAAAAAAAAAAAAAAAAAAAAAAAAAAAAAAAAAA/4bmf7Gc8IMqobS6xZ4S2sjS+HmqkH3Styw7qQa1i8M=\ntrusted comment: file:app\ttimestamp:6\texpires:2000\nAAAAAAAAAAAAAAAAAAAAAAAAAAAAAAAAAAAAAAAAAADztdBA0afaqXmPh436tzzh//iYFfmvX/iEBASAZt3hqQ==\n";
+
+// The same with the last field twice.
+const EXPIRING_TWICE: &str =
+    "untrusted comment: c\nRUQBAgMEBQYHCAAAAAAAAAAAAAAAAAAAAAAAAAAAAAAAAAAAAAAAAAAA/4bmf7Gc8IMqobS6xZ4S2sjS+HmqkH3Styw7qQa1i8M=\ntrusted comment: file:app\ttimestamp:6\texpires:2000\texpires:2000\nAAAAAAAAAAAAAAAAAAAAAAAAAAAAAAAAAAAAAAAAAADzvLU4oc6ozAq1tb3Khzzh//iYFfmvX/iEBASAZt3hqQ==\n";
+
+// The text of `SECOND` with a greater number, which nobody has signed.
+const CHANGED: &str =
+    "untrusted comment: c\nRUQBAgMEBQYHCAAAAAAAAAAAAAAAAAAAAAAAAAAAAAAAAAAAAAAAAAAA/4bmf7Gc8IMqobS6xZ4S2sjS+HmqkH3Styw7qQa1i8M=\ntrusted comment: file:app\ttimestamp:7\nAAAAAAAAAAAAAAAAAAAAAAAAAAAAAAAAAAAAAAAAAADDtdBA0afaqXmPh436tzzh//iYFfDKJ4jtdmHzXO/RmQ==\n";
+
+// The moment at which updates are installed.
+const NOW: u64 = 1999;
 
 // What is drawn for the names of two stages.
 const DRAWN: [u8; 32] = [
@@ -46,6 +61,7 @@ fn install(
         sig_text,
         file: "app",
         numbering: Numbering::Timestamp,
+        moment: NOW,
     };
     install_wanted(alloc, folder, drawn, data, wanted, is_first)
 }
@@ -182,6 +198,7 @@ fn refusal_by_version(alloc: Global, is_first: bool) -> Option<InstallFault> {
         sig_text: SECOND,
         file: "app",
         numbering: Numbering::Version,
+        moment: NOW,
     };
     let refusal = install_wanted(alloc, &mut folder, &DRAWN, b"second", wanted, is_first).err();
     if holds(&folder, b"second", b"timestamp:6") {
@@ -271,6 +288,79 @@ fn each_fault_shows_its_text(rt: HostRuntime) {
             Io,
             "installed, but the folder could not be brought to the disk",
         ),
+        shows(alloc, Expired, Verify, "the update has expired"),
+        shows(
+            alloc,
+            BadExpiry,
+            Verify,
+            "the signed comment does not say once, in a number, when it expires",
+        ),
     ];
-    assert!(rt; shown == [true; 10]);
+    assert!(rt; shown == [true; 12]);
+}
+
+// What is wanted of a signature's text at a moment.
+fn wanted_at(sig_text: &str, moment: u64) -> Wanted<'_> {
+    Wanted {
+        pk_text: KEY_TEXT,
+        sig_text,
+        file: "app",
+        numbering: Numbering::Timestamp,
+        moment,
+    }
+}
+
+#[test]
+fn an_update_is_installed_until_it_expires(rt: HostRuntime) {
+    let alloc = rt.alloc();
+    let mut folder = MemoryFolder::new(alloc);
+    let at_its_end = wanted_at(EXPIRING, 2000);
+    let refusal = install_wanted(alloc, &mut folder, &DRAWN, b"second", at_its_end, true).err();
+    assert!(rt; matches!(refusal, Some(InstallFault::Expired)));
+    let refusal = install(alloc, &mut folder, &DRAWN, b"second", EXPIRING_TWICE, true).err();
+    assert!(rt; matches!(refusal, Some(InstallFault::BadExpiry)));
+    assert!(rt; is_free(&folder, Name::Place) && is_free(&folder, Name::Record));
+    assert!(rt; installs(alloc, &mut folder, b"second", EXPIRING, true, b"timestamp:6"));
+}
+
+// What a check answers of the text of a signature.
+fn offer(
+    alloc: Global,
+    folder: &mut MemoryFolder,
+    sig_text: &str,
+    moment: u64,
+    is_first: bool,
+) -> Result<(Offer, u64), InstallFault> {
+    let scheme = ToyScheme::new();
+    check_update(alloc, &scheme, wanted_at(sig_text, moment), is_first, folder)
+}
+
+#[test]
+fn a_check_tells_what_an_update_is_beside_the_kept_one(rt: HostRuntime) {
+    let alloc = rt.alloc();
+    let mut folder = MemoryFolder::new(alloc);
+    let refusal = offer(alloc, &mut folder, FIRST, NOW, false).err();
+    assert!(rt; matches!(refusal, Some(InstallFault::NoRecord)));
+    let told = offer(alloc, &mut folder, FIRST, NOW, true).ok();
+    assert!(rt; told == Some((Offer::Newer, 5)));
+    assert!(rt; is_free(&folder, Name::Place) && is_free(&folder, Name::Record));
+    assert!(rt; installs(alloc, &mut folder, b"first", FIRST, true, b"timestamp:5"));
+    assert!(rt; offer(alloc, &mut folder, FIRST, NOW, false).ok() == Some((Offer::Same, 5)));
+    assert!(rt; offer(alloc, &mut folder, SECOND, NOW, false).ok() == Some((Offer::Newer, 6)));
+    assert!(rt; installs(alloc, &mut folder, b"second", SECOND, false, b"timestamp:6"));
+    assert!(rt; offer(alloc, &mut folder, FIRST, NOW, true).ok() == Some((Offer::Older, 5)));
+    assert!(rt; offer(alloc, &mut folder, EXPIRING, NOW, false).ok() == Some((Offer::Same, 6)));
+    let refusal = offer(alloc, &mut folder, EXPIRING, 2000, false).err();
+    assert!(rt; matches!(refusal, Some(InstallFault::Expired)));
+    assert!(rt; holds(&folder, b"second", b"timestamp:6"));
+}
+
+#[test]
+fn a_check_needs_a_comment_that_the_key_has_signed(rt: HostRuntime) {
+    let alloc = rt.alloc();
+    let mut folder = MemoryFolder::new(alloc);
+    let refusal = offer(alloc, &mut folder, CHANGED, NOW, true).err();
+    assert!(rt; named(&refusal) == Some(NamedFault::CommentSignatureRefused));
+    let refusal = offer(alloc, &mut folder, KEY_TEXT, NOW, true).err();
+    assert!(rt; matches!(refusal, Some(InstallFault::Library(_))));
 }

@@ -182,7 +182,7 @@ installs accepts terms first found kept old read new locked before there number 
 
 -- what was staged is an update
 pub is_update : (accepts : Verifier) (terms : Terms) (kept : ℕ) (bytes comment text : List ℕ) (n : ℕ) → TextsVouchWith accepts terms.pk_text terms.sig_text bytes false comment → text ≡ comment
-    → Says text terms.file terms.numbering n → kept ≤ n → IsUpdate accepts terms kept bytes n
+    → Says text terms.file terms.numbering terms.moment n → kept ≤ n → IsUpdate accepts terms kept bytes n
 is_update accepts terms kept bytes comment text n vouched same says newer = record {
   comment = text;
   vouched = subst (λ t. TextsVouchWith accepts terms.pk_text terms.sig_text bytes false t) (sym same) vouched;

@@ -94,7 +94,7 @@ lacks_room : (b : Bool) (w : Misuse) → fits b ≡ Err (WrongUse w) → w ≡ N
 lacks_room true w h = cc h
 lacks_room false w h = cc h
 
-no_room : (r : Result SignatureTextRecord Fault) (room : ℕ) (w : Misuse) → asked_of r room ≡ Err (WrongUse w) → w ≡ NoRoom
+pub no_room : (r : Result SignatureTextRecord Fault) (room : ℕ) (w : Misuse) → asked_of r room ≡ Err (WrongUse w) → w ≡ NoRoom
 no_room (Ok t) room w h = lacks_room (nat_le (64 + length t.comments.trusted) room) w h
 no_room (Err e) room w h = cc h
 
@@ -118,6 +118,9 @@ told_ok (Err f) old new h = absurd (true≢false (ap (λ (p : Result Unit Fault 
 module _ (pk_text : List ℕ) (utf8 : IsUtf8 pk_text) (old new : PublicKeyValue) where
   as_read : read_utf8 read_public_key pk_text ≡ read_public_key pk_text
   as_read = rw (is_utf8-from_IsUtf8 pk_text utf8) refl
+
+  pub key_fails : (e : Fault) → (Err e, new) ≡ told_key (read_utf8 read_public_key pk_text) old → read_public_key pk_text ≡ Err e
+  key_fails e h = sym as_read ∙ told_err (read_utf8 read_public_key pk_text) e old new h
 
   pub key_text : (Ok tt, new) ≡ told_key (read_utf8 read_public_key pk_text) old → IsKeyText pk_text new
   key_text h =
@@ -165,7 +168,7 @@ vouched_with accepts pk_text sig_text message v = record { vouched = v; comments
 module _ (accepts : Verifier) (terms : Terms) (kept : ℕ) (m comment : List ℕ) where
   -- the texts vouch for the data: it is an update, or the comment is refused
   pub judged_comment : (S : Type 0) (r : Result ℕ InstallFault) → TextsVouchWith accepts terms.pk_text terms.sig_text m false comment
-      → MatchResult r (λ n. Says comment terms.file terms.numbering n × (kept ≤ n)) (IsCommentRefused terms kept comment)
+      → MatchResult r (λ n. Says comment terms.file terms.numbering terms.moment n × (kept ≤ n)) (IsCommentRefused terms kept comment)
       → MatchResult r (IsUpdate accepts terms kept m) (λ e. IsLibraryFault (λ f. (f ≡ Named OutOfMemory) × S) e ⊎ IsDataRefused accepts terms kept m e)
   judged_comment S (Ok n) vouched (says, newer) = record { comment = comment; vouched = vouched; says = says; newer = newer }
   judged_comment S (Err e) vouched refused = inr (inr (comment, vouched, refused))

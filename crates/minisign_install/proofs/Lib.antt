@@ -1,7 +1,9 @@
 mod Bounds
+mod Checks
 mod Counts
 mod Driven
 mod Driving
+mod Expiry
 mod Fields
 mod InMemory
 mod Installs

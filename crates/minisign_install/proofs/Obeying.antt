@@ -339,7 +339,7 @@ module _ (s : Setting) (i i' : Installation) (h h' : Host) where
       let (kept, due, asking) = t.asking in
       let (signed, opens, are) = t.signed in
       let asked : IsAsking t.asked s.terms kept =
-      subst (λ (f : Numbering). IsAsking t.asked (wanted_by s.terms.pk_text s.terms.sig_text s.terms.file f) kept) x.field (asking s.terms.pk_text t.keyed) in
+      subst (λ (f : Numbering). IsAsking t.asked (wanted_by s.terms.pk_text s.terms.sig_text s.terms.file f s.terms.moment) kept) x.field (asking s.terms.pk_text t.keyed) in
       let answers =
       answers_texts s.accepts t.key s.terms.sig_text h.read signed opens t.questions t.message t.first t.second are (t.digest h.read (x.fed refl)) t.to_first t.to_second
       s.terms.pk_text t.keyed in

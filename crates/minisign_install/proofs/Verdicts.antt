@@ -10,7 +10,7 @@ use Rattle.minisign.specs.Calls.{TextsVouchWith}
 use Rattle.minisign.specs.Reading.{IsAhead}
 use Rattle.minisign.proofs.Laws.{refused_unvouched}
 use Rattle.minisign.specs.Records.{CommentsRecord, SignatureBoxRecord}
-use Rattle.minisign_install.specs.Comments.{IsNumberText, Says}
+use Rattle.minisign_install.specs.Comments.{ExpiresAt, IsExpiryRefused, IsNumberText, IsUnexpired, Says}
 use Rattle.minisign_install.specs.Folders.{HasLocked, IsFound, Run}
 use Rattle.minisign_install.specs.Installing.{HasInstalled, IsKeptNumber, Terms}
 use Rattle.minisign_install.specs.Refusals.{CanBeInstalled, CannotBeInstalled, Counts, HasFailed, InstallsExactly, IsCallFault, IsDataRefused, IsLibraryFault, IsLockedRefusal, IsRecordRefused, IsRefusal}
@@ -51,9 +51,22 @@ record_unfit numbering first found kept e (later, why) (inr (first_one, zero, nu
 record_unfit numbering first found kept e (later, (inl (is, none))) (inl (bytes, there, number)) = no_text bytes (sym none ∙ there)
 record_unfit numbering first found kept e (later, (inr (bytes, there, none, unfit))) (inl (other, same, number)) = none kept (subst (λ t. IsNumberFor numbering t kept) (some_list other bytes (sym same ∙ there)) number)
 
-said_once : (comment file : List ℕ) (numbering : Numbering) (n k : ℕ) → Says comment file numbering n → Says comment file numbering k → n ≡ k
-said_once comment file numbering n k a b =
+said_once : (comment file : List ℕ) (numbering : Numbering) (moment n k : ℕ) → Says comment file numbering moment n → Says comment file numbering moment k → n ≡ k
+said_once comment file numbering moment n k a b =
     sym a.number.is ∙ (subst (λ t. IsNumberText t k) (some_list b.value a.value (sym b.numbered ∙ a.numbered)) b.number).is
+
+expires_once : (comment : List ℕ) (n k : ℕ) → ExpiresAt comment n → ExpiresAt comment k → n ≡ k
+expires_once comment n k a b =
+    let both = sym b.once ∙ a.once in
+    let same : b.value ≡ a.value = cc both in
+    sym a.number.is ∙ (subst (λ t. IsNumberText t k) same b.number).is
+
+-- what has expired is not unexpired, nor is what does not say when
+expiry_unfit : (comment : List ℕ) (moment : ℕ) (e : InstallFault) → IsExpiryRefused moment comment e → IsUnexpired moment comment → ⊥
+expiry_unfit comment moment e (inl (is, (until, expires, past))) (inl never) = let none = sym expires.once ∙ never in cc none
+expiry_unfit comment moment e (inl (is, (until, expires, past))) (inr (later, at, ahead)) = omega (arith, past, ahead, expires_once comment until later expires at)
+expiry_unfit comment moment e (inr (is, some, none)) (inl never) = some never
+expiry_unfit comment moment e (inr (is, some, none)) (inr (later, at, ahead)) = none later at
 
 module _ (accepts : Verifier) (terms : Terms) (first : Bool) where
   data_unfit : (found : Option (List ℕ)) (kept : ℕ) (message : List ℕ) (e : InstallFault) → IsKeptNumber terms.numbering first found kept → IsDataRefused accepts terms kept message e
@@ -62,12 +75,13 @@ module _ (accepts : Verifier) (terms : Terms) (first : Bool) where
       refused_unvouched accepts terms.pk_text terms.sig_text message false fault refused update.vouched.vouched
   data_unfit found kept message e number (inr (comment, vouched, why)) (least, n, held, update) =
       let same : update.comment ≡ comment = same_comment accepts terms.pk_text terms.sig_text message message update.comment comment update.vouched vouched in
-      let says : Says comment terms.file terms.numbering n = subst (λ t. Says t terms.file terms.numbering n) same update.says in
+      let says : Says comment terms.file terms.numbering terms.moment n = subst (λ t. Says t terms.file terms.numbering terms.moment n) same update.says in
       elim why [
         | inl (is, other) ↦ other says.named
-        | inr (inl (is, named, none)) ↦ none n says
-        | inr (inr (is, (k, older, less))) ↦
-            omega (arith, less, update.newer, said_once comment terms.file terms.numbering n k says older, same_kept terms.numbering first found kept least number held)
+        | inr (inl (is, named, none)) ↦ none n (record { value = says.value; numbered = says.numbered; number = says.number })
+        | inr (inr (inl (named, (k, has), why))) ↦ expiry_unfit comment terms.moment e why says.unexpired
+        | inr (inr (inr (is, (k, older, less)))) ↦
+            omega (arith, less, update.newer, said_once comment terms.file terms.numbering terms.moment n k says older, same_kept terms.numbering first found kept least number held)
       ]
 
   some_ahead : (ahead : Option (List ℕ)) → (message : List ℕ) × IsAhead ahead message

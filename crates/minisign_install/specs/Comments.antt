@@ -1,9 +1,11 @@
 -- What a signed comment says of an update.
-use Rattle.std.specs.Prelude.{◌≡◌, ℕ, ◌^◌, ◌<◌, List, [], ◌∷◌, ◌==◌, length, take, drop, Option, Some, None, if◌then◌else◌, bytes_eq, codes}
+use Rattle.std.specs.Prelude.{◌≡◌, ◌⊎◌, ℕ, ◌^◌, ◌<◌, ◌≤◌, List, [], ◌∷◌, ◌==◌, length, take, drop, Option, Some, None, if◌then◌else◌, bytes_eq, codes}
 use Rattle.std.specs.List.{slice_split}
 use Rattle.std.specs.Str.Parse.{IsNumeral, digits_value}
 use Rattle.minisign_install.specs.declared.comments.Numbering.{Numbering}
 use Rattle.minisign_install.specs.declared.comments.Numbering.TheVariants.{Timestamp, Version}
+use Rattle.minisign_install.specs.declared.faults.InstallFault.{InstallFault}
+use Rattle.minisign_install.specs.declared.faults.InstallFault.TheVariants.{BadExpiry, Expired}
 
 -- the fields of a comment: what stands between its tabs
 abbrev pub fields : List ℕ → List (List ℕ)
@@ -32,9 +34,49 @@ abbrev pub number_label : Numbering → List ℕ
 number_label Timestamp = codes "timestamp:"
 number_label Version = codes "version:"
 
--- the comment names this file, and has this number
-pub record Says (comment : List ℕ) (file : List ℕ) (numbering : Numbering) (n : ℕ) : Type 0 where
+-- the comment has this number
+pub record HasNumber (comment : List ℕ) (numbering : Numbering) (n : ℕ) : Type 0 where
+  pub value : List ℕ
+  pub numbered : value_of (number_label numbering) comment ≡ Some value
+  pub number : IsNumberText value n
+
+-- what stands behind the label in each field that begins with it
+abbrev pub values_in : List ℕ → List (List ℕ) → List (List ℕ)
+values_in label [] = []
+values_in label (field ∷ more) = if bytes_eq (take (length label) field) label then drop (length label) field ∷ values_in label more else values_in label more
+
+abbrev pub values_of : List ℕ → List ℕ → List (List ℕ)
+values_of label comment = values_in label (fields comment)
+
+-- the label of the field that has the moment at which the update expires, in seconds since the beginning of 1970
+abbrev pub expiry_label : List ℕ
+expiry_label = codes "expires:"
+
+-- the comment has no such field: the update never expires
+abbrev pub NeverExpires : List ℕ → Type 0
+NeverExpires comment = values_of expiry_label comment ≡ []
+
+-- the comment has one such field, and that has this moment
+pub record ExpiresAt (comment : List ℕ) (until : ℕ) : Type 0 where
+  pub value : List ℕ
+  pub once : values_of expiry_label comment ≡ value ∷ []
+  pub number : IsNumberText value until
+
+-- at this moment the update has not expired
+abbrev pub IsUnexpired : ℕ → List ℕ → Type 0
+IsUnexpired moment comment = NeverExpires comment ⊎ ((until : ℕ) × ExpiresAt comment until × (moment < until))
+
+-- Why the field is refused at this moment: the update has expired; or there are more such fields than one, or one that has
+-- no number.
+abbrev pub IsExpiryRefused : ℕ → List ℕ → InstallFault → Type 0
+IsExpiryRefused moment comment e =
+    ((e ≡ Expired) × ((until : ℕ) × ExpiresAt comment until × (until ≤ moment)))
+    ⊎ ((e ≡ BadExpiry) × ¬ (NeverExpires comment) × ((until : ℕ) → ¬ (ExpiresAt comment until)))
+
+-- the comment names this file, has this number, and has not expired at this moment
+pub record Says (comment : List ℕ) (file : List ℕ) (numbering : Numbering) (moment : ℕ) (n : ℕ) : Type 0 where
   pub value : List ℕ
   pub named : value_of file_label comment ≡ Some file
   pub numbered : value_of (number_label numbering) comment ≡ Some value
   pub number : IsNumberText value n
+  pub unexpired : IsUnexpired moment comment

@@ -4,7 +4,7 @@ use Rattle.minisign_base.specs.Fault.{kind_of, text_of}
 use Rattle.minisign_base.specs.declared.errors.ErrorKind.{ErrorKind}
 use Rattle.minisign_base.specs.declared.errors.ErrorKind.TheVariants.{Io, Verify}
 use Rattle.minisign_install.specs.declared.faults.InstallFault.{InstallFault}
-use Rattle.minisign_install.specs.declared.faults.InstallFault.TheVariants.{Library, PlaceInUse, NoRecord, DamagedRecord, KeptByTimestamp, KeptByVersion, OtherFile, NoNumber, OlderUpdate, FolderNotOnDisk}
+use Rattle.minisign_install.specs.declared.faults.InstallFault.TheVariants.{Library, PlaceInUse, NoRecord, DamagedRecord, KeptByTimestamp, KeptByVersion, OtherFile, NoNumber, OlderUpdate, FolderNotOnDisk, Expired, BadExpiry}
 
 pub record InstallRow : Type 0 where
   pub kind : ErrorKind
@@ -21,3 +21,5 @@ install_row OtherFile = record { kind = Verify; text = codes "the signed comment
 install_row NoNumber = record { kind = Verify; text = codes "the signed comment has no such number" }
 install_row OlderUpdate = record { kind = Verify; text = codes "the update is older than what was installed" }
 install_row FolderNotOnDisk = record { kind = Io; text = codes "installed, but the folder could not be brought to the disk" }
+install_row Expired = record { kind = Verify; text = codes "the update has expired" }
+install_row BadExpiry = record { kind = Verify; text = codes "the signed comment does not say once, in a number, when it expires" }

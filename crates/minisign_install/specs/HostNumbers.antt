@@ -2,10 +2,12 @@
 use Rattle.std.specs.Prelude.{◌≡◌, ℕ, List}
 use Rattle.minisign_external.specs.Numbers.{IsMeaning, fault_number}
 use Rattle.minisign_install.specs.Faults.{install_row}
+use Rattle.minisign_install.specs.declared.checking.Offer.{Offer}
+use Rattle.minisign_install.specs.declared.checking.Offer.TheVariants.{Newer, Same, Older}
 use Rattle.minisign_install.specs.declared.comments.Numbering.{Numbering}
 use Rattle.minisign_install.specs.declared.comments.Numbering.TheVariants.{Timestamp, Version}
 use Rattle.minisign_install.specs.declared.faults.InstallFault.{InstallFault}
-use Rattle.minisign_install.specs.declared.faults.InstallFault.TheVariants.{Library, PlaceInUse, NoRecord, DamagedRecord, OtherFile, NoNumber, OlderUpdate, FolderNotOnDisk, KeptByTimestamp, KeptByVersion}
+use Rattle.minisign_install.specs.declared.faults.InstallFault.TheVariants.{Library, PlaceInUse, NoRecord, DamagedRecord, OtherFile, NoNumber, OlderUpdate, FolderNotOnDisk, KeptByTimestamp, KeptByVersion, Expired, BadExpiry}
 
 -- the number of a fault: of one of the library its own
 abbrev pub install_number : InstallFault → ℕ
@@ -19,6 +21,8 @@ install_number OlderUpdate = 51
 install_number FolderNotOnDisk = 52
 install_number KeptByTimestamp = 53
 install_number KeptByVersion = 54
+install_number Expired = 55
+install_number BadExpiry = 56
 
 -- the text is what the number means: that of the fault of installing that has it; a fault of the library is reported
 -- without its identifiers
@@ -33,8 +37,16 @@ pub record IsHostMeaning (n : ℕ) (text : List ℕ) : Type 0 where
   pub folder_not_on_disk : n ≡ install_number FolderNotOnDisk → text ≡ (install_row FolderNotOnDisk).text
   pub kept_by_timestamp : n ≡ install_number KeptByTimestamp → text ≡ (install_row KeptByTimestamp).text
   pub kept_by_version : n ≡ install_number KeptByVersion → text ≡ (install_row KeptByVersion).text
+  pub expired : n ≡ install_number Expired → text ≡ (install_row Expired).text
+  pub bad_expiry : n ≡ install_number BadExpiry → text ≡ (install_row BadExpiry).text
 
 -- the numbers of the two places where a comment may have its number
 abbrev pub numbering_number : Numbering → ℕ
 numbering_number Timestamp = 0
 numbering_number Version = 1
+
+-- the numbers of what an update is beside the kept number
+abbrev pub offer_number : Offer → ℕ
+offer_number Newer = 1
+offer_number Same = 2
+offer_number Older = 3

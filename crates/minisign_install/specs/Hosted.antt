@@ -202,8 +202,8 @@ HasReadRecord found old new =
 -- == Judging ==
 
 -- the updates that these arguments of a call want
-abbrev pub wanted_by : List ℕ → List ℕ → List ℕ → Numbering → Terms
-wanted_by pk_text sig_text file numbering = record { pk_text = pk_text; sig_text = sig_text; file = file; numbering = numbering }
+abbrev pub wanted_by : List ℕ → List ℕ → List ℕ → Numbering → ℕ → Terms
+wanted_by pk_text sig_text file numbering moment = record { pk_text = pk_text; sig_text = sig_text; file = file; numbering = numbering; moment = moment }
 
 -- a piece was read back, or with none of it the end
 abbrev pub read_outcome : List ℕ → Outcome ℕ
@@ -224,7 +224,7 @@ CannotBeFed i m = ((m ≡ NotDue) × ((kept : ℕ) → ¬ (IsDue i (ReadBack kep
 -- first reason why not
 abbrev pub IsJudged : ℕ → ℕ → Terms → ℕ → List ℕ → Type 0
 IsJudged judged n terms kept comment =
-    ((judged ≡ 1) × Says comment terms.file terms.numbering n × (kept ≤ n))
+    ((judged ≡ 1) × Says comment terms.file terms.numbering terms.moment n × (kept ≤ n))
     ⊎ ((e : InstallFault) × (judged ≡ install_number e) × IsCommentRefused terms kept comment e)
 
 -- it is kept of the comment that the text of a signature has, which reads as one
@@ -302,7 +302,7 @@ IsAnswerNumber old new first second n =
     ⊎ (IsAnswer first × IsAnswer second × (r : HostRefusal) × (n ≡ host_number r) × IsAnswerRefusal old new r)
 
 -- a signed comment is refused, by number
-abbrev pub IsCommentNumber : List ℕ → List ℕ → ℕ → ℕ → ℕ → Type 0
-IsCommentNumber comment file numbering kept n =
+abbrev pub IsCommentNumber : List ℕ → List ℕ → ℕ → ℕ → ℕ → ℕ → Type 0
+IsCommentNumber comment file numbering moment kept n =
     ((n ≡ misuse_number BadNumbering) × (1 < numbering))
-    ⊎ ((k : Numbering) × (numbering ≡ numbering_number k) × (e : InstallFault) × (n ≡ install_number e) × IsCommentFault comment (wanted_by [] [] file k) kept e)
+    ⊎ ((k : Numbering) × (numbering ≡ numbering_number k) × (e : InstallFault) × (n ≡ install_number e) × IsCommentFault comment (wanted_by [] [] file k moment) kept e)

@@ -74,7 +74,7 @@ pub record TellsAnswers (s : Setting) (i i' : Installation) (h h' : Host) : Type
   pub signed : (t : SignatureTextRecord) × (read_under key false s.terms.sig_text ≡ Ok t) × AreQuestions questions message key t
   pub digest : (m : List ℕ) → IsFedState i.state m → questions.digest ≡ blake2b_digest 64 m
   pub asking : (kept : ℕ) × IsDue i (Answer kept)
-      × ((pk_text : List ℕ) → IsKeyText pk_text key → IsAsking asked (wanted_by pk_text s.terms.sig_text s.terms.file (numbering_of i)) kept)
+      × ((pk_text : List ℕ) → IsKeyText pk_text key → IsAsking asked (wanted_by pk_text s.terms.sig_text s.terms.file (numbering_of i) s.terms.moment) kept)
   pub first : Bool
   pub second : Bool
   pub to_first : first ≡ s.accepts questions.digest questions.public_key questions.signature

@@ -12,22 +12,24 @@ use Rattle.minisign_install.specs.declared.folders.Name.{Name}
 use Rattle.minisign_install.specs.declared.wanted.Wanted.{Wanted}
 use Rattle.minisign_install.specs.declared.folders.Name.TheVariants.{Place, Record}
 
--- which updates are wanted: the two texts, the file's name, and where the number stands
+-- which updates are wanted: the two texts, the file's name, where the number stands, and at which moment they must not have
+-- expired, in seconds since the beginning of 1970
 pub record Terms : Type 0 where
   pub pk_text : List ℕ
   pub sig_text : List ℕ
   pub file : List ℕ
   pub numbering : Numbering
+  pub moment : ℕ
 
 abbrev pub terms_of : Wanted → Terms
-terms_of w = record { pk_text = w.pk_text.now; sig_text = w.sig_text.now; file = w.file.now; numbering = w.numbering }
+terms_of w = record { pk_text = w.pk_text.now; sig_text = w.sig_text.now; file = w.file.now; numbering = w.numbering; moment = w.moment }
 
 -- The texts vouch for these bytes, not as a legacy signature would, and the comment that was signed with them names
--- the file and has this number, which is not below the kept one.
+-- the file, has not expired, and has this number, which is not below the kept one.
 pub record IsUpdate (accepts : Verifier) (terms : Terms) (kept : ℕ) (bytes : List ℕ) (n : ℕ) : Type 0 where
   pub comment : List ℕ
   pub vouched : TextsVouchWith accepts terms.pk_text terms.sig_text bytes false comment
-  pub says : Says comment terms.file terms.numbering n
+  pub says : Says comment terms.file terms.numbering terms.moment n
   pub newer : kept ≤ n
 
 -- To the place an update is brought, and to the record the number of one, behind the label of its field.
@@ -118,8 +120,8 @@ pub record HasInstalled (accepts : Verifier) (terms : Terms) (first : Bool) (ahe
   pub cleared : HasCleared old new
   pub installed : IsInstalled accepts terms kept ahead new.steps
 
--- the texts vouch for some data, and the comment that was signed with it names the file and has a number
+-- the texts vouch for some data, and the comment that was signed with it names the file, has not expired, and has a number
 abbrev pub IsVouched : Verifier → Terms → Type 0
 IsVouched accepts terms =
     (message : List ℕ) × (comment : List ℕ) × (n : ℕ)
-    × TextsVouchWith accepts terms.pk_text terms.sig_text message false comment × Says comment terms.file terms.numbering n
+    × TextsVouchWith accepts terms.pk_text terms.sig_text message false comment × Says comment terms.file terms.numbering terms.moment n

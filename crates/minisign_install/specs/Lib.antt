@@ -1,3 +1,4 @@
+pub mod Checking
 pub mod Comments
 pub mod Driving
 pub mod Faults

@@ -9,7 +9,7 @@ use Rattle.minisign.specs.Acceptance.{Verifier}
 use Rattle.minisign.specs.Calls.{TextsVouchWith}
 use Rattle.minisign.specs.Headline.{verdict}
 use Rattle.minisign.specs.Reading.{IsAhead}
-use Rattle.minisign_install.specs.Comments.{Says, file_label, value_of}
+use Rattle.minisign_install.specs.Comments.{HasNumber, IsExpiryRefused, Says, file_label, value_of}
 use Rattle.minisign_install.specs.Folders.{HasLocked, HasStepped, IsBusy, IsFound, IsStill, Run, Stands, RunStep}
 use Rattle.minisign_install.specs.Installing.{IsBrought, IsKeptNumber, IsRecordBrought, IsUpdate, Terms}
 use Rattle.minisign_install.specs.RecordTexts.{HasNoNumber, IsUnfit}
@@ -61,12 +61,14 @@ IsRecordRefused numbering first found e =
     × (((e ≡ NoRecord) × (found ≡ None))
     ⊎ ((bytes : List ℕ) × (found ≡ Some bytes) × HasNoNumber numbering bytes × IsUnfit numbering bytes e))
 
--- The signed comment does not name the file. It names it, and has no number; or has one, which is below the kept one.
+-- The signed comment does not name the file. It names it, and has no number. It has one, and has expired, or does not say
+-- once when it does; or it has not expired, and its number is below the kept one.
 abbrev pub IsCommentRefused : Terms → ℕ → List ℕ → InstallFault → Type 0
 IsCommentRefused terms kept comment e =
     ((e ≡ OtherFile) × (value_of file_label comment ≢ Some terms.file))
-    ⊎ ((e ≡ NoNumber) × (value_of file_label comment ≡ Some terms.file) × ((n : ℕ) → ¬ (Says comment terms.file terms.numbering n)))
-    ⊎ ((e ≡ OlderUpdate) × ((n : ℕ) × Says comment terms.file terms.numbering n × (n < kept)))
+    ⊎ ((e ≡ NoNumber) × (value_of file_label comment ≡ Some terms.file) × ((n : ℕ) → ¬ (HasNumber comment terms.numbering n)))
+    ⊎ ((value_of file_label comment ≡ Some terms.file) × ((n : ℕ) × HasNumber comment terms.numbering n) × IsExpiryRefused terms.moment comment e)
+    ⊎ ((e ≡ OlderUpdate) × ((n : ℕ) × Says comment terms.file terms.numbering terms.moment n × (n < kept)))
 
 -- the texts do not vouch for this data, or they do and the comment that was signed with it is refused
 abbrev pub IsDataRefused : Verifier → Terms → ℕ → List ℕ → InstallFault → Type 0

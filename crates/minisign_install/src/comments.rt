@@ -1,9 +1,9 @@
 //! What the signed comment says of an update.
 
-ghost use Rattle.std.specs.Prelude.{◌≡◌, ◌≢◌, ◌⊎◌, ◌≤◌, ◌<◌, ℕ, List, Some, None, option_map, IfOk, IfErr, MatchOption, bytes_eq, take, drop, length, true, false};
-ghost use Rattle.minisign_install.specs.Comments.{IsNumberText, Says, file_label, number_label, value_of};
+ghost use Rattle.std.specs.Prelude.{◌≡◌, ◌≢◌, ◌⊎◌, ◌≤◌, ◌<◌, ◌∷◌, [], ℕ, List, Some, None, option_map, IfOk, IfErr, MatchOption, MatchResult, bytes_eq, take, drop, length, true, false};
+ghost use Rattle.minisign_install.specs.Comments.{HasNumber, IsExpiryRefused, IsNumberText, IsUnexpired, Says, expiry_label, file_label, number_label, value_of, values_of};
 ghost use Rattle.minisign_install.specs.RecordTexts.{other_field};
-ghost use Rattle.minisign_install.specs.declared.faults.InstallFault.TheVariants.{NoNumber, OlderUpdate, OtherFile};
+ghost use Rattle.minisign_install.specs.declared.faults.InstallFault.TheVariants.{BadExpiry, Expired, NoNumber, OlderUpdate, OtherFile};
 
 use crate::faults::InstallFault;
 
@@ -39,18 +39,20 @@ impl Numbering {
     }
 }
 
-// The number of an update whose comment names this file, where it is not below the kept one.
+// The number of an update whose comment names this file and has not expired, where it is not below the kept one.
 pub(crate) fn check_comment(
     comment: &str,
     file: &str,
     numbering: Numbering,
+    moment: u64,
     kept: u64,
 ) -> Result<u64, InstallFault>
-    ensures says { IfOk result (λ n. Says comment.now file.now numbering n) }
+    ensures says { IfOk result (λ n. Says comment.now file.now numbering moment n) }
     ensures newer { IfOk result (λ n. kept ≤ n) }
     ensures refused { IfErr result (λ e. ((e ≡ OtherFile) × (value_of file_label comment.now ≢ Some file.now))
-        ⊎ ((e ≡ NoNumber) × (value_of file_label comment.now ≡ Some file.now) × ((n : ℕ) → ¬ (Says comment.now file.now numbering n)))
-        ⊎ ((e ≡ OlderUpdate) × ((n : ℕ) × Says comment.now file.now numbering n × (n < kept)))) }
+        ⊎ ((e ≡ NoNumber) × (value_of file_label comment.now ≡ Some file.now) × ((n : ℕ) → ¬ (HasNumber comment.now numbering n)))
+        ⊎ ((value_of file_label comment.now ≡ Some file.now) × ((n : ℕ) × HasNumber comment.now numbering n) × IsExpiryRefused moment comment.now e)
+        ⊎ ((e ≡ OlderUpdate) × ((n : ℕ) × Says comment.now file.now numbering moment n × (n < kept)))) }
 {
     if value(comment, "file:") != Some(file) {
         return Err(InstallFault::OtherFile);
@@ -61,10 +63,66 @@ pub(crate) fn check_comment(
     let Some(number) = number_of(digits) else {
         return Err(InstallFault::NoNumber);
     };
-    if number < kept {
-        return Err(InstallFault::OlderUpdate);
+    match check_expiry(comment, moment) {
+        Ok(()) => {
+            if number < kept {
+                return Err(InstallFault::OlderUpdate);
+            }
+            Ok(number)
+        }
+        Err(fault) => Err(fault),
     }
-    Ok(number)
+}
+
+// Whether an update of this comment has not expired at this moment.
+fn check_expiry(comment: &str, moment: u64) -> Result<(), InstallFault>
+    ensures { MatchResult result (λ _. IsUnexpired moment comment.now) (IsExpiryRefused moment comment.now) }
+{
+    let Some((digits, rest)) = first_value(comment, "expires:") else {
+        return Ok(());
+    };
+    if is_named_again(rest, "expires:") {
+        return Err(InstallFault::BadExpiry);
+    }
+    match number_of(digits) {
+        Some(until) if moment < until => Ok(()),
+        Some(_) => Err(InstallFault::Expired),
+        None => Err(InstallFault::BadExpiry),
+    }
+}
+
+// Whether one of the fields that are left, where there are any, begins with the label.
+fn is_named_again(rest: Option<&str>, label: &str) -> bool
+    ensures { MatchOption rest.entry (result ≡ false) (λ more. (result ≡ false → values_of label.now more.now ≡ []) × (result ≡ true → values_of label.now more.now ≢ [])) }
+{
+    match rest {
+        Some(more) => first_value(more, label).is_some(),
+        None => false,
+    }
+}
+
+// What stands behind the label in the first field that begins with it, and the fields behind that one, where there are any.
+fn first_value<'a>(comment: &'a str, label: &str) -> Option<(&'a str, Option<&'a str>)>
+    ensures { MatchOption result (values_of label.now comment.now ≡ [])
+        (λ (v, rest). MatchOption rest (values_of label.now comment.now ≡ v.now ∷ []) (λ more. values_of label.now comment.now ≡ v.now ∷ values_of label.now more.now)) }
+{
+    let mut rest = comment;
+    'fields: loop {
+        match rest.split_once('\t') {
+            Some((field, more)) => {
+                if let Some(value) = strip(field, label) {
+                    return Some((value, Some(more)));
+                }
+                rest = more;
+            }
+            None => {
+                return match strip(rest, label) {
+                    Some(value) => Some((value, None)),
+                    None => None,
+                };
+            }
+        }
+    }
 }
 
 // What stands behind the label in the first field that begins with it.

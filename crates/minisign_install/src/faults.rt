@@ -36,6 +36,11 @@ pub enum InstallFault {
     /// The number that is kept is a version and not a timestamp, and this was not said to be the first
     /// installation.
     KeptByVersion,
+    /// The update has expired at the moment that the caller passes.
+    Expired,
+    /// The trusted comment has more than one field for when the update expires, or one with no number in decimal digits
+    /// alone, or none below 2^64.
+    BadExpiry,
 }
 
 impl InstallFault {
@@ -53,7 +58,7 @@ impl InstallFault {
             | FolderNotOnDisk
             | KeptByTimestamp
             | KeptByVersion => &ErrorKind::Io,
-            OtherFile | NoNumber | OlderUpdate => &ErrorKind::Verify,
+            OtherFile | NoNumber | OlderUpdate | Expired | BadExpiry => &ErrorKind::Verify,
         }
     }
 }
@@ -80,6 +85,10 @@ impl fmt::Display for InstallFault {
             ),
             KeptByVersion => f.write_str(
                 "the number that is kept beside the place is a version, and no timestamp",
+            ),
+            Expired => f.write_str("the update has expired"),
+            BadExpiry => f.write_str(
+                "the signed comment does not say once, in a number, when it expires",
             ),
         }
     }

@@ -3,8 +3,9 @@
 
 ghost use Rattle.std.specs.Prelude.{◌≡◌, ◌<◌, ℕ, List, length, Some, None, IfSome, MatchOption};
 ghost use Rattle.minisign_external.specs.Numbers.{WritesCut};
-ghost use Rattle.minisign_install.specs.HostNumbers.{IsHostMeaning, install_number, numbering_number};
+ghost use Rattle.minisign_install.specs.HostNumbers.{IsHostMeaning, install_number, numbering_number, offer_number};
 
+use crate::checking::Offer;
 use crate::comments::Numbering;
 use crate::faults::InstallFault;
 use minisign_external::numbers;
@@ -27,6 +28,8 @@ impl InstallFault {
             FolderNotOnDisk => 52,
             KeptByTimestamp => 53,
             KeptByVersion => 54,
+            Expired => 55,
+            BadExpiry => 56,
         }
     }
 }
@@ -48,6 +51,8 @@ pub fn error_text(number: u32) -> &'static str
         52 => "installed, but the folder could not be brought to the disk",
         53 => "the number that is kept beside the place is a timestamp, and no version",
         54 => "the number that is kept beside the place is a version, and no timestamp",
+        55 => "the update has expired",
+        56 => "the signed comment does not say once, in a number, when it expires",
         _ => numbers::error_text(number),
     }
 }
@@ -84,6 +89,20 @@ impl Numbering {
             0 => Some(Numbering::Timestamp),
             1 => Some(Numbering::Version),
             _ => None,
+        }
+    }
+}
+
+impl Offer {
+    /// The number of what an update is beside the kept number.
+    pub fn number(self) -> u32
+        // A newer update has the number 1, the kept one 2, and an older one 3.
+        ensures { result ≡ offer_number self }
+    {
+        match self {
+            Offer::Newer => 1,
+            Offer::Same => 2,
+            Offer::Older => 3,
         }
     }
 }

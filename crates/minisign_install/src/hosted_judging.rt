@@ -36,6 +36,7 @@ impl Installation {
         key: &PublicKeyValue,
         sig_text: &[u8],
         file: &[u8],
+        moment: u64,
         questions: &mut Questions,
         message: &mut [u8],
     ) -> Result<(), HostRefusal>
@@ -49,7 +50,7 @@ impl Installation {
         // answers are due before and behind.
         ensures asking { OnOk result ((kept : ℕ) × IsDue self.old (Answer kept)
             × ((pk_text : List ℕ) → IsKeyText pk_text key.now
-            → IsAsking self.new (wanted_by pk_text sig_text.now file.now (numbering_of self.old)) kept)) }
+            → IsAsking self.new (wanted_by pk_text sig_text.now file.now (numbering_of self.old) moment) kept)) }
 
         // The field that the number stands in stays.
         ensures field { numbering_of self.new ≡ numbering_of self.old }
@@ -70,7 +71,7 @@ impl Installation {
         };
         match self.state.ask_fed(key, sig_text, false, questions, message) {
             Ok(comment) => {
-                self.keep_judgement(comment, file);
+                self.keep_judgement(comment, file, moment);
                 Ok(())
             }
             Err(Refusal::WrongUse(misuse)) => Err(HostRefusal::WrongUse(misuse)),
@@ -83,13 +84,13 @@ impl Installation {
     }
 
     /// The scheme answered so. What was read back is an update where the two texts vouch for it and
-    /// the signed comment names the file and has a number that is not below the kept one; otherwise
-    /// the stage is to be removed, for the first reason.
+    /// the signed comment names the file, has not expired, and has a number that is not below the kept
+    /// one; otherwise the stage is to be removed, for the first reason.
     pub fn answer(&mut self, first: bool, second: bool) -> Result<(), HostRefusal>
         // **For every relation that answers the two questions so, and every message: the rights are due, for the number n,
         // exactly where the texts vouch for the message, not by a signature over the data itself, and the comment that was
-        // signed with it names the file and has the number n, which is not below the kept one. Otherwise the stage is to be
-        // removed, and the run is refused for the first reason.**
+        // signed with it names the file, has not expired at the moment of asking, and has the number n, which is not below
+        // the kept one. Otherwise the stage is to be removed, and the run is refused for the first reason.**
         ensures answer { (terms : Terms) (kept : ℕ) (message : List ℕ) (accepts : Verifier)
             → IsAsking self.old terms kept → AnswersTexts accepts terms.pk_text terms.sig_text message first second
             → GivesUpdate accepts terms kept message self.new result }
@@ -143,15 +144,15 @@ impl Installation {
     }
 
     // Keeps what comes of the comment that was asked about.
-    fn keep_judgement(&mut self, comment: &str, file: &str)
+    fn keep_judgement(&mut self, comment: &str, file: &str, moment: u64)
         ensures judged { (pk_text sig_text : List ℕ) (kept : ℕ) → IsDue self.old (Answer kept)
-            → IsJudged self.new.comment self.new.update (wanted_by pk_text sig_text file.now (numbering_of self.old)) kept comment.now }
+            → IsJudged self.new.comment self.new.update (wanted_by pk_text sig_text file.now (numbering_of self.old) moment) kept comment.now }
         ensures due { (kept : ℕ) → IsDue self.old (Answer kept) → IsDue self.new (Answer kept) }
         ensures state { self.new.state ≡ self.old.state }
         ensures numbering { self.new.numbering ≡ self.old.numbering }
     {
         let kept = self.kept();
-        match check_comment(comment, file, self.numbering(), kept) {
+        match check_comment(comment, file, self.numbering(), moment, kept) {
             Ok(number) => {
                 self.comment = IS_UPDATE;
                 self.update = number;
@@ -166,7 +167,7 @@ impl Installation {
     // The verdict was yes: what was kept of the comment is told.
     fn take_judgement(&mut self) -> Result<(), HostRefusal>
         ensures judged { (terms : Terms) (kept : ℕ) (comment : List ℕ) → IsJudged self.old.comment self.old.update terms kept comment
-            → MatchResult result (λ _. (n : ℕ) × IsDue self.new (TakeRights n) × Says comment terms.file terms.numbering n × (kept ≤ n))
+            → MatchResult result (λ _. (n : ℕ) × IsDue self.new (TakeRights n) × Says comment terms.file terms.numbering terms.moment n × (kept ≤ n))
             (λ r. (e : InstallFault) × (r ≡ Refused e) × IsDue self.new (Remove (install_number e)) × IsCommentRefused terms kept comment e) }
         ensures due { OnOk result ((n : ℕ) × IsDue self.new (TakeRights n)) }
         ensures refused { IfErr result (λ r. (e : InstallFault) × (r ≡ Refused e) × IsDue self.new (Remove (install_number e))) }
@@ -191,22 +192,25 @@ fn comment_fault(number: u32) -> InstallFault
     match number {
         50 => InstallFault::NoNumber,
         51 => InstallFault::OlderUpdate,
+        55 => InstallFault::Expired,
+        56 => InstallFault::BadExpiry,
         _ => InstallFault::OtherFile,
     }
 }
 
-/// Judges a signed comment by itself, for hosts that install in other ways: its number, where it
-/// names the file and has one that is not below the kept one.
+/// Judges a signed comment by itself, for hosts that install in other ways: its number, where it names the file, has not
+/// expired at this moment, in seconds since the beginning of 1970, and has one that is not below the kept one.
 pub fn judge_comment(
     comment: &[u8],
     file: &[u8],
     numbering: Numbering,
+    moment: u64,
     kept: u64,
 ) -> Result<u64, InstallFault>
-    // The number of the comment is told exactly where the comment and the name are UTF-8, the comment names the file and
-    // has this number, and it is not below the kept one; otherwise the first reason is.
-    ensures says { IfOk result (λ n. IsUtf8 comment.now × IsUtf8 file.now × Says comment.now file.now numbering n × (kept ≤ n)) }
-    ensures refused { IfErr result (IsCommentFault comment.now (wanted_by [] [] file.now numbering) kept) }
+    // The number of the comment is told exactly where the comment and the name are UTF-8, the comment names the file, has
+    // this number and has not expired, and it is not below the kept one; otherwise the first reason is.
+    ensures says { IfOk result (λ n. IsUtf8 comment.now × IsUtf8 file.now × Says comment.now file.now numbering moment n × (kept ≤ n)) }
+    ensures refused { IfErr result (IsCommentFault comment.now (wanted_by [] [] file.now numbering moment) kept) }
 {
     let Ok(comment) = str::from_utf8(comment) else {
         return Err(NamedFault::NotUtf8.into());
@@ -214,7 +218,7 @@ pub fn judge_comment(
     let Ok(file) = str::from_utf8(file) else {
         return Err(NamedFault::NotUtf8.into());
     };
-    match check_comment(comment, file, numbering, kept) {
+    match check_comment(comment, file, numbering, moment, kept) {
         Ok(number) => Ok(number),
         Err(fault) => Err(fault),
     }

@@ -31,8 +31,9 @@ use std::alloc::Global;
 /// field never falls. It copies the data into a new file and verifies what that file holds (the
 /// first failing case of `verify_texts`; legacy signatures are never taken). It tests the signed
 /// comment: `OtherFile`, where it does not name the wanted file; `NoNumber`, where it has no number
-/// below 2^64 in the wanted field; `OlderUpdate`, where the number is below the kept one. The same
-/// number may be installed again. Then it gives the file the rights of the one at the place and
+/// below 2^64 in the wanted field; `BadExpiry`, where it has the field `expires:` twice or without such
+/// a number, and `Expired`, where the moment that was passed is not below that; `OlderUpdate`, where
+/// the number is below the kept one. The same number may be installed again. Then it gives the file the rights of the one at the place and
 /// brings it to the disk, keeps the number, on the disk, and last gives the file the place's name
 /// and brings the folder to the disk.
 ///
@@ -56,8 +57,8 @@ pub fn install_update<S: Scheme, Z: RandomSource, R: Source, F: Folder>(
     folder: &mut F,
 ) -> Result<(), InstallFault>
     // Each call of the run leaves at the place what could be found there just before it, or brings
-    // an update that the two texts vouch for, whose signed comment names the file and has a number
-    // not below the kept one; and to the record only the number of such an update, behind the label
+    // an update that the two texts vouch for, whose signed comment names the file, has not expired at
+    // the moment that was passed, and has a number not below the kept one; and to the record only the number of such an update, behind the label
     // of its field; through any crash, and whatever other processes do that leave the run's own
     // stages alone, and the record while this run holds the lock (`InstallsOnly`, `IsUpdate`,
     // `OthersLeave`).
@@ -91,8 +92,8 @@ pub fn install_update<S: Scheme, Z: RandomSource, R: Source, F: Folder>(
 
     // Where memory is found and no device fails: if another run holds the lock, that is said;
     // otherwise the update is installed exactly where the record has a number for the field, or it is
-    // the first installation, the two texts vouch for the data, and the signed comment names the file
-    // and has a number that is not below the kept one; and where it is not installed, the first of
+    // the first installation, the two texts vouch for the data, and the signed comment names the file,
+    // has not expired, and has a number that is not below the kept one; and where it is not installed, the first of
     // these that fails is returned (`CanBeInstalled`, `CannotBeInstalled`).
     ensures exactly { Known (F.run folder.old) (InstallsExactly (S.accepts scheme.now) (terms_of wanted.entry) is_first (R.ahead update.old) (counts (Z.random_faults random.old) (R.faults update.old) (F.folder_faults folder.old)) (counts (Z.random_faults random.new) (R.faults update.new) (F.folder_faults folder.new)) (F.run folder.old) (F.run folder.new) result) }
 
@@ -101,7 +102,7 @@ pub fn install_update<S: Scheme, Z: RandomSource, R: Source, F: Folder>(
     ensures lets_go { Known (F.run folder.old) (OwnsNoMore (F.run folder.old) (F.run folder.new)) }
 
     // On success the two texts vouch for some data, and the comment that was signed with it names
-    // the file and has a number.
+    // the file, has not expired, and has a number.
     ensures vouched { OnOk result (IsVouched (S.accepts scheme.now) (terms_of wanted.entry)) }
 
     // Why a fault may come: a device's only where its count of faults rose; out of memory only where

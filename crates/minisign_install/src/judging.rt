@@ -83,7 +83,13 @@ pub(crate) fn judge<S: Scheme>(
         (λ e. IsLibraryFault (λ f. (f ≡ Named OutOfMemory) × (state.new ≡ state.old)) e ⊎ IsDataRefused (S.accepts scheme.now) (terms_of wanted.entry) kept m e) }
 {
     match vouch(alloc, scheme, wanted.pk_text, wanted.sig_text, state) {
-        Ok(comment) => match check_comment(comment, wanted.file, wanted.numbering, kept) {
+        Ok(comment) => match check_comment(
+            comment,
+            wanted.file,
+            wanted.numbering,
+            wanted.moment,
+            kept,
+        ) {
             Ok(number) => Ok(number),
             Err(fault) => Err(fault),
         },
@@ -164,7 +170,7 @@ fn answers<S: Scheme>(scheme: &S, questions: &Questions, message: &[u8]) -> (boo
 
 // The fault of a refusal. A wrong use never comes here: the state is fed, and then asked, and there
 // is room for the message.
-fn fault_of(refusal: Refusal) -> PError
+pub(crate) fn fault_of(refusal: Refusal) -> PError
     ensures { (e : Fault) → refusal ≡ Refused e → result ≡ e }
 {
     match refusal {

@@ -3,6 +3,7 @@
 #![tactic(auto)]
 
 mod calls;
+pub mod checking;
 pub mod comments;
 pub mod faults;
 pub mod folders;
@@ -19,6 +20,7 @@ pub mod stage_names;
 mod staging;
 pub mod wanted;
 
+pub use checking::{Offer, check_update};
 pub use comments::Numbering;
 pub use faults::InstallFault;
 pub use folders::{Folder, Handle, Name};

@@ -78,7 +78,7 @@ pub(crate) fn number_without_record(
 }
 
 // Why a record of these bytes, which holds no number for the field, is refused.
-fn unfit(bytes: &[u8], numbering: Numbering) -> InstallFault
+pub(crate) fn unfit(bytes: &[u8], numbering: Numbering) -> InstallFault
     ensures why { IsUnfit numbering bytes.now result }
     ensures fault { IsRecordFault false result }
 {
@@ -101,7 +101,7 @@ impl Numbering {
 }
 
 // The number that a record of these bytes holds for the field, where it holds one.
-fn number_for(bytes: &[u8], numbering: Numbering) -> Option<u64>
+pub(crate) fn number_for(bytes: &[u8], numbering: Numbering) -> Option<u64>
     ensures { MatchOption result (HasNoNumber numbering bytes.now) (IsNumberFor numbering bytes.now) }
 {
     match str::from_utf8(record_text(bytes)) {

@@ -13,4 +13,7 @@ pub struct Wanted<'a> {
     pub file: &'a str,
     /// The field of the trusted comment that has the number of the update.
     pub numbering: Numbering,
+    /// The moment at which the update must not have expired, in seconds since the beginning of 1970. Where the trusted
+    /// comment has no field `expires:`, it never does.
+    pub moment: u64,
 }

@@ -7,7 +7,7 @@ use Rattle.minisign.specs.Acceptance.{Verifier}
 use Rattle.minisign_install.specs.Installing.{Terms}
 use Rattle.minisign_install.specs.Refusals.{Counts, IsCause, counts}
 use Rattle.minisign_install.specs.declared.faults.InstallFault.{InstallFault}
-use Rattle.minisign_install.specs.declared.faults.InstallFault.TheVariants.{DamagedRecord, FolderNotOnDisk, KeptByTimestamp, KeptByVersion, Library, NoNumber, NoRecord, OlderUpdate, OtherFile, PlaceInUse}
+use Rattle.minisign_install.specs.declared.faults.InstallFault.TheVariants.{BadExpiry, DamagedRecord, Expired, FolderNotOnDisk, KeptByTimestamp, KeptByVersion, Library, NoNumber, NoRecord, OlderUpdate, OtherFile, PlaceInUse}
 use Rattle.minisign_installer.specs.Endings.{HasCause, IsUnrecorded}
 
 pub has_cause : {T : Type 0} (accepts : Verifier) (terms : Terms) (first : Bool) (random random_then update update_then before after : ℕ) (r : Result T InstallFault) → random ≡ 0 → update ≡ 0
@@ -28,6 +28,8 @@ is_unrecorded KeptByVersion = true
 is_unrecorded OtherFile = false
 is_unrecorded NoNumber = false
 is_unrecorded OlderUpdate = false
+is_unrecorded Expired = false
+is_unrecorded BadExpiry = false
 is_unrecorded FolderNotOnDisk = false
 
 tells_unrecorded : (e : InstallFault) → IsUnrecorded e → is_unrecorded e ≡ true
@@ -47,7 +49,9 @@ first_not accepts terms first before after e u (inr (inr (inl (fault, library, w
 first_not accepts terms first before after e u (inr (inr (inr (inl (message, kept, (inl (fault, library, why))))))) = absurd (differs e (Library fault) u refl library)
 first_not accepts terms first before after e u (inr (inr (inr (inl (message, kept, (inr (comment, vouched, (inl (other, why))))))))) = absurd (differs e OtherFile u refl other)
 first_not accepts terms first before after e u (inr (inr (inr (inl (message, kept, (inr (comment, vouched, (inr (inl (none, named, why)))))))))) = absurd (differs e NoNumber u refl none)
-first_not accepts terms first before after e u (inr (inr (inr (inl (message, kept, (inr (comment, vouched, (inr (inr (older, why)))))))))) = absurd (differs e OlderUpdate u refl older)
+first_not accepts terms first before after e u (inr (inr (inr (inl (message, kept, (inr (comment, vouched, (inr (inr (inl (named, has, (inl (expired, why))))))))))))) = absurd (differs e Expired u refl expired)
+first_not accepts terms first before after e u (inr (inr (inr (inl (message, kept, (inr (comment, vouched, (inr (inr (inl (named, has, (inr (bad, why))))))))))))) = absurd (differs e BadExpiry u refl bad)
+first_not accepts terms first before after e u (inr (inr (inr (inl (message, kept, (inr (comment, vouched, (inr (inr (inr (older, why))))))))))) = absurd (differs e OlderUpdate u refl older)
 first_not accepts terms first before after e u (inr (inr (inr (inr (settled, rose))))) = absurd (differs e FolderNotOnDisk u refl settled)
 
 pub needs_record : (accepts : Verifier) (terms : Terms) (first : Bool) (before after : ℕ) (e : InstallFault) → IsUnrecorded e → HasCause accepts terms first before after e → first ≡ false

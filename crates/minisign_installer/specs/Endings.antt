@@ -14,7 +14,7 @@ use Rattle.minisign_base.specs.Fault.{name_of}
 use Rattle.minisign_base.specs.declared.faults.NamedFault.{NamedFault}
 use Rattle.minisign_base.specs.declared.faults.NamedFault.TheVariants.{OutOfMemory, RandomSourceFailed, ReadingFailed, WritingFailed}
 use Rattle.minisign_install.specs.declared.faults.InstallFault.{InstallFault}
-use Rattle.minisign_install.specs.declared.faults.InstallFault.TheVariants.{DamagedRecord, FolderNotOnDisk, KeptByTimestamp, KeptByVersion, Library, NoNumber, NoRecord, OlderUpdate, OtherFile, PlaceInUse}
+use Rattle.minisign_install.specs.declared.faults.InstallFault.TheVariants.{BadExpiry, DamagedRecord, Expired, FolderNotOnDisk, KeptByTimestamp, KeptByVersion, Library, NoNumber, NoRecord, OlderUpdate, OtherFile, PlaceInUse}
 use Rattle.minisign_installer.specs.declared.endings.Ending.{Ending}
 use Rattle.minisign_installer.specs.declared.endings.Ending.TheVariants.{Failed, InUse, Installed, Misused, NotOnDisk, Older, Refused, Shown, Unrecorded}
 
@@ -49,6 +49,8 @@ ending_of KeptByVersion = Unrecorded
 ending_of OtherFile = Refused
 ending_of NoNumber = Refused
 ending_of OlderUpdate = Older
+ending_of Expired = Refused
+ending_of BadExpiry = Refused
 ending_of FolderNotOnDisk = NotOnDisk
 
 -- the name that the signed comment has to have: the one that was asked for, or else the last part of the place's path
@@ -65,11 +67,12 @@ wanted_numbering (Some numbering) = numbering
 -- that were asked for
 abbrev pub IsAskedUpdate : Verifier → Asked → Type 0
 IsAskedUpdate accepts asked =
-    (pk_text sig_text name : List ℕ) × IsWantedName (option_map (λ n. n.now) asked.name) asked.place.now name × IsVouched accepts (record {
+    (pk_text sig_text name : List ℕ) × (moment : ℕ) × IsWantedName (option_map (λ n. n.now) asked.name) asked.place.now name × IsVouched accepts (record {
       pk_text = pk_text;
       sig_text = sig_text;
       file = name;
       numbering = wanted_numbering asked.numbering;
+      moment = moment;
     })
 
 -- what is so where a run that was asked for this ends with 0

@@ -64,7 +64,7 @@ pub fn ending_of(fault: &InstallFault) -> Ending
         | InstallFault::DamagedRecord
         | InstallFault::KeptByTimestamp
         | InstallFault::KeptByVersion => Ending::Unrecorded,
-        InstallFault::OtherFile | InstallFault::NoNumber => Ending::Refused,
+        InstallFault::OtherFile | InstallFault::NoNumber | InstallFault::Expired | InstallFault::BadExpiry => Ending::Refused,
         InstallFault::OlderUpdate => Ending::Older,
         InstallFault::FolderNotOnDisk => Ending::NotOnDisk,
     }

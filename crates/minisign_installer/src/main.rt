@@ -25,6 +25,7 @@ use minisign::base::devices::random_sources::SourceRandom;
 use minisign::base::devices::sources::ReaderSource;
 use minisign::base::scheme::Scheme;
 use minisign::base::toy::ToyScheme;
+use minisign::base::unix_timestamp;
 use minisign::reading::read_text;
 use minisign_install::{InstallFault, Numbering, StageName, Wanted, install_update};
 use minisign_programs::arguments::{behind_program, read_arguments, words_of};
@@ -144,6 +145,8 @@ fn install_asked<S: Scheme>(
         sig_text: sig_text.as_str(),
         file: wanted_name(asked.name, asked.place),
         numbering: wanted_numbering(asked.numbering),
+        // A clock that cannot be read, or shows a time before 1970, counts as the last moment: what expires has expired then.
+        moment: unix_timestamp(rt).unwrap_or(u64::MAX),
     };
     match install_files(
         rt,

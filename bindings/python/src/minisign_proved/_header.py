@@ -53,6 +53,10 @@ DUE_REFUSED = 20
 NUMBERING_TIMESTAMP = 0
 NUMBERING_VERSION = 1
 
+OFFER_NEWER = 1
+OFFER_SAME = 2
+OFFER_OLDER = 3
+
 
 class State(Structure):
     _fields_ = [
@@ -163,7 +167,7 @@ class Calls:
         library.minisign_install_piece.restype = error
         library.minisign_install_piece.argtypes = (POINTER(Installation), c_void_p, c_size_t)
         library.minisign_install_ask.restype = error
-        library.minisign_install_ask.argtypes = (POINTER(Installation), POINTER(PublicKey), c_void_p, c_size_t, c_void_p, c_size_t, POINTER(Questions), c_void_p, c_size_t)
+        library.minisign_install_ask.argtypes = (POINTER(Installation), POINTER(PublicKey), c_void_p, c_size_t, c_void_p, c_size_t, c_uint64, POINTER(Questions), c_void_p, c_size_t)
         library.minisign_install_answer.restype = error
         library.minisign_install_answer.argtypes = (POINTER(Installation), c_uint32, c_uint32)
         library.minisign_install_number_text.restype = c_size_t
@@ -171,7 +175,11 @@ class Calls:
         library.minisign_install_error.restype = error
         library.minisign_install_error.argtypes = (POINTER(Installation),)
         library.minisign_judge_comment.restype = error
-        library.minisign_judge_comment.argtypes = (c_void_p, c_size_t, c_void_p, c_size_t, c_uint32, c_uint64, POINTER(c_uint64))
+        library.minisign_judge_comment.argtypes = (c_void_p, c_size_t, c_void_p, c_size_t, c_uint32, c_uint64, c_uint64, POINTER(c_uint64))
+        library.minisign_check_comment.restype = error
+        library.minisign_check_comment.argtypes = (c_void_p, c_size_t, c_void_p, c_size_t, c_uint32, c_uint64, c_uint32, c_void_p, c_size_t, POINTER(c_uint32), POINTER(c_uint64))
+        library.minisign_check_first_comment.restype = error
+        library.minisign_check_first_comment.argtypes = (c_void_p, c_size_t, c_void_p, c_size_t, c_uint32, c_uint64, c_uint32, POINTER(c_uint32), POINTER(c_uint64))
 
     def version(self) -> int:
         number: int = self._library.minisign_version()
@@ -280,10 +288,10 @@ class Calls:
     def install_piece(self, installation: Installation, piece: bytes) -> None:
         self._library.minisign_install_piece(installation, piece, len(piece))
 
-    def install_ask(self, installation: Installation, key: PublicKey, sig_text: bytes, file: bytes) -> Tuple[Questions, bytes]:
+    def install_ask(self, installation: Installation, key: PublicKey, sig_text: bytes, file: bytes, now: int) -> Tuple[Questions, bytes]:
         questions = Questions()
         message = create_string_buffer(len(sig_text) + 1)
-        self._library.minisign_install_ask(installation, key, sig_text, len(sig_text), file, len(file), questions, message, len(message))
+        self._library.minisign_install_ask(installation, key, sig_text, len(sig_text), file, len(file), now, questions, message, len(message))
         return questions, message.raw[:questions.message_len]
 
     def install_answer(self, installation: Installation, first: bool, second: bool) -> None:
@@ -297,7 +305,19 @@ class Calls:
     def install_error(self, installation: Installation) -> None:
         self._library.minisign_install_error(installation)
 
-    def judge_comment(self, comment: bytes, file: bytes, numbering: int, kept: int) -> int:
+    def judge_comment(self, comment: bytes, file: bytes, numbering: int, now: int, kept: int) -> int:
         number = c_uint64()
-        self._library.minisign_judge_comment(comment, len(comment), file, len(file), numbering, kept, number)
+        self._library.minisign_judge_comment(comment, len(comment), file, len(file), numbering, now, kept, number)
+        return number.value
+
+    def check_comment(self, comment: bytes, file: bytes, numbering: int, now: int, is_first: int, record: bytes) -> int:
+        offer = c_uint32()
+        number = c_uint64()
+        self._library.minisign_check_comment(comment, len(comment), file, len(file), numbering, now, is_first, record, len(record), offer, number)
+        return number.value
+
+    def check_first_comment(self, comment: bytes, file: bytes, numbering: int, now: int, is_first: int) -> int:
+        offer = c_uint32()
+        number = c_uint64()
+        self._library.minisign_check_first_comment(comment, len(comment), file, len(file), numbering, now, is_first, offer, number)
         return number.value

@@ -334,6 +334,18 @@ class KeptByVersion(MinisignError):
     number = 54
 
 
+class Expired(MinisignError):
+    """The update has expired at the moment that the caller passes."""
+
+    number = 55
+
+
+class BadExpiry(MinisignError):
+    """The trusted comment has more than one field for when the update expires, or one with no number in decimal digits alone, or none below 2^64."""
+
+    number = 56
+
+
 class ReadingFailed(MinisignError):
     """A source, a file or a prompt's reader failed at a read."""
 
@@ -407,6 +419,8 @@ BY_NUMBER: "dict[int, type[MinisignError]]" = {
     52: FolderNotOnDisk,
     53: KeptByTimestamp,
     54: KeptByVersion,
+    55: Expired,
+    56: BadExpiry,
     64: ReadingFailed,
     65: WritingFailed,
     67: RandomSourceFailed,

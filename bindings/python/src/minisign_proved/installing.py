@@ -7,6 +7,7 @@ import fcntl
 import os
 import re
 import stat
+import time
 from contextlib import ExitStack, closing, suppress
 from io import UnsupportedOperation
 from typing import IO, Callable, Dict, List, Optional, Tuple, Union, cast
@@ -266,7 +267,7 @@ class _Installation:
     def judge(self, key: PublicKey, signature: Signature, name: str) -> Told:
         """Has the questions answered. What comes of it the installation keeps: so nothing more is told."""
         with suppress(errors.MinisignError):
-            asked, message = calls.install_ask(self.at, key._read, signature.text, os.fsencode(name))
+            asked, message = calls.install_ask(self.at, key._read, signature.text, os.fsencode(name), _now())
             self.tell("answer", *answers(ed25519().accepts, asked, message, bytes(asked.digest)))
         return ("due",)
 
@@ -299,6 +300,13 @@ def _run(at: _Installation, due_calls: Dict[int, Callable[[], Told]]) -> None:
         raise refused from trouble
 
 
+def _now() -> int:
+    """The moment that the clock shows, in seconds since the beginning of 1970. A clock that shows an earlier one is wrong: what expires
+    has expired then."""
+    shown = int(time.time())
+    return shown if shown >= 0 else 2 ** 64 - 1
+
+
 def install(key: PublicKey, data: Union[Path, IO[bytes]], signature: Signature, place: Path, *, first: bool = False,
             numbering: str = "timestamp", name: Optional[str] = None, mode: Optional[int] = None, most: Optional[int] = None,
             progress: Optional[Progress] = None) -> None:
@@ -309,8 +317,8 @@ def install(key: PublicKey, data: Union[Path, IO[bytes]], signature: Signature, 
     number: `timestamp` or `version`. `name` is the file that the signed comment has to name, otherwise the last part of `place`.
     `mode` has the permissions, otherwise they are those of the file at the place, or 0o600. Data of more than `most` bytes is refused.
 
-    Raises the errors of verifying; OtherFile, NoNumber, OlderUpdate; PlaceInUse; NoRecord, DamagedRecord, KeptByTimestamp,
-    KeptByVersion; TooLong; ReadingFailed, WritingFailed, RandomSourceFailed, OutOfMemory. Then the place is as before. With
+    Raises the errors of verifying; OtherFile, NoNumber, BadExpiry, Expired, OlderUpdate; PlaceInUse; NoRecord, DamagedRecord,
+    KeptByTimestamp, KeptByVersion; TooLong; ReadingFailed, WritingFailed, RandomSourceFailed, OutOfMemory. Then the place is as before. With
     FolderNotOnDisk the update stands there, and a crash may bring back what stood there before. `__cause__` says which call failed.
     What `progress` raises comes out of it, but an OSError or an error of this package only as what another one came from. After an
     interruption, as KeyboardInterrupt, the update may stand there or not.

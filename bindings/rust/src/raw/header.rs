@@ -116,6 +116,10 @@ impl Reason {
     pub const KEPT_BY_TIMESTAMP: Reason = Reason(53);
     /// The number that is kept is a version and not a timestamp, and this was not said to be the first installation.
     pub const KEPT_BY_VERSION: Reason = Reason(54);
+    /// The update has expired at the moment that the caller passes.
+    pub const EXPIRED: Reason = Reason(55);
+    /// The trusted comment has more than one field for when the update expires, or one with no number in decimal digits alone, or none below 2^64.
+    pub const BAD_EXPIRY: Reason = Reason(56);
     /// A source, a file or a prompt's reader failed at a read.
     pub const READING_FAILED: Reason = Reason(64);
     /// A sink or a prompt's writer failed at a write or a flush.
@@ -165,6 +169,9 @@ pub const DUE_INSTALLED: u32 = 19;
 pub const DUE_REFUSED: u32 = 20;
 pub const NUMBERING_TIMESTAMP: u32 = 0;
 pub const NUMBERING_VERSION: u32 = 1;
+pub const OFFER_NEWER: u32 = 1;
+pub const OFFER_SAME: u32 = 2;
+pub const OFFER_OLDER: u32 = 3;
 
 #[repr(C)]
 pub struct State {
@@ -250,6 +257,8 @@ extern "C" {
     fn minisign_signed_text(key: *const SecretKey, first: &[u8; 64], second: &[u8; 64], trusted: *const u8, trusted_len: usize, untrusted: *const u8, untrusted_len: usize, text: *mut u8, room: usize, text_len: *mut usize) -> u32;
     fn minisign_secret_key_text(key: *const SecretKey, with_password: u32, password: *const u8, password_len: usize, sealing: *const Sealing, keep_every: u64, comment: *const u8, comment_len: usize, text: *mut u8, room: usize, text_len: *mut usize) -> u32;
     fn minisign_public_key_text(key: *const SecretKey, comment: *const u8, comment_len: usize, text: *mut u8, room: usize, text_len: *mut usize) -> u32;
+    fn minisign_check_comment(comment: *const u8, comment_len: usize, file: *const u8, file_len: usize, numbering: u32, now: u64, is_first: u32, record: *const u8, record_len: usize, offer: *mut u32, number: *mut u64) -> u32;
+    fn minisign_check_first_comment(comment: *const u8, comment_len: usize, file: *const u8, file_len: usize, numbering: u32, now: u64, is_first: u32, offer: *mut u32, number: *mut u64) -> u32;
 }
 
 /// Writes zeros, also where nothing reads them.
@@ -359,4 +368,12 @@ pub fn public_key_text(key: &SecretKey, comment: &[u8]) -> Result<String, Reason
     let (mut text, mut len) = (vec![0; PUBLIC_KEY_BYTES + comment.len()], 0);
     done(unsafe { minisign_public_key_text(key, comment.as_ptr(), comment.len(), text.as_mut_ptr(), text.len(), &mut len) })?;
     text_of(text, len)
+}
+
+pub fn check_comment(comment: &[u8], file: &[u8], numbering: u32, now: u64, is_first: u32, record: &[u8], offer: &mut u32, number: &mut u64) -> Result<(), Reason> {
+    done(unsafe { minisign_check_comment(comment.as_ptr(), comment.len(), file.as_ptr(), file.len(), numbering, now, is_first, record.as_ptr(), record.len(), offer, number) })
+}
+
+pub fn check_first_comment(comment: &[u8], file: &[u8], numbering: u32, now: u64, is_first: u32, offer: &mut u32, number: &mut u64) -> Result<(), Reason> {
+    done(unsafe { minisign_check_first_comment(comment.as_ptr(), comment.len(), file.as_ptr(), file.len(), numbering, now, is_first, offer, number) })
 }

@@ -9,7 +9,7 @@ use Rattle.minisign_install.specs.HostNumbers.{install_number}
 use Rattle.minisign_install.specs.Hosted.{GivesUpdateNumber, IsUpdateRefusal, IsDue, host_number}
 use Rattle.minisign_install.specs.Installing.{Terms}
 use Rattle.minisign_install.specs.declared.faults.InstallFault.{InstallFault}
-use Rattle.minisign_install.specs.declared.faults.InstallFault.TheVariants.{Library, PlaceInUse, NoRecord, DamagedRecord, KeptByTimestamp, KeptByVersion, OtherFile, NoNumber, OlderUpdate, FolderNotOnDisk}
+use Rattle.minisign_install.specs.declared.faults.InstallFault.TheVariants.{Library, PlaceInUse, NoRecord, DamagedRecord, KeptByTimestamp, KeptByVersion, OtherFile, NoNumber, OlderUpdate, FolderNotOnDisk, Expired, BadExpiry}
 use Rattle.minisign_install.specs.declared.hosted.HostRefusal.{HostRefusal}
 use Rattle.minisign_install.specs.declared.hosted.HostRefusal.TheVariants.{Refused, WrongUse}
 use Rattle.minisign_install.specs.declared.hosted.Installation.{Installation}
@@ -83,6 +83,8 @@ positive OtherFile = lit< tt
 positive NoNumber = lit< tt
 positive OlderUpdate = lit< tt
 positive FolderNotOnDisk = lit< tt
+positive Expired = lit< tt
+positive BadExpiry = lit< tt
 
 -- what is no update has the number of its fault
 refused_number : (accepts : Verifier) (terms : Terms) (kept : ℕ) (message : List ℕ) (new : Installation) (r : HostRefusal) (n : ℕ) → n ≡ host_number r

@@ -23,7 +23,7 @@ use Rattle.minisign_install.proofs.hosted.Installation.answer.Goals as goal
 -- what came of the comment is told of a message that is vouched for
 known : {T : Type 0} (accepts : Verifier) (terms : Terms) (kept : ℕ) (message comment : List ℕ) (new : Installation) (r : Result T HostRefusal)
     → TextsVouchWith accepts terms.pk_text terms.sig_text message false comment
-    → MatchResult r (λ _. (n : ℕ) × IsDue new (TakeRights n) × Says comment terms.file terms.numbering n × (kept ≤ n))
+    → MatchResult r (λ _. (n : ℕ) × IsDue new (TakeRights n) × Says comment terms.file terms.numbering terms.moment n × (kept ≤ n))
     (λ q. (e : InstallFault) × (q ≡ Refused e) × IsDue new (Remove (install_number e)) × IsCommentRefused terms kept comment e)
     → GivesUpdate accepts terms kept message new r
 known {T} accepts terms kept message comment new (Ok t) vouched (n, due, says, newer) =

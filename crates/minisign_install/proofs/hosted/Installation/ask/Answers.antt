@@ -20,9 +20,9 @@ returns-in-Ok-ask_fed-clause-asking c =
         asked = subst (λ (s : State). HasAsked s a.key.now a.sig_text.now false) (sym c.keep_judgement.ensures.state) c.in-Ok-ask_fed.ensures.asking.0;
         told = subst (λ (s : State). IsMarkedTold s) (sym c.keep_judgement.ensures.state) c.in-Ok-ask_fed.ensures.asking.1;
         judged = λ x d read both.
-            subst (λ (f : List ℕ). IsJudged new.comment new.update (wanted_by pk_text a.sig_text.now f (numbering_of a.self.now)) kept d.trusted)
+            subst (λ (f : List ℕ). IsJudged new.comment new.update (wanted_by pk_text a.sig_text.now f (numbering_of a.self.now) a.moment) kept d.trusted)
             c.in-Ok.ensures.cases.0
-            (subst (λ (b : List ℕ). IsJudged new.comment new.update (wanted_by pk_text a.sig_text.now c.in-Ok.file.now (numbering_of a.self.now)) kept b)
+            (subst (λ (b : List ℕ). IsJudged new.comment new.update (wanted_by pk_text a.sig_text.now c.in-Ok.file.now (numbering_of a.self.now) a.moment) kept b)
             (comment ∙ trusted_in a.sig_text.now t x d (opened a.key.now a.sig_text.now t opens).0 read both)
             (c.keep_judgement.ensures.judged pk_text a.sig_text.now kept due));
       },

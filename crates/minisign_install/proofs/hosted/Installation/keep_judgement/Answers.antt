@@ -9,7 +9,7 @@ pub returns-in-Ok-clause-judged : goal.returns-in-Ok-clause-judged
 returns-in-Ok-clause-judged c = λ pk_text sig_text kept due.
     inl (
       refl,
-      subst (λ (f : Numbering). Says c.args.comment.now c.args.file.now f c.in-Ok.number) c.numbering.ensures c.in-Ok.ensures.says,
+      subst (λ (f : Numbering). Says c.args.comment.now c.args.file.now f c.args.moment c.in-Ok.number) c.numbering.ensures c.in-Ok.ensures.says,
       subst (λ (k : ℕ). k ≤ c.in-Ok.number) (c.kept-kept.ensures kept due) c.in-Ok.ensures.newer,
     )
 
@@ -19,8 +19,8 @@ returns-in-Err-clause-judged c = λ pk_text sig_text kept due.
     inr (
       _,
       c.number-self.ensures,
-      subst (λ (k : ℕ). IsCommentRefused (wanted_by pk_text sig_text a.file.now (numbering_of a.self.now)) k a.comment.now c.in-Err.fault)
+      subst (λ (k : ℕ). IsCommentRefused (wanted_by pk_text sig_text a.file.now (numbering_of a.self.now) a.moment) k a.comment.now c.in-Err.fault)
           (c.kept-kept.ensures kept due)
-          (subst (λ (f : Numbering). IsCommentRefused (wanted_by pk_text sig_text a.file.now f) c.kept-kept.result a.comment.now c.in-Err.fault) c.numbering.ensures
+          (subst (λ (f : Numbering). IsCommentRefused (wanted_by pk_text sig_text a.file.now f a.moment) c.kept-kept.result a.comment.now c.in-Err.fault) c.numbering.ensures
           c.in-Err.ensures.refused),
     )
