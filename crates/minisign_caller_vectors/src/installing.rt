@@ -3,11 +3,11 @@
 //!
 //! The texts are of the toy scheme, under its key of 32 zeros; `tests/shared/toy.py` makes such texts.
 
+use crate::memory::{MemoryFolder, install_in_memory};
 use minisign::{ErrorKind, NamedFault};
 use minisign_base::devices::random_sources::FixedRandom;
 use minisign_base::devices::sources::SliceSource;
 use minisign_base::toy::ToyScheme;
-use minisign_install::memory::{MemoryFolder, install_in_memory};
 use minisign_install::{InstallFault, Name, Numbering, Wanted};
 use std::alloc::Global;
 
