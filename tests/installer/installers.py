@@ -5,6 +5,7 @@ Needs Python 3.9 or later; the real keys need Minisign's own program.
 """
 
 import os
+import re
 import subprocess
 
 import needs
@@ -14,27 +15,26 @@ from permissions import ASKED, ASKED_WITH_LISTS, COMMON, WITH_LISTS
 SECONDS = 30
 PLACE, RECORD, LOCK = "place", ".place.number", ".place.lock"
 
+# The exit statuses of `minisign-install`.
+FAILED, MISUSED, REFUSED, OLDER, IN_USE, NOT_ON_DISK, UNRECORDED, SAME, EXPIRED = range(1, 10)
 
-class ToyInstaller:
-    """`minisign_installer`, under the toy scheme."""
 
-    name = "minisign_installer"
-    version = b"0.1.0"
-    # What it says where nothing is wrong.
-    warning = toy.WARNING.encode()
+class Updater:
+    """`minisign_updater`, an example under the toy scheme, whose one option is `--first`."""
+
+    name = "minisign_updater"
+    # Which ending of `minisign-install` the number of a fault stands for; all others refuse the update.
+    endings = {0: 0, 1: MISUSED, 7: FAILED, 64: FAILED, 65: FAILED, 67: FAILED, 46: IN_USE, 47: UNRECORDED, 48: UNRECORDED, 51: OLDER,
+               52: NOT_ON_DISK, 53: UNRECORDED, 54: UNRECORDED}
     # Each of these calls fails in turn, and is interrupted in turn.
     failing = ("open", "openat", "write", "fsync", "rename", "read", "pread", "flock", "getdents64", "fchmod", "statx", "close")
     interrupted = ("open", "openat", "read", "write", "fsync", "rename", "unlink", "pread", "flock", "getdents64", "fchmod",
                    "fchown", "statx")
     # What the C library calls its calls that `trace_calls.c` tells.
     called = {"write": "write", "read-back": "pread", "rights": "fchmod", "sync": "fsync", "rename": "rename"}
-    # What it says of a signed comment that was changed.
-    changed_comment = b"error: bad.sig: Comment signature verification failed\n"
     # Whether it is the one in C: that looks up all names in the folder that it has opened, and reads access control lists.
     is_in_c = False
-    # Whether it tells if there is anything newer, and takes keys that are named themselves.
-    has_checks = False
-    permissions = (COMMON, ASKED)
+    permissions = (COMMON,)
     # What it leaves of the mode 751.
     kept_mode = 0o711
     # The calls of an installation by root over a file of another owner, in the order of docs/INSTALLING.md, as
@@ -62,6 +62,14 @@ open .
 sync .
 """
 
+    def ending(self, status):
+        """The exit status that `minisign-install` has where this one is that."""
+        return status if status < 0 else self.endings.get(status, REFUSED)
+
+    def is_said(self, text, said):
+        """Whether it says what that line of `minisign-install` does, without the file and what is in brackets behind it."""
+        return re.sub(rb"( \(.*\))?\n$", b"", said.split(b": ", 2)[-1]) in text
+
     def public_text(self):
         return toy.public_text()
 
@@ -75,15 +83,12 @@ class RealInstaller:
 
     name = "minisign-install"
     version = b"0.2.0"
-    warning = b""
-    changed_comment = ToyInstaller.changed_comment
     failing = ("open", "openat", "write", "fsync", "renameat", "read", "pread", "flock", "readdir", "fchmod", "fstat", "fstatat",
                "getrandom", "close", "fgetxattr", "fremovexattr")
     interrupted = ("open", "openat", "read", "write", "fsync", "pread", "flock", "fchmod", "renameat", "readdir", "fstat", "fstatat",
                    "getrandom", "unlinkat", "fgetxattr", "fremovexattr", "fchown")
-    called = {**ToyInstaller.called, "rename": "renameat"}
+    called = {**Updater.called, "rename": "renameat"}
     is_in_c = True
-    has_checks = True
     permissions = (COMMON, WITH_LISTS, ASKED, ASKED_WITH_LISTS)
     kept_mode = 0o751
     # The calls that are due, in the order of the machine: it is told of each.
@@ -109,6 +114,14 @@ sync .
 rename S {PLACE}
 sync .
 """
+
+    @staticmethod
+    def ending(status):
+        return status
+
+    @staticmethod
+    def is_said(text, said):
+        return text.endswith(said)
 
     def __init__(self, room):
         self.minisign = needs.minisign()

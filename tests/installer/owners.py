@@ -29,7 +29,7 @@ def expect_nobodys(path, *names):
 
 def install_as_nobody(it, folder, name, status=0, said=b""):
     ended, text = it.run(folder, folder.arguments(name), **AS_NOBODY)
-    if ended != status or not text.endswith(said):
+    if ended != status or not it.kind.is_said(text, said):
         raise Failure(f"its owner's run ended with status {ended}, and said {text}")
 
 

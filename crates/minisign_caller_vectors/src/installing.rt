@@ -1,15 +1,20 @@
 //! Updates that are installed in a folder in memory: what stands at the place and in the record
-//! after each call, and what is refused.
+//! after each call, and what is refused; and one over real files, with permissions that are asked for.
 //!
 //! The texts are of the toy scheme, under its key of 32 zeros; `tests/shared/toy.py` makes such texts.
 
+use crate::folders::{folder_path, make_empty, path_of};
+use crate::memory::{MemoryFolder, install_in_memory};
 use minisign::{ErrorKind, NamedFault};
 use minisign_base::devices::random_sources::FixedRandom;
 use minisign_base::devices::sources::SliceSource;
 use minisign_base::toy::ToyScheme;
-use minisign_install::memory::{MemoryFolder, install_in_memory};
 use minisign_install::{InstallFault, Name, Numbering, Offer, Wanted, check_update};
+use minisign_install_files::{FileFolder, install_files};
 use std::alloc::Global;
+use std::fs;
+use std::os::unix::fs::MetadataExt;
+use std::test::Fail;
 
 const KEY_TEXT: &str =
     "untrusted comment: minisign public key: 0807060504030201\nRWQBAgMEBQYHCFpaWlpaWlpaWlpaWlpaWlpaWlpaWlpaWlpaWlpaWlpa\n";
@@ -221,6 +226,34 @@ fn a_place_is_kept_by_one_field(rt: HostRuntime) {
 fn a_name_that_is_drawn_twice_is_refused(rt: HostRuntime) {
     let refusal = refusal_behind_second(rt.alloc(), &[7; 32], b"second", SECOND);
     assert!(rt; named(&refusal) == Some(NamedFault::WritingFailed));
+}
+
+// Whether a first update is installed at this path, with these permissions.
+fn installs_at(rt: &HostRuntime, place: &str, mode: u32) -> bool {
+    let Some(mut folder) = FileFolder::of_place(rt, place, Some(mode)) else {
+        return false;
+    };
+    let wanted = Wanted {
+        pk_text: KEY_TEXT,
+        sig_text: FIRST,
+        file: folder.name(),
+        numbering: Numbering::Timestamp,
+    };
+    let mut update = SliceSource::new(b"first");
+    install_files(rt, &ToyScheme::new(), wanted, true, &mut update, &mut folder).is_ok()
+}
+
+#[test]
+fn a_new_file_gets_the_permissions_that_are_asked_for(
+    rt: HostRuntime,
+) -> std::result::Result<(), Fail> {
+    let folder = folder_path(&rt, "installing")?;
+    make_empty(&rt, folder.as_str())?;
+    let place = path_of(&rt, folder.as_str(), "app")?;
+    assert!(rt; installs_at(&rt, place.as_str(), 0o640));
+    assert!(rt; fs::metadata(&rt, place.as_str())?.mode() & 0o777 == 0o640);
+    fs::remove_dir_all(&rt, folder.as_str())?;
+    Ok(())
 }
 
 // Whether the fault is of this kind, and shows itself so.

@@ -14,6 +14,7 @@ mod callers;
 mod folders;
 #[cfg(test)]
 mod installing;
+pub mod memory;
 pub mod passwords;
 #[cfg(test)]
 mod reading;

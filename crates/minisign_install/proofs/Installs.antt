@@ -7,12 +7,13 @@ use Rattle.minisign_install.specs.Comments.{Says}
 use Rattle.minisign_install.specs.Folders.{Clears, HasStepped, IsFound, LeavesRecord, Moment, Finds, Run, RunStep}
 use Rattle.minisign_install.specs.Installing.{InstallsLocked, IsBrought, IsInstalled, IsKeptNumber, IsPlaced, IsRecordBrought, IsUpdate, NeverFalls, PlacesBehind, PlacesOnly, Terms}
 use Rattle.minisign_install.specs.RecordTexts.{IsNumberFor, record_of}
-use Rattle.minisign_install.specs.Runs.{BringsNothing, BringsOnly, Goes, GoesBeside, HasRecorded, IsKept, IsNumberFrom, IsOnly, IsPublished, Keeps, rights_of}
+use Rattle.minisign_install.specs.Runs.{BringsNothing, BringsOnly, IsNumberFrom, IsPublished, Keeps, rights_of}
 use Rattle.minisign_install.specs.declared.comments.Numbering.{Numbering}
 use Rattle.minisign_install.specs.declared.folders.Name.{Name}
 use Rattle.minisign_install.specs.declared.folders.Name.TheVariants.{Place, Record}
 use Rattle.minisign_install.proofs.Moments.{lasting_keeps}
 use Rattle.minisign_install.proofs.RecordTexts.{record_reads, same_number}
+use Rattle.minisign_install.proofs.Stages.{Goes, GoesBeside, HasRecorded, IsKept, IsOnly}
 use Rattle.minisign_install.proofs.Works.{brings_nothing, brings_trans, brings_weaken}
 
 no_record : Record ≡ Place → ⊥

@@ -2,9 +2,10 @@
 use Rattle.std.proofs.Common.{◌≡◌, ◌≢◌, ◌⊎◌, inl, inr, ⊎_elim, ℕ, List, Option, Some, true, ap, sym, subst, ◌∙◌, refl}
 use Rattle.minisign_install.specs.Folders.{IsApart, KeepsNames, LeavesRecord, MayFind, MayLead, Moment, Renames, RunStep, TouchesOnly}
 use Rattle.minisign_install.specs.declared.comments.Numbering.{Numbering}
-use Rattle.minisign_install.specs.Runs.{Brings, IsNumberFrom, Keeps, Lasts}
+use Rattle.minisign_install.specs.Runs.{Brings, IsNumberFrom, Keeps}
 use Rattle.minisign_install.specs.declared.folders.Name.{Name}
 use Rattle.minisign_install.specs.declared.folders.Name.TheVariants.{Place, Record}
+use Rattle.minisign_install.proofs.Stages.{Lasts}
 
 abbrev pub step : Moment → Moment → RunStep
 step m m' = record { before = m; after = m' }

@@ -10,7 +10,7 @@ use Rattle.minisign_install.specs.Hosts.{Calls, CallsNothing, Event, HasRun, Hos
 use Rattle.minisign_install.specs.Installing.{HasInstalled, InstallsLocked, IsBrought, IsKeptNumber, IsRecordBrought, IsUpdate, PlacesOnly}
 use Rattle.minisign_install.specs.Order.{next}
 use Rattle.minisign_install.specs.RecordTexts.{record_of}
-use Rattle.minisign_install.specs.Runs.{BringsNothing, BringsOnly, Goes, GoesBeside, HasCleared, HasRecorded, HasStage, IsKept, IsOnly, OwnsNoMore, WorksOn}
+use Rattle.minisign_install.specs.Runs.{BringsNothing, BringsOnly, HasCleared, OwnsNoMore}
 use Rattle.minisign_install.specs.declared.folders.Name.{Name}
 use Rattle.minisign_install.specs.declared.folders.Name.TheVariants.{Place, Record}
 use Rattle.minisign_install.specs.declared.order.Due.{Due}
@@ -18,6 +18,7 @@ use Rattle.minisign_install.specs.declared.order.Due.TheVariants.{Lock, Clear, R
 use Rattle.minisign_install.specs.declared.order.Outcome.{Outcome}
 use Rattle.minisign_install.specs.declared.order.Outcome.TheVariants.{Done, More, Number, Failed}
 use Rattle.minisign_install.proofs.Installs.{found_first, installed, installs, nothing_locked, places_more, places_nothing, places_record, places_update, record_brought}
+use Rattle.minisign_install.proofs.Stages.{Goes, GoesBeside, HasRecorded, HasStage, IsKept, IsOnly, WorksOn}
 use Rattle.minisign_install.proofs.Works.{appending, brings_none, brings_nothing, brings_trans, cleared_step, cleared_then, clearing, created_brings, created_goes, created_stage, giving, goes_trans, kept_no_more, lasting, less_let_go, let_go_after, let_go_more, made_let_go, names_go, names_settled, no_more_trans, own_none, perhaps, perhaps_renamed_goes, published, removed_brings, renamed_goes, resting_brings, settling, spoiling, works_goes, works_none, works_trans}
 
 -- == What stands fast ==

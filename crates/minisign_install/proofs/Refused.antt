@@ -6,10 +6,11 @@ use Rattle.minisign.specs.Acceptance.{Verifier}
 use Rattle.minisign_install.specs.Folders.{HasStepped, KeepsNames, Renames, Run, SettlesNames}
 use Rattle.minisign_install.specs.Installing.{IsBrought, IsRecordBrought, Terms}
 use Rattle.minisign_install.specs.Refusals.{Counts, HasNamed, IsDataRefusal}
-use Rattle.minisign_install.specs.Runs.{BringsNothing, BringsOnly, HasStage}
+use Rattle.minisign_install.specs.Runs.{BringsNothing, BringsOnly}
 use Rattle.minisign_install.specs.declared.faults.InstallFault.{InstallFault}
 use Rattle.minisign_install.specs.declared.folders.Name.{Name}
 use Rattle.minisign_install.proofs.Moments.{step}
+use Rattle.minisign_install.proofs.Stages.{HasStage}
 use Rattle.minisign_install.proofs.Works.{brings_nothing, brings_trans, renamed_stands}
 
 -- a stage was named, and the names could not be brought to the disk

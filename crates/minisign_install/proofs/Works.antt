@@ -5,10 +5,11 @@ use Rattle.std.proofs.lemmas.List.Elements.{All-cons, All-nil, All-append}
 use Rattle.std.specs.declared.result.Result.{Result}
 use Rattle.std.specs.declared.result.Result.TheVariants.{Ok, Err}
 use Rattle.minisign_install.specs.Folders.{Appends, Clears, ClearsAll, Creates, GivesRights, HasCreated, HasStepped, HasTried, IsApart, IsStill, KeepsNames, KeepsOwn, MayLead, Moment, OthersLeave, OwnsLess, OwnsMore, Perhaps, Removes, Renames, Run, Settles, SettlesNames, Spoils, Stands}
-use Rattle.minisign_install.specs.Runs.{Brings, HasCleared, HasLetGo, KeepsAt, Lasts, BringsNothing, BringsOnly, Goes, GoesBeside, HasStage, IsKept, IsOnly, KeepsOthers, KeepsStages, OwnsNoMore, WorksOn, IsPublished, rights_of}
+use Rattle.minisign_install.specs.Runs.{Brings, HasCleared, KeepsAt, BringsNothing, BringsOnly, OwnsNoMore, IsPublished, rights_of}
 use Rattle.minisign_install.specs.declared.folders.Name.{Name}
 use Rattle.minisign_install.specs.declared.folders.Name.TheVariants.{Record}
 use Rattle.minisign_install.proofs.Moments.{call_keeps, lead_back, leaving, others_keep, place_or_record, renaming, resting, settling_names, some_inj, step, touching}
+use Rattle.minisign_install.proofs.Stages.{HasLetGo, Lasts, Goes, GoesBeside, HasStage, IsKept, IsOnly, KeepsOthers, KeepsStages, WorksOn}
 
 module _ (P : Name → List ℕ → Type 0) where
   pub brings_none : (r : Run) → BringsOnly P r r

@@ -1,5 +1,5 @@
 -- What an installation over a folder holds between two calls, and what each call that is due does to it.
-use Rattle.std.specs.Prelude.{◌≡◌, ◌≢◌, ⊤, ℕ, Bool, true, false, List, Option, IsNone, IsSome, IfSome}
+use Rattle.std.specs.Prelude.{◌≡◌, ◌≢◌, ◌-◌, ⊤, ℕ, Bool, true, false, List, Option, IsNone, IsSome, IfSome}
 use Rattle.minisign_base.specs.Fault.{Named}
 use Rattle.minisign_base.specs.declared.faults.NamedFault.TheVariants.{OutOfMemory}
 use Rattle.minisign.specs.Acceptance.{Verifier}
@@ -8,6 +8,7 @@ use Rattle.minisign_install.specs.Folders.{Run}
 use Rattle.minisign_install.specs.Hosts.{Explains, Host, Makes, Setting}
 use Rattle.minisign_install.specs.Installing.{IsVouched, Terms}
 use Rattle.minisign_install.specs.Names.{drawn_bytes}
+use Rattle.minisign_install.specs.Order.{due_number}
 use Rattle.minisign_install.specs.Refusals.{Counts}
 use Rattle.minisign_install.specs.declared.calls.Stage.{Stage}
 use Rattle.minisign_install.specs.declared.calls.Work.{Work}
@@ -108,26 +109,7 @@ pub record Went (s : Setting) (due : Due InstallFault) (outcome : Outcome Instal
 
 -- how many calls there may still be
 abbrev pub calls_left : {E : Type 0} → Due E → ℕ
-calls_left Lock = 18
-calls_left Clear = 17
-calls_left ReadRecord = 16
-calls_left (Create kept) = 15
-calls_left (Copy kept) = 14
-calls_left (ReadBack kept) = 13
-calls_left (Answer kept) = 12
-calls_left (TakeRights n) = 11
-calls_left (Settle n) = 10
-calls_left (CreateRecord n) = 9
-calls_left (WriteRecord n) = 8
-calls_left (SettleRecord n) = 7
-calls_left (RenameRecord n) = 6
-calls_left (SettleRecordName n) = 5
-calls_left (Rename n) = 4
-calls_left (SettleName n) = 3
-calls_left (RemoveRecord e) = 2
-calls_left (Remove e) = 1
-calls_left Installed = 0
-calls_left (Refused e) = 0
+calls_left due = 19 - due_number due
 
 -- what was done, or failed for this fault, or gave this number
 abbrev pub done_or : Result Unit InstallFault → Outcome InstallFault

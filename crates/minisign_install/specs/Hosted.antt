@@ -18,6 +18,7 @@ use Rattle.minisign_external.specs.declared.state.Refusal.TheVariants as asking
 use Rattle.minisign_install.specs.Comments.{Says}
 use Rattle.minisign_install.specs.HostNumbers.{install_number, numbering_number}
 use Rattle.minisign_install.specs.Installing.{IsKeptNumber, IsUpdate, Terms}
+pub use Rattle.minisign_install.specs.Order.{due_number}
 use Rattle.minisign_install.specs.Order.{fits, next}
 use Rattle.minisign_install.specs.Refusals.{IsCommentRefused, IsDataRefused, IsRecordRefused}
 use Rattle.minisign_install.specs.declared.comments.Numbering.{Numbering}
@@ -38,29 +39,6 @@ abbrev pub begun_mark : ℕ
 begun_mark = 7812726606361684333
 
 -- == What is due, in stored form ==
-
--- the number of a call
-abbrev pub due_number : Due ℕ → ℕ
-due_number Lock = 1
-due_number Clear = 2
-due_number ReadRecord = 3
-due_number (Create kept) = 4
-due_number (Copy kept) = 5
-due_number (ReadBack kept) = 6
-due_number (Answer kept) = 7
-due_number (TakeRights n) = 8
-due_number (Settle n) = 9
-due_number (CreateRecord n) = 10
-due_number (WriteRecord n) = 11
-due_number (SettleRecord n) = 12
-due_number (RenameRecord n) = 13
-due_number (SettleRecordName n) = 14
-due_number (Rename n) = 15
-due_number (SettleName n) = 16
-due_number (RemoveRecord e) = 17
-due_number (Remove e) = 18
-due_number ended.Installed = 19
-due_number (ended.Refused e) = 20
 
 -- the number of an update, or of the record, that comes with the call
 abbrev pub due_update : Due ℕ → ℕ

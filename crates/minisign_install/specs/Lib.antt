@@ -7,9 +7,7 @@ pub mod HostNumbers
 pub mod Hosted
 pub mod Hosting
 pub mod Hosts
-pub mod InMemory
 pub mod Installing
-pub mod Memory
 pub mod Names
 pub mod Order
 pub mod RecordTexts

@@ -5,6 +5,29 @@ use Rattle.minisign_install.specs.declared.order.Due.TheVariants.{Lock, Clear, R
 use Rattle.minisign_install.specs.declared.order.Outcome.{Outcome}
 use Rattle.minisign_install.specs.declared.order.Outcome.TheVariants.{Done, More, Number, Failed}
 
+-- the number of a call, in their order
+abbrev pub due_number : {E : Type 0} → Due E → ℕ
+due_number Lock = 1
+due_number Clear = 2
+due_number ReadRecord = 3
+due_number (Create kept) = 4
+due_number (Copy kept) = 5
+due_number (ReadBack kept) = 6
+due_number (Answer kept) = 7
+due_number (TakeRights n) = 8
+due_number (Settle n) = 9
+due_number (CreateRecord n) = 10
+due_number (WriteRecord n) = 11
+due_number (SettleRecord n) = 12
+due_number (RenameRecord n) = 13
+due_number (SettleRecordName n) = 14
+due_number (Rename n) = 15
+due_number (SettleName n) = 16
+due_number (RemoveRecord e) = 17
+due_number (Remove e) = 18
+due_number Installed = 19
+due_number (Refused e) = 20
+
 -- what is due once the call was done
 abbrev pub after_done : {E : Type 0} → Due E → Due E
 after_done Lock = Clear

@@ -9,7 +9,7 @@ ghost use Rattle.minisign_external.specs.Questions.{AnswersTexts, IsKeyText, rea
 ghost use Rattle.minisign_external.specs.States.{AreQuestions, HasEnded, IsFedState};
 ghost use Rattle.minisign_install.specs.Comments.{Says};
 ghost use Rattle.minisign_install.specs.HostNumbers.{install_number};
-ghost use Rattle.minisign_install.specs.Hosted.{GivesUpdate, IsAnswerRefusal, IsAskRefusal, IsAsking, IsCommentFault, IsJudged, KeepsRest, IsDue, numbering_of, wanted_by};
+ghost use Rattle.minisign_install.specs.Hosted.{GivesUpdate, IsAnswerRefusal, IsAskRefusal, IsAsking, IsCommentFault, IsJudged, KeepsRest, IsDue, due_of, numbering_of, wanted_by};
 ghost use Rattle.minisign_install.specs.Installing.{Terms};
 ghost use Rattle.minisign_install.specs.Refusals.{IsCommentRefused};
 ghost use Rattle.minisign_install.specs.declared.faults.InstallFault.TheVariants.{Library};
@@ -61,9 +61,9 @@ impl Installation {
         ensures refused { IfErr result (IsAskRefusal self.old self.new key.now sig_text.now file.now (length message.old)) }
         ensures kept { OnErr result (message.new ≡ message.old) }
     {
-        if !self.is_answer_due() {
+        let Some(Due::Answer(kept)) = self.due() else {
             return Err(HostRefusal::WrongUse(Misuse::NotDue));
-        }
+        };
         let Ok(file) = str::from_utf8(file) else {
             let fault = InstallFault::Library(NamedFault::NotUtf8.into());
             self.remove_for(&fault);
@@ -71,7 +71,7 @@ impl Installation {
         };
         match self.state.ask_fed(key, sig_text, false, questions, message) {
             Ok(comment) => {
-                self.keep_judgement(comment, file, moment);
+                self.keep_judgement(comment, file, moment, kept);
                 Ok(())
             }
             Err(Refusal::WrongUse(misuse)) => Err(HostRefusal::WrongUse(misuse)),
@@ -103,9 +103,9 @@ impl Installation {
         // The field that the number stands in stays.
         ensures field { numbering_of self.new ≡ numbering_of self.old }
     {
-        if !self.is_answer_due() {
+        let Some(Due::Answer(_)) = self.due() else {
             return Err(HostRefusal::WrongUse(Misuse::NotDue));
-        }
+        };
         match self.state.verdict(first, second) {
             Ok(()) => self.take_judgement(),
             Err(Refusal::WrongUse(misuse)) => Err(HostRefusal::WrongUse(misuse)),
@@ -117,24 +117,6 @@ impl Installation {
         }
     }
 
-    // Whether the answers of the scheme are due.
-    fn is_answer_due(&self) -> bool
-        ensures yes { result ≡ true → (kept : ℕ) × IsDue self.now (Answer kept) }
-        ensures no { result ≡ false → (kept : ℕ) → ¬ (IsDue self.now (Answer kept)) }
-    {
-        matches!(self.due(), Some(Due::Answer(_)))
-    }
-
-    // The number that was kept, where the answers of the scheme are due.
-    fn kept(&self) -> u64
-        ensures { (kept : ℕ) → IsDue self.now (Answer kept) → result ≡ kept }
-    {
-        match self.due() {
-            Some(Due::Answer(kept)) => kept,
-            _ => u64::MAX,
-        }
-    }
-
     // The stage is to be removed for this fault.
     fn remove_for(&mut self, fault: &InstallFault)
         ensures due { IsDue self.new (Remove (install_number fault.now)) }
@@ -143,15 +125,14 @@ impl Installation {
         self.set(Due::Remove(fault.number()));
     }
 
-    // Keeps what comes of the comment that was asked about.
-    fn keep_judgement(&mut self, comment: &str, file: &str, moment: u64)
-        ensures judged { (pk_text sig_text : List ℕ) (kept : ℕ) → IsDue self.old (Answer kept)
+    // Keeps what comes of the comment that was asked about, against the number that was kept.
+    fn keep_judgement(&mut self, comment: &str, file: &str, moment: u64, kept: u64)
+        ensures judged { (pk_text sig_text : List ℕ)
             → IsJudged self.new.comment self.new.update (wanted_by pk_text sig_text file.now (numbering_of self.old) moment) kept comment.now }
-        ensures due { (kept : ℕ) → IsDue self.old (Answer kept) → IsDue self.new (Answer kept) }
+        ensures due { due_of self.new ≡ due_of self.old }
         ensures state { self.new.state ≡ self.old.state }
         ensures numbering { self.new.numbering ≡ self.old.numbering }
     {
-        let kept = self.kept();
         match check_comment(comment, file, self.numbering(), moment, kept) {
             Ok(number) => {
                 self.comment = IS_UPDATE;

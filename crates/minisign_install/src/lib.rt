@@ -13,7 +13,6 @@ pub mod hosted_judging;
 pub mod hosting;
 pub mod installing;
 mod judging;
-pub mod memory;
 pub mod order;
 mod recording;
 pub mod stage_names;

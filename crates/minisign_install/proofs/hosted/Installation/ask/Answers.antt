@@ -1,20 +1,22 @@
 use Rattle.std.proofs.Common.{◌∙◌, List, ℕ, inr, refl, sym, subst, false}
 use Rattle.minisign_external.specs.States.{HasAsked, IsAskFedRefusal, IsMarkedTold}
 use Rattle.minisign_external.specs.declared.state.State.{State}
-use Rattle.minisign_install.specs.Hosted.{IsJudged, numbering_of, wanted_by}
+use Rattle.minisign_install.specs.Hosted.{IsDue, IsJudged, numbering_of, wanted_by}
+use Rattle.minisign_install.specs.declared.order.Due.TheVariants.{Answer}
 use Rattle.minisign_install.proofs.SignatureComments.{opened, trusted_in}
 use Rattle.minisign_install.proofs.hosted.Installation.ask.Goals as goal
 
 pub returns-in-Ok-ask_fed-clause-asking : goal.returns-in-Ok-ask_fed-clause-asking
 returns-in-Ok-ask_fed-clause-asking c =
-    let (kept, due) = c.if-not-is_answer_due.ensures.yes refl in
+    let kept = c.in-Some-Answer.kept in
+    let due : IsDue c.args.self.now (Answer kept) = cc in
     let a = c.args in
     let new = c.keep_judgement.new.self in
     let (t, opens, are, comment) = c.in-Ok-ask_fed.ensures.asked in (
       kept,
       due,
       λ pk_text keyed. record {
-        due = c.keep_judgement.ensures.due kept due;
+        due = c.keep_judgement.ensures.due ∙ due;
         key = a.key.now;
         keyed = keyed;
         asked = subst (λ (s : State). HasAsked s a.key.now a.sig_text.now false) (sym c.keep_judgement.ensures.state) c.in-Ok-ask_fed.ensures.asking.0;
@@ -24,13 +26,14 @@ returns-in-Ok-ask_fed-clause-asking c =
             c.in-Ok.ensures.cases.0
             (subst (λ (b : List ℕ). IsJudged new.comment new.update (wanted_by pk_text a.sig_text.now c.in-Ok.file.now (numbering_of a.self.now) a.moment) kept b)
             (comment ∙ trusted_in a.sig_text.now t x d (opened a.key.now a.sig_text.now t opens).0 read both)
-            (c.keep_judgement.ensures.judged pk_text a.sig_text.now kept due));
+            (c.keep_judgement.ensures.judged pk_text a.sig_text.now));
       },
     )
 
 pub returns-in-Err-Refused-clause-refused : goal.returns-in-Err-Refused-clause-refused
 returns-in-Err-Refused-clause-refused c =
-    let (kept, due) = c.if-not-is_answer_due.ensures.yes refl in
+    let kept = c.in-Some-Answer.kept in
+    let due : IsDue c.args.self.now (Answer kept) = cc in
     let rest = c.remove_for-in-Err-Refused.ensures.rest in (
       record {
         state = rest.state ∙ c.in-Err-Refused.ensures.kept.0;

@@ -1,4 +1,4 @@
-use Rattle.std.proofs.Common.{◌≤◌, ℕ, inl, inr, refl, subst}
+use Rattle.std.proofs.Common.{inl, inr, refl, subst}
 use Rattle.minisign_install.specs.Comments.{Says}
 use Rattle.minisign_install.specs.Hosted.{numbering_of, wanted_by}
 use Rattle.minisign_install.specs.Refusals.{IsCommentRefused}
@@ -6,21 +6,14 @@ use Rattle.minisign_install.specs.declared.comments.Numbering.{Numbering}
 use Rattle.minisign_install.proofs.hosted.Installation.keep_judgement.Goals as goal
 
 pub returns-in-Ok-clause-judged : goal.returns-in-Ok-clause-judged
-returns-in-Ok-clause-judged c = λ pk_text sig_text kept due.
-    inl (
-      refl,
-      subst (λ (f : Numbering). Says c.args.comment.now c.args.file.now f c.args.moment c.in-Ok.number) c.numbering.ensures c.in-Ok.ensures.says,
-      subst (λ (k : ℕ). k ≤ c.in-Ok.number) (c.kept-kept.ensures kept due) c.in-Ok.ensures.newer,
-    )
+returns-in-Ok-clause-judged c = λ pk_text sig_text.
+    inl (refl, subst (λ (f : Numbering). Says c.args.comment.now c.args.file.now f c.args.moment c.in-Ok.number) c.numbering.ensures c.in-Ok.ensures.says, c.in-Ok.ensures.newer)
 
 pub returns-in-Err-clause-judged : goal.returns-in-Err-clause-judged
-returns-in-Err-clause-judged c = λ pk_text sig_text kept due.
+returns-in-Err-clause-judged c = λ pk_text sig_text.
     let a = c.args in
     inr (
       _,
       c.number-self.ensures,
-      subst (λ (k : ℕ). IsCommentRefused (wanted_by pk_text sig_text a.file.now (numbering_of a.self.now) a.moment) k a.comment.now c.in-Err.fault)
-          (c.kept-kept.ensures kept due)
-          (subst (λ (f : Numbering). IsCommentRefused (wanted_by pk_text sig_text a.file.now f a.moment) c.kept-kept.result a.comment.now c.in-Err.fault) c.numbering.ensures
-          c.in-Err.ensures.refused),
+      subst (λ (f : Numbering). IsCommentRefused (wanted_by pk_text sig_text a.file.now f a.moment) a.kept a.comment.now c.in-Err.fault) c.numbering.ensures c.in-Err.ensures.refused,
     )

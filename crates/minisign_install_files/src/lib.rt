@@ -1,0 +1,13 @@
+//! Installs an update in a folder of real files: what an updater in Rattle calls.
+
+#![tactic(auto)]
+
+pub mod files;
+pub mod installing;
+pub mod interruptions;
+pub mod troubles;
+
+pub use files::FileFolder;
+pub use installing::install_files;
+pub use interruptions::Uninterrupted;
+pub use troubles::{Cause, Part, Trouble};

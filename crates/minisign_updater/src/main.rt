@@ -1,0 +1,90 @@
+//! The program `minisign_updater`, an example of an updater: `minisign_updater [--first] PK DATA SIG PLACE` installs the file
+//! DATA at PLACE if the texts in the files PK and SIG vouch for it. The toy scheme protects nothing. Its exit status is the
+//! number of the fault, as `include/minisign.h` has it, and 1 where the arguments are others.
+#![tactic(auto)]
+
+ghost use Rattle.std.specs.Prelude.{List, ℕ, OnOk};
+ghost use Rattle.minisign_install.specs.Installing.{IsVouched};
+ghost use Rattle.minisign_install.specs.declared.comments.Numbering.TheVariants.{Timestamp};
+ghost use Rattle.minisign_install_files.specs.Files.{name_of};
+
+use minisign::reading::read_text;
+use minisign_base::NamedFault;
+use minisign_base::devices::sources::ReaderSource;
+use minisign_base::scheme::Scheme;
+use minisign_base::toy::ToyScheme;
+use minisign_base::unix_timestamp;
+use minisign_install::{InstallFault, Numbering, Wanted};
+use minisign_install_files::{FileFolder, Trouble, Uninterrupted, install_files};
+use minisign_programs::arguments::{behind_program, read_arguments, words_of};
+use std::fs;
+use std::fs::File;
+use std::process::ExitCode;
+
+fn main(rt: HostRuntime) -> ExitCode {
+    let Ok(Some(arguments)) = read_arguments(&rt) else {
+        return ExitCode::FAILURE;
+    };
+    let Ok(words) = words_of(rt.alloc(), behind_program(arguments.as_slice())) else {
+        return ExitCode::FAILURE;
+    };
+    let (is_first, paths) = match words.as_slice() {
+        ["--first", paths @ ..] => (true, paths),
+        paths => (false, paths),
+    };
+    let [pk, data, sig, place] = paths else {
+        return ExitCode::FAILURE;
+    };
+    let Some(mut folder) = FileFolder::of_place(&rt, place, None) else {
+        return ExitCode::FAILURE;
+    };
+    match update(&rt, &ToyScheme::new(), pk, data, sig, is_first, &mut folder) {
+        Ok(()) => ExitCode::SUCCESS,
+        Err(fault) => {
+            let _ = eprintln!(rt; "error: {fault}");
+            if let Some(Trouble { part, cause }) = folder.trouble() {
+                if let Ok(path) = folder.shown(part) {
+                    let _ = eprintln!(rt; "error: {path}: {cause}");
+                }
+            }
+            ExitCode::from(fault.number() as u8)
+        }
+    }
+}
+
+// Installs the data that a file holds.
+fn update<S: Scheme>(
+    rt: &HostRuntime,
+    scheme: &S,
+    pk: &str,
+    data: &str,
+    sig: &str,
+    is_first: bool,
+    folder: &mut FileFolder<'_>,
+) -> Result<(), InstallFault>
+    // Success only if two texts vouch for some data, and the comment that was signed with it has the name of the place, and
+    // a timestamp, and had not expired at some moment, which is the one that the clock shows.
+    ensures { OnOk result ((pk_text sig_text : List ℕ) × (moment : ℕ)
+        × IsVouched (S.accepts scheme.now) (record { pk_text = pk_text; sig_text = sig_text; file = name_of folder.old; numbering = Timestamp; moment = moment })) }
+{
+    let pk_text = read_text(rt.alloc(), &mut ReaderSource::new(open(rt, pk)?))?;
+    let sig_text = read_text(rt.alloc(), &mut ReaderSource::new(open(rt, sig)?))?;
+    let mut update = ReaderSource::new(open(rt, data)?);
+    let wanted = Wanted {
+        pk_text: pk_text.as_str(),
+        sig_text: sig_text.as_str(),
+        file: folder.name(),
+        numbering: Numbering::Timestamp,
+        // Where the clock cannot be read, or shows a time before 1970, what expires has expired.
+        moment: unix_timestamp(rt).unwrap_or(u64::MAX),
+    };
+    install_files(rt, scheme, wanted, is_first, &mut update, folder)
+}
+
+// Opens a file, which is read on where a signal interrupts that.
+fn open(rt: &HostRuntime, path: &str) -> Result<Uninterrupted<File>, InstallFault> {
+    match fs::open(rt, path) {
+        Ok(file) => Ok(Uninterrupted(file)),
+        Err(_) => Err(NamedFault::ReadingFailed.into()),
+    }
+}
