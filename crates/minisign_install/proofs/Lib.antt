@@ -3,7 +3,6 @@ mod Checks
 mod Counts
 mod Driven
 mod Driving
-mod Expiry
 mod Fields
 mod InMemory
 mod Installs
