@@ -886,7 +886,8 @@ MINISIGN_MUST_USE enum minisign_error minisign_install_piece(
  */
 MINISIGN_MUST_USE enum minisign_error minisign_install_ask(
     minisign_installation *installation, const minisign_public_key *key, const uint8_t *sig_text, size_t sig_text_len,
-    const uint8_t *file, size_t file_len, uint64_t now, minisign_questions *questions, uint8_t *message, size_t room);
+    const uint8_t *file, size_t file_len, uint64_t now, minisign_questions *questions, uint8_t *message,
+    size_t room);
 
 /*
  * MINISIGN_DUE_ANSWER, then: what Ed25519 answered to the two questions. MINISIGN_OK, and MINISIGN_DUE_TAKE_RIGHTS
@@ -924,8 +925,8 @@ enum minisign_error minisign_install_error(const minisign_installation *installa
  * MINISIGN_OLDER_UPDATE. Does not allocate.
  */
 MINISIGN_MUST_USE enum minisign_error minisign_judge_comment(
-    const uint8_t *comment, size_t comment_len, const uint8_t *file, size_t file_len, uint32_t numbering, uint64_t now,
-    uint64_t kept, uint64_t *number);
+    const uint8_t *comment, size_t comment_len, const uint8_t *file, size_t file_len, uint32_t numbering,
+    uint64_t now, uint64_t kept, uint64_t *number);
 
 /* What an update is beside the one whose number is kept. */
 /* Offers, made by tools/header.py. */
@@ -941,18 +942,18 @@ enum minisign_offer {
 
 /*
  * Whether an update is newer than what is kept, by its signed comment: before its data is there. The comment is one
- * that minisign_comment_verdict has vouched for, which can be asked before a byte was fed: behind minisign_ask it stands
- * in the message, behind the 64 bytes of the signature. Nothing vouches for the data. The record is that of a place, as
- * minisign_install_record takes it, read whole and without the lock; or there is none.
+ * that minisign_comment_verdict has vouched for, which can be asked before a byte was fed: behind minisign_ask it
+ * stands in the message, behind the 64 bytes of the signature. Nothing vouches for the data. The record is that of
+ * a place, as minisign_install_record takes it, read whole and without the lock; or there is none.
  *
  * Writes a number of enum minisign_offer, and the number of the update, which has to name the file and not to have
- * expired, as minisign_install_ask says. With is_first 1 an update is newer where no
- * number of the field is kept; otherwise is_first is 0.
+ * expired, as minisign_install_ask says. With is_first 1 an update is newer where no number of the field is kept;
+ * otherwise is_first is 0.
  *
  * After an error nothing is written. The errors, in this order: MINISIGN_BAD_FIRST_FLAG; MINISIGN_BAD_NUMBERING;
- * MINISIGN_NOT_UTF8 of the comment or the name; MINISIGN_NO_RECORD, MINISIGN_DAMAGED_RECORD, MINISIGN_KEPT_BY_TIMESTAMP,
- * MINISIGN_KEPT_BY_VERSION, where is_first is 0; MINISIGN_OTHER_FILE; MINISIGN_NO_NUMBER; MINISIGN_BAD_EXPIRY or
- * MINISIGN_EXPIRED. Does not allocate.
+ * MINISIGN_NOT_UTF8 of the comment or the name; MINISIGN_NO_RECORD, MINISIGN_DAMAGED_RECORD,
+ * MINISIGN_KEPT_BY_TIMESTAMP, MINISIGN_KEPT_BY_VERSION, where is_first is 0; MINISIGN_OTHER_FILE;
+ * MINISIGN_NO_NUMBER; MINISIGN_BAD_EXPIRY or MINISIGN_EXPIRED. Does not allocate.
  */
 MINISIGN_MUST_USE enum minisign_error minisign_check_comment(
     const uint8_t *comment, size_t comment_len, const uint8_t *file, size_t file_len, uint32_t numbering,

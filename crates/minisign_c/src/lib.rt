@@ -681,7 +681,16 @@ pub extern "C" fn minisign_check_comment(
     ensures refused { 0 < result → IsCheckNumber comment.now file.now numbering moment is_first (Some record.now) result }
     ensures kept { 0 < result → (offer.new ≡ offer.old) × (number.new ≡ number.old) }
 {
-    check(comment, file, numbering, moment, is_first, Some(record), offer, number)
+    check(
+        comment,
+        file,
+        numbering,
+        moment,
+        is_first,
+        Some(record),
+        offer,
+        number,
+    )
 }
 
 /// The same where there is no record.
@@ -700,7 +709,9 @@ pub extern "C" fn minisign_check_first_comment(
     ensures refused { 0 < result → IsCheckNumber comment.now file.now numbering moment is_first None result }
     ensures kept { 0 < result → (offer.new ≡ offer.old) × (number.new ≡ number.old) }
 {
-    check(comment, file, numbering, moment, is_first, None, offer, number)
+    check(
+        comment, file, numbering, moment, is_first, None, offer, number,
+    )
 }
 
 // What an update is beside what was found of the record.

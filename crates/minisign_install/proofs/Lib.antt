@@ -2,7 +2,6 @@ mod Checks
 mod Counts
 mod Driven
 mod Driving
-mod Expiry
 mod Fields
 mod Installs
 mod Judgements

@@ -28,8 +28,8 @@ use Rattle.minisign_install.specs.declared.faults.InstallFault.{InstallFault}
 use Rattle.minisign_install.specs.declared.faults.InstallFault.TheVariants.{Library}
 use Rattle.minisign_install.specs.declared.folders.Name.TheVariants.{Record}
 
--- The trusted comment of the signature's text, where the key has signed it together with the signature, which is not over
--- the data itself; or the first case that fails. Nothing is said of any data.
+-- The trusted comment of the signature's text, where the key has signed it together with the signature, which is not
+-- over the data itself; or the first case that fails. Nothing is said of any data.
 abbrev pub signed_comment : Verifier → List ℕ → List ℕ → Result (List ℕ) Fault
 signed_comment accepts pk_text sig_text =
     and_then (read_public_key pk_text) (λ key.
@@ -45,9 +45,9 @@ abbrev pub offer_beside : Option ℕ → ℕ → Offer
 offer_beside (Some kept) n = if nat_le n kept then (if n == kept then Same else Older) else Newer
 offer_beside None n = Newer
 
--- What is answered of a signed comment by what the record was found to hold: the record is refused as installing refuses
--- it; otherwise the comment is, for another reason than its number; otherwise its number is told, and what that is beside the
--- kept one.
+-- What is answered of a signed comment by what the record was found to hold: the record is refused as installing
+-- refuses it; otherwise the comment is, for another reason than its number; otherwise its number is told, and what that
+-- is beside the kept one.
 abbrev pub IsOffered : Terms → Bool → Option (List ℕ) → List ℕ → Result (Offer × ℕ) InstallFault → Type 0
 IsOffered terms first found comment (Ok (offer, n)) =
     (kept : Option ℕ) × IsKeptOrNone terms.numbering first found kept × Says comment terms.file terms.numbering terms.moment n × (offer ≡ offer_beside kept n)
@@ -55,16 +55,17 @@ IsOffered terms first found comment (Err e) =
     IsRecordRefused terms.numbering first found e
     ⊎ ((kept : Option ℕ) × IsKeptOrNone terms.numbering first found kept × IsCommentRefused terms 0 comment e)
 
--- The answer by the texts and by what the record was found to hold: the first case of the texts that fails, otherwise what
--- is answered of the comment that was signed.
+-- The answer by the texts and by what the record was found to hold: the first case of the texts that fails, otherwise
+-- what is answered of the comment that was signed.
 abbrev pub CheckAnswers : Verifier → Terms → Bool → Option (List ℕ) → Result (Offer × ℕ) InstallFault → Type 0
 CheckAnswers accepts terms first found r =
     MatchResult (signed_comment accepts terms.pk_text terms.sig_text)
     (λ comment. IsOffered terms first found comment r)
     (λ f. r ≡ Err (Library f))
 
--- How a check ends. Memory runs out, or the texts are refused, before anything is asked of the folder. Otherwise the record
--- was read, by one call that changed nothing, and the answer is the one by what it was found to hold; or reading it failed.
+-- How a check ends. Memory runs out, or the texts are refused, before anything is asked of the folder. Otherwise the
+-- record was read, by one call that changed nothing, and the answer is the one by what it was found to hold; or reading
+-- it failed.
 abbrev pub ChecksSo : Verifier → Terms → Bool → ℕ → ℕ → Run → Run → Result (Offer × ℕ) InstallFault → Type 0
 ChecksSo accepts terms first before after old new r =
     ((r ≡ Err (Library (Named OutOfMemory))) × (new ≡ old) × (after ≡ before))
@@ -74,8 +75,8 @@ ChecksSo accepts terms first before after old new r =
     ⊎ ((comment : List ℕ) × (signed_comment accepts terms.pk_text terms.sig_text ≡ Ok comment)
     × (r ≡ Err (Library (Named ReadingFailed))) × Known old (Calls IsStill old new) × Rose before after)
 
--- the same of a signed comment that is handed in, and that was vouched for: it or the name is not UTF-8, or it is answered
--- as above
+-- the same of a signed comment that is handed in, and that was vouched for: it or the name is not UTF-8, or it is
+-- answered as above
 abbrev pub CommentChecksSo : List ℕ → Terms → Bool → Option (List ℕ) → Result (Offer × ℕ) InstallFault → Type 0
 CommentChecksSo comment terms first found r =
     ((r ≡ Err (Library (Named NotUtf8))) × ¬ (IsUtf8 comment × IsUtf8 terms.file))

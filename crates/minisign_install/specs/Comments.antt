@@ -66,8 +66,8 @@ pub record ExpiresAt (comment : List ℕ) (until : ℕ) : Type 0 where
 abbrev pub IsUnexpired : ℕ → List ℕ → Type 0
 IsUnexpired moment comment = NeverExpires comment ⊎ ((until : ℕ) × ExpiresAt comment until × (moment < until))
 
--- Why the field is refused at this moment: the update has expired; or there are more such fields than one, or one that has
--- no number.
+-- Why the field is refused at this moment: the update has expired; or there are more such fields than one, or one that
+-- has no number.
 abbrev pub IsExpiryRefused : ℕ → List ℕ → InstallFault → Type 0
 IsExpiryRefused moment comment e =
     ((e ≡ Expired) × ((until : ℕ) × ExpiresAt comment until × (until ≤ moment)))

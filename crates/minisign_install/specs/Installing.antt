@@ -12,8 +12,8 @@ use Rattle.minisign_install.specs.declared.folders.Name.{Name}
 use Rattle.minisign_install.specs.declared.wanted.Wanted.{Wanted}
 use Rattle.minisign_install.specs.declared.folders.Name.TheVariants.{Place, Record}
 
--- which updates are wanted: the two texts, the file's name, where the number stands, and at which moment they must not have
--- expired, in seconds since the beginning of 1970
+-- which updates are wanted: the two texts, the file's name, where the number stands, and at which moment they must not
+-- have expired, in seconds since the beginning of 1970
 pub record Terms : Type 0 where
   pub pk_text : List ℕ
   pub sig_text : List ℕ

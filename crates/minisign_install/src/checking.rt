@@ -1,5 +1,5 @@
-//! Whether an update is newer than what is kept, from its signature alone: before its data is there. Nothing is written,
-//! and no lock is taken.
+//! Whether an update is newer than what is kept, from its signature alone: before its data is there. Nothing is
+//! written, and no lock is taken.
 
 ghost use Rattle.std.specs.Prelude.{◌≡◌, ◌⊎◌, ◌≤◌, ℕ, [], List, Option, Ok, Err, false, option_map, IfErr, IfOk, MatchResult, length, take};
 ghost use Rattle.std.specs.Str.{IsUtf8};
@@ -40,12 +40,13 @@ pub enum Offer {
 /// Whether an update is newer than what is kept at a place, from the text of its signature: before its data is there.
 /// Returns what it is beside the kept number, and its own number, which comes behind the label of the wanted field.
 ///
-/// Nothing vouches for the data, which is judged when it is installed. With `is_first` an update is newer where no number
-/// of the field is kept. The folder is asked for its record alone, without the lock, and nothing is written.
+/// Nothing vouches for the data, which is judged when it is installed. With `is_first` an update is newer where no
+/// number of the field is kept. The folder is asked for its record alone, without the lock, and nothing is written.
 ///
-/// The refusals come in this order: want of memory; the first failing case of the public key text, of the signature text,
-/// and of the signature of its comment under the key; a record that cannot be read; one that installing refuses; a comment
-/// that names another file, has no number, or has expired. Takes as much memory as the text of the signature has bytes, and the record.
+/// The refusals come in this order: want of memory; the first failing case of the public key text, of the signature
+/// text, and of the signature of its comment under the key; a record that cannot be read; one that installing refuses;
+/// a comment that names another file, has no number, or has expired. Takes as much memory as the text of the signature
+/// has bytes, and the record.
 pub fn check_update<S: Scheme, F: Folder>(
     alloc: Global,
     scheme: &S,
@@ -53,11 +54,11 @@ pub fn check_update<S: Scheme, F: Folder>(
     is_first: bool,
     folder: &mut F,
 ) -> Result<(Offer, u64), InstallFault>
-    // The answer is the one by what the record was found to hold, which one call told that changed nothing: the first case
-    // of the texts that fails; else the refusal of the record; else that of the signed comment; else the number that the
-    // comment has for the wanted field, and what that is beside the kept one (`CheckAnswers`, `IsOffered`, `offer_beside`).
-    // Before the texts have passed nothing is asked of the folder. Only memory can run out besides, with nothing asked, or
-    // reading the record fail, which is counted.
+    // The answer is the one by what the record was found to hold, which one call told that changed nothing: the first
+    // case of the texts that fails; else the refusal of the record; else that of the signed comment; else the number
+    // that the comment has for the wanted field, and what that is beside the kept one (`CheckAnswers`, `IsOffered`,
+    // `offer_beside`). Before the texts have passed nothing is asked of the folder. Only memory can run out besides,
+    // with nothing asked, or reading the record fail, which is counted.
     ensures outcome { ChecksSo (S.accepts scheme.now) (terms_of wanted.entry) is_first (F.folder_faults folder.old) (F.folder_faults folder.new) (F.run folder.old) (F.run folder.new) result }
 {
     match comment_of(alloc, scheme, wanted.pk_text, wanted.sig_text) {
@@ -84,8 +85,8 @@ pub fn check_update<S: Scheme, F: Folder>(
     }
 }
 
-/// The same of a signed comment that something has vouched for, and of what the record was found to hold, for hosts that
-/// read it themselves: its bytes, or that there is none. Does not allocate.
+/// The same of a signed comment that something has vouched for, and of what the record was found to hold, for hosts
+/// that read it themselves: its bytes, or that there is none. Does not allocate.
 ///
 /// A comment or a name that is not UTF-8 is refused first.
 pub fn check_comment_offer(
@@ -148,8 +149,8 @@ fn beside(kept: Option<u64>, number: u64) -> Offer
     }
 }
 
-// The number that the record holds for the field, by what it was found to hold; where it holds none, there is none, if this
-// is the first installation.
+// The number that the record holds for the field, by what it was found to hold; where it holds none, there is none, if
+// this is the first installation.
 fn kept_in(
     found: Option<&[u8]>,
     numbering: Numbering,
@@ -187,8 +188,8 @@ fn comment_of<'a, S: Scheme>(
     )
 }
 
-// Reads the key, asks about the comment, has the scheme answer, and gives the verdict on it. The message of the question is
-// written to `message`.
+// Reads the key, asks about the comment, has the scheme answer, and gives the verdict on it. The message of the
+// question is written to `message`.
 fn judged_comment<'a, S: Scheme>(
     scheme: &S,
     pk_text: &[u8],

@@ -101,7 +101,8 @@ fn is_named_again(rest: Option<&str>, label: &str) -> bool
     }
 }
 
-// What stands behind the label in the first field that begins with it, and the fields behind that one, where there are any.
+// What stands behind the label in the first field that begins with it, and the fields behind that one, where there are
+// any.
 fn first_value<'a>(comment: &'a str, label: &str) -> Option<(&'a str, Option<&'a str>)>
     ensures { MatchOption result (values_of label.now comment.now ≡ [])
         (λ (v, rest). MatchOption rest (values_of label.now comment.now ≡ v.now ∷ []) (λ more. values_of label.now comment.now ≡ v.now ∷ values_of label.now more.now)) }

@@ -88,9 +88,9 @@ impl Installation {
     /// one; otherwise the stage is to be removed, for the first reason.
     pub fn answer(&mut self, first: bool, second: bool) -> Result<(), HostRefusal>
         // **For every relation that answers the two questions so, and every message: the rights are due, for the number n,
-        // exactly where the texts vouch for the message, not by a signature over the data itself, and the comment that was
-        // signed with it names the file, has not expired at the moment of asking, and has the number n, which is not below
-        // the kept one. Otherwise the stage is to be removed, and the run is refused for the first reason.**
+        // exactly where the texts vouch for the message, not by a signature over the data itself, and the comment that
+        // was signed with it names the file, has not expired at the moment of asking, and has the number n, which is not
+        // below the kept one. Otherwise the stage is to be removed, and the run is refused for the first reason.**
         ensures answer { (terms : Terms) (kept : ℕ) (message : List ℕ) (accepts : Verifier)
             → IsAsking self.old terms kept → AnswersTexts accepts terms.pk_text terms.sig_text message first second
             → GivesUpdate accepts terms kept message self.new result }
@@ -179,8 +179,8 @@ fn comment_fault(number: u32) -> InstallFault
     }
 }
 
-/// Judges a signed comment by itself, for hosts that install in other ways: its number, where it names the file, has not
-/// expired at this moment, in seconds since the beginning of 1970, and has one that is not below the kept one.
+/// Judges a signed comment by itself, for hosts that install in other ways: its number, where it names the file, has
+/// not expired at this moment, in seconds since the beginning of 1970, and has one that is not below the kept one.
 pub fn judge_comment(
     comment: &[u8],
     file: &[u8],

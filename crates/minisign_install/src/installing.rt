@@ -33,8 +33,8 @@ use std::alloc::Global;
 /// comment: `OtherFile`, where it does not name the wanted file; `NoNumber`, where it has no number
 /// below 2^64 in the wanted field; `BadExpiry`, where it has the field `expires:` twice or without such
 /// a number, and `Expired`, where the moment that was passed is not below that; `OlderUpdate`, where
-/// the number is below the kept one. The same number may be installed again. Then it gives the file the rights of the one at the place and
-/// brings it to the disk, keeps the number, on the disk, and last gives the file the place's name
+/// the number is below the kept one. The same number may be installed again. Then it gives the file
+/// the rights of the one at the place and brings it to the disk, keeps the number, on the disk, and last gives the file the place's name
 /// and brings the folder to the disk.
 ///
 /// A device that fails is `ReadingFailed`, `WritingFailed` or `RandomSourceFailed`, and memory
@@ -58,7 +58,8 @@ pub fn install_update<S: Scheme, Z: RandomSource, R: Source, F: Folder>(
 ) -> Result<(), InstallFault>
     // Each call of the run leaves at the place what could be found there just before it, or brings
     // an update that the two texts vouch for, whose signed comment names the file, has not expired at
-    // the moment that was passed, and has a number not below the kept one; and to the record only the number of such an update, behind the label
+    // the moment that was passed, and has a number not below the kept one; and to the record only the
+    // number of such an update, behind the label
     // of its field; through any crash, and whatever other processes do that leave the run's own
     // stages alone, and the record while this run holds the lock (`InstallsOnly`, `IsUpdate`,
     // `OthersLeave`).
