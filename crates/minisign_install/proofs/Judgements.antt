@@ -1,5 +1,5 @@
 -- Whether what a state was fed is an update.
-use Rattle.std.proofs.Common.{◌≡◌, ◌⊎◌, inl, inr, ◌≤◌, ◌+◌, ◌++◌, ◌∙◌, if◌then◌else◌, nat_le, ℕ, Bool, true, false, List, Some, length, take, ap, sym, subst, refl, arith, IsTrue, MatchResult}
+use Rattle.std.proofs.Common.{◌≡◌, ◌⊎◌, inl, inr, ◌≤◌, ◌+◌, ◌++◌, ◌∙◌, if◌then◌else◌, nat_le, ℕ, Bool, true, false, List, length, take, ap, sym, subst, refl, IsTrue, MatchResult}
 use Rattle.std.proofs.lemmas.Bool.{true≢false}
 use Rattle.std.specs.Str.{IsUtf8}
 use Rattle.std.proofs.lemmas.Str.{is_utf8-from_IsUtf8}
@@ -12,7 +12,7 @@ use Rattle.minisign.specs.Acceptance.{Verifier, signed_bytes}
 use Rattle.minisign.specs.Calls.{TextsVouchWith}
 use Rattle.minisign.specs.Headline.{TextsVouchFor, verdict}
 use Rattle.minisign.specs.PublicKeyText.{read_public_key}
-use Rattle.minisign.specs.Records.{CommentsRecord, PublicKeyRecord, SignatureBoxRecord, is_prehashed}
+use Rattle.minisign.specs.Records.{CommentsRecord, PublicKeyRecord, is_prehashed}
 use Rattle.minisign.specs.SignatureText.{SignatureTextRecord, box_of, read_signature}
 use Rattle.minisign_external.specs.PublicKeys.{read_utf8, told_key, value_of}
 use Rattle.minisign_external.specs.Questions.{Answers, AnswersTexts, IsKeyText, has_whole_signature, read_under, told_signature}

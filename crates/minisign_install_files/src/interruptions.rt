@@ -12,7 +12,10 @@ pub struct Uninterrupted<R: Read + Drop>(pub R);
 
 impl<R: Read + Drop> Read for Uninterrupted<R> {
     fn read(&mut self, buf: &mut [u8]) -> io::Result<usize> {
-        again(|| self.0.read(buf))
+        match again(|| self.0.read(buf)) {
+            Ok(n) if n > buf.len() => Err(ErrorKind::InvalidData.into()),
+            answer => answer,
+        }
     }
 }
 

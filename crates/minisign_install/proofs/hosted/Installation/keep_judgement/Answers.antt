@@ -1,6 +1,6 @@
 use Rattle.std.proofs.Common.{inl, inr, refl, subst}
 use Rattle.minisign_install.specs.Comments.{Says}
-use Rattle.minisign_install.specs.Hosted.{numbering_of, wanted_by}
+use Rattle.minisign_install.specs.Hosted.{wanted_by}
 use Rattle.minisign_install.specs.Refusals.{IsCommentRefused}
 use Rattle.minisign_install.specs.declared.comments.Numbering.{Numbering}
 use Rattle.minisign_install.proofs.hosted.Installation.keep_judgement.Goals as goal
