@@ -13,7 +13,7 @@
  * takes the two answers. To sign: a secret key is opened; the data is fed; minisign_digest tells what is signed
  * first; the key and the two signatures make the text.
  *
- * What is proved, for a caller that keeps "Requirements" below: what each call answers and writes, as the contract of
+ * What is proved, for a caller that meets "Requirements" below: what each call answers and writes, as the contract of
  * its export says in crates/minisign_c/src/lib.rt of the sources. By tests alone is shown: that what was taken from
  * malloc is cleared and given back, and that no secret stays behind on the stack or in registers; that
  * MINISIGN_TEXT_BYTES is room enough; what c/boundary.c, c/allocation.c and c/clearing.c do, which stand between this
