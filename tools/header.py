@@ -35,6 +35,7 @@ STATE = "crates/minisign_external/src/state.rt"
 NUMBERS = "crates/minisign_external/src/numbers.rt"
 PUBLIC_KEYS = "crates/minisign_external/src/public_keys.rt"
 SECRETS = "crates/minisign_external/src/secrets.rt"
+UNOPENED_KEYS = "crates/minisign_external/src/unopened_keys.rt"
 STORED = "crates/minisign_hash/src/blake2b/stored.rt"
 EXPORTS = "crates/minisign_c/src/lib.rt"
 MAKING = "crates/minisign/src/making.rt"
@@ -67,7 +68,8 @@ COLUMNS = 116
 
 # The structs of C, with those of the crate; the fields of the first are the library's.
 STRUCTS = (("minisign_state", "State", False), ("minisign_public_key", "PublicKeyValue", True),
-           ("minisign_questions", "Questions", True), ("minisign_secret_key", "SecretKeyValue", True),
+           ("minisign_questions", "Questions", True), ("minisign_unopened_key", "UnopenedKeyValue", True),
+           ("minisign_secret_key", "SecretKeyValue", True),
            ("minisign_sealing", "Sealing", True), ("minisign_installation", "Installation", False))
 
 SIZES = {"u8": 1, "u32": 4, "u64": 8}
@@ -276,7 +278,7 @@ def table_text(numbers):
 
 def fields_of(struct):
     """The fields of a struct of the crates with the layout of C, with their types."""
-    for file in (STATE, PUBLIC_KEYS, SECRETS, STORED, MAKING, HOSTED):
+    for file in (STATE, PUBLIC_KEYS, SECRETS, UNOPENED_KEYS, STORED, MAKING, HOSTED):
         if f"struct {struct} " in source_text(file):
             text = item_text(file, "struct", struct)
             if "#[repr(C)]" not in text:

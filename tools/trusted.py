@@ -25,7 +25,8 @@ OVER_DEVICES = (("verify_texts", "headline"), ("SecretKey::from_box", "headline"
 # The calls from C that verify, sign and make keys, by the exports of `minisign_c`, and the clauses that say what they are for.
 FROM_C_CALLS = (("minisign_read_public_key", ""), ("minisign_read_bare_public_key", ""), ("minisign_ask", "number"), ("minisign_ask", "asked"), ("minisign_ask", "asking"),
                 ("minisign_update", "fed"), ("minisign_digest", "digest"), ("minisign_comment_verdict", "verdict"),
-                ("minisign_verdict", "verdict"), ("minisign_open_secret_key", "opened"), ("minisign_public_key_of", ""),
+                ("minisign_verdict", "verdict"), ("minisign_read_secret_key", "read"), ("minisign_read_secret_key", "opens"),
+                ("minisign_open_secret_key", "opened"), ("minisign_public_key_of", ""),
                 ("minisign_signed_text", "text"), ("minisign_take_secret_key", ""), ("minisign_secret_key_text", "text"),
                 ("minisign_public_key_text", "text"))
 HEADLINE_FILE = "crates/minisign/specs/Headline.antt"

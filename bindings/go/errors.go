@@ -63,6 +63,7 @@ const (
 	ErrFolderNotOnDisk          = Error(C.MINISIGN_FOLDER_NOT_ON_DISK)
 	ErrKeptByTimestamp          = Error(C.MINISIGN_KEPT_BY_TIMESTAMP)
 	ErrKeptByVersion            = Error(C.MINISIGN_KEPT_BY_VERSION)
+	ErrKeyNotRead               = Error(C.MINISIGN_KEY_NOT_READ)
 	ErrReadingFailed            = Error(C.MINISIGN_READING_FAILED)
 	ErrWritingFailed            = Error(C.MINISIGN_WRITING_FAILED)
 	ErrRandomSourceFailed       = Error(C.MINISIGN_RANDOM_SOURCE_FAILED)

@@ -33,6 +33,17 @@ pub struct Questions {
 
 /// In one place from its beginning to its end, where it is cleared.
 #[repr(C)]
+struct UnopenedKey {
+    mark: u64,
+    bytes: [u8; 158],
+    is_sealed: u8,
+    log2_rows: u8,
+    work: u32,
+    reserved: u32,
+}
+
+/// In one place from its beginning to its end, where it is cleared.
+#[repr(C)]
 pub struct SecretKey {
     mark: u64,
     pub key_id: [u8; 8],
@@ -57,7 +68,8 @@ extern "C" {
     fn minisign_ask(state: *mut State, key: *const PublicKey, sig_text: *const u8, sig_text_len: usize, allow_legacy: u32,
         questions: *mut Questions, message: *mut u8, room: usize) -> u32;
     fn minisign_verdict(state: *mut State, first: u32, second: u32) -> u32;
-    fn minisign_open_secret_key(sk_text: *const u8, sk_text_len: usize, with_password: u32, password: *const u8, password_len: usize,
+    fn minisign_read_secret_key(sk_text: *const u8, sk_text_len: usize, unopened: *mut UnopenedKey) -> u32;
+    fn minisign_open_secret_key(unopened: *const UnopenedKey, with_password: u32, password: *const u8, password_len: usize,
         keep_every: u64, greatest_work: u32, key: *mut SecretKey) -> u32;
     fn minisign_take_secret_key(key_id: *const u8, secret: *const u8, key: *mut SecretKey);
     fn minisign_public_key_of(key: *const SecretKey, public_key: *mut PublicKey) -> u32;
@@ -139,6 +151,20 @@ impl State {
     }
 }
 
+impl UnopenedKey {
+    fn read(text: &str) -> Result<Box<UnopenedKey>, Reason> {
+        let mut key = Box::new(UnopenedKey { mark: 0, bytes: [0; 158], is_sealed: 0, log2_rows: 0, work: 0, reserved: 0 });
+        done(unsafe { minisign_read_secret_key(text.as_ptr(), text.len(), &mut *key) })?;
+        Ok(key)
+    }
+}
+
+impl Drop for UnopenedKey {
+    fn drop(&mut self) {
+        clear(&mut self.bytes);
+    }
+}
+
 impl SecretKey {
     fn none() -> Box<SecretKey> {
         Box::new(SecretKey { mark: 0, key_id: [0; 8], secret: [0; 64] })
@@ -151,9 +177,9 @@ impl SecretKey {
     }
 
     pub fn open(text: &str, password: Option<&str>, keep: u64, work: u32) -> Result<Box<SecretKey>, Reason> {
-        let (mut key, sealed, typed) = (Self::none(), password.is_some().into(), password.unwrap_or_default());
-        let (from, len, typed, typed_len) = (text.as_ptr(), text.len(), typed.as_ptr(), typed.len());
-        done(unsafe { minisign_open_secret_key(from, len, sealed, typed, typed_len, keep, work, &mut *key) })?;
+        let (mut key, unopened) = (Self::none(), UnopenedKey::read(text)?);
+        let (sealed, typed) = (password.is_some().into(), password.unwrap_or_default());
+        done(unsafe { minisign_open_secret_key(&*unopened, sealed, typed.as_ptr(), typed.len(), keep, work, &mut *key) })?;
         Ok(key)
     }
 

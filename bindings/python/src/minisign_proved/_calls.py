@@ -116,8 +116,12 @@ class SecretKey:
 
     @classmethod
     def open(cls, text: bytes, password: Optional[bytes], keep_every: int, greatest_work: int) -> "SecretKey":
-        key = cls()
-        _library.minisign_open_secret_key(*_sized(text), 0 if password is None else 1, *_sized(password), keep_every, greatest_work, key._key)
+        unopened, key = h.UnopenedKey(), cls()
+        try:
+            _library.minisign_read_secret_key(*_sized(text), unopened)
+            _library.minisign_open_secret_key(unopened, 0 if password is None else 1, *_sized(password), keep_every, greatest_work, key._key)
+        finally:
+            ctypes.memset(ctypes.byref(unopened), 0, ctypes.sizeof(unopened))
         return key
 
     def public_key(self) -> PublicKey:

@@ -81,6 +81,17 @@ class Questions(Structure):
     ]
 
 
+class UnopenedKey(Structure):
+    _fields_ = [
+        ("mark", c_uint64),
+        ("bytes", c_ubyte * 158),
+        ("is_sealed", c_ubyte),
+        ("log2_rows", c_ubyte),
+        ("work", c_uint32),
+        ("reserved", c_uint32),
+    ]
+
+
 class SecretKey(Structure):
     _fields_ = [
         ("mark", c_uint64),
@@ -125,8 +136,10 @@ def declare(library: CDLL, error: Callable[[int], object]) -> None:
     library.minisign_comment_verdict.argtypes = (POINTER(State), c_uint32)
     library.minisign_verdict.restype = error
     library.minisign_verdict.argtypes = (POINTER(State), c_uint32, c_uint32)
+    library.minisign_read_secret_key.restype = error
+    library.minisign_read_secret_key.argtypes = (c_void_p, c_size_t, POINTER(UnopenedKey))
     library.minisign_open_secret_key.restype = error
-    library.minisign_open_secret_key.argtypes = (c_void_p, c_size_t, c_uint32, c_void_p, c_size_t, c_uint64, c_uint32, POINTER(SecretKey))
+    library.minisign_open_secret_key.argtypes = (POINTER(UnopenedKey), c_uint32, c_void_p, c_size_t, c_uint64, c_uint32, POINTER(SecretKey))
     library.minisign_take_secret_key.restype = None
     library.minisign_take_secret_key.argtypes = (c_void_p, c_void_p, POINTER(SecretKey))
     library.minisign_public_key_of.restype = error

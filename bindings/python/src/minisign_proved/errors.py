@@ -334,6 +334,12 @@ class KeptByVersion(MinisignError):
     number = 54
 
 
+class KeyNotRead(MinisignError):
+    """A secret key that is to be opened was not read."""
+
+    number = 63
+
+
 class ReadingFailed(MinisignError):
     """A source, a file or a prompt's reader failed at a read."""
 
@@ -407,6 +413,7 @@ BY_NUMBER: "dict[int, type[MinisignError]]" = {
     52: FolderNotOnDisk,
     53: KeptByTimestamp,
     54: KeptByVersion,
+    63: KeyNotRead,
     64: ReadingFailed,
     65: WritingFailed,
     67: RandomSourceFailed,
