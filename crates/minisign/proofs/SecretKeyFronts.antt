@@ -25,7 +25,7 @@ longer bytes n k h = record {
   front = (
     h.front.0 ++ drop n bytes,
     sym (take-append-drop n bytes) ∙ ap (λ (x : List ℕ). x ++ drop n bytes) h.front.1
-    ∙ append_assoc (secret_key_bytes k) h.front.0 (drop n bytes),
+        ∙ append_assoc (secret_key_bytes k) h.front.0 (drop n bytes),
   );
 }
 
@@ -34,10 +34,10 @@ module _ (line room bytes : List ℕ) (n : ℕ) (base64 : IsBase64Of line bytes)
   pub front_read : take n room ≡ take n bytes → 158 ≤ n → secret_key_in_line line ≡ Ok (secret_key_of_bytes (take 158 room))
   front_read front enough =
       let same : take 158 room ≡ take 158 bytes =
-          sym (take-take 158 n room enough) ∙ ap (λ (x : List ℕ). take 158 x) front ∙ take-take 158 n bytes enough in
+      sym (take-take 158 n room enough) ∙ ap (λ (x : List ℕ). take 158 x) front ∙ take-take 158 n bytes enough in
       let long : length (take 158 bytes) ≡ 158 = length-take-le 158 bytes (omega (arith, count, enough)) in
       let reads : ReadsSecretKey bytes (secret_key_of_bytes (take 158 bytes)) =
-          longer bytes 158 _ (key_in_front (take 158 bytes) (omega (arith, long))) in
+      longer bytes 158 _ (key_in_front (take 158 bytes) (omega (arith, long))) in
       line_is_read line bytes base64 ∙ bytes_are_read bytes _ reads ∙ ap (λ (x : List ℕ). Ok (secret_key_of_bytes x)) (sym same)
 
   -- a front that is too short is all of the bytes

@@ -219,10 +219,7 @@ pub extern "C" fn minisign_verdict(state: &mut State, first: u32, second: u32) -
 
 /// Reads the text of a secret key, which is not opened yet. Does not allocate.
 #[unsafe(no_mangle)]
-pub extern "C" fn minisign_read_secret_key(
-    sk_text: &[u8],
-    unopened: &mut UnopenedKeyValue,
-) -> u32
+pub extern "C" fn minisign_read_secret_key(sk_text: &[u8], unopened: &mut UnopenedKeyValue) -> u32
     // Whether the text is read is a function of the bytes, which have to be UTF-8: otherwise the number is that of the
     // first case that fails, and nothing is written.
     ensures number { result ≡ reading_number (read_utf8 read_secret_key sk_text.now) }
