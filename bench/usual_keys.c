@@ -41,10 +41,12 @@ static int make(uint64_t operations_limit, uint64_t memory_limit)
 
 static int open_key(void)
 {
-    minisign_secret_key key = { 0 };
+    minisign_unopened_key unopened;
+    minisign_secret_key key;
 
-    return minisign_open_secret_key(text, text_len, 1, PASSWORD, sizeof PASSWORD - 1, MINISIGN_KEEP_EVERY_ROW,
-                                    MINISIGN_USUAL_WORK, &key) == MINISIGN_OK;
+    return minisign_read_secret_key(text, text_len, &unopened) == MINISIGN_OK
+           && minisign_open_secret_key(&unopened, 1, PASSWORD, sizeof PASSWORD - 1, MINISIGN_KEEP_EVERY_ROW,
+                                       MINISIGN_USUAL_WORK, &key) == MINISIGN_OK;
 }
 
 static int derive(void)

@@ -130,18 +130,31 @@ enum minisign_error minisign_verdict(minisign_state *state, enum minisign_answer
     return (enum minisign_error) CALL(minisign_verdict)(state, first, second);
 }
 
-PROVED(uint32_t, minisign_open_secret_key, (const uint8_t *, size_t, uint32_t, const uint8_t *, size_t, uint64_t,
-                                            uint32_t, minisign_secret_key *));
+PROVED(uint32_t, minisign_read_secret_key, (const uint8_t *, size_t, minisign_unopened_key *));
 
-enum minisign_error minisign_open_secret_key(const uint8_t *sk_text, size_t sk_text_len, uint32_t with_password,
+enum minisign_error minisign_read_secret_key(const uint8_t *sk_text, size_t sk_text_len,
+                                             minisign_unopened_key *unopened)
+{
+    enum minisign_error result;
+
+    result = (enum minisign_error) CALL(minisign_read_secret_key)(READ(sk_text, sk_text_len), sk_text_len,
+                                                                  unopened);
+    minisign_clear_used();
+    return result;
+}
+
+PROVED(uint32_t, minisign_open_secret_key, (const minisign_unopened_key *, uint32_t, const uint8_t *, size_t,
+                                            uint64_t, uint32_t, minisign_secret_key *));
+
+enum minisign_error minisign_open_secret_key(const minisign_unopened_key *unopened, uint32_t with_password,
                                              const uint8_t *password, size_t password_len, uint64_t keep_every,
                                              uint32_t greatest_work, minisign_secret_key *key)
 {
     enum minisign_error result;
 
-    result = (enum minisign_error) CALL(minisign_open_secret_key)(READ(sk_text, sk_text_len), sk_text_len,
-                                                                  with_password, READ(password, password_len),
-                                                                  password_len, keep_every, greatest_work, key);
+    result = (enum minisign_error) CALL(minisign_open_secret_key)(unopened, with_password,
+                                                                  READ(password, password_len), password_len,
+                                                                  keep_every, greatest_work, key);
     minisign_clear_used();
     return result;
 }

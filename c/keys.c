@@ -34,9 +34,6 @@
 /* scrypt's N of a key of Minisign's own limits, which makes so many rows once, as a power of two. */
 #define USUAL_LOG2 20
 
-/* Where the limits of a key stand in its record, and how many bytes that has. */
-enum { OPERATIONS_AT = 38, MEMORY_AT = 46, RECORD_BYTES = 158 };
-
 /* Where memory is short, at least one of so many rows of a key derivation is kept. */
 #define MOST_ROWS_APART 256
 
@@ -85,62 +82,10 @@ static bool keep_fewer(enum minisign_error error, uint32_t *rows)
 
 /* ---- The work of opening ---- */
 
-static uint64_t number_at(const uint8_t *bytes)
-{
-    uint64_t number = 0;
-
-    for (int i = 7; i >= 0; i--) {
-        number = number << 8 | bytes[i];
-    }
-    return number;
-}
-
-/* Scrypt's N, as a power of two, and its p: as libsodium takes them from the limits of a key. */
-struct work {
-    int log2;
-    uint64_t times;
-};
-
-/* The work that the key of the text asks for: none where it is no text of a key, of which the library says the same. */
-static struct work work_of_text(void)
-{
-    uint8_t *record = secrets->record;
-    uint64_t operations, memory, greatest;
-    struct work work = { 1, 1 };
-    uint8_t *line = memchr(secrets->text, '\n', secrets->text_len), *end;
-    size_t len;
-
-    if (line == NULL) {
-        return work;
-    }
-    len = secrets->text_len - (size_t) (++line - secrets->text);
-    end = memchr(line, '\n', len);
-    len = end == NULL ? len : (size_t) (end - line);
-    len -= len > 0 && line[len - 1] == '\r';
-    if (sodium_base642bin(record, sizeof secrets->record, (const char *) line, len, NULL, &len, NULL,
-                          sodium_base64_VARIANT_ORIGINAL)
-            != 0
-        || len < RECORD_BYTES) {
-        return work;
-    }
-    operations = number_at(record + OPERATIONS_AT);
-    memory = number_at(record + MEMORY_AT);
-    operations = operations < 32768 ? 32768 : operations;
-    greatest = operations < memory / 32 ? operations / 32 : memory / 1024;
-    while (work.log2 < 63 && UINT64_C(1) << work.log2 <= greatest / 2) {
-        work.log2++;
-    }
-    if (operations >= memory / 32) {
-        work.times = ((operations / 4) >> work.log2) / 8;
-    }
-    return work;
-}
-
-/* The greatest p that may be, so that N times p stays within what is allowed. */
+/* The greatest p of scrypt that may be, so that its N times p stays within what is allowed. */
 static uint32_t greatest_times(const struct options *options)
 {
-    struct work work = work_of_text();
-    uint64_t most = ((uint64_t) options->work << USUAL_LOG2) >> work.log2;
+    uint64_t most = ((uint64_t) options->work << USUAL_LOG2) >> secrets->unopened.log2_rows;
 
     return most < 1 ? 1 : most > UINT32_MAX ? UINT32_MAX : (uint32_t) most;
 }
@@ -148,8 +93,8 @@ static uint32_t greatest_times(const struct options *options)
 /* Says what would allow a key that asks for more work. */
 static void say_work(const struct options *options)
 {
-    struct work work = work_of_text();
-    uint64_t times = ((work.times << work.log2) + (UINT64_C(1) << USUAL_LOG2) - 1) >> USUAL_LOG2;
+    const minisign_unopened_key *key = &secrets->unopened;
+    uint64_t times = (((uint64_t) key->work << key->log2_rows) + (UINT64_C(1) << USUAL_LOG2) - 1) >> USUAL_LOG2;
 
     fprintf(stderr, "%s: opening this key takes %" PRIu64 " times the work of a usual one: -K %" PRIu64 " allows that\n",
             visible(options->secret_file), times, times);
@@ -164,15 +109,15 @@ static void clear_passwords(void)
     sodium_memzero(&secrets->again, sizeof secrets->again);
 }
 
-/* Opens the key of the text: without its password, or with it. */
-static enum minisign_error open_text(const struct options *options, uint32_t with_password)
+/* Opens the key that was read: without a password, or with the one that was typed. */
+static enum minisign_error open_read(const struct options *options, uint32_t with_password)
 {
     uint32_t rows = options->rows, times = greatest_times(options);
     enum minisign_error error;
 
     do {
-        error = minisign_open_secret_key(secrets->text, secrets->text_len, with_password, secrets->password.bytes,
-                                         secrets->password.len, rows, times, &secrets->open);
+        error = minisign_open_secret_key(&secrets->unopened, with_password, secrets->password.bytes, secrets->password.len,
+                                         rows, times, &secrets->open);
     } while (keep_fewer(error, &rows));
     return error;
 }
@@ -185,8 +130,9 @@ static enum minisign_error open_sealed(const struct options *options)
     fputs("Deriving a key from the password and decrypting the secret key... ", stdout);
     flush_file(stdout);
     begin_dots();
-    error = open_text(options, 1);
+    error = open_read(options, 1);
     end_dots();
+    clear_passwords();
     fputs("done\n\n", stdout);
     flush_file(stdout);
     if (error == MINISIGN_NOT_UTF8) {
@@ -200,10 +146,9 @@ void open_key(const struct options *options)
     enum minisign_error error;
 
     read_secret_text(options->secret_file);
-    error = open_text(options, 0);
-    if (error == MINISIGN_KEY_SEALED) {
-        error = open_sealed(options);
-        clear_passwords();
+    error = minisign_read_secret_key(secrets->text, secrets->text_len, &secrets->unopened);
+    if (error == MINISIGN_OK) {
+        error = secrets->unopened.is_sealed ? open_sealed(options) : open_read(options, 0);
     }
     if (error == MINISIGN_OK) {
         return;
@@ -219,7 +164,7 @@ void open_key(const struct options *options)
 
 bool has_own_halves(void)
 {
-    uint8_t *again = secrets->record, public_key[crypto_sign_PUBLICKEYBYTES];
+    uint8_t *again = secrets->pair, public_key[crypto_sign_PUBLICKEYBYTES];
 
     crypto_sign_seed_keypair(public_key, again, secrets->open.secret);
     minisign_clear_used();
@@ -364,12 +309,12 @@ static void put_pair(const struct options *options, const struct public_text *pu
 /* Draws a new key, which is open then. */
 static void draw_key(void)
 {
-    uint8_t *pair = secrets->record, public_key[crypto_sign_PUBLICKEYBYTES], key_id[sizeof secrets->open.key_id];
+    uint8_t public_key[crypto_sign_PUBLICKEYBYTES], key_id[sizeof secrets->open.key_id];
 
     randombytes_buf(key_id, sizeof key_id);
-    crypto_sign_keypair(public_key, pair);
+    crypto_sign_keypair(public_key, secrets->pair);
     minisign_clear_used();
-    minisign_take_secret_key(key_id, pair, &secrets->open);
+    minisign_take_secret_key(key_id, secrets->pair, &secrets->open);
 }
 
 int generate_keys(const struct options *options)

@@ -15,8 +15,6 @@
 
 /* A text of a secret key has to be shorter. */
 #define SECRET_TEXT_BYTES 8192
-/* Room for what the second line of one holds. */
-#define SECRET_RECORD_BYTES 192
 
 /*
  * All that is secret, in pages of their own that the system is asked to keep in memory and out of core files, and
@@ -26,11 +24,12 @@ struct secrets {
     /* The text of the file, or of what is written in its place. */
     uint8_t text[SECRET_TEXT_BYTES];
     size_t text_len;
-    /* The secret key, once it is open. */
+    /* The secret key, once it was read, and once it is open. */
+    minisign_unopened_key unopened;
     minisign_secret_key open;
     struct password password, again;
-    /* What is decoded or made of it for a moment. */
-    uint8_t record[SECRET_RECORD_BYTES];
+    /* A pair that Ed25519 has made. */
+    uint8_t pair[64];
 };
 
 extern struct secrets *secrets;

@@ -91,7 +91,8 @@ static void sign(uint8_t signature[64], const uint8_t *bytes, size_t len)
 
 /*
  * Makes the text of a legacy signature of one that is not: they differ in the second letter of the algorithm, and so in
- * the second letter of the second line.
+ * the second letter of the second line. The library makes none, so that no promise on what it signs has to except them;
+ * it verifies such a text.
  */
 static void turn_legacy(struct text *made)
 {

@@ -10,8 +10,8 @@
  * The calls stand in the order in which a program has things. To verify: a public key is read, from two lines or
  * from its base64 alone; minisign_ask takes the key and the text of a signature, rejects what is wrong with them,
  * and tells the two questions; the data is fed; minisign_digest completes the first question; minisign_verdict
- * takes the two answers. To sign: a secret key is opened; the data is fed; minisign_digest tells what is signed
- * first; the key and the two signatures make the text.
+ * takes the two answers. To sign: a secret key is read and opened; the data is fed; minisign_digest tells what is
+ * signed first; the key and the two signatures make the text.
  *
  * What is proved, for a caller that meets "Requirements" below: what each call answers and writes, as the contract of
  * its export says in crates/minisign_c/src/lib.rt of the sources. By tests alone is shown: that what was taken from
@@ -141,11 +141,13 @@
  *     static const char UNTRUSTED[] = "signature from the example of minisign.h";
  *
  *     static uint8_t text[TEXT_BYTES], password[TEXT_BYTES], message[TEXT_BYTES];
+ *     static minisign_unopened_key unopened;
  *     static minisign_secret_key key;
  *
  *     // Ends the program. What is secret stands in static variables, which are cleared.
  *     static void end(int status, const char *what)
  *     {
+ *         sodium_memzero(&unopened, sizeof unopened);
  *         sodium_memzero(&key, sizeof key);
  *         sodium_memzero(text, sizeof text);
  *         sodium_memzero(password, sizeof password);
@@ -217,7 +219,8 @@
  *         }
  *         password_len = (size_t) (line_end - password);
  *         len = read_piece(open_file(argv[1], "rb"), text);
- *         expect(minisign_open_secret_key(text, len, argc == 6, password, password_len, MINISIGN_KEEP_EVERY_ROW,
+ *         expect(minisign_read_secret_key(text, len, &unopened));
+ *         expect(minisign_open_secret_key(&unopened, argc == 6, password, password_len, MINISIGN_KEEP_EVERY_ROW,
  *                                         MINISIGN_USUAL_WORK, &key));
  *         minisign_init(&state);
  *         file = open_file(argv[2], "rb");
@@ -293,25 +296,26 @@ extern "C" {
  *   searches all memory that the program may write, and all registers, for the first half of the key and its first 16
  *   bytes, for its base64, for the password and for what scrypt derives of it, after keys were made, opened and signed
  *   with, also with a wrong checksum and while signals come, with the C library of GNU and with musl, at -O0 and -O2,
- *   on x86-64-v2 and -v3 and AArch64. Not cleared is what you hold: the password, the texts, the minisign_secret_key. A
- *   signal handler that runs on another stack (sigaltstack) has registers written there by the system, which the
- *   library cannot clear.
- * - The bytes of a state are written by the library alone, beginning with minisign_init, and the mark of a secret
- *   key by the library alone. Each may be copied by assignment or memcpy: a state to go on from one point twice. A
- *   state needs no clearing at the end, but holds up to 256 of the last bytes of the data. Set a secret key to
- *   zeros before its first use, and clear it after the last.
+ *   on x86-64-v2 and -v3 and AArch64. Not cleared is what you hold: the password, the texts, the
+ *   minisign_unopened_key, the minisign_secret_key. A signal handler that runs on another stack (sigaltstack) has
+ *   registers written there by the system, which the library cannot clear.
+ * - The bytes of a state are written by the library alone, beginning with minisign_init, and the marks of a secret
+ *   key, unopened or open, by the library alone. Each may be copied by assignment or memcpy: a state to go on from one
+ *   point twice. A state needs no clearing at the end, but holds up to 256 of the last bytes of the data. Set a secret
+ *   key, unopened or open, to zeros before its first use, and clear it after the last.
  * - The answers are those of an Ed25519 on exactly the questions that were asked.
  *
  * Wrong use that a state or a key shows is an error number and changes nothing: a state never begun (its first
  * eight bytes are not those of minisign_init), data or questions after the digest was told, questions asked twice,
- * a verdict before the questions or the digest, a text of a secret key that was not opened.
+ * a verdict before the questions or the digest, opening a secret key that was not read, a text of one that was not
+ * opened.
  */
 
 /* The version of the library, as MINISIGN_VERSION of the header that it came with. */
 uint32_t minisign_version(void);
 
-/* Numbers of errors: up to 15 of wrong use, of memory and of bytes that are not UTF-8, from 16 on of what the texts
- * say. */
+/* Numbers of errors: up to 15, and 63, of wrong use, of memory and of bytes that are not UTF-8, from 16 on of what the
+ * texts say. */
 /* Numbers, made by tools/header.py. */
 enum minisign_error {
     MINISIGN_OK = 0,
@@ -433,6 +437,8 @@ enum minisign_error {
     /* The trusted comment has more than one field for when the update expires, or one with no number in decimal
      * digits alone, or none below 2^64. */
     MINISIGN_BAD_EXPIRY = 56,
+    /* A secret key that is to be opened was not read. */
+    MINISIGN_KEY_NOT_READ = 63,
     /* A source, a file or a prompt's reader failed at a read. */
     MINISIGN_READING_FAILED = 64,
     /* A sink or a prompt's writer failed at a write or a flush. */
@@ -577,6 +583,31 @@ MINISIGN_MUST_USE enum minisign_error minisign_verdict(minisign_state *state, en
 /* ---- Signing ---- */
 
 /*
+ * A secret key as its text has it, which is not opened yet. The mark and the bytes are the library's, which opens by
+ * them alone: what else stands here is for you to read.
+ */
+typedef struct minisign_unopened_key {
+    uint64_t mark;
+    uint8_t bytes[158]; /* of the key's record; the secret as it is, where the key is not sealed */
+    /* 1 where the key wants a password, otherwise 0. */
+    uint8_t is_sealed;
+    /* What opening takes: of how many rows of 1 KiB the logarithm to base 2, which is at most 20, and how often all of
+     * them are made. Zeros where the key is not sealed, and where its limits are refused. */
+    uint8_t log2_rows;
+    uint32_t work;
+    uint32_t reserved; /* 0 */
+} minisign_unopened_key;
+
+/*
+ * Reads the secret key of a text (both lines of a file such as minisign.key), which is then opened. Does not allocate.
+ *
+ * The errors, in this order: MINISIGN_NOT_UTF8; MINISIGN_MISSING_SECRET_KEY_COMMENT, MINISIGN_MISSING_SECRET_KEY,
+ * MINISIGN_SECRET_KEY_NOT_BASE64, MINISIGN_RECORD_TOO_SHORT. Then the key stays as it was.
+ */
+MINISIGN_MUST_USE enum minisign_error minisign_read_secret_key(
+    const uint8_t *sk_text, size_t sk_text_len, minisign_unopened_key *unopened);
+
+/*
  * A secret key that was opened or taken in. The mark is the library's: texts are made only of a key that has it, so
  * that an error that nobody looked at leads to no signature under a key ID of zeros.
  */
@@ -587,10 +618,10 @@ typedef struct minisign_secret_key {
 } minisign_secret_key;
 
 /*
- * Opens the secret key of a text (both lines of a file such as minisign.key).
+ * Opens a secret key that was read.
  *
  * with_password is 0 for a key that was never sealed (minisign -G -W), whatever password holds, and 1 for a sealed
- * one, which the password opens. Open without one first: MINISIGN_KEY_SEALED says that the key wants one.
+ * one, which the password opens: is_sealed of the key that was read says which.
  *
  * A sealed key takes the memory and the time of scrypt, for which the key's own limits ask: rows of 1 KiB, of which
  * there are at most 2^20, made once or more often. You bound both:
@@ -600,23 +631,26 @@ typedef struct minisign_secret_key {
  *   takes 65 MiB at most, and some three times the time. What is opened does not depend on it.
  * - greatest_work is how often all rows may be made: scrypt's parallelization (RFC 7914), from 1 on.
  *   MINISIGN_USUAL_WORK, which is 1, is enough for the keys of minisign -G; with MINISIGN_ANY_WORK a stranger's key
- *   may run for hours. A key that asks for more is MINISIGN_WORK_TOO_HIGH, before anything is derived.
+ *   may run for hours. A key that asks for more is MINISIGN_WORK_TOO_HIGH, before anything is derived: its work says
+ *   how much.
  *
  * Whether the two halves of the secret belong together is not tested: that takes an Ed25519. Of a key that is
  * damaged, or that somebody has changed, they may not: then no signature of it verifies, and one that others get to
  * see gives the secret half away. So verify what you make under the public half, which is the last 32 bytes, before
  * you write it or send it, as the example at the head of this page does.
  *
- * After an error the key stays as it was. The errors, in this order: MINISIGN_BAD_PASSWORD_FLAG, before anything is
- * read; MINISIGN_NOT_UTF8; those of the text of the secret key; and those of a key without a password, or with one.
- * MINISIGN_OUT_OF_MEMORY may come at any time where MINISIGN_NOT_UTF8 does not.
+ * After an error the key stays as it was. The errors, in this order: MINISIGN_BAD_PASSWORD_FLAG; MINISIGN_KEY_NOT_READ;
+ * without a password MINISIGN_KEY_SEALED, MINISIGN_KEY_CORRUPTED; with one MINISIGN_NOT_UTF8 of the password,
+ * MINISIGN_KEY_NOT_SEALED, MINISIGN_UNSUPPORTED_KEY_DERIVATION, MINISIGN_PARAMETERS_TOO_HIGH,
+ * MINISIGN_INVALID_PARAMETERS, MINISIGN_WORK_TOO_HIGH, MINISIGN_WRONG_PASSWORD. With a password MINISIGN_OUT_OF_MEMORY
+ * may come where MINISIGN_NOT_UTF8 does not; without one the call does not allocate.
  */
 #define MINISIGN_KEEP_EVERY_ROW 1
 #define MINISIGN_KEEP_FEW_ROWS 16
 #define MINISIGN_USUAL_WORK 1
 #define MINISIGN_ANY_WORK UINT32_MAX
 MINISIGN_MUST_USE enum minisign_error minisign_open_secret_key(
-    const uint8_t *sk_text, size_t sk_text_len, uint32_t with_password, const uint8_t *password, size_t password_len,
+    const minisign_unopened_key *unopened, uint32_t with_password, const uint8_t *password, size_t password_len,
     uint64_t keep_every, uint32_t greatest_work, minisign_secret_key *key);
 
 /* Takes in a new secret key, of your Ed25519 and your random bytes: see "Making keys". Does not allocate. */

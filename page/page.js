@@ -48,7 +48,7 @@ function setKey(text, isBare, source) {
   const {number, keyId, key: bytes} = library.readKey(text, isBare);
   const words = new TextDecoder().decode(text);
   if (number === 0) {
-    key = {bytes, keyId, letters: lettersOf(words, isBare, bytes), source};
+    key = {bytes, keyId, letters: lettersOf(bytes), source};
     sayOfKey("good", `Key ${keyId}, `, ...sourceOf(source), ".");
     at("key-whole").replaceChildren("In full: ", element("code", "letters", key.letters));
     at("key-whole").hidden = false;

@@ -42,16 +42,10 @@ function hintOf(text) {
   return !hasLine && text.split(/[\s"'`<>:;,.=()]+/).some(word => KEY_LINE.test(word)) ? "words" : "";
 }
 
-// The 56 letters of a public key that the library has read, in which the bytes stand that it told: the key's 32, and the 8 of
-// its identifier.
-function lettersOf(text, isBare, key) {
-  const lines = linesOf(text);
-  const letters = isBare ? lines[0] : lines[1];
-  const bytes = Uint8Array.from(atob(letters), letter => letter.charCodeAt(0));
-  if (!KEY_LETTERS.test(letters) || key.some((byte, at) => byte !== bytes[2 + (at + 8) % 40])) {
-    throw new Error("these are not the letters of the key");
-  }
-  return letters;
+// The 56 letters of a public key, as minisign writes them, from the bytes that the library told of it: the key's 32, and the 8
+// of its key ID behind them.
+function lettersOf(key) {
+  return btoa(String.fromCharCode(0x45, 0x64, ...key.subarray(32), ...key.subarray(0, 32)));
 }
 
 // The 56 letters behind # of an address, as they stand or as key=, or nothing where it has no key, or more than one. Other

@@ -226,7 +226,7 @@ def python_call(answer, name, parameters, all_structs, header):
         elif star and kind not in all_structs:
             before.append(f"{own} = {ctype(kind)}()")
             handed.append(own)
-            result, told = "int", f"{own}.value"
+            result, told = ("Tuple[int, int]", f"{told}, {own}.value") if told else ("int", f"{own}.value")
         elif kind == "minisign_answer":
             taken.append(f"{own}: bool")
             handed.append(f"ANSWER_YES if {own} is True else ANSWER_NO")
@@ -301,7 +301,7 @@ fn text_of(mut text: Vec<u8>, len: usize) -> Result<String, Reason> {
 }
 """
 # Installing is not for this package.
-NOT_IN_RUST = ("minisign_install", "minisign_judge")
+NOT_IN_RUST = ("minisign_install", "minisign_judge", "minisign_check")
 
 
 def is_secret(struct):

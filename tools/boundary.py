@@ -17,8 +17,8 @@ OWN = "minisign_version"
 
 # The structs by their names in Rattle.
 STRUCTS = {"State": "minisign_state", "PublicKeyValue": "minisign_public_key", "Questions": "minisign_questions",
-           "SecretKeyValue": "minisign_secret_key", "Sealing": "minisign_sealing",
-           "Installation": "minisign_installation"}
+           "UnopenedKeyValue": "minisign_unopened_key", "SecretKeyValue": "minisign_secret_key",
+           "Sealing": "minisign_sealing", "Installation": "minisign_installation"}
 
 # The numbers by their names in Rattle.
 NUMBERS = {"u32": "uint32_t", "u64": "uint64_t", "usize": "size_t"}
@@ -29,7 +29,7 @@ PLAIN = {"enum minisign_error": "uint32_t", "enum minisign_answer": "uint32_t", 
 
 # What is secret that a call is given or gives back: parameters by their names, and structs.
 SECRET_NAMES = {"secret", "sk_text", "password"}
-SECRET_STRUCTS = {"minisign_secret_key"}
+SECRET_STRUCTS = {"minisign_unopened_key", "minisign_secret_key"}
 
 DECLARATION = re.compile(r"^(?:MINISIGN_MUST_USE )?((?:const )?(?:enum )?\w+ \*?)(minisign_\w+)\(([^)]*)\);$", re.M)
 EXPORT = re.compile(r'^pub extern "C" fn (minisign_\w+)\((.*?)\)(?: -> (\w+))?\s*$', re.M | re.S)

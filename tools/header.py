@@ -40,7 +40,8 @@ INSTALL_ROWS = "crates/minisign_install/specs/Faults.antt"
 HOST_NUMBERS = "crates/minisign_install/src/host_numbers.rt"
 HOSTED = "crates/minisign_install/src/hosted.rt"
 # Where the structs of C stand.
-STRUCT_FILES = (STATE, "crates/minisign_external/src/public_keys.rt", "crates/minisign_external/src/secrets.rt",
+STRUCT_FILES = (STATE, "crates/minisign_external/src/public_keys.rt", "crates/minisign_external/src/unopened_keys.rt",
+                "crates/minisign_external/src/secrets.rt",
                 "crates/minisign_hash/src/blake2b/stored.rt", "crates/minisign/src/making.rt", HOSTED)
 
 # Named faults with this number or a greater one are answered by no call of the header, but for those that a host may tell.

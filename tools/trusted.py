@@ -26,8 +26,8 @@ OVER_DEVICES = (("verify_texts", "headline"), ("SecretKey::from_box", "headline"
 # The calls from C that verify, sign and make keys, by the exports of `minisign_c`, and the clauses that say what they are for.
 FROM_C_CALLS = (("read_public_key", ""), ("read_bare_public_key", ""), ("ask", "number"), ("ask", "asked"), ("ask", "asking"),
                 ("update", "fed"), ("digest", "digest"), ("comment_verdict", "verdict"), ("verdict", "verdict"),
-                ("open_secret_key", "opened"), ("public_key_of", ""), ("signed_text", "text"), ("take_secret_key", ""),
-                ("secret_key_text", "text"), ("public_key_text", "text"))
+                ("read_secret_key", "read"), ("read_secret_key", "opens"), ("open_secret_key", "opened"), ("public_key_of", ""),
+                ("signed_text", "text"), ("take_secret_key", ""), ("secret_key_text", "text"), ("public_key_text", "text"))
 HEADLINE_FILE = "crates/minisign/specs/Headline.antt"
 LIMITS_FILE = "crates/minisign_base/specs/Limits.antt"
 # Theorems that compute known values of the definitions of the hash and the derivation.

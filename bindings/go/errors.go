@@ -65,6 +65,7 @@ const (
 	ErrKeptByVersion            = Error(C.MINISIGN_KEPT_BY_VERSION)
 	ErrExpired                  = Error(C.MINISIGN_EXPIRED)
 	ErrBadExpiry                = Error(C.MINISIGN_BAD_EXPIRY)
+	ErrKeyNotRead               = Error(C.MINISIGN_KEY_NOT_READ)
 	ErrReadingFailed            = Error(C.MINISIGN_READING_FAILED)
 	ErrWritingFailed            = Error(C.MINISIGN_WRITING_FAILED)
 	ErrRandomSourceFailed       = Error(C.MINISIGN_RANDOM_SOURCE_FAILED)

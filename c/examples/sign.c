@@ -14,11 +14,13 @@ enum { TEXT_BYTES = 65536 };
 static const char UNTRUSTED[] = "signature from the example of minisign.h";
 
 static uint8_t text[TEXT_BYTES], password[TEXT_BYTES], message[TEXT_BYTES];
+static minisign_unopened_key unopened;
 static minisign_secret_key key;
 
 // Ends the program. What is secret stands in static variables, which are cleared.
 static void end(int status, const char *what)
 {
+    sodium_memzero(&unopened, sizeof unopened);
     sodium_memzero(&key, sizeof key);
     sodium_memzero(text, sizeof text);
     sodium_memzero(password, sizeof password);
@@ -90,7 +92,8 @@ int main(int argc, char **argv)
     }
     password_len = (size_t) (line_end - password);
     len = read_piece(open_file(argv[1], "rb"), text);
-    expect(minisign_open_secret_key(text, len, argc == 6, password, password_len, MINISIGN_KEEP_EVERY_ROW,
+    expect(minisign_read_secret_key(text, len, &unopened));
+    expect(minisign_open_secret_key(&unopened, argc == 6, password, password_len, MINISIGN_KEEP_EVERY_ROW,
                                     MINISIGN_USUAL_WORK, &key));
     minisign_init(&state);
     file = open_file(argv[2], "rb");

@@ -55,7 +55,7 @@ ALONE = 'minisign-proved = {{ path = "{crate}", default-features = false }}'
 
 # The structs of the header, as the crate names them.
 STRUCTS = {"minisign_state": "State", "minisign_public_key": "PublicKey", "minisign_questions": "Questions",
-           "minisign_secret_key": "SecretKey", "minisign_sealing": "Sealing"}
+           "minisign_unopened_key": "UnopenedKey", "minisign_secret_key": "SecretKey", "minisign_sealing": "Sealing"}
 
 # What the crate makes of the header's errors, where it has the name that minisign-verify has.
 KNOWN = {

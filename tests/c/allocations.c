@@ -272,6 +272,7 @@ static void check_library(size_t memory)
     static const uint8_t key_id[8] = { 1 }, password[] = "a long password", comment[] = "c";
     static uint8_t secret_key[64], text[4096], signed_text[4096], digit[64];
     minisign_sealing sealing = { .operations_limit = memory / 32, .memory_limit = memory };
+    minisign_unopened_key unopened;
     minisign_secret_key key, opened;
     size_t len = 0;
     enum minisign_error error;
@@ -283,8 +284,10 @@ static void check_library(size_t memory)
                                      comment, 1, text, sizeof text, &len);
     check(error == MINISIGN_OK && given_back > 0 && uncleared == 0 && blocks_held() == 0, "making a key", memory, 1);
     given_back = 0;
-    error = minisign_open_secret_key(text, len, 1, password, sizeof password - 1, MINISIGN_KEEP_EVERY_ROW,
-                                 MINISIGN_USUAL_WORK, &opened);
+    error = minisign_read_secret_key(text, len, &unopened);
+    check(error == MINISIGN_OK && given_back == 0 && blocks_held() == 0, "reading it", memory, 1);
+    error = minisign_open_secret_key(&unopened, 1, password, sizeof password - 1, MINISIGN_KEEP_EVERY_ROW,
+                                     MINISIGN_USUAL_WORK, &opened);
     check(error == MINISIGN_OK && given_back > 0 && uncleared == 0 && blocks_held() == 0, "opening it", memory, 1);
     check(memcmp(&opened, &key, sizeof key) == 0, "another key was opened", memory, 1);
     given_back = 0;

@@ -78,6 +78,7 @@ static const char OTHER_KEY[] =
     "rWHyA+ItsehisjsR8AROg+V8Ng82TAEWPpchqblhFFay7/kQioiXfnOLD1OmyTi9AAAAAAAAAAAAAAAAAAAAAAAAAAAAAAAAAAAAAAAAAAA=\n";
 
 static minisign_questions questions;
+static minisign_unopened_key unopened;
 static minisign_secret_key signing;
 static uint8_t message[64 + sizeof COMMENT - 1];
 
@@ -102,9 +103,12 @@ static enum minisign_error ask(minisign_state *state, const char *key, const cha
 
 static enum minisign_error open_key(const char *key, const char *password)
 {
-    return minisign_open_secret_key((const uint8_t *) key, strlen(key), password != NULL, (const uint8_t *) password,
-                                    password == NULL ? 0 : strlen(password), MINISIGN_KEEP_EVERY_ROW, MINISIGN_USUAL_WORK,
-                                    &signing);
+    enum minisign_error error = minisign_read_secret_key((const uint8_t *) key, strlen(key), &unopened);
+
+    return error != MINISIGN_OK ? error
+                                : minisign_open_secret_key(&unopened, password != NULL, (const uint8_t *) password,
+                                                           password == NULL ? 0 : strlen(password), MINISIGN_KEEP_EVERY_ROW,
+                                                           MINISIGN_USUAL_WORK, &signing);
 }
 
 /* The questions are those of the texts, and both answers decide. */

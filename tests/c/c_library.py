@@ -9,9 +9,9 @@ calls (`installations.c`), the texts of public keys (`public_keys.c`), what is t
 is given back (`allocations.c`), each request for memory refused, of which verifying makes none (`out_of_memory.c`),
 buffers beside pages without access (`guard_pages.c`), NULL (`null.c`), threads (`threads.c`), and calls at random
 beside a model (`random_calls.c`); each program also with what finds wrong use of memory, where the compiler has it.
-LIBRARY is a `libminisign.a`; where none is named it is built over `dist/` (`static_library.py`), and once more with the
-copy of the calls that is for processors without AVX2 alone. It prints a line for each failure; the last line is
-`N passed, M failed`.
+LIBRARY is a `libminisign.a`; where none is named it is built over `dist/` (`static_library.py`), once more with the
+copy of the calls that is for processors without AVX2 alone, and once more with -DMINISIGN_NO_THREADS: such a library
+names no call for threads. It prints a line for each failure; the last line is `N passed, M failed`.
 
 Needs Python 3.9 or later, a C compiler and a C++ compiler, and installs what is not there where it may.
 """
@@ -96,14 +96,29 @@ def run_all(library, room):
     return failures, count
 
 
-def run_older(room):
-    """Runs the programs over the copy of the calls that is for processors without AVX2: the failures, and how many checks
-    hold."""
-    library = static_library.library(os.path.join(room, "older"), f"V3={static_library.DIST}/calls-x86-64-v2.a")
+# Other libraries, with what make is told of them: with the copy of the calls for processors without AVX2 alone, and
+# without threads.
+OTHERS = {"for x86-64-v2": f"V3={static_library.DIST}/calls-x86-64-v2.a",
+          "without threads": "CPPFLAGS=-D_FORTIFY_SOURCE=2 -DMINISIGN_NO_THREADS"}
+
+
+def threads_named(library):
+    """The calls for threads that a library makes."""
+    _, said = run([needs.program("nm", "binutils"), "--undefined-only", library])
+    return sorted({it.split()[-1] for it in said.splitlines() if "pthread" in it})
+
+
+def run_other(kind, room):
+    """Runs the programs over another library: the failures, and how many checks hold."""
+    library = static_library.library(os.path.join(room, kind.replace(" ", "-")), OTHERS[kind])
     failures, count = [], 0
+    if bool(threads_named(library)) == (kind == "without threads"):
+        failures.append(f"{kind}: the library calls {', '.join(threads_named(library)) or 'nothing for threads'}")
+    else:
+        count += 1
     for name in PROGRAMS:
         some, ran = program_failures(needs.c_compiler(), library, name, [], room)
-        failures += [f"for x86-64-v2: {it}" for it in some]
+        failures += [f"{kind}: {it}" for it in some]
         count += ran
     return failures, count
 
@@ -113,8 +128,8 @@ def main():
         try:
             library = sys.argv[1] if len(sys.argv) > 1 else static_library.library(os.path.join(room, "c"))
             failures, count = run_all(os.path.realpath(library), room)
-            if len(sys.argv) <= 1:
-                some, ran = run_older(room)
+            for kind in OTHERS if len(sys.argv) <= 1 else ():
+                some, ran = run_other(kind, room)
                 failures, count = failures + some, count + ran
         except (needs.Missing, static_library.NotBuilt) as why:
             failures, count = [str(why)], 0

@@ -73,6 +73,7 @@ static uint8_t secret_key[64], password[PASSWORD_LEN], sealed[1024], damaged[102
 static size_t sealed_len, unsealed_len, public_len, text_len;
 static uint8_t key_id[8] = "12345678";
 static minisign_sealing sealing;
+static minisign_unopened_key unopened;
 static minisign_secret_key key, opened;
 static minisign_public_key public;
 static minisign_state state;
@@ -135,8 +136,11 @@ static enum minisign_error tell_public(void)
 
 static enum minisign_error open_text(const uint8_t *of, size_t len, uint32_t with_password)
 {
-    return minisign_open_secret_key(of, len, with_password, password, with_password ? sizeof password : 0, rows, MINISIGN_ANY_WORK,
-                                    &opened);
+    enum minisign_error error = minisign_read_secret_key(of, len, &unopened);
+
+    return error != MINISIGN_OK ? error : minisign_open_secret_key(&unopened, with_password, password,
+                                                                   with_password ? sizeof password : 0, rows, MINISIGN_ANY_WORK,
+                                                                   &opened);
 }
 
 static enum minisign_error open_sealed(void)
@@ -253,6 +257,7 @@ int main(void)
     owns(unsealed, sizeof unsealed);
     owns(&key, sizeof key);
     owns(&opened, sizeof opened);
+    owns(&unopened, sizeof unopened);
     /* (the output is not to take what was given back) */
     setvbuf(stdout, malloc(65536), _IOFBF, 65536);
     step("a key that is taken in", take);

@@ -70,6 +70,7 @@ static const char *const texts[GREATEST + 1] = {
     [MINISIGN_BAD_FIRST_FLAG] = "is_first is neither 0 nor 1",
     [MINISIGN_BAD_NUMBERING] = "numbering is neither MINISIGN_NUMBERING_TIMESTAMP nor MINISIGN_NUMBERING_VERSION",
     [MINISIGN_KEY_NOT_OPENED] = "the secret key was not opened",
+    [MINISIGN_KEY_NOT_READ] = "the secret key was not read",
     [MINISIGN_PLACE_IN_USE] = "another installation is at work at this place",
     [MINISIGN_NO_RECORD] = "no number is kept beside the place",
     [MINISIGN_DAMAGED_RECORD] = "what is kept beside the place is no number",

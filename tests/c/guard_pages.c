@@ -116,24 +116,30 @@ static void asking(void)
 static void signing(void)
 {
     for (size_t len = 0; len < sizeof SECRET_KEY; len++) {
+        minisign_unopened_key *unopened;
         minisign_secret_key *key;
+        int is_read;
 
         used = 0;
+        unopened = (minisign_unopened_key *) (void *) buffer(sizeof *unopened);
         key = (minisign_secret_key *) (void *) buffer(sizeof *key);
-        CHECK(minisign_open_secret_key(copied(SECRET_KEY, len), len, 0, buffer(0), 0, 1, 1, key) == MINISIGN_OK
-              || len < sizeof SECRET_KEY - 2);
+        memset(unopened, 0, sizeof *unopened);
+        is_read = minisign_read_secret_key(copied(SECRET_KEY, len), len, unopened) == MINISIGN_OK;
+        CHECK(is_read || len < sizeof SECRET_KEY - 2);
+        CHECK(minisign_open_secret_key(unopened, 0, buffer(0), 0, 1, 1, key) == (is_read ? MINISIGN_OK : MINISIGN_KEY_NOT_READ));
     }
     for (size_t len = 0; len < 200; len++) {
         static const char letters[200] = "a";
         uint8_t *first, *second, *trusted, *untrusted;
         size_t *text_len, need = 0;
+        minisign_unopened_key unopened;
         minisign_secret_key *key;
         enum minisign_error error;
 
         used = 0;
         key = (minisign_secret_key *) (void *) buffer(sizeof *key);
-        CHECK(minisign_open_secret_key((const uint8_t *) SECRET_KEY, sizeof SECRET_KEY - 1, 0, NULL, 0, 1, 1, key)
-              == MINISIGN_OK);
+        CHECK(minisign_read_secret_key((const uint8_t *) SECRET_KEY, sizeof SECRET_KEY - 1, &unopened) == MINISIGN_OK);
+        CHECK(minisign_open_secret_key(&unopened, 0, NULL, 0, 1, 1, key) == MINISIGN_OK);
         first = buffer(64);
         second = buffer(64);
         trusted = copied(letters, len);

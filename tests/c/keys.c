@@ -111,6 +111,7 @@ static int make_public(char **argv)
 
 static int open_key(int argc, char **argv)
 {
+    minisign_unopened_key unopened;
     minisign_secret_key key;
     const char *password = argc > 5 ? argv[5] : "";
     FILE *file = fopen(argv[4], "rb");
@@ -122,8 +123,11 @@ static int open_key(int argc, char **argv)
     }
     len = fread(text, 1, sizeof text, file);
     fclose(file);
-    error = minisign_open_secret_key(text, len, argc > 5, bytes(password), strlen(password), strtoull(argv[2], NULL, 10),
-                                 (uint32_t) strtoul(argv[3], NULL, 10), &key);
+    error = minisign_read_secret_key(text, len, &unopened);
+    if (error == MINISIGN_OK) {
+        error = minisign_open_secret_key(&unopened, argc > 5, bytes(password), strlen(password), strtoull(argv[2], NULL, 10),
+                                         (uint32_t) strtoul(argv[3], NULL, 10), &key);
+    }
     if (error == MINISIGN_OK) {
         write_hexadecimal(key.key_id, sizeof key.key_id);
         putchar(' ');

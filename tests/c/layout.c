@@ -33,6 +33,14 @@ IS_AT(minisign_questions, signature_key_id, 240, 8);
 IS_AT(minisign_questions, legacy, 248, 4);
 IS_AT(minisign_questions, reserved, 252, 4);
 
+IS_LAID_OUT(minisign_unopened_key, 176, 8);
+IS_AT(minisign_unopened_key, mark, 0, 8);
+IS_AT(minisign_unopened_key, bytes, 8, 158);
+IS_AT(minisign_unopened_key, is_sealed, 166, 1);
+IS_AT(minisign_unopened_key, log2_rows, 167, 1);
+IS_AT(minisign_unopened_key, work, 168, 4);
+IS_AT(minisign_unopened_key, reserved, 172, 4);
+
 IS_LAID_OUT(minisign_secret_key, 80, 8);
 IS_AT(minisign_secret_key, mark, 0, 8);
 IS_AT(minisign_secret_key, key_id, 8, 8);

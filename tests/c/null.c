@@ -55,13 +55,14 @@ static void signing(void)
     static const uint8_t first[64], second[64];
     static uint8_t text[1024], empty[1024], message[64];
     static const minisign_sealing none;
+    minisign_unopened_key unopened = { 0 };
     minisign_secret_key key;
     size_t text_len = 0, empty_len = 0;
 
-    CHECK(minisign_open_secret_key(NULL, 0, 0, NULL, 0, 1, 1, &key) == MINISIGN_MISSING_SECRET_KEY_COMMENT);
-    CHECK(minisign_open_secret_key(bytes(SECRET_KEY), sizeof SECRET_KEY - 1, 1, NULL, 0, 1, 1, &key)
-          == MINISIGN_KEY_NOT_SEALED);
-    CHECK(minisign_open_secret_key(bytes(SECRET_KEY), sizeof SECRET_KEY - 1, 0, NULL, 0, 1, 1, &key) == MINISIGN_OK);
+    CHECK(minisign_read_secret_key(NULL, 0, &unopened) == MINISIGN_MISSING_SECRET_KEY_COMMENT);
+    CHECK(minisign_read_secret_key(bytes(SECRET_KEY), sizeof SECRET_KEY - 1, &unopened) == MINISIGN_OK);
+    CHECK(minisign_open_secret_key(&unopened, 1, NULL, 0, 1, 1, &key) == MINISIGN_KEY_NOT_SEALED);
+    CHECK(minisign_open_secret_key(&unopened, 0, NULL, 0, 1, 1, &key) == MINISIGN_OK);
     CHECK(minisign_public_key_text(&key, NULL, 0, NULL, 0, &text_len) == MINISIGN_NO_ROOM);
     CHECK(minisign_secret_key_text(&key, 0, NULL, 0, &none, 1, NULL, 0, NULL, 0, &text_len) == MINISIGN_NO_ROOM);
     CHECK(minisign_comment_message(first, NULL, 0, message, sizeof message) == MINISIGN_OK);

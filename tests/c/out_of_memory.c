@@ -85,6 +85,7 @@ static const char SEALED[] =
 static minisign_state state;
 static minisign_public_key public_key;
 static minisign_questions questions;
+static minisign_unopened_key unopened;
 static minisign_secret_key key;
 static uint8_t message[1024];
 static size_t text_len;
@@ -101,14 +102,18 @@ static enum minisign_error ask(void)
 
 static enum minisign_error open_key(void)
 {
-    return minisign_open_secret_key(bytes(UNSEALED), sizeof UNSEALED - 1, 0, bytes(""), 0, MINISIGN_KEEP_EVERY_ROW,
-                                    MINISIGN_USUAL_WORK, &key);
+    enum minisign_error error = minisign_read_secret_key(bytes(UNSEALED), sizeof UNSEALED - 1, &unopened);
+
+    return error != MINISIGN_OK ? error : minisign_open_secret_key(&unopened, 0, bytes(""), 0, MINISIGN_KEEP_EVERY_ROW,
+                                                                   MINISIGN_USUAL_WORK, &key);
 }
 
 static enum minisign_error open_sealed(void)
 {
-    return minisign_open_secret_key(bytes(SEALED), sizeof SEALED - 1, 1, bytes("pw"), 2, MINISIGN_KEEP_EVERY_ROW,
-                                    MINISIGN_USUAL_WORK, &key);
+    enum minisign_error error = minisign_read_secret_key(bytes(SEALED), sizeof SEALED - 1, &unopened);
+
+    return error != MINISIGN_OK ? error : minisign_open_secret_key(&unopened, 1, bytes("pw"), 2, MINISIGN_KEEP_EVERY_ROW,
+                                                                   MINISIGN_USUAL_WORK, &key);
 }
 
 static enum minisign_error write_secret_key(void)
@@ -191,12 +196,12 @@ static void verify_without_memory(void)
 
 int main(void)
 {
-    minisign_secret_key none = { 0 }, opened;
+    minisign_secret_key opened;
 
     verify_without_memory();
-    refuse_each("minisign_open_secret_key", open_key, &none);
-    key = none;
+    requests = held = 0;
     check(open_key() == MINISIGN_OK, "minisign_open_secret_key", "another number", 0);
+    check(requests == 0 && held == 0, "minisign_open_secret_key, without a password", "memory is asked for", requests);
     opened = key;
     refuse_each("minisign_signed_text", write_text, &opened);
     refuse_each("minisign_secret_key_text", write_secret_key, &opened);

@@ -243,12 +243,17 @@ static void on_key(void)
         CHECK(minisign_secret_key_text(&keys[at], bad_flag ? 2 + draw(9) : 0, NULL, 0, &none, draw(3), NULL, 0, text, room, &len)
               == (bad_flag ? MINISIGN_BAD_PASSWORD_FLAG : wanted));
         if (!bad_flag && wanted == MINISIGN_OK) {
+            minisign_unopened_key unopened = { 0 };
             minisign_secret_key again = { 0 };
 
-            CHECK(minisign_open_secret_key(text, len, 0, NULL, 0, 1, 1, &again) == MINISIGN_OK);
+            CHECK(minisign_open_secret_key(&unopened, 0, NULL, 0, 1, 1, &again) == MINISIGN_KEY_NOT_READ && again.mark == 0);
+            CHECK(minisign_read_secret_key(text, draw((uint32_t) len), &unopened) != MINISIGN_OK && unopened.mark == 0);
+            CHECK(minisign_read_secret_key(text, len, &unopened) == MINISIGN_OK);
+            CHECK(unopened.is_sealed == 0 && unopened.log2_rows == 0 && unopened.work == 0);
+            CHECK(minisign_open_secret_key(&unopened, 0, NULL, 0, 1, 1, &again) == MINISIGN_OK);
             CHECK(memcmp(&again, &keys[at], sizeof again) == 0);
-            CHECK(minisign_open_secret_key(text, len, 1, NULL, 0, 1, 1, &again) == MINISIGN_KEY_NOT_SEALED);
-            CHECK(minisign_open_secret_key(text, len, 2, NULL, 0, 1, 1, &again) == MINISIGN_BAD_PASSWORD_FLAG);
+            CHECK(minisign_open_secret_key(&unopened, 1, NULL, 0, 1, 1, &again) == MINISIGN_KEY_NOT_SEALED);
+            CHECK(minisign_open_secret_key(&unopened, 2, NULL, 0, 1, 1, &again) == MINISIGN_BAD_PASSWORD_FLAG);
             CHECK(memcmp(&again, &keys[at], sizeof again) == 0);
         }
         break;

@@ -18,6 +18,7 @@ enum { THREADS = 8, ROUNDS = 40, BYTES = 30011 };
 /* What one run tells. */
 struct told {
     minisign_questions questions;
+    minisign_unopened_key unopened;
     minisign_secret_key key;
     uint8_t message[sizeof SIGNATURE], text[1024];
     size_t text_len;
@@ -48,7 +49,9 @@ static void run(struct told *told, int number, int rounds)
         told->good &= error == MINISIGN_OK;
         error = minisign_verdict(&state, MINISIGN_ANSWER_YES, number % 2 ? MINISIGN_ANSWER_YES : MINISIGN_ANSWER_NO);
         told->good &= error == (number % 2 ? MINISIGN_OK : MINISIGN_COMMENT_SIGNATURE_REFUSED);
-        error = minisign_open_secret_key((const uint8_t *) SECRET_KEY, sizeof SECRET_KEY - 1, 0, NULL, 0, 1, 1, &told->key);
+        error = minisign_read_secret_key((const uint8_t *) SECRET_KEY, sizeof SECRET_KEY - 1, &told->unopened);
+        told->good &= error == MINISIGN_OK;
+        error = minisign_open_secret_key(&told->unopened, 0, NULL, 0, 1, 1, &told->key);
         told->good &= error == MINISIGN_OK;
         error = minisign_signed_text(&told->key, told->questions.signature, told->questions.comment_signature,
                                      (const uint8_t *) "12345678", (size_t) number, NULL, 0, told->text, sizeof told->text,

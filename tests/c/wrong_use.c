@@ -260,12 +260,15 @@ static void copies(void)
     CHECK(questions.legacy == 1);
 }
 
+static minisign_unopened_key unopened;
 static minisign_secret_key key;
 
 static enum minisign_error open_for(const char *sk_text, uint32_t with_password)
 {
-    return minisign_open_secret_key((const uint8_t *) sk_text, strlen(sk_text), with_password, ABC, sizeof ABC,
-                                    MINISIGN_KEEP_EVERY_ROW, MINISIGN_USUAL_WORK, &key);
+    enum minisign_error error = minisign_read_secret_key((const uint8_t *) sk_text, strlen(sk_text), &unopened);
+
+    return error != MINISIGN_OK ? error : minisign_open_secret_key(&unopened, with_password, ABC, sizeof ABC,
+                                                                   MINISIGN_KEEP_EVERY_ROW, MINISIGN_USUAL_WORK, &key);
 }
 
 static uint8_t text[16384];
@@ -289,7 +292,6 @@ static void before_opening(void)
 
     CHECK(open_for(SECRET_KEY, 2) == MINISIGN_BAD_PASSWORD_FLAG);
     CHECK(open_for(SECRET_KEY, UINT32_MAX) == MINISIGN_BAD_PASSWORD_FLAG);
-    CHECK(open_for("\xff", 2) == MINISIGN_BAD_PASSWORD_FLAG);
     CHECK(open_for(SECRET_KEY, 1) == MINISIGN_KEY_NOT_SEALED);
     CHECK(open_for("", 0) == MINISIGN_MISSING_SECRET_KEY_COMMENT);
     CHECK(open_for("\xff", 0) == MINISIGN_NOT_UTF8);
@@ -300,6 +302,35 @@ static void before_opening(void)
     CHECK(make_short_text(&key, "t", "u", sizeof text) == MINISIGN_OK);
     memset(text, 0, sizeof text);
     text_len = 0;
+}
+
+/* No key is opened that was not read, whatever it holds, and a text that is refused is not read. */
+static void keys_of_no_text(void)
+{
+    minisign_unopened_key other, before;
+    minisign_secret_key none, opened;
+
+    CHECK(minisign_read_secret_key((const uint8_t *) SECRET_KEY, strlen(SECRET_KEY), &unopened) == MINISIGN_OK);
+    CHECK(unopened.is_sealed == 0 && unopened.log2_rows == 0 && unopened.work == 0 && unopened.reserved == 0);
+    for (int byte = 0; byte < 256; byte++) {
+        memset(&other, byte, sizeof other);
+        memset(&none, byte, sizeof none);
+        before = other;
+        opened = none;
+        CHECK(minisign_open_secret_key(&other, 0, NULL, 0, 1, 1, &opened) == MINISIGN_KEY_NOT_READ);
+        CHECK(minisign_open_secret_key(&other, 1, (const uint8_t *) "\xff", 1, 1, 1, &opened) == MINISIGN_KEY_NOT_READ);
+        CHECK(minisign_open_secret_key(&other, 2, NULL, 0, 1, 1, &opened) == MINISIGN_BAD_PASSWORD_FLAG);
+        CHECK(memcmp(&opened, &none, sizeof none) == 0);
+        CHECK(minisign_read_secret_key((const uint8_t *) "\xff", 1, &other) == MINISIGN_NOT_UTF8);
+        CHECK(minisign_read_secret_key((const uint8_t *) PREHASHED, strlen(PREHASHED), &other) == MINISIGN_RECORD_TOO_SHORT);
+        CHECK(memcmp(&other, &before, sizeof other) == 0);
+    }
+    /* Nor where a bit of its mark is another. */
+    for (int bit = 0; bit < 64; bit++) {
+        other = unopened;
+        other.mark ^= UINT64_C(1) << bit;
+        CHECK(minisign_open_secret_key(&other, 0, NULL, 0, 1, 1, &opened) == MINISIGN_KEY_NOT_READ);
+    }
 }
 
 /* No text is made of a key that was not opened, whatever it holds. */
@@ -343,7 +374,8 @@ static void taken_in(void)
     CHECK(minisign_public_key_of(&taken, &public_key) == MINISIGN_OK);
     CHECK(memcmp(public_key.key, key.secret + 32, 32) == 0 && memcmp(public_key.key_id, key.key_id, 8) == 0);
     CHECK(minisign_secret_key_text(&taken, 0, NULL, 0, &none, 1, NULL, 0, text, sizeof text, &text_len) == MINISIGN_OK);
-    CHECK(minisign_open_secret_key(text, text_len, 0, NULL, 0, 1, 1, &opened) == MINISIGN_OK);
+    CHECK(minisign_read_secret_key(text, text_len, &unopened) == MINISIGN_OK);
+    CHECK(minisign_open_secret_key(&unopened, 0, NULL, 0, 1, 1, &opened) == MINISIGN_OK);
     CHECK(memcmp(&opened, &key, sizeof key) == 0);
     memset(text, 0, sizeof text);
     text_len = 0;
@@ -394,10 +426,15 @@ static void keys_made(void)
     memcpy(sealed, text, sizeof sealed);
     memset(&opened, 0, sizeof opened);
     before = opened;
-    CHECK(minisign_open_secret_key(sealed, sizeof sealed, 1, ABC, sizeof ABC, 0, 3, &opened) == MINISIGN_WORK_TOO_HIGH);
-    CHECK(minisign_open_secret_key(sealed, sizeof sealed, 1, ABC, 2, 1, 4, &opened) == MINISIGN_WRONG_PASSWORD);
+    CHECK(minisign_read_secret_key(sealed, sizeof sealed, &unopened) == MINISIGN_OK);
+    CHECK(unopened.is_sealed == 1 && unopened.log2_rows == 10 && unopened.work == 4 && unopened.reserved == 0);
+    CHECK(minisign_open_secret_key(&unopened, 0, NULL, 0, 0, 4, &opened) == MINISIGN_KEY_SEALED);
+    CHECK(minisign_open_secret_key(&unopened, 1, ABC, sizeof ABC, 0, 3, &opened) == MINISIGN_WORK_TOO_HIGH);
+    CHECK(minisign_open_secret_key(&unopened, 1, ABC, 2, 1, 4, &opened) == MINISIGN_WRONG_PASSWORD);
     CHECK(memcmp(&before, &opened, sizeof before) == 0);
-    CHECK(minisign_open_secret_key(sealed, sizeof sealed, 1, ABC, sizeof ABC, UINT64_MAX, 4, &opened) == MINISIGN_OK);
+    unopened.is_sealed = unopened.log2_rows = 0;
+    unopened.work = 1;
+    CHECK(minisign_open_secret_key(&unopened, 1, ABC, sizeof ABC, UINT64_MAX, 4, &opened) == MINISIGN_OK);
     CHECK(memcmp(&opened, &zeros, sizeof zeros) == 0);
 }
 
@@ -491,6 +528,7 @@ int main(void)
     copies();
     told_unasked();
     before_opening();
+    keys_of_no_text();
     texts_of_no_key();
     taken_in();
     texts_of_signatures();

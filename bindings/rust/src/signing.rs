@@ -42,7 +42,8 @@ impl SecretKey {
 
     /// Reads both lines of a file such as `minisign.key`. A password opens a sealed key, and no other one.
     pub fn decode(lines: &str, password: Option<&str>, work: &Work) -> Result<SecretKey, Error> {
-        Ok(SecretKey(raw::open_secret_key(lines.as_bytes(), password.map(str::as_bytes), work.keep_every, work.greatest_work)?))
+        let unopened = raw::read_secret_key(lines.as_bytes())?;
+        Ok(SecretKey(raw::open_secret_key(&unopened, password.map(str::as_bytes), work.keep_every, work.greatest_work)?))
     }
 
     /// Reads a file such as `minisign.key`.

@@ -14,6 +14,7 @@ pub mod ReadTexts
 pub mod WrittenLines
 pub mod Facts
 pub mod SecretKeyTexts
+pub mod SecretKeyFronts
 pub mod Openings
 pub mod GivenKeys
 pub mod Asking

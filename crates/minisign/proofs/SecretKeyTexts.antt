@@ -30,7 +30,7 @@ field_length : (n a : ℕ) (bytes : List ℕ) → n + a ≤ length bytes → len
 field_length n a bytes long = length-take-le a (drop n bytes) (omega (arith, length-drop n bytes))
 
 -- bytes that are many enough begin with a key
-key_in_front : (bytes : List ℕ) → 158 ≤ length bytes → ReadsSecretKey bytes (secret_key_of_bytes bytes)
+pub key_in_front : (bytes : List ℕ) → 158 ≤ length bytes → ReadsSecretKey bytes (secret_key_of_bytes bytes)
 unfolding secret_key_of_bytes
 key_in_front bytes long = record {
   algorithm_length = field_length 0 2 bytes (omega arith);

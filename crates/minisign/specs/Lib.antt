@@ -19,6 +19,7 @@ pub mod PromptTexts
 pub mod Generation
 pub mod NewPassword
 pub mod OpenedTexts
+pub mod OpeningWork
 pub mod Opening
 pub mod SigningTexts
 pub mod Making

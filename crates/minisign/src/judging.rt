@@ -10,6 +10,7 @@ ghost use Rattle.minisign.specs.SignatureText.{SignatureTextRecord, box_of};
 
 use crate::constants::SIGALG_PREHASHED;
 use crate::in_place::SignatureView;
+use crate::parts::write_comment_message;
 use crate::public_key::PublicKey;
 use crate::signature::Signature;
 use minisign_base::scheme::Scheme;
@@ -93,7 +94,7 @@ fn accepts_told_comment<S: Scheme>(
     match view.comment_signature() {
         Some(comment_signature) => {
             let trusted = view.trusted_comment().as_bytes();
-            write_joined(room, &view.signature().sig, trusted);
+            write_comment_message(&view.signature().sig, trusted, room);
             scheme.verify(
                 &room[..64 + trusted.len()],
                 &pk.keynum_pk.pk,
@@ -102,16 +103,4 @@ fn accepts_told_comment<S: Scheme>(
         }
         None => false,
     }
-}
-
-// Writes the two to the front of `to`.
-fn write_joined(to: &mut [u8], left: &[u8; 64], right: &[u8])
-    requires { 64 + length right.now ≤ length to.old }
-    ensures size { length to.new ≡ length to.old }
-    ensures written { take (64 + length right.now) to.new ≡ left.now ++ right.now }
-{
-    let (front, rest) = to.split_at_mut(64);
-    let (back, _) = rest.split_at_mut(right.len());
-    front.copy_from_slice(left);
-    back.copy_from_slice(right);
 }

@@ -256,7 +256,7 @@ impl SecretKey {
     }
 
     // Tests that the key is sealed, and by scrypt.
-    fn test_sealed(&self) -> Result<()>
+    pub(crate) fn test_sealed(&self) -> Result<()>
         ensures { result ≡ without_value (sealed_by_scrypt self.now) }
     {
         if self.kdf_alg == KDF_NONE {
@@ -318,7 +318,12 @@ impl SecretKey {
     }
 
     // Opens a sealed key with a password that was passed in.
-    fn open_with(self, alloc: Global, password: &[u8], derivation: Derivation) -> Result<SecretKey>
+    pub(crate) fn open_with(
+        self,
+        alloc: Global,
+        password: &[u8],
+        derivation: Derivation,
+    ) -> Result<SecretKey>
         requires { 1 ≤ derivation.k }
         ensures { IsReadOrNoMemory result (open_sealed self password.now derivation.bound) }
     {

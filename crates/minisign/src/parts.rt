@@ -1,14 +1,17 @@
 //! The parts of keys and boxes that a caller needs whose signature scheme stands outside.
 
-ghost use Rattle.std.specs.Prelude.{◌≡◌, None, Some, IfOk, IfErr, MatchOption, IsSomeAnd};
+ghost use Rattle.std.specs.Prelude.{◌≡◌, ◌≤◌, ◌+◌, ◌++◌, None, Some, IfOk, IfErr, MatchOption, IsSomeAnd, length, take};
 ghost use Rattle.minisign_base.specs.Fault.{Named};
 ghost use Rattle.minisign_base.specs.declared.faults.NamedFault.TheVariants.{OutOfMemory};
 ghost use Rattle.minisign.specs.Records.{prehashed_algorithm};
 ghost use Rattle.minisign_base.specs.Steps.{without_value};
-ghost use Rattle.minisign.specs.Sealing.{unencrypted_key};
+ghost use Rattle.minisign.specs.OpeningWork.{opening_work, wants_password};
+ghost use Rattle.minisign.specs.Sealing.{open_sealed, sealed_by_scrypt, unencrypted_key};
+ghost use Rattle.minisign.specs.Texts.{IsReadOrNoMemory, and_then};
 
 use crate::constants::{KDF_NONE, SIGALG_PREHASHED};
 use crate::public_key::PublicKey;
+use crate::sealing::{Derivation, key_params};
 use crate::secret_key::SecretKey;
 use crate::signature::Signature;
 use crate::signature_box::{Comments, SignatureBox};
@@ -76,6 +79,68 @@ impl SecretKey {
         }
         Ok(())
     }
+
+    /// Whether the key names a key derivation, and so does not open without a password. Does not allocate.
+    pub fn wants_password(&self) -> bool
+        ensures { result ≡ wants_password self.now }
+    {
+        self.kdf_alg != KDF_NONE
+    }
+
+    /// What opening the key takes: scrypt's N, as its logarithm to base 2, at most 20, and its p: N rows of 1 KiB are
+    /// made p times. Zeros where the key wants no password, and where opening refuses its limits. Does not allocate.
+    pub fn opening_work(&self) -> (u8, u32)
+        // The work of opening is that of the parameters that the limits of the key lead to.
+        ensures { result ≡ opening_work self.now }
+    {
+        if !self.wants_password() {
+            return (0, 0);
+        }
+        match key_params(self) {
+            Ok(params) => (params.n_log2(), params.p()),
+            Err(_) => (0, 0),
+        }
+    }
+
+    /// Opens a sealed key that was read with a password, within a bound on the work and with every k-th of scrypt's rows
+    /// kept, for k from 1 on: as `from_box_keeping_within` does with its text. Nobody is asked for a password.
+    ///
+    /// Refused are, in this order: a key that was never sealed, `key_not_encrypted`; one that is not sealed by scrypt,
+    /// `unsupported_encryption_algorithm`; limits, with `parameters_too_high` or `invalid_parameters`; p above `max_p`,
+    /// `work_too_high`; a checksum that opening does not restore, `wrong_password`. It may run out of memory for the rows.
+    pub fn open_keeping_within(
+        self,
+        alloc: Global,
+        password: &[u8],
+        k: u64,
+        max_p: u32,
+    ) -> Result<SecretKey>
+        requires kept { 1 ≤ k }
+
+        // A key that was read opens under the password as its text does, whatever number of rows is kept: it is the key
+        // opened, or the first fault, or out of memory.
+        ensures { IsReadOrNoMemory result (and_then (sealed_by_scrypt self)
+            (λ sealed. open_sealed sealed password.now (Some max_p))) }
+    {
+        self.test_sealed()?;
+        let bound = Some(max_p);
+        self.open_with(alloc, password, Derivation { bound, k })
+    }
+}
+
+/// Writes the message of a comment signature to the front of `message`: the signature of the data followed by the
+/// trusted comment, 64 bytes more than the comment has. Does not allocate.
+pub fn write_comment_message(signature: &[u8; 64], trusted: &[u8], message: &mut [u8])
+    requires room { 64 + length trusted.now ≤ length message.old }
+
+    // The message stands at the front of the buffer, whose length stays.
+    ensures size { length message.new ≡ length message.old }
+    ensures written { take (64 + length trusted.now) message.new ≡ signature.now ++ trusted.now }
+{
+    let (front, rest) = message.split_at_mut(64);
+    let (back, _) = rest.split_at_mut(trusted.len());
+    front.copy_from_slice(signature);
+    back.copy_from_slice(trusted);
 }
 
 impl SignatureBox {

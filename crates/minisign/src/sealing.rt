@@ -143,7 +143,7 @@ fn bounded_params(sk: &SecretKey, bound: Option<u32>) -> Result<Params>
 }
 
 // The parameters that the key's limits lead to, where sealing and opening allow them.
-fn key_params(sk: &SecretKey) -> Result<Params>
+pub(crate) fn key_params(sk: &SecretKey) -> Result<Params>
     ensures { result ≡ key_limits sk.now }
 {
     let memlimit = load_u64_le(&sk.kdf_memlimit_le);

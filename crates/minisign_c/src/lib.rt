@@ -9,33 +9,36 @@ ghost use Rattle.std.specs.Str.{IsUtf8};
 ghost use Rattle.minisign_hash.specs.Blake2b.{blake2b_digest};
 ghost use Rattle.minisign.specs.PublicKeyText.{read_bare_public_key, read_public_key};
 ghost use Rattle.minisign.specs.Records.{SecretKeyRecord};
+ghost use Rattle.minisign.specs.SecretKeyText.{read_secret_key};
 ghost use Rattle.minisign.specs.SignatureText.{SignatureTextRecord, read_signature};
 ghost use Rattle.minisign.specs.Acceptance.{Verifier};
 ghost use Rattle.minisign_external.specs.Questions.{Answers, AnswersComment, AnswersTexts, HoldsMessage, IsKeyText, comment_verdict_under, read_under, verdict_under};
 ghost use Rattle.minisign_external.specs.Numbers.{IsAnswer, WritesCut, answer_yes, misuse_number};
 ghost use Rattle.minisign_external.specs.PublicKeys.{read_utf8, told_key_number};
 ghost use Rattle.minisign_external.specs.Making.{HoldsPublicKey, HoldsSecretKey, IsMakingNumber, IsPublicKeyNumber};
-ghost use Rattle.minisign_external.specs.Signing.{AreReadByMinisign, GivesSecretKey, HoldsKey, HoldsText, IsOpeningNumber, IsWritingNumber, comments_of, is_opened, passed_in, public_value_of, taken_key, told_public_key};
+ghost use Rattle.minisign_external.specs.SecretKeys.{HoldsKey, IsOpeningNumber, OpensAs, is_opened, is_read, open_read_key, passed_in, public_value_of, read_value, reading_number, record_of, taken_key, told_public_key};
+ghost use Rattle.minisign_external.specs.Signing.{AreReadByMinisign, HoldsText, IsWritingNumber, comments_of};
 ghost use Rattle.minisign_external.specs.declared.public_keys.PublicKeyValue.{PublicKeyValue};
 ghost use Rattle.minisign_external.specs.declared.state.Misuse.TheVariants.{BadFirstFlag, BadNumbering, BadPasswordFlag, NoRoom, NotDue};
 ghost use Rattle.minisign_install.specs.Checking.{HasChecked, IsCheckNumber};
 ghost use Rattle.minisign_install.specs.Comments.{Says};
 ghost use Rattle.minisign_install.specs.HostNumbers.{IsHostMeaning, numbering_number};
-ghost use Rattle.minisign_install.specs.Hosted.{CannotBeFed, CannotFail, CannotGo, GivesUpdateNumber, CallHasFailed, HasGone, HasReadRecord, HasReadBack, IsAnswerNumber, IsAskNumber, IsAsking, IsCommentNumber, IsDue, due_number, due_of, numbering_of, wanted_by};
+ghost use Rattle.minisign_install.specs.Hosted.{CannotBeFed, CannotFail, CannotGo, GivesUpdateNumber, CallHasFailed, HasGone, HasReadRecord, HasReadBack, IsAnswerNumber, IsAskNumber, IsAsking, IsCommentNumber, IsDue, IsUnused, due_number, due_of, numbering_of, wanted_by};
 ghost use Rattle.minisign_install.specs.Installing.{Terms};
 ghost use Rattle.minisign_install.specs.RecordTexts.{record_of};
 ghost use Rattle.minisign_install.specs.declared.order.Due.TheVariants.{Answer, Lock, ReadBack, ReadRecord, TakeRights, WriteRecord};
 ghost use Rattle.minisign_install.specs.declared.order.Due.TheVariants as ended;
 ghost use Rattle.minisign_install.specs.declared.order.Outcome.TheVariants.{Done, More};
-ghost use Rattle.minisign_external.specs.States.{AreQuestions, GivesNumber, HasAsked, HasEnded, HasToldDigest, IsCommentVerdictNumber, IsFedState, IsMarkedFed, IsMarkedTold, IsVerdictNumber, KeepsAsked, asking_number, feeding_misuse, is_asked, is_begun, questions_of, verdict_number};
+ghost use Rattle.minisign_external.specs.States.{AreQuestions, GivesNumber, HasAsked, HasEnded, HasToldDigest, IsBlank, IsCommentVerdictNumber, IsFedState, IsMarkedFed, IsMarkedTold, IsVerdictNumber, KeepsAsked, asking_number, feeding_misuse, is_asked, is_begun, questions_of, verdict_number};
 
 use minisign::Sealing;
 use minisign_external::making::{write_public_key, write_secret_key};
 use minisign_external::numbers::{ANSWER_YES, is_answer};
 use minisign_external::public_keys::{PublicKeyValue, tell_bare_public_key, tell_public_key};
-use minisign_external::secrets::{SecretKeyValue, open_secret_key};
+use minisign_external::secrets::SecretKeyValue;
 use minisign_external::signed_texts::{write_comment_message, write_signed_text};
 use minisign_external::state::{Misuse, Questions, Refusal, State};
+use minisign_external::unopened_keys::{UnopenedKeyValue, open_secret_key, read_unopened_key};
 use minisign_install::Numbering;
 use minisign_install::checking::check_comment_offer;
 use minisign_install::host_numbers::write_error_text;
@@ -48,7 +51,7 @@ use std::alloc::Global;
 #[unsafe(no_mangle)]
 pub extern "C" fn minisign_error_text(error: u32, text: &mut [u8]) -> usize
     // The text of a number is that of the wrong use, that of the fault of installing, or what the fault of the library
-    // says without its identifiers; it has less than 128 bytes, is cut to its room and ended by a 0.
+    // says without its key IDs; it has less than 128 bytes, is cut to its room and ended by a 0.
     ensures written { (meaning : List ℕ) × IsHostMeaning error meaning × (result ≡ length meaning) × WritesCut meaning text.old text.new }
     ensures room { result < 128 }
 {
@@ -58,8 +61,9 @@ pub extern "C" fn minisign_error_text(error: u32, text: &mut [u8]) -> usize
 /// Begins: the state was fed nothing.
 #[unsafe(no_mangle)]
 pub extern "C" fn minisign_init(state: &mut State)
-    // A new state was fed nothing.
-    ensures { IsFedState state.new [] }
+    // A new state was fed nothing, and nothing was asked of it: whatever it held before is gone.
+    ensures fed { IsFedState state.new [] }
+    ensures blank { IsBlank state.new }
 {
     *state = State::new();
 }
@@ -67,9 +71,10 @@ pub extern "C" fn minisign_init(state: &mut State)
 /// Feeds the next bytes of the data.
 #[unsafe(no_mangle)]
 pub extern "C" fn minisign_update(state: &mut State, piece: &[u8]) -> u32
-    // Each update appends to what the state was fed. A state that is not being fed takes no data: the wrong use has its
-    // number, and the state stays as it was.
+    // Each update appends to what the state was fed, and what was asked stays. A state that is not being fed takes no
+    // data: the wrong use has its number, and the state stays as it was.
     ensures fed { (m : List ℕ) → IsFedState state.old m → (result ≡ 0) × IsFedState state.new (m ++ piece.now) }
+    ensures asked { KeepsAsked state.old state.new }
     ensures begun { result ≡ 0 → IsMarkedFed state.old }
     ensures refused { 0 < result → (result ≡ misuse_number (feeding_misuse state.old)) × (state.new ≡ state.old) }
 {
@@ -82,8 +87,8 @@ pub extern "C" fn minisign_update(state: &mut State, piece: &[u8]) -> u32
 /// Tells the digest of the data that was fed. The state then takes no more.
 #[unsafe(no_mangle)]
 pub extern "C" fn minisign_digest(state: &mut State, digest: &mut [u8; 64]) -> u32
-    // The digest of everything the state was fed, which it has then told; what was asked stays. A state that is not being
-    // fed tells none: the wrong use has its number, and state and digest stay as they were.
+    // The digest of everything the state was fed, which it has then told; what was asked stays. A state that is not
+    // being fed tells none: the wrong use has its number, and state and digest stay as they were.
     ensures digest { (m : List ℕ) → IsFedState state.old m
         → (result ≡ 0) × (digest.new ≡ blake2b_digest 64 m) × HasToldDigest state.new m }
     ensures asked { KeepsAsked state.old state.new }
@@ -136,15 +141,15 @@ pub extern "C" fn minisign_ask(
     // `allow_legacy` above 1 is refused, and then comes what `State::ask` refuses, in its order.
     ensures number { result ≡ asking_number state.old key.now sig_text.now allow_legacy (length message.old) }
 
-    // The questions are those of the key and of what the text reads as, with zeros for the digest, and the message of the
-    // second stands at the front of the buffer. They are then asked, and what was fed stays.
+    // The questions are those of the key and of what the text reads as, with zeros for the digest, and the message of
+    // the second stands at the front of the buffer. They are then asked, and what was fed stays.
     ensures asked { result ≡ 0 → (t : SignatureTextRecord) × (read_under key.now (allow_legacy == 1) sig_text.now ≡ Ok t)
         × (questions.new ≡ questions_of key.now t) × HoldsMessage t.signature t.comments.trusted message.new questions.new.message_len }
     ensures asking { result ≡ 0 → HasAsked state.new key.now sig_text.now (allow_legacy == 1) }
     ensures fed { (m : List ℕ) → IsFedState state.old m → IsFedState state.new m }
 
-    // After a refusal state and message buffer are as they were; with an `allow_legacy` of 0 or 1, of a state that may be
-    // asked and a text that reads, both key IDs are told.
+    // After a refusal state and message buffer are as they were; with an `allow_legacy` of 0 or 1, of a state that may
+    // be asked and a text that reads, both key IDs are told.
     ensures kept { 0 < result → (state.new ≡ state.old) × (message.new ≡ message.old) }
     ensures key_ids { allow_legacy < 2 → IsMarkedFed state.old → is_asked state.old ≡ false
         → (t : SignatureTextRecord) → read_utf8 read_signature sig_text.now ≡ Ok t
@@ -169,8 +174,9 @@ pub extern "C" fn minisign_comment_verdict(state: &State, second: u32) -> u32
         → AnswersComment accepts v sig_text (second == answer_yes)
         → result ≡ verdict_number (comment_verdict_under accepts v sig_text legacy) }
 
-    // An answer is 7955827 for yes or 28271 for no, and no other number is taken; a state that has not asked gives none.
-    ensures asked { result ≡ 0 → (is_asked state.now ≡ true) × IsAnswer second }
+    // An answer is 7955827 for yes or 28271 for no, and no other number is taken; a state that has not asked, or was
+    // ended, gives none.
+    ensures asked { result ≡ 0 → (is_asked state.now ≡ true) × (is_begun state.now ≡ true) × IsAnswer second }
     ensures refused { 0 < result → IsCommentVerdictNumber state.now second result }
 {
     if !is_answer(second) {
@@ -192,8 +198,8 @@ pub extern "C" fn minisign_verdict(state: &mut State, first: u32, second: u32) -
         → Answers accepts v sig_text message (first == answer_yes) (second == answer_yes)
         → result ≡ verdict_number (verdict_under accepts v sig_text message legacy) }
 
-    // **So of every text that reads as the key: 0 exactly when the two texts vouch for the message, otherwise the number
-    // of the first case that fails.**
+    // **So of every text that reads as the key: 0 exactly when the two texts vouch for the message, otherwise the
+    // number of the first case that fails.**
     ensures texts { (v : PublicKeyValue) (pk_text sig_text message : List ℕ) (legacy : Bool) (accepts : Verifier)
         → HasAsked state.old v sig_text legacy → IsMarkedTold state.old → IsKeyText pk_text v → IsAnswer first → IsAnswer second
         → Answers accepts v sig_text message (first == answer_yes) (second == answer_yes)
@@ -213,27 +219,50 @@ pub extern "C" fn minisign_verdict(state: &mut State, first: u32, second: u32) -
     }
 }
 
-/// Opens the secret key of a text.
+/// Reads the text of a secret key, which is not opened yet. Does not allocate.
+#[unsafe(no_mangle)]
+pub extern "C" fn minisign_read_secret_key(sk_text: &[u8], unopened: &mut UnopenedKeyValue) -> u32
+    // Whether the text is read is a function of the bytes, which have to be UTF-8: otherwise the number is that of the
+    // first case that fails, and nothing is written.
+    ensures number { result ≡ reading_number (read_utf8 read_secret_key sk_text.now) }
+    ensures kept { 0 < result → unopened.new ≡ unopened.old }
+
+    // What was read holds the record of the key that the text reads as, and tells what opening it takes: whether a
+    // password, how many rows of scrypt and how often. Opening it gives what the text gives, under each password and
+    // within each bound on the work.
+    ensures read { result ≡ 0 → read_utf8 read_secret_key sk_text.now ≡ Ok (record_of unopened.new) }
+    ensures told { result ≡ 0 → unopened.new ≡ read_value unopened.new.bytes }
+    ensures opens { result ≡ 0 → OpensAs unopened.new sk_text.now }
+{
+    match read_unopened_key(sk_text, unopened) {
+        Ok(()) => 0,
+        Err(fault) => Refusal::Refused(fault).number(),
+    }
+}
+
+/// Opens a secret key that was read.
 #[unsafe(no_mangle)]
 pub extern "C" fn minisign_open_secret_key(
     alloc: Global,
-    sk_text: &[u8],
+    unopened: &UnopenedKeyValue,
     with_password: u32,
     password: &[u8],
     keep_every: u64,
     greatest_work: u32,
     key: &mut SecretKeyValue,
 ) -> u32
-    // The secret and the key ID are those of the key that the text gives, with the mark of one that was opened.
-    ensures opened { result ≡ 0 → (k : SecretKeyRecord)
-        × GivesSecretKey sk_text.now (passed_in with_password password.now) greatest_work k × HoldsKey key.new k }
+    // The secret and the key ID are those of the key that the one which was read gives, with the mark of one that was
+    // opened.
+    ensures opened { result ≡ 0 → (is_read unopened.now ≡ true) × ((k : SecretKeyRecord)
+        × (open_read_key (record_of unopened.now) (passed_in with_password password.now) greatest_work ≡ Ok k)
+        × HoldsKey key.new k) }
     ensures number { result ≡ 0 → with_password < 2 }
     ensures flag { 1 < with_password → result ≡ misuse_number BadPasswordFlag }
 
-    // What is refused comes in this order: a number that is neither 0 nor 1; a text or a password that is not UTF-8; and
-    // the first reason for which the text gives no key within the greatest work; only behind the first two it may run
-    // out of memory. The key is then as it was.
-    ensures refused { 0 < result → IsOpeningNumber sk_text.now (passed_in with_password password.now) with_password greatest_work result }
+    // What is refused comes in this order: a number that is neither 0 nor 1; a key that was not read; a password that is
+    // not UTF-8; and the first reason for which the key gives none within the greatest work; only with a password may
+    // memory run out. The key is then as it was.
+    ensures refused { 0 < result → IsOpeningNumber unopened.now (passed_in with_password password.now) with_password greatest_work result }
     ensures kept { 0 < result → key.new ≡ key.old }
 {
     if with_password > 1 {
@@ -241,14 +270,14 @@ pub extern "C" fn minisign_open_secret_key(
     }
     match open_secret_key(
         alloc,
-        sk_text,
+        unopened,
         given(with_password, password),
         keep_every,
         greatest_work,
         key,
     ) {
         Ok(()) => 0,
-        Err(fault) => Refusal::Refused(fault).number(),
+        Err(refusal) => refusal.number(),
     }
 }
 
@@ -312,9 +341,9 @@ pub extern "C" fn minisign_secret_key_text(
     ensures number { result ≡ 0 → (with_password < 2) × (is_opened key.now ≡ true) }
     ensures flag { 1 < with_password → result ≡ misuse_number BadPasswordFlag }
 
-    // What is refused comes in this order: a number that is neither 0 nor 1; a key that was not opened; a comment or a password that is not UTF-8;
-    // a comment of two lines; one that Minisign does not read whole; too short a buffer; limits that sealing does not
-    // allow; out of memory. Buffer and length are then as they were.
+    // What is refused comes in this order: a number that is neither 0 nor 1; a key that was not opened; a comment or a
+    // password that is not UTF-8; a comment of two lines; one that Minisign does not read whole; too short a buffer;
+    // limits that sealing does not allow; out of memory. Buffer and length are then as they were.
     ensures refused { 0 < result → IsMakingNumber key.now (passed_in with_password password.now) with_password sealing.now comment.now text.old result }
     ensures kept { 0 < result → (text.new ≡ text.old) × (text_len.new ≡ text_len.old) }
 {
@@ -379,7 +408,7 @@ pub extern "C" fn minisign_comment_message(
         × (length message.old < 64 + length trusted.now) × (message.new ≡ message.old) }
 {
     match write_comment_message(first, trusted, message) {
-        Ok(()) => 0,
+        Ok(_) => 0,
         Err(no_room) => no_room.number(),
     }
 }
@@ -396,9 +425,10 @@ pub extern "C" fn minisign_signed_text(
     text: &mut [u8],
     text_len: &mut usize,
 ) -> u32
-    // **The text of two signatures reads as the box with exactly the key ID of the key, which was opened, these comments and these signatures; for every scheme that answers the two questions so, that is the box that
-    // signing makes; under every public key under which the signatures are accepted it vouches for the message, and for
-    // a genuine key the headline's third part holds of it.**
+    // **The text of two signatures reads as the box with exactly the key ID of the key, which was opened, these
+    // comments and these signatures; for every scheme that answers the two questions so, that is the box that signing
+    // makes; under every public key under which the signatures are accepted it vouches for the message, and for a
+    // genuine key the headline's third part holds of it.**
     ensures text { result ≡ 0 → (is_opened key.now ≡ true)
         × HoldsText key.now.key_id (comments_of trusted.now untrusted.now) first.now second.now text.new text_len.new }
     ensures readable { result ≡ 0 → AreReadByMinisign (comments_of trusted.now untrusted.now) }
@@ -430,6 +460,7 @@ pub extern "C" fn minisign_install_init(
     ensures due { result ≡ 0 → IsDue installation.new Lock × IsFedState installation.new.state [] }
     ensures first { result ≡ 0 → (is_first < 2) × ((installation.new.is_first == 1) ≡ (is_first == 1)) }
     ensures numbering { result ≡ 0 → numbering ≡ numbering_number (numbering_of installation.new) }
+    ensures unused { result ≡ 0 → IsUnused installation.new }
     ensures refused { 0 < result → (((result ≡ misuse_number BadFirstFlag) × (1 < is_first))
         ⊎ ((result ≡ misuse_number BadNumbering) × (is_first < 2) × (1 < numbering))) × (installation.new ≡ installation.old) }
 {
@@ -455,8 +486,8 @@ pub extern "C" fn minisign_install_due(installation: &Installation) -> u32
 /// The call that was due was done.
 #[unsafe(no_mangle)]
 pub extern "C" fn minisign_install_done(installation: &mut Installation) -> u32
-    // What is due next is what the table says, where the call that was due can be done and is not reading back. Otherwise
-    // it is not due, and nothing changes.
+    // What is due next is what the table says, where the call that was due can be done and is not reading back.
+    // Otherwise it is not due, and nothing changes.
     ensures gone { result ≡ 0 → HasGone Done installation.old installation.new × ((kept : ℕ) → ¬ (IsDue installation.old (ReadBack kept))) }
     ensures refused { 0 < result → (result ≡ misuse_number NotDue) × (installation.new ≡ installation.old) × CannotGo Done installation.old }
 {
@@ -469,8 +500,7 @@ pub extern "C" fn minisign_install_done(installation: &mut Installation) -> u32
 /// A piece was copied, and there may be more.
 #[unsafe(no_mangle)]
 pub extern "C" fn minisign_install_more(installation: &mut Installation) -> u32
-    // The same where a piece was copied and there may be more. Otherwise
-    // it is not due, and nothing changes.
+    // The same where a piece was copied and there may be more. Otherwise it is not due, and nothing changes.
     ensures gone { result ≡ 0 → HasGone More installation.old installation.new × ((kept : ℕ) → ¬ (IsDue installation.old (ReadBack kept))) }
     ensures refused { 0 < result → (result ≡ misuse_number NotDue) × (installation.new ≡ installation.old) × CannotGo More installation.old }
 {
@@ -548,8 +578,8 @@ pub extern "C" fn minisign_install_ask(
     questions: &mut Questions,
     message: &mut [u8],
 ) -> u32
-    // The questions are those of the key and of what the text reads as, as `Installation::ask` says; they are then asked,
-    // and the comment that was asked about is judged, against the number that was kept.
+    // The questions are those of the key and of what the text reads as, as `Installation::ask` says; they are then
+    // asked, and the comment that was asked about is judged, against the number that was kept.
     ensures asked { result ≡ 0 → (t : SignatureTextRecord) × (read_under key.now false sig_text.now ≡ Ok t)
         × AreQuestions questions.new message.new key.now t }
     ensures digest { result ≡ 0 → (m : List ℕ) → IsFedState installation.old.state m → questions.new.digest ≡ blake2b_digest 64 m }
@@ -560,8 +590,8 @@ pub extern "C" fn minisign_install_ask(
     // The field that the number stands in stays.
     ensures field { numbering_of installation.new ≡ numbering_of installation.old }
 
-    // The number is that of the first reason of `Installation::ask`: a wrong use changes nothing, and for any other reason
-    // the stage is to be removed. The message buffer is as it was.
+    // The number is that of the first reason of `Installation::ask`: a wrong use changes nothing, and for any other
+    // reason the stage is to be removed. The message buffer is as it was.
     ensures refused { 0 < result → IsAskNumber installation.old installation.new key.now sig_text.now file.now (length message.old) result }
     ensures kept { 0 < result → message.new ≡ message.old }
 {
@@ -614,8 +644,10 @@ pub extern "C" fn minisign_install_number_text(
 ) -> usize
     // The label of the field and the digits of the number stand at the front of the buffer where they are to be written
     // and have room, and otherwise nothing is written.
-    ensures written { 0 < result → (n : ℕ) × IsDue installation.now (WriteRecord n) × (result ≤ length text.new) × (take result text.new ≡ record_of (numbering_of installation.now) n) }
-    ensures unwritten { result ≡ 0 → (text.new ≡ text.old) × ((n : ℕ) → IsDue installation.now (WriteRecord n) → length text.old < length (record_of (numbering_of installation.now) n)) }
+    ensures written { 0 < result → (n : ℕ) × IsDue installation.now (WriteRecord n) × (result ≤ length text.new)
+        × (take result text.new ≡ record_of (numbering_of installation.now) n) }
+    ensures unwritten { result ≡ 0 → (text.new ≡ text.old)
+        × ((n : ℕ) → IsDue installation.now (WriteRecord n) → length text.old < length (record_of (numbering_of installation.now) n)) }
 {
     installation.write_number(text)
 }

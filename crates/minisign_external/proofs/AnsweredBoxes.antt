@@ -16,8 +16,8 @@ answered_is_signed sign key message z1 z2 key_id chosen first second same answer
 pub answered_vouches : (accepts : Verifier) (public message key_id : List ℕ) (chosen : ChosenComments) (first second : List ℕ)
     → length second ≡ 64 → AcceptsAnswers accepts public message chosen.trusted first second
     → VouchesUnderEachKey accepts public key_id message (answered_box key_id chosen first second)
-answered_vouches accepts public message key_id chosen first second long answers pk legacy key identifier = record {
-  same_key = sym identifier;
+answered_vouches accepts public message key_id chosen first second long answers pk legacy key same_id = record {
+  same_key = sym same_id;
   allowed = inl refl;
   signed = rw key answers.to_first;
   comment_signed = record { long_enough = omega (arith, long); signed = rw (take_all 64 second (omega (arith, long)), key) answers.to_second };
@@ -37,7 +37,7 @@ answered_text key_id chosen first second text long same read = record {
   headline = λ accepts public_of key message owner answers seed genuine one. (
     answered_box key_id chosen first second,
     read,
-    λ pk legacy under identifier.
-        answered_vouches accepts (public_of seed) message key_id chosen first second long (answers seed genuine) pk legacy under (identifier ∙ sym owner),
+    λ pk legacy under same_id.
+        answered_vouches accepts (public_of seed) message key_id chosen first second long (answers seed genuine) pk legacy under (same_id ∙ sym owner),
   );
 }

@@ -1,4 +1,4 @@
 pub mod AnsweredBoxes
 pub mod Verdicts
-pub mod UnsealedKeys
 pub mod Utf8
+pub mod UnopenedKeys

@@ -13,7 +13,7 @@ use Rattle.minisign.specs.declared.making.Sealing.{Sealing}
 use Rattle.minisign_external.specs.Numbers.{misuse_number, refusal_number}
 use Rattle.minisign_external.specs.declared.state.Misuse.{Misuse}
 use Rattle.minisign_external.specs.declared.state.Misuse.TheVariants.{BadComment, BadPasswordFlag, KeyNotOpened, NoRoom, UnreadableComment}
-use Rattle.minisign_external.specs.Signing.{is_opened}
+use Rattle.minisign_external.specs.SecretKeys.{is_opened}
 use Rattle.minisign_external.specs.declared.secrets.SecretKeyValue.{SecretKeyValue}
 use Rattle.minisign_external.specs.declared.state.Refusal.{Refusal}
 use Rattle.minisign_external.specs.declared.state.Refusal.TheVariants.{WrongUse, Refused}
@@ -58,8 +58,8 @@ IsWritable comment more bytes = IsKeyComment comment × (length comment + more �
 abbrev pub AreUtf8KeyTexts : List ℕ → Option (List ℕ) → Type 0
 AreUtf8KeyTexts comment password = IsUtf8 comment × IfSome password IsUtf8
 
--- the text of a secret key, of a comment and a password that are texts, was not written: a wrong use; then limits that are
--- refused, or out of memory
+-- the text of a secret key, of a comment and a password that are texts, was not written: a wrong use; then limits that
+-- are refused, or out of memory
 abbrev pub IsMadeRefusal : Option (List ℕ) → Sealing → List ℕ → List ℕ → Refusal → Type 0
 IsMadeRefusal password s comment bytes (WrongUse m) = IsUnwritable comment 233 bytes m
 IsMadeRefusal password s comment bytes (Refused e) = IsWritable comment 233 bytes × IsMakingFault password s e

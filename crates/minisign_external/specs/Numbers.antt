@@ -5,7 +5,7 @@ use Rattle.minisign_base.specs.Fault.{Fault, Named, Worded}
 use Rattle.minisign_base.specs.Faults.{fault_row}
 use Rattle.minisign_base.specs.declared.faults.NamedFault.{NamedFault}
 use Rattle.minisign_external.specs.declared.state.Misuse.{Misuse}
-use Rattle.minisign_external.specs.declared.state.Misuse.TheVariants.{NotBegun, AlreadyAsked, NotAsked, BadAnswer, NoRoom, BadLegacyFlag, BadComment, BadPasswordFlag, UnreadableComment, NotDue, BadFirstFlag, BadNumbering, KeyNotOpened}
+use Rattle.minisign_external.specs.declared.state.Misuse.TheVariants.{NotBegun, AlreadyAsked, NotAsked, BadAnswer, NoRoom, BadLegacyFlag, BadComment, BadPasswordFlag, UnreadableComment, NotDue, BadFirstFlag, BadNumbering, KeyNotOpened, KeyNotRead}
 use Rattle.minisign_external.specs.declared.state.Refusal.{Refusal}
 use Rattle.minisign_external.specs.declared.state.Refusal.TheVariants.{WrongUse, Refused}
 
@@ -23,6 +23,7 @@ misuse_number NotDue = 12
 misuse_number BadFirstFlag = 13
 misuse_number BadNumbering = 14
 misuse_number KeyNotOpened = 15
+misuse_number KeyNotRead = 63
 
 abbrev pub misuse_text : Misuse → List ℕ
 misuse_text NotBegun = codes "the state was never begun"
@@ -38,9 +39,10 @@ misuse_text NotDue = codes "the call is not due, or cannot go so"
 misuse_text BadFirstFlag = codes "is_first is neither 0 nor 1"
 misuse_text BadNumbering = codes "numbering is neither MINISIGN_NUMBERING_TIMESTAMP nor MINISIGN_NUMBERING_VERSION"
 misuse_text KeyNotOpened = codes "the secret key was not opened"
+misuse_text KeyNotRead = codes "the secret key was not read"
 
--- the numbers of the two answers of a signature scheme: the letters "yes" and "no", each letter a byte. They are neither 0 nor 1, nor the
--- number of an error, so that no such number is taken for an answer
+-- the numbers of the two answers of a signature scheme: the letters "yes" and "no", each letter a byte. They are
+-- neither 0 nor 1, nor the number of an error, so that no such number is taken for an answer
 abbrev pub answer_yes : ℕ
 answer_yes = 7955827
 

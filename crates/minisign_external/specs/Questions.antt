@@ -52,8 +52,8 @@ told_signature c = if has_whole_signature c then take 64 c.signature else replic
 abbrev pub AnswersFirst : Verifier → PublicKeyValue → SignatureTextRecord → List ℕ → Bool → Type 0
 AnswersFirst accepts v t message first = accepts (signed_bytes (box_of t) message) v.key t.signature.signature ≡ first
 
--- and the second so, where it can be asked: the first 64 bytes of the comment signature, over that signature followed by
--- the trusted comment
+-- and the second so, where it can be asked: the first 64 bytes of the comment signature, over that signature followed
+-- by the trusted comment
 abbrev pub AnswersSecond : Verifier → PublicKeyValue → SignatureTextRecord → Bool → Type 0
 AnswersSecond accepts v t second =
     IsTrue (has_whole_signature t.comments) → accepts (t.signature.signature ++ t.comments.trusted) v.key (take 64 t.comments.signature) ≡ second

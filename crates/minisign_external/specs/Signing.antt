@@ -1,83 +1,24 @@
 -- What a signature scheme has to be asked for a signature of a message, and the text that its answers make.
-use Rattle.std.specs.Prelude.{◌≡◌, ◌==◌, ◌⊎◌, ◌<◌, ◌≤◌, ◌&&◌, ℕ, Bool, true, false, if◌then◌else◌, bytes_eq, List, ◌++◌, length, take, drop, Option, None, Some, Result, Ok, Err, IfSome, replicate}
+use Rattle.std.specs.Prelude.{◌≡◌, ◌⊎◌, ◌<◌, ◌≤◌, ℕ, true, false, List, ◌++◌, length, take, Some, Ok}
 use Rattle.std.specs.Str.{IsUtf8}
 use Rattle.std.specs.Str.Iter.{LacksByte}
 use Rattle.minisign_hash.specs.Blake2b.{blake2b_digest}
-use Rattle.minisign_base.specs.Fault.{Fault, Named}
+use Rattle.minisign_base.specs.Fault.{Named}
 use Rattle.minisign_base.specs.declared.faults.NamedFault.TheVariants.{OutOfMemory, NotUtf8}
 use Rattle.minisign.specs.Records.{CommentsRecord, SecretKeyRecord, SignatureRecord, SignatureBoxRecord, prehashed_algorithm}
 use Rattle.minisign.specs.Acceptance.{Verifier, VouchesUnderEachKey}
 use Rattle.minisign.specs.Headline.{SigningHeadline}
-use Rattle.minisign.specs.Sealing.{no_kdf, unencrypted_key}
-use Rattle.minisign.specs.SecretKeyText.{read_secret_key}
-use Rattle.minisign.specs.Texts.{and_then}
 use Rattle.minisign.specs.Signing.{AreChosenReadBack, ChosenComments, IsGenuine, Signer, signed_box}
 use Rattle.minisign.specs.SignatureText.{read_signature_box, signature_text}
-use Rattle.minisign_external.specs.Numbers.{fault_number, misuse_number, refusal_number}
-use Rattle.minisign_external.specs.declared.public_keys.PublicKeyValue.{PublicKeyValue}
+use Rattle.minisign_external.specs.Numbers.{refusal_number}
+use Rattle.minisign_external.specs.SecretKeys.{is_opened}
 use Rattle.minisign_external.specs.declared.secrets.SecretKeyValue.{SecretKeyValue}
 use Rattle.minisign_external.specs.declared.state.Misuse.{Misuse}
-use Rattle.minisign_external.specs.declared.state.Misuse.TheVariants.{BadComment, BadPasswordFlag, KeyNotOpened, NoRoom, UnreadableComment}
+use Rattle.minisign_external.specs.declared.state.Misuse.TheVariants.{BadComment, KeyNotOpened, NoRoom, UnreadableComment}
 use Rattle.minisign_external.specs.declared.state.Refusal.{Refusal}
 use Rattle.minisign_external.specs.declared.state.Refusal.TheVariants.{WrongUse, Refused}
-use Rattle.minisign.specs.OpenedTexts.{open_key}
 
--- a key that was never sealed, with 32 zeros in place of its checksum, as Minisign writes it
-abbrev pub lacks_checksum : SecretKeyRecord → Bool
-lacks_checksum k = bytes_eq k.kdf no_kdf && bytes_eq k.checksum (replicate 32 0)
-
--- the key that was never sealed, and that a text reads as: such a key as it stands, or one whose checksum matches
-abbrev pub unsealed_key : SecretKeyRecord → Result SecretKeyRecord Fault
-unsealed_key k = if lacks_checksum k then Ok k else unencrypted_key k
-
-unfoldable pub read_unsealed_key : List ℕ → Result SecretKeyRecord Fault
-read_unsealed_key text = and_then (read_secret_key text) unsealed_key
-
--- what the text gives: without a password a key that was never sealed, with one a sealed one that it opens within the
--- greatest work
-abbrev pub read_key_to_sign : List ℕ → Option (List ℕ) → ℕ → Result SecretKeyRecord Fault
-read_key_to_sign text None greatest_work = read_unsealed_key text
-read_key_to_sign text (Some password) greatest_work = open_key text password (Some greatest_work)
-
--- the text gives this key
-abbrev pub GivesSecretKey : List ℕ → Option (List ℕ) → ℕ → SecretKeyRecord → Type 0
-GivesSecretKey text password greatest_work key = read_key_to_sign text password greatest_work ≡ Ok key
-
--- the mark of a key that was opened or taken in: "minissec"
-abbrev pub opened_mark : ℕ
-opened_mark = 7162257721929918829
-
-abbrev pub is_opened : SecretKeyValue → Bool
-is_opened v = v.mark == opened_mark
-
--- a key that is taken in: of this key ID, and with these 64 secret bytes
-abbrev pub taken_key : List ℕ → List ℕ → SecretKeyValue
-taken_key key_id secret = record { mark = opened_mark; key_id = key_id; secret = secret }
-
--- the value is that of the key, and has the mark of one that was opened
-abbrev pub HoldsKey : SecretKeyValue → SecretKeyRecord → Type 0
-HoldsKey v key = v ≡ taken_key key.keynum key.secret
-
--- the public key of a key that was opened: the last 32 of its 64 secret bytes
-abbrev pub public_value_of : SecretKeyValue → Result PublicKeyValue Misuse
-public_value_of v = if is_opened v then Ok (record { key = drop 32 v.secret; key_id = v.key_id }) else Err KeyNotOpened
-
--- the same as a number, and the public key that is told or stays
-abbrev pub told_public_key : Result PublicKeyValue Misuse → PublicKeyValue → ℕ × PublicKeyValue
-told_public_key (Ok v) old = (0, v)
-told_public_key (Err m) old = (misuse_number m, old)
-
--- the text and the password are UTF-8
-abbrev pub AreKeyTexts : List ℕ → Option (List ℕ) → Type 0
-AreKeyTexts text password = IsUtf8 text × IfSome password IsUtf8
-
--- a key was not told, of a text and a password: one of them is not UTF-8, or else memory ran out, or the text gives no key
-abbrev pub IsOpeningFault : List ℕ → Option (List ℕ) → ℕ → Fault → Type 0
-IsOpeningFault text password greatest_work e =
-    ((e ≡ Named NotUtf8) × ¬ (AreKeyTexts text password))
-    ⊎ (AreKeyTexts text password × ((e ≡ Named OutOfMemory) ⊎ (read_key_to_sign text password greatest_work ≡ Err e)))
-
--- the box of two answers, under a key's identifier and with these comments
+-- the box of two answers, under a key's key ID and with these comments
 abbrev pub answered_signature : List ℕ → List ℕ → SignatureRecord
 answered_signature key_id first = record { algorithm = prehashed_algorithm; keynum = key_id; signature = first }
 
@@ -117,9 +58,9 @@ pub record IsAnsweredText (key_id : List ℕ) (chosen : ChosenComments) (first s
 abbrev pub comments_of : List ℕ → List ℕ → ChosenComments
 comments_of trusted untrusted = record { trusted = trusted; untrusted = untrusted }
 
--- Minisign's own program, of version 0.11, reads the comments back as they are: each line fits its buffer, which has 1,024 bytes for the
--- untrusted comment and 8,192 for the trusted one, and in them a label of 19 or 17 bytes, a line feed and a zero; and
--- no line is cut at a zero byte or a carriage return
+-- Minisign's own program, of version 0.11, reads the comments back as they are: each line fits its buffer, which has
+-- 1,024 bytes for the untrusted comment and 8,192 for the trusted one, and in them a label of 19 or 17 bytes, a line
+-- feed and a zero; and no line is cut at a zero byte or a carriage return
 pub record AreReadByMinisign (chosen : ChosenComments) : Type 0 where
   pub untrusted_fits : length chosen.untrusted < 1004
   pub trusted_fits : length chosen.trusted < 8174
@@ -128,7 +69,8 @@ pub record AreReadByMinisign (chosen : ChosenComments) : Type 0 where
   pub untrusted_return : LacksByte 13 chosen.untrusted
   pub trusted_return : LacksByte 13 chosen.trusted
 
--- the comments are refused, and this is the first reason: one would not be read back as it is, or not by Minisign's own program
+-- the comments are refused, and this is the first reason: one would not be read back as it is, or not by Minisign's own
+-- program
 abbrev pub IsCommentMisuse : ChosenComments → Misuse → Type 0
 IsCommentMisuse chosen m =
     ((m ≡ BadComment) × ¬ (AreChosenReadBack chosen)) ⊎ ((m ≡ UnreadableComment) × AreChosenReadBack chosen × ¬ (AreReadByMinisign chosen))
@@ -158,16 +100,6 @@ IsWritingRefusal v chosen first second bytes (Refused e) =
     (is_opened v ≡ true)
     × (((e ≡ Named OutOfMemory) × AreUtf8 chosen × AreChosenReadBack chosen × AreReadByMinisign chosen) ⊎ ((e ≡ Named NotUtf8) × ¬ (AreUtf8 chosen)))
 
--- the number of a refusal of opening: a number that is no flag, with nothing read, and only then the other reasons
-abbrev pub IsOpeningNumber : List ℕ → Option (List ℕ) → ℕ → ℕ → ℕ → Type 0
-IsOpeningNumber text password with_password greatest_work n =
-    ((n ≡ misuse_number BadPasswordFlag) × (1 < with_password))
-    ⊎ ((with_password < 2) × (e : Fault) × (n ≡ fault_number e) × IsOpeningFault text password greatest_work e)
-
 -- the number of a refusal of writing a text
 abbrev pub IsWritingNumber : SecretKeyValue → ChosenComments → List ℕ → List ℕ → List ℕ → ℕ → Type 0
 IsWritingNumber v chosen first second bytes n = (r : Refusal) × (n ≡ refusal_number r) × IsWritingRefusal v chosen first second bytes r
-
--- the password that a caller passes in by two arguments: none with 0, these bytes with 1
-abbrev pub passed_in : ℕ → List ℕ → Option (List ℕ)
-passed_in with_password bytes = if with_password == 0 then None else Some bytes

@@ -18,8 +18,8 @@ use Rattle.minisign_external.specs.declared.state.Refusal.TheVariants.{WrongUse,
 use Rattle.minisign_external.specs.declared.state.State.{State}
 use Rattle.minisign_external.specs.declared.state.Questions.{Questions}
 
--- the marks of a state that is being fed, of one that has told its digest, and of questions that were asked: "minisign",
--- "minissum" and "minisask"
+-- the marks of a state that is being fed, of one that has told its digest, and of questions that were asked:
+-- "minisign", "minissum" and "minisask"
 abbrev pub fed_mark : ℕ
 fed_mark = 7955443211184269677
 
@@ -141,8 +141,8 @@ abbrev pub IsFaultOf : (Fault → Type 0) → Refusal → Type 0
 IsFaultOf holds (WrongUse m) = ⊥
 IsFaultOf holds (Refused e) = holds e
 
--- asking about all that a state was fed was refused: it is not being fed; or else the text of the signature or the room is
--- refused as above
+-- asking about all that a state was fed was refused: it is not being fed; or else the text of the signature or the room
+-- is refused as above
 abbrev pub IsNotFedRefusal : State → Refusal → Type 0
 IsNotFedRefusal s (WrongUse m) = IsNotFed s m
 IsNotFedRefusal s (Refused e) = ⊥
@@ -175,14 +175,14 @@ pub record HasEnded (old new : State) : Type 0 where
   pub told : old.mark ≡ told_mark
   pub ended : new.mark ≡ 0
 
--- what the second answer is worth is not told, or is nothing: the state has not asked or was ended; or it has asked, and
--- the comment signature is refused
+-- what the second answer is worth is not told, or is nothing: the state has not asked or was ended; or it has asked,
+-- and the comment signature is refused
 abbrev pub IsCommentRefusal : State → Refusal → Type 0
 IsCommentRefusal s (WrongUse m) = (m ≡ verdict_misuse s) × ((is_asked s && is_begun s) ≡ false)
 IsCommentRefusal s (Refused e) = (e ≡ Named CommentSignatureRefused) × (is_asked s ≡ true) × (is_begun s ≡ true)
 
--- no success: where the state has not asked or not told its digest, it stays as it was; where it has, the first question
--- was answered by no, or else the second
+-- no success: where the state has not asked or not told its digest, it stays as it was; where it has, the first
+-- question was answered by no, or else the second
 abbrev pub IsVerdictRefusal : State → State → Bool → Refusal → Type 0
 IsVerdictRefusal old new first (WrongUse m) = (m ≡ verdict_misuse old) × (new ≡ old) × ((is_asked old && (old.mark == told_mark)) ≡ false)
 IsVerdictRefusal old new first (Refused e) =

@@ -13,11 +13,11 @@ ghost use Rattle.minisign_external.specs.declared.state.Misuse.TheVariants.{NoRo
 ghost use Rattle.minisign_external.specs.declared.state.Refusal.TheVariants.{WrongUse};
 
 use crate::public_keys::PublicKeyValue;
+use crate::signed_texts::write_comment_message;
 use crate::state::{ASKED, FED, Misuse, Questions, Refusal, State, TOLD};
-use crate::texts::{legacy_number, read_bytes, test, told_comment_signature, write_joined};
-use crate::verdict::verdict;
+use crate::texts::{legacy_number, read_bytes, test, told_comment_signature};
+use crate::verdict::{comment_verdict, verdict};
 use minisign::SignatureView;
-use minisign_base::NamedFault;
 
 impl State {
     /// Asks, mostly before any data: what a scheme has to answer before it is known whether the key and the text of the
@@ -34,14 +34,14 @@ impl State {
         questions: &mut Questions,
         message: &mut [u8],
     ) -> Result<(), Refusal>
-        // What is answered is a function of the state, the key, the text, the flag and the room. The refusals come in one
-        // order: a state that was asked before, has told its digest or was never begun; a text that is not UTF-8; what
-        // is refused of the text; a key ID that differs, and a signature over the data itself where that will not do; and
-        // too short a buffer.
+        // What is answered is a function of the state, the key, the text, the flag and the room. The refusals come in
+        // one order: a state that was asked before, has told its digest or was never begun; a text that is not UTF-8;
+        // what is refused of the text; a key ID that differs, and a signature over the data itself where that will not
+        // do; and too short a buffer.
         ensures value { result ≡ asking_result self.old key.now sig_text.now allow_legacy (length message.old) }
 
-        // The questions are those of the key and of what the text reads as, with zeros for the digest; the message of the
-        // second stands at the front of the buffer. They are then asked; what was fed stays.
+        // The questions are those of the key and of what the text reads as, with zeros for the digest; the message of
+        // the second stands at the front of the buffer. They are then asked; what was fed stays.
         ensures asked { OnOk result ((t : SignatureTextRecord) × (read_under key.now allow_legacy sig_text.now ≡ Ok t)
             × (questions.new ≡ questions_of key.now t) × HoldsMessage t.signature t.comments.trusted message.new questions.new.message_len) }
         ensures asking { OnOk result (HasAsked self.new key.now sig_text.now allow_legacy) }
@@ -50,12 +50,12 @@ impl State {
         // As many bytes as the text has are room enough.
         ensures room { length sig_text.now ≤ length message.old → IfErr result (λ r. ¬ (r ≡ WrongUse NoRoom)) }
 
-        // The texts refuse what is refused of them: of every text that reads as the key, under every scheme and for every
-        // message.
+        // The texts refuse what is refused of them: of every text that reads as the key, under every scheme and for
+        // every message.
         ensures texts { IfErr result (IsTextRefusal key.now sig_text.now allow_legacy) }
 
-        // After a refusal the state and the message buffer are as they were; of a state that may be asked, and a text that
-        // reads, both key IDs are told.
+        // After a refusal the state and the message buffer are as they were; of a state that may be asked, and a text
+        // that reads, both key IDs are told.
         ensures kept { OnErr result ((self.new ≡ self.old) × (message.new ≡ message.old)) }
         ensures key_ids { (self.old.mark ≡ fed_mark) → is_asked self.old ≡ false → (t : SignatureTextRecord) → read_utf8 read_signature sig_text.now ≡ Ok t
             → (questions.new.public_key_id ≡ key.now.key_id) × (questions.new.signature_key_id ≡ t.signature.keynum) }
@@ -69,8 +69,9 @@ impl State {
         }
     }
 
-    /// The same about all that the state was fed, also where it was asked before: the digest is told as well, and the state
-    /// takes no more data. Returns the trusted comment, which nothing vouches for yet. A wrong use changes nothing.
+    /// The same about all that the state was fed, also where it was asked before: the digest is told as well, and the
+    /// state takes no more data. Returns the trusted comment, which nothing vouches for yet. A wrong use changes
+    /// nothing.
     pub fn ask_fed<'a>(
         &mut self,
         key: &PublicKeyValue,
@@ -79,15 +80,15 @@ impl State {
         questions: &mut Questions,
         message: &mut [u8],
     ) -> Result<&'a str, Refusal>
-        // The questions are those of the key and of what the text reads as; the digest is that of everything the state was
-        // fed, which it has then told; the comment is the one that was asked about.
+        // The questions are those of the key and of what the text reads as; the digest is that of everything the state
+        // was fed, which it has then told; the comment is the one that was asked about.
         ensures asked { IfOk result (λ c. (t : SignatureTextRecord) × (read_under key.now allow_legacy sig_text.now ≡ Ok t)
             × AreQuestions questions.new message.new key.now t × (c.now ≡ t.comments.trusted)) }
         ensures digest { OnOk result ((m : List ℕ) → IsFedState self.old m → (questions.new.digest ≡ blake2b_digest 64 m) × HasToldDigest self.new m) }
         ensures asking { OnOk result (HasAsked self.new key.now sig_text.now allow_legacy × IsMarkedTold self.new) }
 
-        // A state that is not being fed is refused first, and then what `ask` refuses of the texts and the room. State and message buffer are then
-        // as they were.
+        // A state that is not being fed is refused first, and then what `ask` refuses of the texts and the room. State
+        // and message buffer are then as they were.
         ensures refused { IfErr result (IsAskFedRefusal self.old key.now sig_text.now allow_legacy (length message.old)) }
         ensures room { length sig_text.now ≤ length message.old → IfErr result (λ r. ¬ (r ≡ WrongUse NoRoom)) }
         ensures texts { IfErr result (IsTextRefusal key.now sig_text.now allow_legacy) }
@@ -134,7 +135,8 @@ impl State {
     }
 
     /// What the answer to the second question is worth by itself: success where the comment signature has its 64 bytes
-    /// and the scheme accepts it. Nothing is said of any data. A state that has not asked is refused. Does not allocate.
+    /// and the scheme accepts it. Nothing is said of any data. A state that has not asked, or was ended, is refused.
+    /// Does not allocate.
     pub fn comment_verdict(&self, second: bool) -> Result<(), Refusal>
         // For every relation that answers the second question so: success exactly when the trusted comment was signed,
         // together with the first signature, by the key.
@@ -142,17 +144,17 @@ impl State {
             → HasAsked self.now v sig_text legacy → AnswersComment accepts v sig_text second
             → is_begun self.now ≡ true → result ≡ given_verdict (comment_verdict_under accepts v sig_text legacy) }
 
-        // A state that has not asked gives none.
-        ensures asked { OnOk result (is_asked self.now ≡ true) }
+        // A state that has not asked, or was ended, gives none.
+        ensures asked { OnOk result ((is_asked self.now ≡ true) × (is_begun self.now ≡ true)) }
         ensures refused { IfErr result (IsCommentRefusal self.now) }
     {
         if !self.is_begun() || !self.is_asked() {
             return Err(Refusal::WrongUse(self.verdict_misuse()));
         }
-        if self.whole != 1 || !second {
-            return Err(Refusal::Refused(NamedFault::CommentSignatureRefused.into()));
+        match comment_verdict(self.whole == 1, second) {
+            Ok(()) => Ok(()),
+            Err(fault) => Err(Refusal::Refused(fault)),
         }
-        Ok(())
     }
 
     /// The verdict from the answers of the scheme, once the digest was told; it ends the state.
@@ -224,22 +226,33 @@ fn write_questions(
         (λ m. (m ≡ NoRoom) × (length message.old < 64 + length t.comments.trusted)) }
     ensures kept { OnErr result ((message.new ≡ message.old) × (questions.new ≡ questions.old)) }
 {
-    let of_signature = signature.signature();
-    let trusted = signature.trusted_comment();
-    let Some(message_len) = write_joined(message, &of_signature.sig, trusted.as_bytes()) else {
-        return Err(Misuse::NoRoom);
-    };
+    let trusted = signature.trusted_comment().as_bytes();
+    let message_len = write_comment_message(&signature.signature().sig, trusted, message)?;
     let (comment_signature, whole) = told_comment_signature(signature);
-    *questions = Questions {
+    *questions = questions_of(key, signature, comment_signature, message_len as u64);
+    Ok(whole)
+}
+
+// The questions of a key and of what a text reads as, of which the second has this signature and a message of this length.
+fn questions_of(
+    key: &PublicKeyValue,
+    signature: &SignatureView<'_>,
+    comment_signature: [u8; 64],
+    message_len: u64,
+) -> Questions
+    ensures { (t : SignatureTextRecord) → signature.now ≡ view_of t
+        → result ≡ record (questions_of key.now t) { comment_signature = comment_signature; message_len = message_len } }
+{
+    let of_signature = signature.signature();
+    Questions {
         public_key: key.key,
         digest: [0; 64],
         signature: of_signature.sig,
         comment_signature,
-        message_len: message_len as u64,
+        message_len,
         public_key_id: key.key_id,
         signature_key_id: of_signature.keynum,
         legacy: legacy_number(signature),
         reserved: 0,
-    };
-    Ok(whole)
+    }
 }

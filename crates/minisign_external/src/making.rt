@@ -7,7 +7,7 @@ ghost use Rattle.minisign_base.specs.Fault.{Named};
 ghost use Rattle.minisign_base.specs.declared.faults.NamedFault.TheVariants.{OutOfMemory};
 ghost use Rattle.minisign.specs.Making.{IsMakingFault};
 ghost use Rattle.minisign_external.specs.Making.{HoldsPublicKey, HoldsSecretKey, IsMadeRefusal, IsMakingRefusal, IsPublicKeyRefusal, IsReadInKey, IsUnwritable, IsWritable};
-ghost use Rattle.minisign_external.specs.Signing.{is_opened};
+ghost use Rattle.minisign_external.specs.SecretKeys.{is_opened};
 
 use crate::secrets::SecretKeyValue;
 use crate::signed_texts::write_front;
@@ -47,9 +47,10 @@ pub fn write_secret_key(
     ensures opened { OnOk result (is_opened key.now ≡ true) }
     ensures text { IfOk result (HoldsSecretKey key.now.key_id key.now.secret (option_map (λ p. p.now) password.entry) sealing.now comment.now to.new) }
 
-    // What is refused comes in this order: a key that was not opened; a comment or a password that is not UTF-8; a comment with a line feed; one
-    // with a carriage return or a zero byte, or of more than 1003 bytes, which Minisign does not read whole; too short
-    // a buffer; with a password limits that sealing does not allow; out of memory. The buffer is then as it was.
+    // What is refused comes in this order: a key that was not opened; a comment or a password that is not UTF-8; a
+    // comment with a line feed; one with a carriage return or a zero byte, or of more than 1003 bytes, which Minisign
+    // does not read whole; too short a buffer; with a password limits that sealing does not allow; out of memory. The
+    // buffer is then as it was.
     ensures refused { IfErr result (IsMakingRefusal key.now (option_map (λ p. p.now) password.entry) sealing.now comment.now to.old) }
     ensures kept { OnErr result (to.new ≡ to.old) }
 {

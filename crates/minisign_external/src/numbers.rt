@@ -52,7 +52,7 @@ pub fn number_of(fault: &PError) -> u32
 
 impl Misuse {
     /// All wrong uses.
-    pub const ALL: [Misuse; 13] = [
+    pub const ALL: [Misuse; 14] = [
         Misuse::NotBegun,
         Misuse::AlreadyAsked,
         Misuse::NotAsked,
@@ -66,9 +66,10 @@ impl Misuse {
         Misuse::BadFirstFlag,
         Misuse::BadNumbering,
         Misuse::KeyNotOpened,
+        Misuse::KeyNotRead,
     ];
 
-    /// The number of the wrong use, from 1 to 15.
+    /// The number of the wrong use, from 1 to 15, or 63.
     pub fn number(&self) -> u32
         ensures { result ≡ misuse_number self.now }
     {
@@ -86,6 +87,7 @@ impl Misuse {
             Misuse::BadFirstFlag => 13,
             Misuse::BadNumbering => 14,
             Misuse::KeyNotOpened => 15,
+            Misuse::KeyNotRead => 63,
         }
     }
 
@@ -115,6 +117,7 @@ impl Misuse {
                 "numbering is neither MINISIGN_NUMBERING_TIMESTAMP nor MINISIGN_NUMBERING_VERSION"
             }
             Misuse::KeyNotOpened => "the secret key was not opened",
+            Misuse::KeyNotRead => "the secret key was not read",
         }
     }
 }
@@ -123,7 +126,7 @@ impl Misuse {
 /// is no room for more: returns the length of the whole text, which is at most 127 bytes. Where
 /// `to` has no byte nothing is written.
 pub fn write_error_text(number: u32, to: &mut [u8]) -> usize
-    // The text of a number is that of the wrong use, or what the fault of this number says without its identifiers; it
+    // The text of a number is that of the wrong use, or what the fault of this number says without its key IDs; it
     // has less than 128 bytes, is cut to its room and ended by a 0.
     ensures written { (text : List ℕ) × IsMeaning number text × (result ≡ length text) × WritesCut text to.old to.new }
     ensures room { result < 128 }
@@ -149,7 +152,7 @@ pub fn write_cut(text: &str, to: &mut [u8]) -> usize
     bytes.len()
 }
 
-/// What a number means, in English: of a fault its summary, which says all but its identifiers.
+/// What a number means, in English: of a fault its summary, which says all but its key IDs.
 pub fn error_text(number: u32) -> &'static str
     ensures meaning { IsMeaning number result.now }
     ensures room { length result.now < 128 }
@@ -176,7 +179,7 @@ fn misuse_of(number: u32) -> Option<Misuse>
         .find(|misuse| misuse.number() == number)
 }
 
-// The named fault of a number, with identifiers of zeros.
+// The named fault of a number, with key IDs of zeros.
 fn fault_of(number: u32) -> Option<NamedFault>
     ensures { result ≡ find (λ f. (fault_row f).number == number) NamedFault.ALL }
 {

@@ -22,8 +22,8 @@ pub struct PublicKeyValue {
 /// Refused are, in this order: a text that is not UTF-8; what `minisign::read_public_key` refuses. Then the value stays
 /// as it was.
 pub fn tell_public_key(text: &[u8], value: &mut PublicKeyValue) -> Result<()>
-    // The value is told of the public key that a text of two lines, or its base64 alone, reads as: a function of the
-    // bytes, which have to be UTF-8. Otherwise the first case that fails is told, and the value stays.
+    // The value is told of the public key that a text of two lines reads as: a function of the bytes, which have to be
+    // UTF-8. Otherwise the first case that fails is told, and the value stays.
     ensures { (result, value.new) ≡ told_key (read_utf8 read_public_key text.now) value.old }
 {
     tell(read(text), value)

@@ -5,20 +5,20 @@ ghost use Rattle.minisign_base.specs.Fault.{Named};
 ghost use Rattle.minisign_base.specs.declared.faults.NamedFault.TheVariants.{OutOfMemory};
 ghost use Rattle.minisign.specs.Signing.{AreChosenReadBack};
 ghost use Rattle.minisign.specs.SignatureText.{read_signature_box, signature_text};
-ghost use Rattle.minisign_external.specs.Signing.{AreReadByMinisign, HoldsText, IsAnsweredText, IsCommentMisuse, IsWritingRefusal, answered_box, answered_comments, answered_signature, comments_of, is_opened};
+ghost use Rattle.minisign_external.specs.Signing.{AreReadByMinisign, HoldsText, IsAnsweredText, IsCommentMisuse, IsWritingRefusal, answered_box, answered_comments, answered_signature, comments_of};
+ghost use Rattle.minisign_external.specs.SecretKeys.{is_opened};
 ghost use Rattle.minisign_external.specs.declared.state.Misuse.{Misuse};
 ghost use Rattle.minisign_external.specs.declared.state.Misuse.TheVariants.{NoRoom};
 ghost use Rattle.minisign_external.specs.declared.state.Refusal.TheVariants.{Refused, WrongUse};
 
 use crate::secrets::SecretKeyValue;
 use crate::state::{Misuse, Refusal};
-use crate::texts::write_joined;
 use minisign::SignatureBox;
 use minisign_base::NamedFault;
 use std::alloc::Global;
 
 /// The text of a signature, the four lines that Minisign reads, from the two answers of a signature
-/// scheme: under the identifier of the key, with the trusted comment that the second answer is over
+/// scheme: under the key ID of the key, with the trusted comment that the second answer is over
 /// and an untrusted one.
 pub fn signed_text(
     alloc: Global,
@@ -28,7 +28,7 @@ pub fn signed_text(
     trusted: &str,
     untrusted: &str,
 ) -> std::result::Result<String, Refusal>
-    // The text of two signatures reads as the box with exactly this identifier, these comments and these signatures;
+    // The text of two signatures reads as the box with exactly this key ID, these comments and these signatures;
     // for every scheme that answers the two questions so, that is the box that signing makes; under every public key
     // under which the signatures are accepted it vouches for the message, and for a genuine key the headline's third
     // part holds of it.
@@ -37,8 +37,8 @@ pub fn signed_text(
     // Refused are comments that would not be read back as they are: one with a line feed, an untrusted one with a
     // carriage return at its end, a trusted one with white space at either end. Then those that Minisign 0.11 would not
     // read back: an untrusted one of 1,004 bytes or more, a trusted one of 8,174 or more, one with a zero byte or a
-    // carriage return. For all others there is a text, unless memory runs out: no comment that is refused is said to have
-    // wanted memory.
+    // carriage return. For all others there is a text, unless memory runs out: no comment that is refused is said to
+    // have wanted memory.
     ensures refused { IfErr result (λ r. ((r ≡ Refused (Named OutOfMemory)) × AreChosenReadBack (comments_of trusted.now untrusted.now) × AreReadByMinisign (comments_of trusted.now untrusted.now))
         ⊎ ((m : Misuse) × (r ≡ WrongUse m) × IsCommentMisuse (comments_of trusted.now untrusted.now) m)) }
     ensures kept { OnOk result (AreChosenReadBack (comments_of trusted.now untrusted.now) × AreReadByMinisign (comments_of trusted.now untrusted.now)) }
@@ -98,24 +98,26 @@ pub(crate) fn write_front(bytes: &[u8], to: &mut [u8]) -> Option<usize>
     Some(bytes.len())
 }
 
-/// Writes the message of the second question to the front of `message`: the first answer followed
-/// by the trusted comment, which is 64 bytes longer than the comment. Where there is no room
-/// nothing is written.
+/// Writes the message of the second question to the front of `message`, and returns its length: the first signature
+/// followed by the trusted comment, which is 64 bytes longer than the comment. Where there is no room nothing is
+/// written.
 pub fn write_comment_message(
     first: &[u8; 64],
     trusted: &[u8],
     message: &mut [u8],
-) -> Result<(), Misuse>
+) -> Result<usize, Misuse>
     // The message of the second question is the first signature followed by the trusted comment; where there is no room
     // for it, it stays as it was.
-    ensures message { OnOk result ((64 + length trusted.now ≤ length message.new)
-        × (take (64 + length trusted.now) message.new ≡ first.now ++ trusted.now)) }
+    ensures message { IfOk result (λ n. (n ≡ 64 + length trusted.now) × (n ≤ length message.new)
+        × (take n message.new ≡ first.now ++ trusted.now)) }
+    ensures room { OnOk result (64 + length trusted.now ≤ length message.old) }
     ensures refused { IfErr result (λ m. (m ≡ NoRoom) × (length message.old < 64 + length trusted.now) × (message.new ≡ message.old)) }
 {
-    match write_joined(message, first, trusted) {
-        Some(_) => Ok(()),
-        None => Err(Misuse::NoRoom),
+    if message.len() < 64 || message.len() - 64 < trusted.len() {
+        return Err(Misuse::NoRoom);
     }
+    minisign::write_comment_message(first, trusted, message);
+    Ok(64 + trusted.len())
 }
 
 // Tests comments: whether they are read back as they are written, and by Minisign's own program too.

@@ -47,9 +47,9 @@ pub struct Questions {
     pub comment_signature: [u8; 64],
     /// The length of the message of the second question.
     pub message_len: u64,
-    /// The identifier of the public key.
+    /// The key ID of the public key.
     pub public_key_id: [u8; 8],
-    /// The identifier of the signature.
+    /// The key ID of the signature.
     pub signature_key_id: [u8; 8],
     /// 1 where the signature is over the data itself, otherwise 0.
     pub legacy: u32,
@@ -87,6 +87,8 @@ pub enum Misuse {
     BadNumbering,
     /// A secret key was neither opened nor taken in.
     KeyNotOpened,
+    /// A secret key that is to be opened was not read.
+    KeyNotRead,
 }
 
 /// Why nothing was asked or signed.
@@ -155,8 +157,8 @@ impl State {
     /// Feeds the next bytes of the data. Does not allocate. A state that was never begun is refused,
     /// and one that has told its digest; then it stays as it was.
     pub fn update(&mut self, piece: &[u8]) -> Result<(), Misuse>
-        // Each update appends to what the state was fed, and what was asked stays. A state that is not being fed takes no
-        // data, and stays as it was.
+        // Each update appends to what the state was fed, and what was asked stays. A state that is not being fed takes
+        // no data, and stays as it was.
         ensures fed { (m : List ℕ) → IsFedState self.old m → MatchResult result (λ _. IsFedState self.new (m ++ piece.now)) (λ _. ⊥) }
         ensures asked { KeepsAsked self.old self.new }
         ensures begun { OnOk result (IsMarkedFed self.old) }

@@ -1,7 +1,7 @@
-//! The text of a signature under a public key, read where it lies: what is refused before a scheme is asked, and what it
-//! has to be asked. None of it allocates.
+//! The text of a signature under a public key, read where it lies: what is refused before a scheme is asked, and what
+//! it has to be asked. None of it allocates.
 
-ghost use Rattle.std.specs.Prelude.{◌≡◌, if◌then◌else◌, ◌++◌, ◌<◌, ◌≤◌, ◌+◌, ℕ, List, Ok, Err, length, take, IfOk, IfErr, IfNone, MatchOption};
+ghost use Rattle.std.specs.Prelude.{◌≡◌, if◌then◌else◌, ◌≤◌, ◌+◌, ℕ, List, Ok, Err, length, IfOk, IfErr};
 ghost use Rattle.minisign.specs.Acceptance.{judge_key};
 ghost use Rattle.minisign.specs.InPlace.{first_64, view_of};
 ghost use Rattle.minisign.specs.Records.{CommentsRecord, is_prehashed};
@@ -62,20 +62,4 @@ pub fn told_comment_signature(signature: &SignatureView<'_>) -> ([u8; 64], bool)
         Some(signature) => (signature, true),
         None => ([0; 64], false),
     }
-}
-
-// Writes the two to the front of `to`, and returns their length.
-pub(crate) fn write_joined(to: &mut [u8], left: &[u8; 64], right: &[u8]) -> Option<usize>
-    ensures written { MatchOption result (length to.old < 64 + length right.now)
-        (λ n. (n ≡ 64 + length right.now) × (n ≤ length to.new) × (take n to.new ≡ left.now ++ right.now)) }
-    ensures unwritten { IfNone result (to.new ≡ to.old) }
-{
-    if to.len() < 64 || to.len() - 64 < right.len() {
-        return None;
-    }
-    let (front, rest) = to.split_at_mut(64);
-    let (back, _) = rest.split_at_mut(right.len());
-    front.copy_from_slice(left);
-    back.copy_from_slice(right);
-    Some(64 + right.len())
 }

@@ -1,5 +1,6 @@
-//! What the page that verifies a download calls, built for WebAssembly: the calls of `minisign_c` that verify, under their
-//! contracts and with their numbers. `bindings/javascript/calls.js` calls them, and says what a caller owes. None of it allocates.
+//! What the page that verifies a download calls, built for WebAssembly: the calls of `minisign_c` that verify, under
+//! their contracts and with their numbers. `bindings/javascript/calls.js` calls them, and says what a caller owes. None
+//! of it allocates.
 
 #![tactic(auto)]
 
@@ -11,7 +12,7 @@ ghost use Rattle.minisign.specs.Acceptance.{Verifier};
 ghost use Rattle.minisign_external.specs.Questions.{Answers, HoldsMessage, IsKeyText, read_under, verdict_under};
 ghost use Rattle.minisign_external.specs.Numbers.{IsAnswer, IsMeaning, WritesCut, answer_yes, misuse_number, refusal_number};
 ghost use Rattle.minisign_external.specs.PublicKeys.{read_utf8, told_key_number};
-ghost use Rattle.minisign_external.specs.States.{GivesNumber, HasAsked, HasEnded, HasToldDigest, IsFedState, IsMarkedFed, IsMarkedTold, IsVerdictNumber, KeepsAsked, asking_number, feeding_misuse, is_asked, questions_of, verdict_number};
+ghost use Rattle.minisign_external.specs.States.{GivesNumber, HasAsked, HasEnded, HasToldDigest, IsBlank, IsFedState, IsMarkedFed, IsMarkedTold, IsVerdictNumber, KeepsAsked, asking_number, feeding_misuse, is_asked, questions_of, verdict_number};
 ghost use Rattle.minisign_external.specs.declared.public_keys.PublicKeyValue.{PublicKeyValue};
 
 use minisign_external::numbers::{ANSWER_YES, is_answer, write_error_text};
@@ -32,7 +33,8 @@ pub extern "C" fn page_error_text(error: u32, text: &mut [u8]) -> usize
 /// Begins: the state was fed nothing.
 #[unsafe(no_mangle)]
 pub extern "C" fn page_init(state: &mut State)
-    ensures { IsFedState state.new [] }
+    ensures fed { IsFedState state.new [] }
+    ensures blank { IsBlank state.new }
 {
     *state = State::new();
 }
@@ -41,6 +43,7 @@ pub extern "C" fn page_init(state: &mut State)
 #[unsafe(no_mangle)]
 pub extern "C" fn page_update(state: &mut State, piece: &[u8]) -> u32
     ensures fed { (m : List ℕ) → IsFedState state.old m → (result ≡ 0) × IsFedState state.new (m ++ piece.now) }
+    ensures asked { KeepsAsked state.old state.new }
     ensures begun { result ≡ 0 → IsMarkedFed state.old }
     ensures refused { 0 < result → (result ≡ misuse_number (feeding_misuse state.old)) × (state.new ≡ state.old) }
 {
@@ -140,8 +143,8 @@ pub extern "C" fn page_verdict(state: &mut State, first: u32, second: u32) -> u3
     }
 }
 
-// The number of a refusal. It is forgotten and not dropped: it has no memory to give back, and the type of a fault, which
-// may have a text of its own, would have the module call for giving memory back.
+// The number of a refusal. It is forgotten and not dropped: it has no memory to give back, and the type of a fault,
+// which may have a text of its own, would have the module call for giving memory back.
 fn number_of(refusal: Refusal) -> u32
     ensures { result ≡ refusal_number refusal }
 {

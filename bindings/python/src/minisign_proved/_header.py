@@ -85,6 +85,17 @@ class Questions(Structure):
     ]
 
 
+class UnopenedKey(Structure):
+    _fields_ = [
+        ("mark", c_uint64),
+        ("bytes", c_ubyte * 158),
+        ("is_sealed", c_ubyte),
+        ("log2_rows", c_ubyte),
+        ("work", c_uint32),
+        ("reserved", c_uint32),
+    ]
+
+
 class SecretKey(Structure):
     _fields_ = [
         ("mark", c_uint64),
@@ -136,8 +147,10 @@ class Calls:
         library.minisign_comment_verdict.argtypes = (POINTER(State), c_uint32)
         library.minisign_verdict.restype = error
         library.minisign_verdict.argtypes = (POINTER(State), c_uint32, c_uint32)
+        library.minisign_read_secret_key.restype = error
+        library.minisign_read_secret_key.argtypes = (c_void_p, c_size_t, POINTER(UnopenedKey))
         library.minisign_open_secret_key.restype = error
-        library.minisign_open_secret_key.argtypes = (c_void_p, c_size_t, c_uint32, c_void_p, c_size_t, c_uint64, c_uint32, POINTER(SecretKey))
+        library.minisign_open_secret_key.argtypes = (POINTER(UnopenedKey), c_uint32, c_void_p, c_size_t, c_uint64, c_uint32, POINTER(SecretKey))
         library.minisign_take_secret_key.restype = None
         library.minisign_take_secret_key.argtypes = (c_void_p, c_void_p, POINTER(SecretKey))
         library.minisign_public_key_of.restype = error
@@ -225,9 +238,14 @@ class Calls:
     def verdict(self, state: State, first: bool, second: bool) -> None:
         self._library.minisign_verdict(state, ANSWER_YES if first is True else ANSWER_NO, ANSWER_YES if second is True else ANSWER_NO)
 
-    def open_secret_key(self, sk_text: bytes, password: Optional[bytes], keep_every: int, greatest_work: int) -> SecretKey:
+    def read_secret_key(self, sk_text: bytes) -> UnopenedKey:
+        unopened = UnopenedKey()
+        self._library.minisign_read_secret_key(sk_text, len(sk_text), unopened)
+        return unopened
+
+    def open_secret_key(self, unopened: UnopenedKey, password: Optional[bytes], keep_every: int, greatest_work: int) -> SecretKey:
         key = SecretKey()
-        self._library.minisign_open_secret_key(sk_text, len(sk_text), 0 if password is None else 1, password, len(password or b""), keep_every, greatest_work, key)
+        self._library.minisign_open_secret_key(unopened, 0 if password is None else 1, password, len(password or b""), keep_every, greatest_work, key)
         return key
 
     def take_secret_key(self, key_id: Octets, secret: Octets) -> SecretKey:
@@ -310,14 +328,14 @@ class Calls:
         self._library.minisign_judge_comment(comment, len(comment), file, len(file), numbering, now, kept, number)
         return number.value
 
-    def check_comment(self, comment: bytes, file: bytes, numbering: int, now: int, is_first: int, record: bytes) -> int:
+    def check_comment(self, comment: bytes, file: bytes, numbering: int, now: int, is_first: int, record: bytes) -> Tuple[int, int]:
         offer = c_uint32()
         number = c_uint64()
         self._library.minisign_check_comment(comment, len(comment), file, len(file), numbering, now, is_first, record, len(record), offer, number)
-        return number.value
+        return offer.value, number.value
 
-    def check_first_comment(self, comment: bytes, file: bytes, numbering: int, now: int, is_first: int) -> int:
+    def check_first_comment(self, comment: bytes, file: bytes, numbering: int, now: int, is_first: int) -> Tuple[int, int]:
         offer = c_uint32()
         number = c_uint64()
         self._library.minisign_check_first_comment(comment, len(comment), file, len(file), numbering, now, is_first, offer, number)
-        return number.value
+        return offer.value, number.value

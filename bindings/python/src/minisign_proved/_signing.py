@@ -48,7 +48,11 @@ class SecretKey:
     def from_bytes(cls, text: bytes, password: Password = None, *, low_memory: bool = False, greatest_work: int = h.USUAL_WORK) -> "SecretKey":
         """Opens both lines of a file such as minisign.key: KeySealed where that takes a password and there is none, KeyNotSealed where
         it takes none, WrongPassword, WorkTooHigh where it asks for more parallel work, and the errors of the text."""
-        return cls(calls.open_secret_key(bytes(text), _typed(password), _rows(low_memory), greatest_work))
+        unopened = calls.read_secret_key(bytes(text))
+        try:
+            return cls(calls.open_secret_key(unopened, _typed(password), _rows(low_memory), greatest_work))
+        finally:
+            ctypes.memset(ctypes.byref(unopened), 0, ctypes.sizeof(unopened))
 
     @classmethod
     def from_file(cls, path: Path, password: Password = None, *, low_memory: bool = False, greatest_work: int = h.USUAL_WORK) -> "SecretKey":

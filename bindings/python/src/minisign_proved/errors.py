@@ -346,6 +346,12 @@ class BadExpiry(MinisignError):
     number = 56
 
 
+class KeyNotRead(MinisignError):
+    """A secret key that is to be opened was not read."""
+
+    number = 63
+
+
 class ReadingFailed(MinisignError):
     """A source, a file or a prompt's reader failed at a read."""
 
@@ -421,6 +427,7 @@ BY_NUMBER: "dict[int, type[MinisignError]]" = {
     54: KeptByVersion,
     55: Expired,
     56: BadExpiry,
+    63: KeyNotRead,
     64: ReadingFailed,
     65: WritingFailed,
     67: RandomSourceFailed,

@@ -120,6 +120,8 @@ impl Reason {
     pub const EXPIRED: Reason = Reason(55);
     /// The trusted comment has more than one field for when the update expires, or one with no number in decimal digits alone, or none below 2^64.
     pub const BAD_EXPIRY: Reason = Reason(56);
+    /// A secret key that is to be opened was not read.
+    pub const KEY_NOT_READ: Reason = Reason(63);
     /// A source, a file or a prompt's reader failed at a read.
     pub const READING_FAILED: Reason = Reason(64);
     /// A sink or a prompt's writer failed at a write or a flush.
@@ -211,6 +213,27 @@ impl Questions {
 }
 
 #[repr(C)]
+pub struct UnopenedKey {
+    pub mark: u64,
+    pub bytes: [u8; 158],
+    pub is_sealed: u8,
+    pub log2_rows: u8,
+    pub work: u32,
+    pub reserved: u32,
+}
+
+impl UnopenedKey {
+    pub const ZEROS: Self = Self { mark: 0, bytes: [0; 158], is_sealed: 0, log2_rows: 0, work: 0, reserved: 0 };
+}
+
+/// It is cleared at its end.
+impl Drop for UnopenedKey {
+    fn drop(&mut self) {
+        clear(&mut self.bytes);
+    }
+}
+
+#[repr(C)]
 pub struct SecretKey {
     pub mark: u64,
     pub key_id: [u8; 8],
@@ -250,15 +273,14 @@ extern "C" {
     fn minisign_ask(state: *mut State, key: *const PublicKey, sig_text: *const u8, sig_text_len: usize, allow_legacy: u32, questions: *mut Questions, message: *mut u8, room: usize) -> u32;
     fn minisign_comment_verdict(state: *const State, second: u32) -> u32;
     fn minisign_verdict(state: *mut State, first: u32, second: u32) -> u32;
-    fn minisign_open_secret_key(sk_text: *const u8, sk_text_len: usize, with_password: u32, password: *const u8, password_len: usize, keep_every: u64, greatest_work: u32, key: *mut SecretKey) -> u32;
+    fn minisign_read_secret_key(sk_text: *const u8, sk_text_len: usize, unopened: *mut UnopenedKey) -> u32;
+    fn minisign_open_secret_key(unopened: *const UnopenedKey, with_password: u32, password: *const u8, password_len: usize, keep_every: u64, greatest_work: u32, key: *mut SecretKey) -> u32;
     fn minisign_take_secret_key(key_id: &[u8; 8], secret: &[u8; 64], key: *mut SecretKey);
     fn minisign_public_key_of(key: *const SecretKey, public_key: *mut PublicKey) -> u32;
     fn minisign_comment_message(first: &[u8; 64], trusted: *const u8, trusted_len: usize, message: *mut u8, room: usize) -> u32;
     fn minisign_signed_text(key: *const SecretKey, first: &[u8; 64], second: &[u8; 64], trusted: *const u8, trusted_len: usize, untrusted: *const u8, untrusted_len: usize, text: *mut u8, room: usize, text_len: *mut usize) -> u32;
     fn minisign_secret_key_text(key: *const SecretKey, with_password: u32, password: *const u8, password_len: usize, sealing: *const Sealing, keep_every: u64, comment: *const u8, comment_len: usize, text: *mut u8, room: usize, text_len: *mut usize) -> u32;
     fn minisign_public_key_text(key: *const SecretKey, comment: *const u8, comment_len: usize, text: *mut u8, room: usize, text_len: *mut usize) -> u32;
-    fn minisign_check_comment(comment: *const u8, comment_len: usize, file: *const u8, file_len: usize, numbering: u32, now: u64, is_first: u32, record: *const u8, record_len: usize, offer: *mut u32, number: *mut u64) -> u32;
-    fn minisign_check_first_comment(comment: *const u8, comment_len: usize, file: *const u8, file_len: usize, numbering: u32, now: u64, is_first: u32, offer: *mut u32, number: *mut u64) -> u32;
 }
 
 /// Writes zeros, also where nothing reads them.
@@ -326,10 +348,16 @@ pub fn verdict(state: &mut State, first: bool, second: bool) -> Result<(), Reaso
     done(unsafe { minisign_verdict(state, if first { ANSWER_YES } else { ANSWER_NO }, if second { ANSWER_YES } else { ANSWER_NO }) })
 }
 
-pub fn open_secret_key(sk_text: &[u8], password: Option<&[u8]>, keep_every: u64, greatest_work: u32) -> Result<Box<SecretKey>, Reason> {
+pub fn read_secret_key(sk_text: &[u8]) -> Result<Box<UnopenedKey>, Reason> {
+    let mut unopened = Box::new(UnopenedKey::ZEROS);
+    done(unsafe { minisign_read_secret_key(sk_text.as_ptr(), sk_text.len(), &mut *unopened) })?;
+    Ok(unopened)
+}
+
+pub fn open_secret_key(unopened: &UnopenedKey, password: Option<&[u8]>, keep_every: u64, greatest_work: u32) -> Result<Box<SecretKey>, Reason> {
     let (with_password, password) = (password.is_some().into(), password.unwrap_or_default());
     let mut key = Box::new(SecretKey::ZEROS);
-    done(unsafe { minisign_open_secret_key(sk_text.as_ptr(), sk_text.len(), with_password, password.as_ptr(), password.len(), keep_every, greatest_work, &mut *key) })?;
+    done(unsafe { minisign_open_secret_key(unopened, with_password, password.as_ptr(), password.len(), keep_every, greatest_work, &mut *key) })?;
     Ok(key)
 }
 
@@ -368,12 +396,4 @@ pub fn public_key_text(key: &SecretKey, comment: &[u8]) -> Result<String, Reason
     let (mut text, mut len) = (vec![0; PUBLIC_KEY_BYTES + comment.len()], 0);
     done(unsafe { minisign_public_key_text(key, comment.as_ptr(), comment.len(), text.as_mut_ptr(), text.len(), &mut len) })?;
     text_of(text, len)
-}
-
-pub fn check_comment(comment: &[u8], file: &[u8], numbering: u32, now: u64, is_first: u32, record: &[u8], offer: &mut u32, number: &mut u64) -> Result<(), Reason> {
-    done(unsafe { minisign_check_comment(comment.as_ptr(), comment.len(), file.as_ptr(), file.len(), numbering, now, is_first, record.as_ptr(), record.len(), offer, number) })
-}
-
-pub fn check_first_comment(comment: &[u8], file: &[u8], numbering: u32, now: u64, is_first: u32, offer: &mut u32, number: &mut u64) -> Result<(), Reason> {
-    done(unsafe { minisign_check_first_comment(comment.as_ptr(), comment.len(), file.as_ptr(), file.len(), numbering, now, is_first, offer, number) })
 }

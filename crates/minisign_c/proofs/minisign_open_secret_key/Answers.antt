@@ -3,4 +3,4 @@ use Rattle.minisign_c.proofs.minisign_open_secret_key.Goals as goal
 
 pub returns-in-Err-clause-refused : goal.returns-in-Err-clause-refused
 returns-in-Err-clause-refused c = λ some.
-    inr (omega arith, c.in-Err.fault, c.number-in-Err.ensures, rw c.given.ensures at c.in-Err.ensures.refused)
+    inr (omega arith, c.in-Err.refusal, c.number-in-Err.ensures, rw c.given.ensures at c.in-Err.ensures.refused)

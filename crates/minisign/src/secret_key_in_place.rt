@@ -1,0 +1,46 @@
+//! Reading the text of a secret key where it lies, without memory.
+
+ghost use Rattle.std.specs.Prelude.{◌≡◌};
+ghost use Rattle.minisign.specs.SecretKeyText.{read_secret_key, secret_key_in_line, secret_key_of_bytes};
+ghost use Rattle.minisign.specs.Texts.{map_ok};
+
+use crate::base64_front::decode_front;
+use crate::texts::next_line;
+use minisign_base::{NamedFault, Result};
+
+/// Reads the text of a secret key as it stands, of a sealed key the sealed bytes, as `SecretKey::from_text` does: the
+/// 158 bytes of the key's record, which `SecretKey::from_bytes` reads.
+///
+/// Refused are, in this order: a text without a first line, without a second one, with a second line that is not
+/// base64, or of fewer than 158 bytes. Does not allocate.
+pub fn read_secret_key(text: &str) -> Result<[u8; 158]>
+    // The text of a secret key is read as its grammar has it, a function of the text: the record is that of the key
+    // that it reads as, and otherwise the fault is the first case that fails.
+    ensures { read_secret_key text.now ≡ map_ok secret_key_of_bytes result }
+{
+    let mut lines = text.lines();
+    let Some(_comment) = next_line(&mut lines) else {
+        return Err(NamedFault::MissingSecretKeyComment.into());
+    };
+    let Some(encoded) = next_line(&mut lines) else {
+        return Err(NamedFault::MissingEncodedSecretKey.into());
+    };
+    decode_record(encoded)
+}
+
+// The record that the second line of a text is the base64 of, whatever stands behind it.
+fn decode_record(encoded: &str) -> Result<[u8; 158]>
+    ensures { secret_key_in_line encoded.now ≡ map_ok secret_key_of_bytes result }
+{
+    let mut decoded = [0u8; 159];
+    let Some(count) = decode_front(encoded.as_bytes(), &mut decoded) else {
+        return Err(NamedFault::SecretKeyNotBase64.into());
+    };
+    if count < 158 {
+        return Err(NamedFault::RecordTooShort.into());
+    }
+    let (front, _) = decoded.split_at(158);
+    let mut record = [0u8; 158];
+    record.copy_from_slice(front);
+    Ok(record)
+}

@@ -1,0 +1,25 @@
+-- Opening what was read of a text is opening the text.
+use Rattle.std.proofs.Common.{◌≡◌, ℕ, Bool, true, false, List, Option, Some, None, Result, Ok, Err, ap, refl, sym}
+use Rattle.std.specs.Str.{is_utf8}
+use Rattle.minisign_base.specs.Fault.{Fault}
+use Rattle.minisign_base.specs.declared.faults.NamedFault.{NamedFault}
+use Rattle.minisign_base.specs.declared.faults.NamedFault.TheVariants.{NotUtf8}
+use Rattle.minisign.specs.OpenedTexts.{open_key}
+use Rattle.minisign.specs.Records.{SecretKeyRecord}
+use Rattle.minisign.specs.Sealing.{open_sealed, sealed_by_scrypt}
+use Rattle.minisign.specs.SecretKeyText.{read_secret_key}
+use Rattle.minisign.specs.Texts.{and_then, require}
+use Rattle.minisign_external.specs.PublicKeys.{read_utf8}
+use Rattle.minisign_external.specs.SecretKeys.{OpensAs, open_unsealed, record_of}
+use Rattle.minisign_external.specs.declared.unopened_keys.UnopenedKeyValue.{UnopenedKeyValue}
+
+required : {V : Type 0} (b : Bool) (f : NamedFault) (r : Result V Fault) (v : V) → require b f r ≡ Ok v → r ≡ Ok v
+required true f r v h = h
+required false f r v h = cc h
+
+pub opens_as : (v : UnopenedKeyValue) (text : List ℕ) → read_utf8 read_secret_key text ≡ Ok (record_of v) → OpensAs v text
+unfolding open_key
+opens_as v text read None work = sym (ap (λ x. and_then x open_unsealed) (required (is_utf8 text) NotUtf8 (read_secret_key text) (record_of v) read))
+opens_as v text read (Some password) work =
+    sym (ap (λ x. and_then (and_then x sealed_by_scrypt) (λ s. open_sealed s password (Some work)))
+    (required (is_utf8 text) NotUtf8 (read_secret_key text) (record_of v) read))
