@@ -15,6 +15,7 @@ Needs Python 3.9 or later.
 import os
 import re
 import sys
+import textwrap
 
 TOP = os.path.dirname(os.path.dirname(os.path.realpath(__file__)))
 HEADER = os.path.join(TOP, "include", "minisign.h")
@@ -269,8 +270,8 @@ def go_errors(header):
 # ---- Rust ----
 
 RUST_HEAD = """// SPDX-License-Identifier: MIT
-//! The numbers, structs and calls of `minisign.h`, made by `tools/bindings.py`. Each function makes one call, over what it borrows for
-//! as long as that takes, and hands over the lengths of slices as they are.
+//! The numbers, structs and calls of `minisign.h`, made by `tools/bindings.py`. Each function makes one call, over what
+//! it borrows for as long as that takes, and hands over the lengths of slices as they are.
 #![allow(dead_code, clippy::too_many_arguments)]
 
 use crate::Reason;
@@ -391,7 +392,8 @@ def rust_header(header):
     plain, texts, sizes = numbers(header)
     made = RUST_HEAD + "\nimpl Reason {\n    /// No error.\n    pub const OK: Reason = Reason(0);\n"
     for comment, name, number in errors_of(header):
-        made += f"    /// {comment}\n    pub const {name}: Reason = Reason({number});\n"
+        made += "".join(f"    /// {line}\n" for line in textwrap.wrap(comment, 112))
+        made += f"    pub const {name}: Reason = Reason({number});\n"
     made += "}\n\n" + "".join(f"pub const {name}: {'u32' if value.startswith('0x') else 'usize'} = {value};\n" for name, value in plain + sizes)
     made += "".join(f"pub const {name}: &str = {text};\n" for name, text in texts)
     made += "".join(f"pub const {name}: u32 = {number};\n" for enum in other_members(header) for name, number in enum)

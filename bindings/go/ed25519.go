@@ -9,8 +9,8 @@ import (
 	"math/big"
 )
 
-// The prime of the field (RFC 8032, section 5.1), and the second coordinates of its eight points of small order. A key or a first
-// half that is one of them could belong to a signature of every message.
+// The prime of the field (RFC 8032, section 5.1), and the second coordinates of its eight points of small order. A key
+// or a first half that is one of them could belong to a signature of every message.
 var (
 	prime      = number("7fffffffffffffffffffffffffffffffffffffffffffffffffffffffffffffed")
 	smallOrder = []*big.Int{
@@ -25,8 +25,8 @@ func number(digits string) *big.Int {
 	return value
 }
 
-// isRefusedPoint says whether 32 bytes are refused as a point: its second coordinate, a little endian number before the bit of the
-// sign, is not below the prime, or the point has a small order.
+// isRefusedPoint says whether 32 bytes are refused as a point: its second coordinate, a little endian number before the
+// bit of the sign, is not below the prime, or the point has a small order.
 func isRefusedPoint(point []byte) bool {
 	var digits [32]byte
 	for at, value := range point[:32] {
@@ -41,7 +41,8 @@ func isRefusedPoint(point []byte) bool {
 	return refused
 }
 
-// accepts says whether the signature of a message is accepted: as libsodium does, by the Ed25519 of the standard library.
+// accepts says whether the signature of a message is accepted: as libsodium does, by the Ed25519 of the standard
+// library.
 func accepts(publicKey [32]byte, message []byte, signature [64]byte) bool {
 	return !isRefusedPoint(publicKey[:]) && !isRefusedPoint(signature[:]) && ed25519.Verify(publicKey[:], message, signature[:])
 }

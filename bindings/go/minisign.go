@@ -20,8 +20,8 @@ type PublicKey struct {
 	PublicKey          [32]byte
 }
 
-// A Signature is what stands in a file such as data.minisig. It vouches for nothing before it was verified, which is done with the
-// text that it was decoded from: a field that is changed changes no verdict.
+// A Signature is what stands in a file such as data.minisig. It vouches for nothing before it was verified, which is
+// done with the text that it was decoded from: a field that is changed changes no verdict.
 type Signature struct {
 	// The first line, for which nobody vouches.
 	UntrustedComment string
@@ -86,8 +86,8 @@ func NewSignatureFromFile(file string) (Signature, error) {
 	return DecodeSignature(string(text))
 }
 
-// Verify says whether a signature vouches for data, also one that is over the data itself, as Minisign made them before version 0.10.
-// It is true exactly where there is no error.
+// Verify says whether a signature vouches for data, also one that is over the data itself, as Minisign made them before
+// version 0.10. It is true exactly where there is no error.
 func (publicKey *PublicKey) Verify(bin []byte, signature Signature) (bool, error) {
 	verifier, err := begin(publicKey, signature, true)
 	if err == nil {
@@ -99,8 +99,8 @@ func (publicKey *PublicKey) Verify(bin []byte, signature Signature) (bool, error
 	return err == nil, err
 }
 
-// VerifyFromFile says whether a signature vouches for what a file holds. The file is held in memory where the signature is over the data
-// itself, and otherwise read in pieces.
+// VerifyFromFile says whether a signature vouches for what a file holds. The file is held in memory where the signature
+// is over the data itself, and otherwise read in pieces.
 func (publicKey *PublicKey) VerifyFromFile(file string, signature Signature) (bool, error) {
 	reader, err := os.Open(file)
 	if err != nil {
@@ -122,7 +122,8 @@ func (publicKey *PublicKey) VerifyFromFile(file string, signature Signature) (bo
 	return err == nil, err
 }
 
-// VerifyReader says whether a signature vouches for all that a reader gives until its end. One that is over the data itself is refused.
+// VerifyReader says whether a signature vouches for all that a reader gives until its end. One that is over the data
+// itself is refused.
 func (publicKey *PublicKey) VerifyReader(reader io.Reader, signature Signature) (bool, error) {
 	verifier, err := NewVerifier(publicKey, signature)
 	if err == nil {
@@ -141,7 +142,8 @@ type Verifier struct {
 	questions *questions
 }
 
-// NewVerifier begins to verify. All that is wrong with the text of the signature is told here. One that is over the data itself is refused.
+// NewVerifier begins to verify. All that is wrong with the text of the signature is told here. One that is over the
+// data itself is refused.
 func NewVerifier(publicKey *PublicKey, signature Signature) (*Verifier, error) {
 	return begin(publicKey, signature, false)
 }
@@ -163,7 +165,8 @@ func (verifier *Verifier) Write(piece []byte) (int, error) {
 	return len(piece), nil
 }
 
-// Verify says whether the signature vouches for all that was written. After it nothing more is taken, and there is no other verdict.
+// Verify says whether the signature vouches for all that was written. After it nothing more is taken, and there is no
+// other verdict.
 func (verifier *Verifier) Verify() (bool, error) {
 	err := verifier.end(nil)
 	return err == nil, err

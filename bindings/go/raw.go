@@ -15,7 +15,8 @@ package minisign
 import "C"
 import "unsafe"
 
-// An Error says why a text, a signature or a call was refused: a number of minisign.h, in the words of minisign_error_text.
+// An Error says why a text, a signature or a call was refused: a number of minisign.h, in the words of
+// minisign_error_text.
 type Error uint32
 
 func (err Error) Error() string {

@@ -1,5 +1,6 @@
 // SPDX-License-Identifier: MIT
-//! Builds the library over the proved calls, by the Makefile of `c/`: of what this crate carries, or of the repository around it.
+//! Builds the library over the proved calls, by the Makefile of `c/`: of what this crate carries, or of the repository
+//! around it.
 
 use std::{env, path::Path, process::Command};
 

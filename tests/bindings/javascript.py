@@ -47,13 +47,18 @@ GROWTH = 16 * 1048576
 VERIFYING = {8, *range(16, 33), 44, 45}
 
 
+def npm_path():
+    """The path of npm, or None."""
+    return shutil.which("npm", path=static_library.path_without_kit())
+
+
 def made(room, page):
     """A user's folder with the packed package in it: its path."""
     user = os.path.join(room, "user")
     package = os.path.join(user, "node_modules", "minisign-proved")
     os.makedirs(os.path.dirname(package))
     page = page or os.path.join(TOP, "dist", "minisign.html")
-    if shutil.which("npm") is not None:
+    if npm_path() is not None:
         os.rename(shared_cases.packed("javascript", room, PAGE=page), package)
     else:
         print("without npm: the files that package.json names, and what npm adds")
@@ -194,7 +199,7 @@ def check_readme(checks, program):
 
 def check_npm(checks, program, room):
     """What `npm pack` made is installed without a network, and the example of the README runs over it."""
-    npm = shutil.which("npm")
+    npm = npm_path()
     if npm is None:
         print("skipped: `npm install`: npm is not here")
         return

@@ -12,7 +12,6 @@ import json
 import os
 import random
 import re
-import shutil
 import subprocess
 import sys
 from typing import NamedTuple
@@ -83,19 +82,6 @@ def run(command, folder=None, environment=None, data=b"", seconds=SECONDS):
     ran = subprocess.run(command, cwd=folder, env=dict(os.environ, **(environment or {})), input=data, stdout=subprocess.PIPE,
                          stderr=subprocess.PIPE, timeout=seconds)
     return ran.returncode, ran.stdout, ran.stderr.decode(errors="replace")
-
-
-def copy_of(package, room, *needed):
-    """A copy of a package's folder, and of what it says that it needs, with nothing else beside it: the folder's path there."""
-    for name in (f"bindings/{package}", *needed):
-        of, to = os.path.join(TOP, name), os.path.join(room, name)
-        if os.path.isdir(of):
-            left_out = shutil.ignore_patterns("out", "target", "__pycache__", "node_modules", "*.egg-info", "build")
-            shutil.copytree(of, to, ignore=left_out, dirs_exist_ok=True)
-        else:
-            os.makedirs(os.path.dirname(to), exist_ok=True)
-            shutil.copy(of, to)
-    return os.path.join(room, "bindings", package)
 
 
 def packed(package, room, environment=None, **chosen):

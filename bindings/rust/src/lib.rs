@@ -76,8 +76,9 @@ impl fmt::Display for Error {
 
 impl std::error::Error for Error {}
 
-/// An Ed25519, whose answers are taken as they are: one that accepts keys or signatures of small order accepts files that nobody
-/// signed, so it has to refuse them, as libsodium does. One that only verifies leaves the other calls as they stand here.
+/// An Ed25519, whose answers are taken as they are: one that accepts keys or signatures of small order accepts files
+/// that nobody signed, so it has to refuse them, as libsodium does. One that only verifies leaves the other calls as
+/// they stand here.
 pub trait Ed25519: Sync {
     /// Whether the signature is one of the message under the public key.
     fn accepts(&self, signature: &[u8; 64], message: &[u8], public_key: &[u8; 32]) -> bool;
@@ -128,7 +129,8 @@ impl PublicKey {
         self.untrusted_comment.as_deref()
     }
 
-    /// Verifies data at once. With `allow_legacy` signatures over the data itself will do, which Minisign made before version 0.10.
+    /// Verifies data at once. With `allow_legacy` signatures over the data itself will do, which Minisign made before
+    /// version 0.10.
     #[cfg(feature = "sodium")]
     pub fn verify(&self, data: &[u8], signature: &Signature, allow_legacy: bool) -> Result<(), Error> {
         self.verify_with(&Sodium, data, signature, allow_legacy)

@@ -7,7 +7,8 @@ use std::{fmt, fs, path::Path};
 /// How much memory and time a sealed key may take, and takes.
 #[derive(Clone, Copy, Debug)]
 pub struct Work {
-    /// Of scrypt's rows each one of so many is kept in memory, and the others are made again: 1 keeps all, 16 takes 65 MiB at most.
+    /// Of scrypt's rows each one of so many is kept in memory, and the others are made again: 1 keeps all, 16 takes 65
+    /// MiB at most.
     pub keep_every: u64,
     /// How often all rows may be made for a key that is opened (scrypt's parallelization).
     pub greatest_work: u32,
@@ -117,7 +118,8 @@ impl Signer<'_> {
         Signature::decode(&raw::signed_text(&self.key.0, &first, &second, trusted.as_bytes(), untrusted.as_bytes())?)
     }
 
-    /// A signature that was verified: one of a damaged key, whose halves do not belong together, would give the secret half away.
+    /// A signature that was verified: one of a damaged key, whose halves do not belong together, would give the secret
+    /// half away.
     fn signed(&self, message: &[u8]) -> Result<[u8; 64], Error> {
         let (key, ed25519) = (self.key.public_key()?.key.key, self.ed25519);
         let signature = ed25519.sign(message, &self.key.0.secret).filter(|it| ed25519.accepts(it, message, &key));

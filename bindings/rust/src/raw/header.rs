@@ -1,6 +1,6 @@
 // SPDX-License-Identifier: MIT
-//! The numbers, structs and calls of `minisign.h`, made by `tools/bindings.py`. Each function makes one call, over what it borrows for
-//! as long as that takes, and hands over the lengths of slices as they are.
+//! The numbers, structs and calls of `minisign.h`, made by `tools/bindings.py`. Each function makes one call, over what
+//! it borrows for as long as that takes, and hands over the lengths of slices as they are.
 #![allow(dead_code, clippy::too_many_arguments)]
 
 use crate::Reason;
@@ -28,7 +28,8 @@ impl Reason {
     pub const BAD_COMMENT: Reason = Reason(9);
     /// with_password is neither 0 nor 1.
     pub const BAD_PASSWORD_FLAG: Reason = Reason(10);
-    /// A comment of a signature is one that Minisign would not read back: too long, or with a zero byte or a carriage return.
+    /// A comment of a signature is one that Minisign would not read back: too long, or with a zero byte or a carriage
+    /// return.
     pub const UNREADABLE_COMMENT: Reason = Reason(11);
     /// A call of installing is not due, or cannot go so.
     pub const NOT_DUE: Reason = Reason(12);
@@ -106,7 +107,8 @@ impl Reason {
     pub const DAMAGED_RECORD: Reason = Reason(48);
     /// The trusted comment does not name the file that the caller expects.
     pub const OTHER_FILE: Reason = Reason(49);
-    /// The trusted comment has no number in decimal digits alone under the label that the caller chose, or none below 2^64.
+    /// The trusted comment has no number in decimal digits alone under the label that the caller chose, or none below
+    /// 2^64.
     pub const NO_NUMBER: Reason = Reason(50);
     /// The number of the trusted comment is below the one that is kept.
     pub const OLDER_UPDATE: Reason = Reason(51);
