@@ -1,8 +1,8 @@
 -- The comment that was signed, beside the verdict of verifying with texts.
-use Rattle.std.proofs.Common.{◌≡◌, ◌⊎◌, ℕ, Bool, List, ap, inl, inr, ⊎_elim, sym, true, false, ◌∙◌, refl, [], Option, None, Some, IfOk, IfErr, IfSome, OnOk}
+use Rattle.std.proofs.Common.{◌≡◌, ◌≢◌, ◌⊎◌, ℕ, Bool, List, ap, inl, inr, ⊎_elim, subst, sym, true, false, ◌∙◌, refl, [], Option, None, Some, IfOk, IfErr, IfSome, OnOk}
 use Rattle.std.proofs.lemmas.Bool.{true≢false}
 use Rattle.std.proofs.lemmas.Slice.Eq.{bytes_eq-Decides}
-use Rattle.std.specs.Prelude.{IsSome}
+use Rattle.std.specs.Prelude.{⊤, IsSome}
 use Rattle.std.specs.declared.result.Result.{Result}
 use Rattle.std.specs.declared.result.Result.TheVariants.{Ok, Err}
 use Rattle.minisign_base.specs.Fault.{Fault, Named}

@@ -1,5 +1,5 @@
 -- The judge and the verdict are functions, and acceptance a record of conditions: they agree.
-use Rattle.std.proofs.Common.{◌≡◌, ◌↔◌, ◌⊎◌, ◌||◌, ◌&&◌, ℕ, Bool, true, false, List, length, refl, sym, ap, subst, ◌∙◌, inl, inr, ⊎_elim, Option, None, Some, IfSome, bytes_eq}
+use Rattle.std.proofs.Common.{◌≡◌, ◌↔◌, ◌⊎◌, ◌||◌, ◌&&◌, ℕ, ◌≤◌, Bool, true, false, List, length, take, ◌++◌, refl, sym, ap, subst, ◌∙◌, inl, inr, ⊎_elim, Option, None, Some, IfSome, bytes_eq}
 use Rattle.std.specs.Prelude.{⊤}
 use Rattle.std.specs.Option.{option_map_or}
 use Rattle.std.specs.declared.result.Result.{Result}
@@ -11,7 +11,7 @@ use Rattle.minisign_base.specs.declared.faults.NamedFault.{NamedFault}
 use Rattle.minisign_base.specs.declared.faults.NamedFault.TheVariants.{OutOfMemory}
 use Rattle.minisign.specs.Acceptance.{CommentIsSigned, Verifier, Vouches, accepts_comment, accepts_comments, judge, judge_answers, judge_signed}
 use Rattle.minisign.specs.Calls.{IsCommentOf, TextsVouchWith}
-use Rattle.minisign.specs.Headline.{verdict}
+use Rattle.minisign.specs.Headline.{TextsVouchFor, verdict}
 use Rattle.minisign.specs.PublicKeyText.{read_public_key}
 use Rattle.minisign.specs.Records.{CommentsRecord, PublicKeyRecord, SignatureBoxRecord, SignatureRecord, is_prehashed, prehashed_algorithm}
 use Rattle.minisign.specs.SignatureText.{SignatureTextRecord, box_of, read_signature, read_signature_box}

@@ -1,3 +1,4 @@
+use Rattle.std.proofs.Common.{string_bytes}
 use Rattle.std.proofs.lemmas.Result.{err_from_is_err_and}
 use Rattle.minisign.proofs.Verdicts.{plainly_refused_at_texts, told_comment, told_refusal}
 use Rattle.minisign.proofs.calls.verify_with.Goals as goal
