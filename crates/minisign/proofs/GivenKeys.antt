@@ -1,8 +1,7 @@
 -- Which key a text gives for signing.
-use Rattle.std.proofs.Common.{◌≡◌, ◌⊎◌, Bool, List, [], ℕ, Option, None, Some, Result, Ok, Err, IfSome, true, false, not, if◌then◌else◌, bytes_eq, inl, inr, refl, sym, subst, ap, ◌∙◌}
+use Rattle.std.proofs.Common.{◌≡◌, Bool, List, [], ℕ, Option, None, Some, Result, Ok, Err, IfSome, true, false, not, if◌then◌else◌, bytes_eq, inl, inr, refl, sym, ap, ◌∙◌}
 use Rattle.std.specs.Option.{option_map}
-use Rattle.minisign_base.specs.Fault.{Fault, Named}
-use Rattle.minisign_base.specs.declared.faults.NamedFault.TheVariants.{OutOfMemory}
+use Rattle.minisign_base.specs.Fault.{Fault}
 use Rattle.minisign_base.specs.DeviceCalls.{PromptCall}
 use Rattle.minisign.specs.Records.{SecretKeyRecord}
 use Rattle.minisign.specs.SecretKeyText.{read_secret_key}

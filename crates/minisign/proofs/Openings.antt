@@ -3,13 +3,13 @@ use Rattle.std.proofs.Common.{◌≡◌, ℕ, Bool, true, false, not, ◌&&◌, 
 use Rattle.std.specs.declared.result.Result.{Result}
 use Rattle.std.specs.declared.result.Result.TheVariants.{Ok, Err}
 use Rattle.std.proofs.lemmas.Slice.Eq.{bytes_eq-Decides}
-use Rattle.minisign_base.specs.Fault.{Fault, Named}
+use Rattle.minisign_base.specs.Fault.{Fault}
 use Rattle.minisign_base.specs.Steps.{without_value}
 use Rattle.minisign_base.specs.declared.faults.NamedFault.{NamedFault}
 use Rattle.minisign_base.specs.declared.faults.NamedFault.TheVariants.{CorruptedKey, KeyMightBeEncrypted, KeyNotEncrypted, UnsupportedEncryptionAlgorithm, WorkTooHigh, WrongPassword}
 use Rattle.minisign_kdf.specs.Params.{Numbers}
 use Rattle.minisign.specs.Records.{SecretKeyRecord}
-use Rattle.minisign.specs.SecretKeyText.{SecretKeyText, read_secret_key}
+use Rattle.minisign.specs.SecretKeyText.{read_secret_key}
 use Rattle.minisign.specs.Sealing.{allowed_work, checksum_of, is_encrypted, is_within, key_limits, key_numbers, no_kdf, open_sealed, restored_key, scrypt_kdf, sealed_by_scrypt, unencrypted_key, xored_key}
 use Rattle.minisign.specs.OpenedTexts.{IsOpened, IsUnencryptedText, open_key, read_sealed_key, read_unencrypted_key}
 use Rattle.minisign.specs.Texts.{IsReadOrNoMemory, IsReading, and_then, require}

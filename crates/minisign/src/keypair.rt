@@ -54,6 +54,7 @@ impl KeyPair {
     /// Makes a pair that is not sealed, of 32 random bytes of a seed and then 8 of a key ID.
     ///
     /// Takes no memory: it succeeds unless the random source failed.
+    #[tactic(auto, using(crate::proofs::GeneratedKeys::unsealed_pair, crate::proofs::GeneratedKeys::seed_and_keynum))]
     pub fn generate_unencrypted_keypair<S: Scheme, Z: RandomSource>(
         scheme: &S,
         random: &mut Z,

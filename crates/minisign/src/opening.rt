@@ -289,6 +289,7 @@ impl SecretKey {
     }
 
     // Opens a sealed key, and says so before the derivation and behind it.
+    #[tactic(auto, using(crate::proofs::Openings::opened_so))]
     fn open_telling<R: Source, W: Sink>(
         self,
         alloc: Global,

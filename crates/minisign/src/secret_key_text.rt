@@ -54,7 +54,7 @@ impl SecretKey {
     /// opened sealed key the opened ones, still under the name of its key derivation. Where no line
     /// feed stands in the comment, the text reads as the key again. It has 233 bytes more than the
     /// comment. Only running out of memory is refused.
-    #[tactic(auto, unfolding(crate::specs::SecretKeyText::secret_key_text, crate::specs::SecretKeyText::default_secret_key_comment), using(crate::proofs::WrittenKeys::default_lacks))]
+    #[tactic(auto, unfolding(crate::specs::SecretKeyText::secret_key_text, crate::specs::SecretKeyText::default_secret_key_comment))]
     pub fn to_box(&self, alloc: Global, comment: Option<&str>) -> Result<SecretKeyBox>
         // The text of a secret key is the one by definition, and if the comment has no line feed it
         // reads as this key; it has 233 bytes more than the comment; the only refusal is out of

@@ -110,7 +110,6 @@ pub fn sign<S: Scheme, R: Source, Z: RandomSource>(
 
 /// A law, for which nothing is done: the comments that a signature gets where none are given meet
 /// what the headlines ask of comments, whatever the moment is.
-#[tactic(auto, using(crate::proofs::DefaultComments::defaults_kept))]
 pub fn default_comments_are_read_back(moment: u64)
     // The default comments are read back as they were written.
     ensures { AreChosenReadBack (comments_or_defaults None None moment) }

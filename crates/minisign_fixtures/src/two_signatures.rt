@@ -1,6 +1,6 @@
 //! A scheme that shows which signatures a box holds.
 
-ghost use Rattle.std.specs.Prelude.{if◌then◌else◌, bytes_eq};
+ghost use Rattle.std.specs.Prelude.{if◌then◌else◌, bytes_eq, refl};
 ghost use Rattle.std.proofs.lemmas.Slice.Eq.{bytes_eq-Decides};
 
 use minisign_base::scheme::Scheme;

@@ -5,7 +5,8 @@ use Rattle.minisign.specs.Acceptance.{Verifier, status_lines, verified_text}
 use Rattle.minisign.specs.Records.{SignatureBoxRecord}
 use Rattle.minisign.specs.Lines.{line}
 use Rattle.minisign.specs.Headline.{TextsVouchFor}
-use Rattle.minisign_tool.specs.Report.{EndsWithFault, SaysAfterWarning, ShowsOnlyFault, TakesOrFails, usage_line, warning_line}
+use Rattle.minisign_tool.specs.Report.{EndsWithFault, SaysAfterWarning, ShowsOnlyFault, TakesOrFails, usage_line}
+use Rattle.minisign_tool.specs.Report.{warning_line}
 use Rattle.minisign_tool.specs.VerifyRaw.{VouchesRaw}
 use Rattle.minisign_tool.specs.declared.commands.Command.{Command}
 use Rattle.minisign_tool.specs.declared.commands.Command.TheVariants.{Cat, Keygen, Sign, Usage, Verify, VerifyRaw}
@@ -36,8 +37,8 @@ abbrev pub SaysOnlyFaults : {S : Type 0} → SinkOf S → S → S → ℕ → Ty
 SaysOnlyFaults sink old new status =
     (status ≡ 0 → TakesOrFails sink old new warning_line) × (status ≡ 1 → ShowsOnlyFault sink old new (λ _. ⊤))
 
--- what a command says that verifies: the warning, and with status 0 the status lines of a box behind it, with 1 the line of
--- a fault at the end
+-- what a command says that verifies: the warning, and with status 0 the status lines of a box behind it, with 1 the line
+-- of a fault at the end
 abbrev pub SaysVerdict : {S : Type 0} → SinkOf S → S → S → ℕ → Type 0
 SaysVerdict sink old new status =
     (status ≡ 0 → (box : SignatureBoxRecord) × SaysAfterWarning sink old new (status_lines box))
@@ -46,13 +47,16 @@ SaysVerdict sink old new status =
 -- what `verify-raw` says: the same, with the one line of a box without comments
 abbrev pub SaysRawVerdict : {S : Type 0} → SinkOf S → S → S → ℕ → Type 0
 SaysRawVerdict sink old new status =
-    (status ≡ 0 → SaysAfterWarning sink old new (line verified_text)) × (status ≡ 1 → EndsWithFault sink old new (λ _ _. ⊤))
+    (status ≡ 0 → SaysAfterWarning sink old new (line verified_text))
+    × (status ≡ 1 → EndsWithFault sink old new (λ _ _. ⊤))
 
 -- the warning was said, and then the usage
 abbrev pub ShowsWarningAndUsage : {S : Type 0} → SinkOf S → S → S → Type 0
-ShowsWarningAndUsage {S = S} sink old new = (warned : S) × TakesOrFails sink old warned warning_line × TakesOrFails sink warned new usage_line
+ShowsWarningAndUsage {S = S} sink old new =
+    (warned : S) × TakesOrFails sink old warned warning_line × TakesOrFails sink warned new usage_line
 
--- what a run says that this command was asked of: as the command does, with the status 0 or 1, or the usage with the status 2
+-- what a run says that this command was asked of: as the command does, with the status 0 or 1, or the usage with the
+-- status 2
 abbrev pub SaysCommand : {S : Type 0} → SinkOf S → Command → S → S → ℕ → Type 0
 SaysCommand sink (Keygen pk sk) old new status = (status ≤ 1) × SaysOnlyFaults sink old new status
 SaysCommand sink (Sign sk file sig) old new status = (status ≤ 1) × SaysOnlyFaults sink old new status

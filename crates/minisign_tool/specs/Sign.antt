@@ -1,7 +1,8 @@
 -- How a run that signs with a text file ends.
 use Rattle.std.specs.Prelude.{◌≡◌, ℕ, ◌⊎◌, None, Ok, List}
 use Rattle.minisign.specs.Members.{RandomOf, SinkOf, SourceOf}
-use Rattle.minisign.specs.DeviceCalls.{FailsAtPart, PromptCall, RandomCall, SinkCall, SourceCall, Takes, TakesPart, prompt_call, random_call, source_call}
+use Rattle.minisign.specs.DeviceCalls.{FailsAtPart, PromptCall, RandomCall, SinkCall, SourceCall, Takes, TakesPart}
+use Rattle.minisign.specs.DeviceCalls.{prompt_call, random_call, source_call}
 use Rattle.minisign.specs.Fault.{Fault, Named}
 use Rattle.minisign.specs.NamedFaults.{WritingFailed}
 use Rattle.minisign.specs.Records.{SecretKeyRecord, SignatureBoxRecord}
@@ -18,7 +19,8 @@ use Rattle.minisign_tool.specs.declared.sign.SigningDevices.{SigningDevices}
 abbrev pub ReadsBackWhereGenuine : Verifier → (List ℕ → List ℕ) → SecretKeyRecord → List ℕ → List ℕ → Type 0
 ReadsBackWhereGenuine accepts public_of sk message text =
     (seed : List ℕ) → IsGenuine public_of sk seed
-    → (x : SignatureBoxRecord) × (read_signature_box text ≡ Ok x) × VouchesUnderEachKey accepts (public_of seed) sk.keynum message x
+    → (x : SignatureBoxRecord) × (read_signature_box text ≡ Ok x)
+    × VouchesUnderEachKey accepts (public_of seed) sk.keynum message x
 
 -- the devices of signing over a run
 pub record SigningCall (K R Z A B : Type 0) : Type 1 where
@@ -50,8 +52,8 @@ scheme_of sign accepts public_of = record { sign = sign; accepts = accepts; publ
 -- the key's text gave a key, with a password that was asked for where it is sealed; all the data was read,
 -- and this is the text of the box that the key signs it with, the comments being those by default; where the key is
 -- genuine, the text is read back as a box that vouches for the data
-pub record SignsText {K R Z A B : Type 0} (scheme : SchemeOf) (d : SigningCall K R Z A B) (sk_text : List ℕ) (moment : ℕ)
-    (text : List ℕ) : Type 0 where
+pub record SignsText {K R Z A B : Type 0} (scheme : SchemeOf) (d : SigningCall K R Z A B) (sk_text : List ℕ)
+    (moment : ℕ) (text : List ℕ) : Type 0 where
   pub key : SecretKeyRecord
   pub message : List ℕ
   pub given : GivesKey d.prompt None sk_text (Ok key)
@@ -60,15 +62,16 @@ pub record SignsText {K R Z A B : Type 0} (scheme : SchemeOf) (d : SigningCall K
   pub vouched : ReadsBackWhereGenuine scheme.accepts scheme.public_of key message text
 
 -- the key's file was read whole, and this is the text that signing with its text gives
-pub record MakesSigned {K R Z A B : Type 0} (scheme : SchemeOf) (d : SigningCall K R Z A B) (moment : ℕ) (text : List ℕ) : Type 0 where
+pub record MakesSigned {K R Z A B : Type 0} (scheme : SchemeOf) (d : SigningCall K R Z A B) (moment : ℕ)
+    (text : List ℕ) : Type 0 where
   pub sk_text : List ℕ
   pub read : ReadsWhole d.sk_file.source d.sk_file.old d.sk_file.new sk_text
   pub signs : SignsText scheme d sk_text moment text
 
 -- the key's file gave the text of a key, and where that is genuine every public key of its seed and identifier
 -- vouches for all of the data with the text that is made
-pub record MakesVouched {K R Z A B : Type 0} (accepts : Verifier) (public_of : List ℕ → List ℕ) (d : SigningCall K R Z A B)
-    (text : List ℕ) : Type 0 where
+pub record MakesVouched {K R Z A B : Type 0} (accepts : Verifier) (public_of : List ℕ → List ℕ)
+    (d : SigningCall K R Z A B) (text : List ℕ) : Type 0 where
   pub sk_text : List ℕ
   pub message : List ℕ
   pub key : SecretKeyRecord
@@ -84,7 +87,8 @@ pub record WriteFails {G : Type 0} (g : SinkCall G) (text : List ℕ) (e : Fault
 
 -- what a genuine key signed was written: every public key of its seed and identifier vouches for all of the
 -- data with it
-abbrev pub HasWrittenVouched : {K R Z A B G : Type 0} → Verifier → (List ℕ → List ℕ) → SigningCall K R Z A B → SinkCall G → Type 0
+abbrev pub HasWrittenVouched : {K R Z A B G : Type 0} → Verifier → (List ℕ → List ℕ) → SigningCall K R Z A B
+    → SinkCall G → Type 0
 HasWrittenVouched accepts public_of d g = (text : List ℕ) × MakesVouched accepts public_of d text × Takes g text
 
 -- the text of the box that the definition of signing makes was written, and nothing failed
@@ -101,6 +105,7 @@ NoSignature d e =
 
 -- signing a file fails: there is no signature, and nothing was written, or one was made, and its text was not
 -- written whole
-abbrev pub FileSigningFails : {K R Z A B G : Type 0} → SchemeOf → SigningCall K R Z A B → SinkCall G → ℕ → Fault → Type 0
+abbrev pub FileSigningFails : {K R Z A B G : Type 0} → SchemeOf → SigningCall K R Z A B → SinkCall G → ℕ → Fault
+    → Type 0
 FileSigningFails scheme d g moment e =
     (NoSignature d e × (g.new ≡ g.old)) ⊎ ((text : List ℕ) × MakesSigned scheme d moment text × WriteFails g text e)

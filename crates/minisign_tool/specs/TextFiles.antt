@@ -6,7 +6,8 @@ use Rattle.minisign.specs.Reading.{ReadsWhole}
 use Rattle.minisign.specs.TextFiles.{IsTextFault}
 
 -- two files were read whole, and these are their texts
-pub record ReadsBoth {P Q : Type 0} (first : SourceCall P) (second : SourceCall Q) (first_text second_text : List ℕ) : Type 0 where
+pub record ReadsBoth {P Q : Type 0} (first : SourceCall P) (second : SourceCall Q)
+    (first_text second_text : List ℕ) : Type 0 where
   pub first_read : ReadsWhole first.source first.old first.new first_text
   pub second_read : ReadsWhole second.source second.old second.new second_text
 

@@ -1,5 +1,4 @@
-use Rattle.std.proofs.Common.{string_bytes, ap, subst}
-use Rattle.minisign_base.specs.DeviceCalls.{prompt_call}
+use Rattle.std.proofs.Common.{string_bytes, subst}
 use Rattle.minisign.specs.OpenedTexts.{key_with_password}
 use Rattle.minisign.specs.Texts.{IsReadOrNoMemory}
 use Rattle.minisign.proofs.GivenKeys.{with_password}

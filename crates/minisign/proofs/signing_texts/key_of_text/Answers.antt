@@ -1,4 +1,4 @@
-use Rattle.std.proofs.Common.{◌≡◌, Ok, Err, bytes_eq, string_bytes, ap, refl, sym, ◌∙◌}
+use Rattle.std.proofs.Common.{Ok, Err, bytes_eq, string_bytes, ap, refl, sym, ◌∙◌}
 use Rattle.std.specs.Option.{option_map}
 use Rattle.std.proofs.lemmas.Result.{err_from_is_err_and}
 use Rattle.minisign_base.specs.DeviceCalls.{prompt_call}

@@ -1,13 +1,8 @@
 use Rattle.std.proofs.Common.{◌≡◌, Ok, subst, sym}
 use Rattle.minisign.specs.Sealing.{unencrypted_key}
-use Rattle.minisign.proofs.GeneratedKeys.{seed_and_keynum, unsealed_pair}
 use Rattle.minisign.proofs.MadeKeys.{unsealed_is_unencrypted}
 use Rattle.minisign.proofs.Openings.{unencrypted_text}
 use Rattle.minisign.proofs.keypair.KeyPair.generate_unencrypted_keypair.Goals as goal
-
-pub returns-clause-genuine : goal.returns-clause-genuine
-returns-clause-genuine g c =
-    unsealed_pair _ c.in_ok-seed.seed c.in_ok-seed.keynum _ _ (seed_and_keynum _ _ c.in_ok-seed.ensures.first c.in_ok-seed.ensures.second) c.make_pair.ensures.public c.make_pair.ensures.secret
 
 pub returns-clause-unencrypted : goal.returns-clause-unencrypted
 returns-clause-unencrypted g c = subst (λ k. unencrypted_key k ≡ Ok k) (sym c.make_pair.ensures.secret) (unsealed_is_unencrypted _ _)

@@ -4,7 +4,6 @@ use Rattle.std.specs.Result.{result_err}
 use Rattle.minisign_base.specs.DeviceCalls.{PromptCall, prompt_call}
 use Rattle.minisign_base.specs.Fault.{Fault}
 use Rattle.minisign_base.specs.Prompts.{ConversationEnds, Say, StepEnds, Test}
-use Rattle.minisign_base.specs.declared.prompt.Prompt.{Prompt}
 use Rattle.minisign.proofs.secret_key.SecretKey.finish_telling.Goals as goal
 
 -- a text was said, and then something tested

@@ -1,4 +1,4 @@
-use Rattle.std.proofs.Common.{◌≡◌, ◌⊎◌, List, ℕ, ◌∷◌, inl, inr, ◌∙◌, ap, sym}
+use Rattle.std.proofs.Common.{◌∷◌, inl, ◌∙◌, ap, sym}
 use Rattle.std.specs.Str.Lines.{lines}
 use Rattle.minisign.proofs.SecretKeyTexts.{of_lines}
 use Rattle.minisign.proofs.secret_key.SecretKey.from_text.Goals as goal

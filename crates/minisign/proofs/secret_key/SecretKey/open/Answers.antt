@@ -1,4 +1,4 @@
-use Rattle.std.proofs.Common.{string_bytes, refl, sym, inr}
+use Rattle.std.proofs.Common.{string_bytes, refl, inr}
 use Rattle.std.specs.Option.{option_map}
 use Rattle.std.proofs.lemmas.Result.{err_from_is_err_and}
 use Rattle.minisign_base.specs.DeviceCalls.{prompt_call}

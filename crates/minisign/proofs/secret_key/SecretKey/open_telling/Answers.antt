@@ -1,7 +1,6 @@
 use Rattle.std.proofs.Common.{ap, inl, inr, refl, ⊎_elim}
 use Rattle.std.specs.Result.{result_err}
 use Rattle.std.proofs.lemmas.Result.{err_from_is_err_and}
-use Rattle.minisign.proofs.Openings.{opened_so}
 use Rattle.minisign.proofs.secret_key.SecretKey.open_telling.Goals as goal
 
 pub returns-in_err-apply_stream-clause-ended : goal.returns-in_err-apply_stream-clause-ended
@@ -19,10 +18,6 @@ returns-in_err-finish_telling-clause-ended g c =
     let refused = rw c.in_ok-apply_stream.ensures.xored at c.in_err-finish_telling.ensures.ended in
     let p = err_from_is_err_and c.from_residual-in_err-finish_telling.result c.from_residual-in_err-finish_telling.ensures.1 in
     rw (p.1, p.2) (inr (said, c.in_ok-say_deriving.ensures.ended, inr (said, (ap result_err c.in_ok-apply_stream.ensures.allowed, refl), inr (said, (tt, refl), refused))))
-
-pub returns-clause-opened : goal.returns-clause-opened
-returns-clause-opened g c =
-    opened_so c.args.self _ c.args.password.now c.args.derivation.bound _ c.in_ok-apply_stream.ensures.xored c.in_ok-apply_stream.ensures.allowed c.in_ok-finish_telling.ensures.restored
 
 pub returns-clause-ended : goal.returns-clause-ended
 returns-clause-ended g c =

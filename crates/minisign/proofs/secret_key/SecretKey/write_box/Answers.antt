@@ -7,6 +7,10 @@ use Rattle.minisign.proofs.SecretKeyTexts.{bytes_read_as}
 use Rattle.minisign.proofs.WrittenKeys.{secret_key_size, written_secret_key}
 use Rattle.minisign.proofs.secret_key.SecretKey.write_box.Goals as goal
 
+pub returns-clause-text : goal.returns-clause-text
+unfolding secret_key_text untrusted_comment_label
+returns-clause-text c = search rules
+
 pub returns-clause-reads_back : goal.returns-clause-reads_back
 unfolding secret_key_text
 returns-clause-reads_back c = λ lacks.
