@@ -125,56 +125,36 @@ copying_unsaid true Unkept second = tt
 
 module _ {R : Type 0} (source : SourceOf R) (steady : R → Type 0) (old mid new : R) where
   -- the place could not be marked
-  mark_stops_here : (again : Bool) (e : Fault)
+  pub mark_stops : (again : Bool) (e : Fault)
       → (again ≡ true) × (e ≡ Named GoingBackFailed) × Marks (rereader_call source steady old new) (Err tt)
       → (message : List ℕ) × StagesEnd (rereader_call source steady old new) unused unused (reading_stages again message) (Err e)
-  mark_stops_here true e (wanted, is, fails) = ([], inl ((is, fails), refl, refl))
-  mark_stops_here false e (wanted, is, fails) = absurd (true≢false (sym wanted))
+  mark_stops true e (wanted, is, fails) = ([], inl ((is, fails), refl, refl))
+  mark_stops false e (wanted, is, fails) = absurd (true≢false (sym wanted))
 
   -- the data could not be read
-  read_stops_here : (again : Bool) → (again ≡ false → mid ≡ old) → (again ≡ true → Marks (rereader_call source steady old mid) (Ok tt))
+  pub read_stops : (again : Bool) → (again ≡ false → mid ≡ old) → (again ≡ true → Marks (rereader_call source steady old mid) (Ok tt))
       → (e : Fault) → IsReadFault source mid new e → HasGiven (source.ahead mid) (source.ahead new) → source.is_marked new ≡ source.is_marked mid
       → (message : List ℕ) × StagesEnd (rereader_call source steady old new) unused unused (reading_stages again message) (Err e)
-  read_stops_here true unmarked marked e fails given same =
+  read_stops true unmarked marked e fails given same =
       ([], inr (record { reader = mid; status = tt; out = tt }, (marked refl, refl, refl), inl (((fails, given), same), refl, refl)))
-  read_stops_here false unmarked marked e fails given same = (
+  read_stops false unmarked marked e fails given same = (
     [],
     subst (λ r. StagesEnd (rereader_call source steady r new) unused unused (reading_stages false []) (Err e)) (unmarked refl)
         (inl (((fails, given), same), refl, refl)),
   )
 
   -- the data was read
-  read_runs_here : (again : Bool) → (again ≡ false → mid ≡ old) → (again ≡ true → Marks (rereader_call source steady old mid) (Ok tt))
+  pub read_runs : (again : Bool) → (again ≡ false → mid ≡ old) → (again ≡ true → Marks (rereader_call source steady old mid) (Ok tt))
       → (message : List ℕ) → ReadsWhole source mid new message → source.is_marked new ≡ source.is_marked mid
       → StagesEnd (rereader_call source steady old new) unused unused (reading_stages again message) (Ok tt)
-  read_runs_here true unmarked marked message whole same = (
+  read_runs true unmarked marked message whole same = (
     record { reader = mid; status = tt; out = tt },
     (marked refl, refl, refl),
     (record { reader = new; status = tt; out = tt }, ((whole, same), refl, refl), refl),
   )
-  read_runs_here false unmarked marked message whole same =
+  read_runs false unmarked marked message whole same =
       subst (λ r. StagesEnd (rereader_call source steady r new) unused unused (reading_stages false message) (Ok tt)) (unmarked refl)
       (record { reader = new; status = tt; out = tt }, ((whole, same), refl, refl), refl)
-
-  module _ (again wanted : Bool) (is : again ≡ wanted) where
-    pub mark_stops : (e : Fault)
-        → (again ≡ true) × (e ≡ Named GoingBackFailed) × Marks (rereader_call source steady old new) (Err tt)
-        → (message : List ℕ) × StagesEnd (rereader_call source steady old new) unused unused (reading_stages wanted message) (Err e)
-    mark_stops e why =
-        subst (λ a. (message : List ℕ) × StagesEnd (rereader_call source steady old new) unused unused (reading_stages a message) (Err e)) is (mark_stops_here again e why)
-
-    module _ (unmarked : again ≡ false → mid ≡ old) (marked : again ≡ true → Marks (rereader_call source steady old mid) (Ok tt)) where
-      pub read_stops : (e : Fault) → IsReadFault source mid new e → HasGiven (source.ahead mid) (source.ahead new) → source.is_marked new ≡ source.is_marked mid
-          → (message : List ℕ) × StagesEnd (rereader_call source steady old new) unused unused (reading_stages wanted message) (Err e)
-      read_stops e fails given same =
-          subst (λ a. (message : List ℕ) × StagesEnd (rereader_call source steady old new) unused unused (reading_stages a message) (Err e)) is
-          (read_stops_here again unmarked marked e fails given same)
-
-      pub read_runs : (message : List ℕ) → ReadsWhole source mid new message → source.is_marked new ≡ source.is_marked mid
-          → StagesEnd (rereader_call source steady old new) unused unused (reading_stages wanted message) (Ok tt)
-      read_runs message whole same =
-          subst (λ a. StagesEnd (rereader_call source steady old new) unused unused (reading_stages a message) (Ok tt)) is
-          (read_runs_here again unmarked marked message whole same)
 
 -- the data was read to its end without a fault, and gave this message; the mark stays, or was set before
 pub record FirstPass {R : Type 0} (again : Bool) (reader : RereaderCall R) (message : List ℕ) : Type 0 where

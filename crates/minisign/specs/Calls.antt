@@ -7,6 +7,7 @@ use Rattle.minisign_base.specs.declared.faults.NamedFault.TheVariants.{Encrypted
 use Rattle.minisign_base.specs.declared.faults.NamedFault.TheVariants.{PasswordTooLong, ReadingFailed}
 use Rattle.minisign_base.specs.DeviceCalls.{IsFlushed, IsSteady, RandomCall, RereaderCall, SinkCall, SourceCall, Takes}
 use Rattle.minisign.specs.Records.{CommentsRecord, SecretKeyRecord}
+use Rattle.minisign.specs.declared.options.VerifyOptions.{VerifyOptions}
 use Rattle.minisign.specs.Acceptance.{Flags, Verifier, flags_of}
 use Rattle.minisign.specs.Generation.{AllDrawn}
 use Rattle.minisign.specs.Headline.{TextsVouchFor, verdict}
@@ -41,6 +42,10 @@ pub record CopyIsVouchedWith {R O : Type 0} (accepts : Verifier) (pk_text sig_te
   pub message : List ℕ
   pub read_twice : ReadsTwice reader out message copy
   pub same : IsSteady reader → IfSome (reader.source.ahead reader.old) (λ xs. copy ≡ xs)
+
+-- the flags in options with names
+abbrev pub flags_in : VerifyOptions → Flags
+flags_in options = flags_of options.quiet options.output options.allow_legacy
 
 -- nothing is said or copied, and legacy signatures are refused
 abbrev pub only_reads : Flags

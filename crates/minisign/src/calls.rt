@@ -5,8 +5,7 @@ ghost use Rattle.minisign_base.specs.Fault.{Named};
 ghost use Rattle.minisign_base.specs.declared.faults.NamedFault.TheVariants.{OutOfMemory};
 ghost use Rattle.minisign_base.specs.DeviceCalls.{rereader_call, sink_call, unused};
 ghost use Rattle.minisign_base.specs.Devices.{HasGiven};
-ghost use Rattle.minisign.specs.Acceptance.{flags_of};
-ghost use Rattle.minisign.specs.Calls.{CopyIsVouchedWith, IsFileVerdict, TextsVouchWith, only_copies, only_reads};
+ghost use Rattle.minisign.specs.Calls.{CopyIsVouchedWith, IsFileVerdict, TextsVouchWith, flags_in, only_copies, only_reads};
 ghost use Rattle.minisign.specs.Headline.{WhereNothingFails, verdict};
 ghost use Rattle.minisign.specs.Reading.{IsAhead, ReadingFails, ReadsWhole};
 ghost use Rattle.minisign.specs.Texts.{IsReadOrNoMemory, map_ok};
@@ -57,12 +56,10 @@ pub fn verify_with<S: Scheme, R: Rereader, W: Sink, O: Sink>(
 
     // What is said of success and of a refusal is what the clauses `accepted` and `refused` of
     // `verify_texts` say.
-    ensures accepted { OnOk result (VerifyingTextsSucceeds (S.accepts scheme.now) pk_text.now sig_text.now
-        (flags_of options.quiet options.output options.allow_legacy)
+    ensures accepted { OnOk result (VerifyingTextsSucceeds (S.accepts scheme.now) pk_text.now sig_text.now (flags_in options)
         (rereader_call R.Source R.steady data_reader.old data_reader.new)
         (sink_call W.Sink status.old status.new) (sink_call O.Sink out.old out.new)) }
-    ensures refused { IfErr result (VerifyingTextsFails (S.accepts scheme.now) pk_text.now sig_text.now
-        (flags_of options.quiet options.output options.allow_legacy)
+    ensures refused { IfErr result (VerifyingTextsFails (S.accepts scheme.now) pk_text.now sig_text.now (flags_in options)
         (rereader_call R.Source R.steady data_reader.old data_reader.new)
         (sink_call W.Sink status.old status.new) (sink_call O.Sink out.old out.new)) }
 
