@@ -1,5 +1,6 @@
 -- Base64 in pieces: all but the last are whole groups of four letters without padding.
 use Rattle.std.proofs.Common.{◌≡◌, ℕ, zero, suc, ◌+◌, ◌*◌, ◌/◌, ◌%◌, ◌<◌, ◌≤◌, Bool, true, false, List, [], ◌∷◌, ◌++◌, length, take, drop, refl, sym, ap, subst, ◌∙◌, arith, is_some, MatchOption}
+use Rattle.std.proofs.lemmas.Bool.{false_from_ne_true}
 use Rattle.std.proofs.lemmas.List.{length-append, length-replicate, length-take-le, take-append-drop}
 use Rattle.std.proofs.Math.Seq.{take-append_seam, drop-append_seam}
 use Rattle.std.specs.declared.option.Option.{Option}
@@ -41,15 +42,11 @@ piece_read s room n r fits each bytes value ok =
     let whole : decode_of standard s ≡ Ok (decoded_bytes_of standard s) = ap (λ e. decode_outcome e (decoded_bytes_of standard s)) parts.0 in
     (record { each = bytes; encoded = decode_of_strict standard s _ (refl, refl) each whole }, parts.1)
 
-not_true : (b : Bool) → (b ≡ true → ⊥) → b ≡ false
-not_true true h = absurd (h refl)
-not_true false h = refl
-
 -- what was not is none
 pub piece_unread : (s : List ℕ) (room : ℕ) (e : DecodeSliceError) (r : Result ℕ DecodeSliceError) → decoded_estimate (length s) ≤ room
     → r ≡ decode_slice_of standard s room → r ≡ Err e → is_base64 s ≡ false
 unfolding error_of
-piece_unread s room e r fits value err = not_true (is_base64 s) (λ read.
+piece_unread s room e r fits value err = false_from_ne_true (is_base64 s) (λ read.
     let none : error_of s ≡ None = outcome_ok _ _ _ (decoded s (base64_bytes s) (reads s read)) in
     let no = sym err ∙ value ∙ in_room s room fits ∙ ap (λ x. or_error x (Ok (length (decoded_bytes_of standard s)))) none in
     cc no)
@@ -122,7 +119,7 @@ cut s t b h groups some =
 
 same_truth : (x y : Bool) → (x ≡ true → y ≡ true) → (y ≡ true → x ≡ true) → x ≡ y
 same_truth true y h j = sym (h refl)
-same_truth false y h j = sym (not_true y (λ t. let no = j t in cc no))
+same_truth false y h j = sym (false_from_ne_true y (λ t. let no = j t in cc no))
 
 -- a text is base64 where what stands behind a piece of whole groups is
 module _ (s t text : List ℕ) (is : text ≡ s ++ t) (groups : length s % 4 ≡ 0) (some : 0 < length t) where
@@ -137,19 +134,19 @@ module _ (s t text : List ℕ) (is : text ≡ s ++ t) (groups : length s % 4 ≡
 
   -- and none where the piece is none, or has padding
   pub piece_refused : is_base64 s ≡ false → is_base64 text ≡ false
-  piece_refused none = not_true _ (λ all.
+  piece_refused none = false_from_ne_true _ (λ all.
       let parts = cut_text all in
       let no = sym none ∙ is_read s parts.front parts.front_read in
       cc no)
 
   pub piece_padded : (a : List ℕ) (n : ℕ) → IsBase64Of s a → n ≡ length a → (n ≡ length s / 4 * 3 → ⊥) → is_base64 text ≡ false
-  piece_padded a n h long differs = not_true _ (λ all.
+  piece_padded a n h long differs = false_from_ne_true _ (λ all.
       let parts = cut_text all in
       let same : a ≡ parts.front = one_decoding s _ _ h parts.front_read in
       differs (long ∙ ap length same ∙ parts.front_length))
 
   pub rest_refused : is_base64 t ≡ false → is_base64 text ≡ false
-  rest_refused none = not_true _ (λ all.
+  rest_refused none = false_from_ne_true _ (λ all.
       let parts = cut_text all in
       let no = sym none ∙ is_read t parts.back parts.back_read in
       cc no)

@@ -1,6 +1,7 @@
 -- Base64 read and written: a text is the base64 of one list of bytes at most, and its letters are
 -- neither line feeds nor white space.
-use Rattle.std.proofs.Common.{◌≡◌, ℕ, zero, suc, ◌%◌, ◌<◌, Bool, true, false, List, [], ◌∷◌, length, map, refl, sym, ap, subst, ◌∙◌, arith}
+use Rattle.std.proofs.Common.{◌≡◌, ℕ, zero, suc, ◌%◌, ◌<◌, true, false, List, [], ◌∷◌, length, map, refl, sym, ap, subst, ◌∙◌, arith}
+use Rattle.std.proofs.lemmas.Bool.{false_from_ne_true}
 use Rattle.std.specs.declared.option.Option.{Option}
 use Rattle.std.specs.declared.option.Option.TheVariants.{None, Some}
 use Rattle.std.specs.declared.result.Result.TheVariants.{Ok, Err}
@@ -53,15 +54,11 @@ pub reads : (s : List ℕ) → is_base64 s ≡ true → IsBase64Of s (base64_byt
 unfolding is_base64 base64_bytes
 reads s h = record { each = all_bytes (decoded_bytes_of standard s); encoded = (bytes_eq-Decides s _).0 h }
 
-not_true : (b : Bool) → (b ≡ true → ⊥) → b ≡ false
-not_true true h = absurd (h refl)
-not_true false h = refl
-
 -- what does not decode is no base64
 pub not_read : (s t : List ℕ) (e : DecodeAllocError) (d : DecodeError) → s ≡ t → IsDecodeFailure standard s e → e ≡ Failed d → is_base64 t ≡ false
 not_read s t e d same failure is =
     let failed : decode_of standard t ≡ Err d = subst (λ v. decode_of standard v ≡ Err d) same (subst (IsDecodeFailure standard s) is failure) in
-    not_true (is_base64 t) (λ read. let ok = sym (decoded t (base64_bytes t) (reads t read)) ∙ failed in cc ok)
+    false_from_ne_true (is_base64 t) (λ read. let ok = sym (decoded t (base64_bytes t) (reads t read)) ∙ failed in cc ok)
 
 -- base64 of bytes that are too few
 pub short_of : (text b d : List ℕ) (n : ℕ) → IsBase64Of text b → d ≡ b → length d < n → (is_base64 text ≡ true) × (length (base64_bytes text) < n)

@@ -1,13 +1,15 @@
--- What the proofs of other crates cite: of a verdict on texts that vouch for a message, of verifying without an output, and
--- of a sink that is written to in parts.
+-- What the proofs of other crates cite: of a box that is judged, of a verdict on texts that vouch for a message, of verifying
+-- without an output, and of a sink that is written to in parts.
 use Rattle.std.proofs.Common.{◌≡◌, ℕ, Bool, List, sym, ap, ◌∙◌, inl, inr}
 use Rattle.std.specs.declared.result.Result.TheVariants.{Ok, Err}
 use Rattle.minisign_base.specs.Fault.{Fault, Named}
 use Rattle.minisign_base.specs.declared.faults.NamedFault.TheVariants.{OutOfMemory}
 use Rattle.minisign.specs.Acceptance.{Verifier}
 use Rattle.minisign.specs.Headline.{TextsVouchFor, verdict}
-use Rattle.minisign.specs.Texts.{IsReadOrNoMemory, and_then}
-use Rattle.minisign.proofs.Verdicts.{judged_verdict, vouched, vouches_judged}
+use Rattle.minisign.specs.Texts.{IsReadOrNoMemory}
+use Rattle.minisign.proofs.ReadTexts.{read_value}
+use Rattle.minisign.proofs.Verdicts.{vouched, vouching_verdict}
+pub use Rattle.minisign.proofs.Verdicts.{judged_vouches, vouches_judged}
 pub use Rattle.minisign.proofs.VerifyingLaws.{fails_without_output}
 pub use Rattle.minisign_base.proofs.Laws.{AppendsFront-after, AppendsFront-more}
 
@@ -15,31 +17,19 @@ module _ (accepts : Verifier) (pk_text sig_text message : List ℕ) (legacy : Bo
   -- texts that vouch for a message are refused only where memory runs out
   pub only_memory : (e : Fault) → TextsVouchFor accepts pk_text sig_text message legacy
       → IsReadOrNoMemory {V = List ℕ} (Err e) (verdict accepts pk_text sig_text message legacy) → e ≡ Named OutOfMemory
-  only_memory e v (inl is) =
-      let (c, both, reads) = judged_verdict accepts pk_text sig_text message legacy v.key v.box (record { key_read = v.key_read; box_read = v.box_read }) in
-      let accepted : verdict accepts pk_text sig_text message legacy ≡ Ok c.trusted =
-      reads ∙ ap (λ r. and_then r (λ _. Ok c.trusted)) (vouches_judged accepts v.key v.box message legacy v.vouches) in
-      let differ = is ∙ accepted in
-      cc differ
+  only_memory e v (inl is) = let differ = is ∙ vouching_verdict accepts pk_text sig_text message legacy v in cc differ
   only_memory e v (inr memory) = cc memory
 
   -- and what is accepted is vouched for
   pub accepted_vouches : (comment : List ℕ) → IsReadOrNoMemory (Ok comment) (verdict accepts pk_text sig_text message legacy)
       → TextsVouchFor accepts pk_text sig_text message legacy
-  accepted_vouches comment (inl is) = (vouched accepts pk_text sig_text message legacy comment (sym is)).vouched
-  accepted_vouches comment (inr memory) = cc memory
+  accepted_vouches comment given = (vouched accepts pk_text sig_text message legacy comment (read_value comment _ given)).vouched
 
   -- the answer that was given is the verdict
   pub verdict_given : (comment : List ℕ) → IsReadOrNoMemory (Ok comment) (verdict accepts pk_text sig_text message legacy)
       → verdict accepts pk_text sig_text message legacy ≡ Ok comment
-  verdict_given comment (inl is) = sym is
-  verdict_given comment (inr memory) = cc memory
+  verdict_given comment given = read_value comment _ given
 
   -- texts that are refused do not vouch for the message
   pub refused_unvouched : (e : Fault) → verdict accepts pk_text sig_text message legacy ≡ Err e → ¬ (TextsVouchFor accepts pk_text sig_text message legacy)
-  refused_unvouched e is v =
-      let (c, both, reads) = judged_verdict accepts pk_text sig_text message legacy v.key v.box (record { key_read = v.key_read; box_read = v.box_read }) in
-      let accepted : verdict accepts pk_text sig_text message legacy ≡ Ok c.trusted =
-      reads ∙ ap (λ r. and_then r (λ _. Ok c.trusted)) (vouches_judged accepts v.key v.box message legacy v.vouches) in
-      let differ = sym is ∙ accepted in
-      cc differ
+  refused_unvouched e is v = let differ = sym is ∙ vouching_verdict accepts pk_text sig_text message legacy v in cc differ

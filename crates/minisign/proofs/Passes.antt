@@ -1,6 +1,6 @@
 -- The steps of verifying, as the calls that take them make them, and what is read off them.
-use Rattle.std.proofs.Common.{◌≡◌, ◌≢◌, ◌⊎◌, ℕ, Bool, true, false, Vec, List, [], ◌∷◌, ◌++◌, Option, None, Some, IfSome, IsSome, OnOk, IsTrue, inl, inr, ⊎_elim, refl, sym, ap, subst, ◌∙◌}
-use Rattle.std.proofs.lemmas.Bool.{true≢false}
+use Rattle.std.proofs.Common.{◌≡◌, ◌≢◌, ◌⊎◌, ℕ, Bool, true, false, Vec, List, [], ◌∷◌, ◌++◌, Option, None, Some, IfErr, IfSome, IsSome, OnOk, IsTrue, inl, inr, ⊎_elim, refl, sym, ap, subst, ◌∙◌}
+use Rattle.std.proofs.lemmas.Bool.{and_parts, true≢false}
 use Rattle.std.proofs.lemmas.Slice.Eq.{bytes_eq-Decides}
 use Rattle.std.specs.Prelude.{◌&&◌, ⊤}
 use Rattle.std.specs.Io.KnownBytes.{Appends, IsAtEnd}
@@ -19,13 +19,13 @@ use Rattle.minisign.specs.declared.signed_data.SignedData.TheVariants.{Digest, K
 use Rattle.minisign.specs.Reading.{IsAhead, IsReadFault, ReadingFails, ReadsWhole}
 use Rattle.minisign.specs.Records.{PublicKeyRecord, SignatureBoxRecord, is_prehashed, prehashed_algorithm}
 use Rattle.minisign.specs.Acceptance.{Verifier, Vouches, judge, signed_bytes}
-use Rattle.minisign.specs.SignedData.{AreSigned, HoldsSigned, held_copy_stages, held_bytes}
+use Rattle.minisign.specs.SignedData.{HoldsSigned, held_copy_stages, held_bytes}
 use Rattle.minisign.specs.Stages.{Devices, StagesEnd, Flush, Judge, Put, Stage, StageEnds, copying_stages, second_copy_stages, is_reread, reading_stages, reporting_stages}
 use Rattle.minisign.specs.Verifying.{ReadsTwice, VerifyingFails, VerifyingSucceeds, wanted_status}
-use Rattle.minisign.proofs.VerifyingLaws.{UseNoOutput, UseNoStatus, beside_output, beside_status}
+use Rattle.minisign.proofs.VerifyingLaws.{OneEnds, UseNoOutput, UseNoStatus, begun, beside_output, beside_status, ended}
 use Rattle.minisign.specs.Texts.{IsReadOrNoMemory}
 use Rattle.minisign.proofs.Copies.{all_kept}
-use Rattle.minisign.proofs.Verdicts.{vouches_judged}
+use Rattle.minisign.proofs.Verdicts.{AreSigned, vouches_judged}
 
 -- what is ahead after going back to where this was ahead
 what_was_marked : (first behind returned : Option (List ℕ)) (second : List ℕ) → behind ≡ first → IfSome behind (λ xs. returned ≡ Some xs) → IsAhead returned second
@@ -80,34 +80,33 @@ stopped_in Ends (step ∷ first) second old new e (inr (d, done, h)) =
     ⊎_elim (λ a. inl (inr (d, done, a))) (λ (between, a, b). inr (between, (d, done, a), b)) (stopped_in Ends first second d new e h)
 
 module _ {R W O : Type 0} (reader : RereaderCall R) (status : SinkCall W) (out : SinkCall O) where
-  -- how a stage ends between two states of the devices
-  abbrev OneEnds : Stage → Devices R W O → Devices R W O → Result ⊤ Fault → Type 0
-  OneEnds stage old new =
-      StageEnds (record reader { old = old.reader; new = new.reader }) (record status { old = old.status; new = new.status })
-      (record out { old = old.out; new = new.out }) stage
-
-  -- the devices at the begin and in the end
-  abbrev begun : Devices R W O
-  begun = record { reader = reader.old; status = status.old; out = out.old }
-
-  abbrev ended : Devices R W O
-  ended = record { reader = reader.new; status = status.new; out = out.new }
-
   stopped_first : (first second : List Stage) (e : Fault) → StagesEnd reader status out first (Err e) → StagesEnd reader status out (first ++ second) (Err e)
-  stopped_first first second e h = first_stopped OneEnds first second begun ended e h
+  stopped_first first second e h = first_stopped (OneEnds reader status out) first second (begun reader status out) (ended reader status out) e h
 
   second_ended : (d : Devices R W O) (first second : List Stage) (answer : Result ⊤ Fault)
       → StagesEnd (record reader { new = d.reader }) (record status { new = d.status }) (record out { new = d.out }) first (Ok tt)
       → StagesEnd (record reader { old = d.reader }) (record status { old = d.status }) (record out { old = d.out }) second answer
       → StagesEnd reader status out (first ++ second) answer
-  second_ended d first second answer a h = second_ends OneEnds first second begun d ended answer a h
+  second_ended d first second answer a h = second_ends (OneEnds reader status out) first second (begun reader status out) d (ended reader status out) answer a h
+
+  -- a stage was done, and then those behind it ended so; or it is the last one
+  pub next_stage : (d : Devices R W O) (stage : Stage) (later : List Stage) (answer : Result ⊤ Fault)
+      → StageEnds (record reader { new = d.reader }) (record status { new = d.status }) (record out { new = d.out }) stage (Ok tt)
+      → StagesEnd (record reader { old = d.reader }) (record status { old = d.status }) (record out { old = d.out }) later answer
+      → StagesEnd reader status out (stage ∷ later) answer
+  next_stage d stage later (Ok u) done ran = (d, done, ran)
+  next_stage d stage later (Err e) done ran = inr (d, done, ran)
+
+  pub last_stage : (stage : Stage) (answer : Result ⊤ Fault) → StageEnds reader status out stage answer → StagesEnd reader status out (stage ∷ []) answer
+  last_stage stage (Ok u) done = (ended reader status out, done, refl)
+  last_stage stage (Err e) stopped = inl stopped
 
   stopped_in_either : (first second : List Stage) (e : Fault) → StagesEnd reader status out (first ++ second) (Err e)
       → StagesEnd reader status out first (Err e)
       ⊎ ((d : Devices R W O)
       × StagesEnd (record reader { new = d.reader }) (record status { new = d.status }) (record out { new = d.out }) first (Ok tt)
       × StagesEnd (record reader { old = d.reader }) (record status { old = d.status }) (record out { old = d.out }) second (Err e))
-  stopped_in_either first second e h = stopped_in OneEnds first second begun ended e h
+  stopped_in_either first second e h = stopped_in (OneEnds reader status out) first second (begun reader status out) (ended reader status out) e h
 
 -- reading uses neither sink, and copying not the status
 reading_unsaid : (again : Bool) (message : List ℕ) → UseNoStatus (reading_stages again message)
@@ -126,56 +125,36 @@ copying_unsaid true Unkept second = tt
 
 module _ {R : Type 0} (source : SourceOf R) (steady : R → Type 0) (old mid new : R) where
   -- the place could not be marked
-  mark_stops_here : (again : Bool) (e : Fault)
+  pub mark_stops : (again : Bool) (e : Fault)
       → (again ≡ true) × (e ≡ Named GoingBackFailed) × Marks (rereader_call source steady old new) (Err tt)
       → (message : List ℕ) × StagesEnd (rereader_call source steady old new) unused unused (reading_stages again message) (Err e)
-  mark_stops_here true e (wanted, is, fails) = ([], inl ((is, fails), refl, refl))
-  mark_stops_here false e (wanted, is, fails) = absurd (true≢false (sym wanted))
+  mark_stops true e (wanted, is, fails) = ([], inl ((is, fails), refl, refl))
+  mark_stops false e (wanted, is, fails) = absurd (true≢false (sym wanted))
 
   -- the data could not be read
-  read_stops_here : (again : Bool) → (again ≡ false → mid ≡ old) → (again ≡ true → Marks (rereader_call source steady old mid) (Ok tt))
+  pub read_stops : (again : Bool) → (again ≡ false → mid ≡ old) → (again ≡ true → Marks (rereader_call source steady old mid) (Ok tt))
       → (e : Fault) → IsReadFault source mid new e → HasGiven (source.ahead mid) (source.ahead new) → source.is_marked new ≡ source.is_marked mid
       → (message : List ℕ) × StagesEnd (rereader_call source steady old new) unused unused (reading_stages again message) (Err e)
-  read_stops_here true unmarked marked e fails given same =
+  read_stops true unmarked marked e fails given same =
       ([], inr (record { reader = mid; status = tt; out = tt }, (marked refl, refl, refl), inl (((fails, given), same), refl, refl)))
-  read_stops_here false unmarked marked e fails given same = (
+  read_stops false unmarked marked e fails given same = (
     [],
     subst (λ r. StagesEnd (rereader_call source steady r new) unused unused (reading_stages false []) (Err e)) (unmarked refl)
         (inl (((fails, given), same), refl, refl)),
   )
 
   -- the data was read
-  read_runs_here : (again : Bool) → (again ≡ false → mid ≡ old) → (again ≡ true → Marks (rereader_call source steady old mid) (Ok tt))
+  pub read_runs : (again : Bool) → (again ≡ false → mid ≡ old) → (again ≡ true → Marks (rereader_call source steady old mid) (Ok tt))
       → (message : List ℕ) → ReadsWhole source mid new message → source.is_marked new ≡ source.is_marked mid
       → StagesEnd (rereader_call source steady old new) unused unused (reading_stages again message) (Ok tt)
-  read_runs_here true unmarked marked message whole same = (
+  read_runs true unmarked marked message whole same = (
     record { reader = mid; status = tt; out = tt },
     (marked refl, refl, refl),
     (record { reader = new; status = tt; out = tt }, ((whole, same), refl, refl), refl),
   )
-  read_runs_here false unmarked marked message whole same =
+  read_runs false unmarked marked message whole same =
       subst (λ r. StagesEnd (rereader_call source steady r new) unused unused (reading_stages false message) (Ok tt)) (unmarked refl)
       (record { reader = new; status = tt; out = tt }, ((whole, same), refl, refl), refl)
-
-  module _ (again wanted : Bool) (is : again ≡ wanted) where
-    pub mark_stops : (e : Fault)
-        → (again ≡ true) × (e ≡ Named GoingBackFailed) × Marks (rereader_call source steady old new) (Err tt)
-        → (message : List ℕ) × StagesEnd (rereader_call source steady old new) unused unused (reading_stages wanted message) (Err e)
-    mark_stops e why =
-        subst (λ a. (message : List ℕ) × StagesEnd (rereader_call source steady old new) unused unused (reading_stages a message) (Err e)) is (mark_stops_here again e why)
-
-    module _ (unmarked : again ≡ false → mid ≡ old) (marked : again ≡ true → Marks (rereader_call source steady old mid) (Ok tt)) where
-      pub read_stops : (e : Fault) → IsReadFault source mid new e → HasGiven (source.ahead mid) (source.ahead new) → source.is_marked new ≡ source.is_marked mid
-          → (message : List ℕ) × StagesEnd (rereader_call source steady old new) unused unused (reading_stages wanted message) (Err e)
-      read_stops e fails given same =
-          subst (λ a. (message : List ℕ) × StagesEnd (rereader_call source steady old new) unused unused (reading_stages a message) (Err e)) is
-          (read_stops_here again unmarked marked e fails given same)
-
-      pub read_runs : (message : List ℕ) → ReadsWhole source mid new message → source.is_marked new ≡ source.is_marked mid
-          → StagesEnd (rereader_call source steady old new) unused unused (reading_stages wanted message) (Ok tt)
-      read_runs message whole same =
-          subst (λ a. StagesEnd (rereader_call source steady old new) unused unused (reading_stages a message) (Ok tt)) is
-          (read_runs_here again unmarked marked message whole same)
 
 -- the data was read to its end without a fault, and gave this message; the mark stays, or was set before
 pub record FirstPass {R : Type 0} (again : Bool) (reader : RereaderCall R) (message : List ℕ) : Type 0 where
@@ -253,6 +232,16 @@ module _ {R W O : Type 0} (accepts : Verifier) (pk : PublicKeyRecord) (x : Signa
       VerifyingFails accepts pk x (record { quiet = quiet; output = output; legacy = legacy })
       (rereader_call source steady old r) (sink_call status_sink said_before w) (sink_call out_sink out_before o) e
 
+  -- reading, beside the sinks
+  beside_sinks : (r : R) (message : List ℕ) (answer : Result ⊤ Fault) → StagesEnd (rereader_call source steady old r) unused unused (reading_stages (is_reread output x) message) answer
+      → StagesEnd (rereader_call source steady old r) (sink_call status_sink said_before said_before) (sink_call out_sink out_before out_before)
+      (reading_stages (is_reread output x) message) answer
+  beside_sinks r message answer read =
+      beside_output out_sink out_before (rereader_call source steady old r) (sink_call status_sink said_before said_before) unused
+      (reading_stages (is_reread output x) message) answer (reading_uncopied (is_reread output x) message)
+      (beside_status status_sink said_before (rereader_call source steady old r) unused unused
+      (reading_stages (is_reread output x) message) answer (reading_unsaid (is_reread output x) message) read)
+
   -- the reading stopped
   pub unread : (message : List ℕ) × StagesEnd (rereader_call source steady old new) unused unused (reading_stages (is_reread output x) message) (Err e)
       → Fails new said_before out_before
@@ -262,22 +251,10 @@ module _ {R W O : Type 0} (accepts : Verifier) (pk : PublicKeyRecord) (x : Signa
     stopped_first (rereader_call source steady old new) (sink_call status_sink said_before said_before) (sink_call out_sink out_before out_before)
         (reading_stages (is_reread output x) message)
         (Judge accepts pk x legacy message ∷ (reporting_stages quiet x ++ copying_stages output (is_prehashed x.signature) message [])) e
-        (beside_output out_sink out_before (rereader_call source steady old new) (sink_call status_sink said_before said_before) unused
-        (reading_stages (is_reread output x) message) (Err e) (reading_uncopied (is_reread output x) message)
-        (beside_status status_sink said_before (rereader_call source steady old new) unused unused
-        (reading_stages (is_reread output x) message) (Err e) (reading_unsaid (is_reread output x) message) h)),
+        (beside_sinks new message (Err e) h),
   )
 
   module _ (message : List ℕ) (read : StagesEnd (rereader_call source steady old mid) unused unused (reading_stages (is_reread output x) message) (Ok tt)) where
-    -- reading, beside the sinks
-    was_read : StagesEnd (rereader_call source steady old mid) (sink_call status_sink said_before said_before)
-        (sink_call out_sink out_before out_before) (reading_stages (is_reread output x) message) (Ok tt)
-    was_read =
-        beside_output out_sink out_before (rereader_call source steady old mid) (sink_call status_sink said_before said_before) unused
-        (reading_stages (is_reread output x) message) (Ok tt) (reading_uncopied (is_reread output x) message)
-        (beside_status status_sink said_before (rereader_call source steady old mid) unused unused
-        (reading_stages (is_reread output x) message) (Ok tt) (reading_unsaid (is_reread output x) message) read)
-
     -- the box is refused, or memory ran out
     pub unjudged : IsReadOrNoMemory {V = ⊤} (Err e) (judge accepts pk x message legacy) → Fails mid said_before out_before
     unjudged why = (
@@ -285,7 +262,7 @@ module _ {R W O : Type 0} (accepts : Verifier) (pk : PublicKeyRecord) (x : Signa
       [],
       second_ended (rereader_call source steady old mid) (sink_call status_sink said_before said_before) (sink_call out_sink out_before out_before)
           (record { reader = mid; status = said_before; out = out_before }) (reading_stages (is_reread output x) message)
-          (Judge accepts pk x legacy message ∷ (reporting_stages quiet x ++ copying_stages output (is_prehashed x.signature) message [])) (Err e) was_read
+          (Judge accepts pk x legacy message ∷ (reporting_stages quiet x ++ copying_stages output (is_prehashed x.signature) message [])) (Err e) (beside_sinks mid message (Ok tt) read)
           (inl (why, refl, refl, refl)),
     )
 
@@ -300,7 +277,7 @@ module _ {R W O : Type 0} (accepts : Verifier) (pk : PublicKeyRecord) (x : Signa
             [],
             second_ended (rereader_call source steady old mid) (sink_call status_sink said_before said) (sink_call out_sink out_before out_before)
                 d (reading_stages (is_reread output x) message)
-                (Judge accepts pk x legacy message ∷ (reporting_stages quiet x ++ copying_stages output (is_prehashed x.signature) message [])) (Err e) was_read
+                (Judge accepts pk x legacy message ∷ (reporting_stages quiet x ++ copying_stages output (is_prehashed x.signature) message [])) (Err e) (beside_sinks mid message (Ok tt) read)
                 (inr (
                   d,
                   (inl (sym (vouches_judged accepts pk x message legacy vouches)), refl, refl, refl),
@@ -324,7 +301,7 @@ module _ {R W O : Type 0} (accepts : Verifier) (pk : PublicKeyRecord) (x : Signa
             second,
             second_ended (rereader_call source steady old new) (sink_call status_sink said_before said) (sink_call out_sink out_before out)
                 d (reading_stages (is_reread output x) message)
-                (Judge accepts pk x legacy message ∷ (reporting_stages quiet x ++ copying_stages output (is_prehashed x.signature) message second)) (Err e) was_read
+                (Judge accepts pk x legacy message ∷ (reporting_stages quiet x ++ copying_stages output (is_prehashed x.signature) message second)) (Err e) (beside_sinks mid message (Ok tt) read)
                 (inr (
                   d,
                   (inl (sym (vouches_judged accepts pk x message legacy vouches)), refl, refl, refl),
@@ -477,11 +454,16 @@ module _ {R W O : Type 0} (accepts : Verifier) (pk : PublicKeyRecord) (x : Signa
       (read : StagesEnd (rereader_call source steady old mid) unused unused (reading_stages (is_reread output x) message) (Ok tt))
       (pass : FirstPass (is_reread output x) (rereader_call source steady old mid) message)
       (vouches : Vouches accepts pk x message legacy) (said : Takes status (wanted_status quiet x)) where
-    pub copying_succeeds : {T : Type 0} (r : Result T Fault) → SinkHasNoNewFault status → IsUnflushed status
-        → OnOk r ((second : List ℕ) × StagesEnd (rereader_call source steady mid new) unused out (held_copy_stages output signed second) (Ok tt))
+    pub copying_succeeds : (r : Result ⊤ Fault) → SinkHasNoNewFault status → IsUnflushed status
+        → (second : List ℕ) × StagesEnd (rereader_call source steady mid new) unused out (held_copy_stages output signed second) r
         → OnOk r (VerifyingSucceeds accepts pk x (record { quiet = quiet; output = output; legacy = legacy }) (rereader_call source steady old new) status out)
     copying_succeeds (Ok v) status_no_new_fault status_unflushed (second, run) = copied output signed holds read pass vouches said status_no_new_fault status_unflushed second run
     copying_succeeds (Err e) status_no_new_fault status_unflushed run = tt
+
+-- what is so of how a call ended is so of its fault
+pub of_fault : (r : Result ⊤ Fault) (Ends : Result ⊤ Fault → Type 0) (Q : Fault → Type 0) → Ends r → ((e : Fault) → Ends (Err e) → Q e) → IfErr r Q
+of_fault (Ok u) Ends Q h f = tt
+of_fault (Err e) Ends Q h f = f e h
 
 -- what the second reading gave is what was ahead at first, of a steady source; and it has another digest than the message
 pub record IsOther {R : Type 0} (reader : RereaderCall R) (message : List ℕ) : Type 0 where
@@ -587,13 +569,9 @@ module _ {R W O : Type 0} (accepts : Verifier) (pk : PublicKeyRecord) (x : Signa
       (stopped_in_either (record reader { old = d2.reader }) (record status { old = d2.status }) (record out { old = d2.out })
       (reporting_stages quiet x) (copying_stages output hashed message second) e h)
 
-  both_wanted : (a b : Bool) → (a && b) ≡ true → a ≡ true
-  both_wanted true b h = refl
-  both_wanted false b h = absurd (true≢false (sym h))
-
   pub why_it_fails : VerifyingFails accepts pk x (record { quiet = quiet; output = output; legacy = legacy }) reader status out e → Why
   why_it_fails (message, second, h) =
-      ⊎_elim (why_unread (is_reread output x) message (both_wanted output (is_prehashed x.signature)))
+      ⊎_elim (why_unread (is_reread output x) message (λ both. (and_parts output (is_prehashed x.signature) both).0))
       (λ (d, read, h2).
       let (pass, s, o) = first_pass (record reader { new = d.reader }) (record status { new = d.status }) (record out { new = d.out }) (is_reread output x) message read in
       why_after (is_prehashed x.signature) message second d pass s o h2)

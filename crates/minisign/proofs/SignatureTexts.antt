@@ -1,11 +1,11 @@
 -- Texts of signatures: the function that reads them and the relation agree, and a written text reads as its box.
-use Rattle.std.proofs.Common.{◌≡◌, ◌≢◌, ℕ, ◌<◌, ◌≤◌, Bool, true, false, ◌||◌, List, [], ◌∷◌, ◌++◌, length, take, drop, codes, Ok, Err, refl, sym, ap, subst, ◌∙◌, arith, inl, inr, ◌⊎◌}
+use Rattle.std.proofs.Common.{◌≡◌, ◌≢◌, ℕ, ◌<◌, ◌≤◌, true, false, List, [], ◌∷◌, ◌++◌, length, take, drop, codes, Ok, Err, refl, sym, ap, subst, ◌∙◌, arith, inl, inr}
 use Rattle.std.specs.declared.option.Option.TheVariants.{Some}
 use Rattle.std.specs.List.{starts_with}
 use Rattle.std.specs.Str.{trim}
 use Rattle.std.specs.Str.Lines.{lines, strip_carriage_return}
 use Rattle.std.proofs.Math.Dec.{eqb, leb, lit<}
-use Rattle.std.proofs.lemmas.Bool.{le-leb, leb-true, lt-leb}
+use Rattle.std.proofs.lemmas.Bool.{false_from_ne_true, le-leb, leb-true, lt-leb, or_cases, or_left, or_right}
 use Rattle.std.proofs.lemmas.Bool.Decides.{Decides-eqb}
 use Rattle.std.proofs.Math.Seq.{drop-append_seam}
 use Rattle.std.proofs.lemmas.List.{append_assoc, length-take-le, length-drop, take-append-drop}
@@ -14,7 +14,7 @@ use Rattle.minisign_base.specs.Fault.{Named}
 use Rattle.minisign_base.specs.declared.faults.NamedFault.TheVariants.{UntrustedCommentPrefix, SignatureNotBase64, RecordTooShort, TrustedCommentPrefix, UnsupportedSignatureAlgorithm}
 use Rattle.minisign.specs.Records.{CommentsRecord, SignatureRecord, ReadsSignature, IsKnownAlgorithm, signature_bytes, legacy_algorithm, prehashed_algorithm}
 use Rattle.minisign.specs.Texts.{IsBase64Of, IsReading, base64_of, base64_bytes, is_base64, map_ok, untrusted_comment_label}
-use Rattle.minisign.specs.SignatureText.{AreOneLine, AreReadBack, EncodesSignature, SignatureText, SignatureTextRecord, box_of, comments_read_back, is_known_algorithm, read_signature, read_signature_box, signature_in_four, signature_in_lines, signature_of_bytes, signature_text, trusted_comment_label}
+use Rattle.minisign.specs.SignatureText.{AreOneLine, AreReadBack, EncodesSignature, SignatureText, SignatureTextRecord, box_of, comments_read_back, is_known_algorithm, read_signature, read_signature_box, signature_in_four, signature_in_lines, signature_text, trusted_comment_label}
 use Rattle.minisign.proofs.Base64Texts.{bytes_read, is_read, reads}
 use Rattle.base64.specs.GeneralPurpose.{IsBytes}
 use Rattle.base64.proofs.EngineFacts.{front_bytes}
@@ -31,26 +31,10 @@ begins line label rest = (starts_is Decides-eqb line label (starts_with eqb line
 begins_with : (line label : List ℕ) → starts_with eqb line label ≡ true → line ≡ label ++ drop (length label) line
 begins_with line label = (starts_is Decides-eqb line label (starts_with eqb line label) refl).0
 
-not_true : (b : Bool) → (b ≡ true → ⊥) → b ≡ false
-not_true true h = absurd (h refl)
-not_true false h = refl
-
 pub begins_not : (line label : List ℕ) → ((rest : List ℕ) → line ≢ label ++ rest) → starts_with eqb line label ≡ false
-begins_not line label h = not_true _ (λ t. h _ (begins_with line label t))
+begins_not line label h = false_from_ne_true _ (λ t. h _ (begins_with line label t))
 
 -- the algorithms that are known
-or_left : (a b : Bool) → a ≡ true → a || b ≡ true
-or_left true b h = refl
-or_left false b h = cc h
-
-or_right : (a b : Bool) → b ≡ true → a || b ≡ true
-or_right true b h = refl
-or_right false b h = h
-
-or_cases : (a b : Bool) → a || b ≡ true → (a ≡ true) ⊎ (b ≡ true)
-or_cases true b h = inl refl
-or_cases false b h = inr h
-
 pub known : (a : List ℕ) → IsKnownAlgorithm a → is_known_algorithm a ≡ true
 known a (inl e) = or_left _ _ ((bytes_eq-Decides a legacy_algorithm).1 e)
 known a (inr e) = or_right _ _ ((bytes_eq-Decides a prehashed_algorithm).1 e)
@@ -70,6 +54,10 @@ encodes_tests text s h =
       le-leb 74 _ (subst (λ (b : List ℕ). 74 ≤ length b) (sym same) (stored_length h.bytes s h.reads)),
       ap (take 2) same ∙ stored_algorithm h.bytes s h.reads,
     )
+
+-- the signature in the first 74 bytes
+abbrev signature_of_bytes : List ℕ → SignatureRecord
+signature_of_bytes bytes = record { algorithm = take 2 bytes; keynum = take 8 (drop 2 bytes); signature = take 64 (drop 8 (drop 2 bytes)) }
 
 -- bytes that are many enough begin with a signature
 signature_in_front : (bytes : List ℕ) → 74 ≤ length bytes → ReadsSignature bytes (signature_of_bytes bytes)

@@ -12,6 +12,7 @@ use Rattle.minisign.specs.Acceptance.{Verifier, accepts_comments}
 use Rattle.minisign.specs.Reading.{ReadsWhole}
 use Rattle.minisign.specs.Sealing.{is_encrypted}
 use Rattle.minisign.specs.Signing.{Signer, ChosenComments, IsSigned, RefusesSigned, signed_box, VouchesWhereGenuine}
+use Rattle.minisign.proofs.Verdicts.{vouches_judged}
 
 -- a box of these parts
 abbrev pub box_of : List ℕ → List ℕ → ChosenComments → List ℕ → SignatureBoxRecord
@@ -44,12 +45,12 @@ genuine_box accepts sign public_of own sk message chosen first second keynum sig
     same_keynum same_signature same_global digest_bytes signed_bytes first_random second_random long seed genuine pk legacy key identifier =
     let digest_accepted = own seed (blake2b_digest 64 message) (Some first) genuine.seed_bytes genuine.seed_length digest_bytes first_random in
     let comment_accepted = own seed (signature ++ chosen.trusted) (Some second) genuine.seed_bytes genuine.seed_length signed_bytes second_random in
-    record {
+    vouches_judged accepts pk (box_of keynum signature chosen global) message legacy (record {
       same_key = same_keynum ∙ sym identifier;
       allowed = inl refl;
       signed = rw (key, same_signature, genuine.secret) digest_accepted;
       comment_signed = record { long_enough = omega (arith, long); signed = rw (take_all 64 global (omega (arith, long)), key, same_global, genuine.secret) comment_accepted };
-    }
+    })
 
 -- a public key that is given and refuses the box that was made is the reason
 pub refused_by_given : {R Z : Type 0} (accepts : Verifier) (sign : Signer) (pk : Option PublicKeyRecord) (sk : SecretKeyRecord) (message : List ℕ)

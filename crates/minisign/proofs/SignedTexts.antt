@@ -1,10 +1,10 @@
 -- The text of a box that signing made: it is written, and read back as a box that vouches for the same.
-use Rattle.std.proofs.Common.{◌≡◌, ℕ, Bool, List, Option, Some, Result, Ok, Err, IfOk, IfSome, MatchOption, MatchResult, sym, subst}
+use Rattle.std.proofs.Common.{◌≡◌, ℕ, List, Option, Some, Result, Ok, Err, IfOk, IfSome, MatchOption, MatchResult, sym, subst}
 use Rattle.minisign_base.specs.Fault.{Fault, Named}
 use Rattle.minisign_base.specs.declared.faults.NamedFault.TheVariants.{OutOfMemory, SignatureBoxIncomplete}
-use Rattle.minisign.specs.Records.{CommentsRecord, PublicKeyRecord, SignatureBoxRecord}
+use Rattle.minisign.specs.Records.{CommentsRecord, SignatureBoxRecord}
 use Rattle.minisign.specs.SignatureText.{AreOneLine, box_read_back, read_signature_box, signature_text}
-use Rattle.minisign.specs.Acceptance.{Verifier, Vouches, VouchesUnderEachKey}
+use Rattle.minisign.specs.Acceptance.{Verifier, VouchesUnderEachKey, judge}
 use Rattle.minisign.specs.Signing.{ChosenComments}
 
 -- the chosen comments and a comment signature
@@ -24,19 +24,9 @@ written_text bytes (Ok t) x chosen global both written back = (
 )
 
 -- the untrusted comment does not matter for what a box vouches for
-same_vouched : (accepts : Verifier) (pk : PublicKeyRecord) (x : SignatureBoxRecord) (c : CommentsRecord) (message : List ℕ) (legacy : Bool)
-    → Vouches accepts pk (record x { comments = Some c }) message legacy → Vouches accepts pk (box_read_back (record x { comments = Some c })) message legacy
-same_vouched accepts pk x c message legacy h = record {
-  same_key = h.same_key;
-  allowed = h.allowed;
-  signed = h.signed;
-  comment_signed = record { long_enough = h.comment_signed.long_enough; signed = h.comment_signed.signed };
-}
-
 pub vouched_back : (accepts : Verifier) (key keynum message : List ℕ) (x : SignatureBoxRecord) (chosen : ChosenComments) (global : List ℕ)
     → x.comments ≡ Some (with_signature chosen global)
     → VouchesUnderEachKey accepts key keynum message x → VouchesUnderEachKey accepts key keynum message (box_read_back x)
 vouched_back accepts key keynum message x chosen global both h = λ pk legacy same_key same_keynum.
-    subst (λ (o : Option CommentsRecord). Vouches accepts pk (box_read_back (record x { comments = o })) message legacy) (sym both)
-    (same_vouched accepts pk x (with_signature chosen global) message legacy
-    (subst (λ (o : Option CommentsRecord). Vouches accepts pk (record x { comments = o }) message legacy) both (h pk legacy same_key same_keynum)))
+    subst (λ (o : Option CommentsRecord). judge accepts pk (box_read_back (record x { comments = o })) message legacy ≡ Ok tt) (sym both)
+    (subst (λ (o : Option CommentsRecord). judge accepts pk (record x { comments = o }) message legacy ≡ Ok tt) both (h pk legacy same_key same_keynum))

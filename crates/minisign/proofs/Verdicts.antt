@@ -1,31 +1,25 @@
 -- The judge and the verdict are functions, and acceptance a record of conditions: they agree.
-use Rattle.std.proofs.Common.{◌≡◌, ◌↔◌, ◌⊎◌, ◌||◌, ◌&&◌, ℕ, ◌≤◌, Bool, true, false, List, length, take, ◌++◌, refl, sym, ap, subst, ◌∙◌, inl, inr, ⊎_elim, Option, None, Some, IfSome, bytes_eq}
+use Rattle.std.proofs.Common.{◌≡◌, ◌↔◌, ◌||◌, ℕ, Bool, true, false, List, length, refl, sym, ap, subst, ◌∙◌, inl, inr, ⊎_elim, [], Option, None, Some, IfOk, IfSome, MatchOption, MatchResult, bytes_eq}
 use Rattle.std.specs.Prelude.{⊤}
 use Rattle.std.specs.Option.{option_map_or}
 use Rattle.std.specs.declared.result.Result.{Result}
 use Rattle.std.specs.declared.result.Result.TheVariants.{Ok, Err}
-use Rattle.std.proofs.lemmas.Bool.{le-leb, leb-true, true≢false}
+use Rattle.std.proofs.lemmas.Bool.{and_parts, le-leb, leb-true, or_cases, or_left, or_right}
 use Rattle.std.proofs.lemmas.Slice.Eq.{bytes_eq-Decides}
 use Rattle.minisign_base.specs.Fault.{Fault, Named}
 use Rattle.minisign_base.specs.declared.faults.NamedFault.{NamedFault}
-use Rattle.minisign_base.specs.declared.faults.NamedFault.TheVariants.{OutOfMemory}
-use Rattle.minisign.specs.Acceptance.{CommentIsSigned, Verifier, Vouches, accepts_comment, accepts_comments, judge, judge_answers, judge_signed}
-use Rattle.minisign.specs.Calls.{IsCommentOf, TextsVouchWith}
+use Rattle.minisign_base.specs.declared.faults.NamedFault.TheVariants.{OutOfMemory, TrustedCommentAbsent}
+use Rattle.minisign.specs.Acceptance.{CommentIsSigned, Verifier, Vouches, accepts_comment, accepts_comments, judge, judge_answers, judge_key, signed_bytes}
+use Rattle.minisign.specs.Calls.{TextsVouchWith}
 use Rattle.minisign.specs.Headline.{TextsVouchFor, verdict}
 use Rattle.minisign.specs.PublicKeyText.{read_public_key}
 use Rattle.minisign.specs.Records.{CommentsRecord, PublicKeyRecord, SignatureBoxRecord, SignatureRecord, is_prehashed, prehashed_algorithm}
 use Rattle.minisign.specs.SignatureText.{SignatureTextRecord, box_of, read_signature, read_signature_box}
-use Rattle.minisign.specs.SignedData.{AreSigned}
 use Rattle.minisign.specs.Texts.{IsReadOrNoMemory, IsReading, and_then, map_ok, require}
-use Rattle.minisign.specs.VerifyingTexts.{ReadTexts, TextsFail}
-use Rattle.minisign.proofs.ReadTexts.{is_reading, one_value, passed}
+use Rattle.minisign.specs.VerifyingTexts.{read_texts}
+use Rattle.minisign.proofs.ReadTexts.{is_reading, passed, read_before, read_value}
 
 -- == What is read one after the other ==
-
-then_of : {V W : Type 0} (r : Result V Fault) (more : V → Result W Fault) (w : W) → and_then r more ≡ Ok w
-    → (v : V) × (r ≡ Ok v) × (more v ≡ Ok w)
-then_of (Ok v) more w h = (v, refl, h)
-then_of (Err e) more w h = cc h
 
 pub mapped_of : {V W : Type 0} (f : V → W) (r : Result V Fault) (w : W) → map_ok f r ≡ Ok w → (v : V) × (r ≡ Ok v) × (f v ≡ w)
 mapped_of f (Ok v) w h = (v, refl, cc h)
@@ -37,30 +31,21 @@ unmapped f (Err d) e h = cc h
 
 -- == The judge ==
 
-or_true : (a b : Bool) → (a || b) ≡ true → (a ≡ true) ⊎ (b ≡ true)
-or_true true b h = inl refl
-or_true false b h = inr h
-
-and_true : (a b : Bool) → (a && b) ≡ true → (a ≡ true) × (b ≡ true)
-and_true true b h = (refl, h)
-and_true false b h = absurd (true≢false (sym h))
-
-true_or : (a b : Bool) → (a ≡ true) ⊎ (b ≡ true) → (a || b) ≡ true
-true_or true b h = refl
-true_or false b (inl wrong) = absurd (true≢false (sym wrong))
-true_or false b (inr right) = right
-
 comment_signed : (accepts : Verifier) (pk : PublicKeyRecord) (s : SignatureRecord) (c : Option CommentsRecord)
     → option_map_or (accepts_comment accepts pk s) c true ≡ true → IfSome c (CommentIsSigned accepts pk s)
 comment_signed accepts pk s None h = tt
 comment_signed accepts pk s (Some c) h =
-    let (long, signed) = and_true _ _ h in
+    let (long, signed) = and_parts _ _ h in
     record { long_enough = leb-true 64 (length c.signature) long; signed = signed }
 
 comment_accepted : (accepts : Verifier) (pk : PublicKeyRecord) (s : SignatureRecord) (c : Option CommentsRecord)
     → IfSome c (CommentIsSigned accepts pk s) → option_map_or (accepts_comment accepts pk s) c true ≡ true
 comment_accepted accepts pk s None h = refl
 comment_accepted accepts pk s (Some c) h = rw (le-leb 64 (length c.signature) h.long_enough) h.signed
+
+-- these bytes are those that the signature is over, where such a signature is allowed
+abbrev pub AreSigned : List ℕ → SignatureBoxRecord → Bool → List ℕ → Type 0
+AreSigned bytes x legacy message = (is_prehashed x.signature || legacy) ≡ true → bytes ≡ signed_bytes x message
 
 -- what comes behind two tests matters only where both hold
 judged_alike : (same allowed : Bool) (other unallowed : NamedFault) (a b : Result ⊤ Fault) → (allowed ≡ true → a ≡ b)
@@ -72,14 +57,14 @@ judged_alike false allowed other unallowed a b equal = refl
 module _ (accepts : Verifier) (pk : PublicKeyRecord) (x : SignatureBoxRecord) (message : List ℕ) (legacy : Bool) where
   pub judged_vouches : (u : ⊤) → judge accepts pk x message legacy ≡ Ok u → Vouches accepts pk x message legacy
   judged_vouches u h =
-      let (v, keys, answers) = then_of _ _ u h in
+      let (v, keys, answers) = read_before _ _ u h in
       let (same, more) = passed _ _ _ _ keys in
       let (allowed, rest) = passed _ _ _ _ more in
       let (signed, others) = passed _ _ _ _ answers in
       let (comments, end) = passed _ _ _ _ others in
       record {
         same_key = (bytes_eq-Decides x.signature.keynum pk.keynum).0 same;
-        allowed = ⊎_elim (λ hashed. inl ((bytes_eq-Decides x.signature.algorithm prehashed_algorithm).0 hashed)) inr (or_true _ _ allowed);
+        allowed = ⊎_elim (λ hashed. inl ((bytes_eq-Decides x.signature.algorithm prehashed_algorithm).0 hashed)) inr (or_cases _ _ allowed);
         signed = signed;
         comment_signed = comment_signed accepts pk x.signature x.comments comments;
       }
@@ -87,8 +72,8 @@ module _ (accepts : Verifier) (pk : PublicKeyRecord) (x : SignatureBoxRecord) (m
   pub vouches_judged : Vouches accepts pk x message legacy → judge accepts pk x message legacy ≡ Ok tt
   vouches_judged v =
       let same = (bytes_eq-Decides x.signature.keynum pk.keynum).1 v.same_key in
-      let allowed = true_or (is_prehashed x.signature) legacy
-      (⊎_elim (λ hashed. inl ((bytes_eq-Decides x.signature.algorithm prehashed_algorithm).1 hashed)) inr v.allowed) in
+      let allowed : (is_prehashed x.signature || legacy) ≡ true =
+      ⊎_elim (λ hashed. or_left _ legacy ((bytes_eq-Decides x.signature.algorithm prehashed_algorithm).1 hashed)) (or_right (is_prehashed x.signature) legacy) v.allowed in
       let comments = comment_accepted accepts pk x.signature x.comments v.comment_signed in
       rw (same, allowed, v.signed, comments) refl
 
@@ -97,15 +82,52 @@ module _ (accepts : Verifier) (pk : PublicKeyRecord) (x : SignatureBoxRecord) (m
 
   -- what was judged, memory aside
   pub judged_or_not : (u : ⊤) → IsReadOrNoMemory (Ok u) (judge accepts pk x message legacy) → Vouches accepts pk x message legacy
-  judged_or_not u (inl is) = judged_vouches u (sym is)
-  judged_or_not u (inr wrong) = cc wrong
+  judged_or_not u judged = judged_vouches u (read_value u _ judged)
 
   -- bytes that a signature is over where one is allowed are judged as the message
   pub judged_held : (bytes : List ℕ) → AreSigned bytes x legacy message → (r : Result ⊤ Fault)
-      → IsReadOrNoMemory r (judge_signed accepts pk x bytes legacy) → IsReadOrNoMemory r (judge accepts pk x message legacy)
+      → IsReadOrNoMemory r (and_then (judge_key pk x.signature legacy) (λ _. judge_answers (accepts bytes pk.key x.signature.signature) (accepts_comments accepts pk x)))
+      → IsReadOrNoMemory r (judge accepts pk x message legacy)
   judged_held bytes held r =
       subst (IsReadOrNoMemory r) (judged_alike (bytes_eq x.signature.keynum pk.keynum) (is_prehashed x.signature || legacy) _ _ _ _
       (λ allowed. ap (λ (b : List ℕ). judge_answers (accepts b pk.key x.signature.signature) (accepts_comments accepts pk x)) (held allowed)))
+
+-- a refusal, where less is told of the value
+pub kept_refusal : {V W : Type 0} (f : V → W) (e : Fault) (r : Result V Fault) → IsReadOrNoMemory (Err e) r → IsReadOrNoMemory (Err e) (map_ok f r)
+kept_refusal f e r (inl is) = inl (ap (map_ok f) is)
+kept_refusal f e r (inr memory) = inr (cc memory)
+
+-- == What two texts read as ==
+
+read_both : (pk_text sig_text : List ℕ) (key : PublicKeyRecord) (box : SignatureBoxRecord) → read_public_key pk_text ≡ Ok key → read_signature_box sig_text ≡ Ok box
+    → read_texts pk_text sig_text ≡ Ok (key, box)
+read_both pk_text sig_text key box key_read box_read =
+    ap (λ (k : Result PublicKeyRecord Fault). and_then k (λ key. map_ok (λ (x : SignatureBoxRecord). (key, x)) (read_signature_box sig_text))) key_read
+    ∙ ap (map_ok (λ (x : SignatureBoxRecord). (key, x))) box_read
+
+pub both_read : (pk_text sig_text : List ℕ) (key : PublicKeyRecord) (box : SignatureBoxRecord) → read_texts pk_text sig_text ≡ Ok (key, box)
+    → (read_public_key pk_text ≡ Ok key) × (read_signature_box sig_text ≡ Ok box)
+both_read pk_text sig_text key box read =
+    let (k, key_read, more) = read_before _ _ (key, box) read in
+    let (x, box_read, same) = mapped_of (λ (x : SignatureBoxRecord). (k, x)) (read_signature_box sig_text) (key, box) more in
+    (key_read ∙ ap (λ (both : PublicKeyRecord × SignatureBoxRecord). Ok both.0) same, box_read ∙ ap (λ (both : PublicKeyRecord × SignatureBoxRecord). Ok both.1) same)
+
+-- the trusted comment of a text, and of a box
+abbrev pub trusted_of : SignatureTextRecord → List ℕ
+trusted_of t = t.comments.trusted
+
+abbrev comment_of : SignatureBoxRecord → List ℕ
+comment_of x = option_map_or (λ c. c.trusted) x.comments []
+
+-- the comment of the box that the texts read as
+pub told_comment : {T : Type 0} (bytes : T → List ℕ) (pk_text sig_text : List ℕ) (key : PublicKeyRecord) (box : SignatureBoxRecord) → read_texts pk_text sig_text ≡ Ok (key, box)
+    → (r : Result T Fault)
+    → MatchOption box.comments (r ≡ Err (Named TrustedCommentAbsent)) (λ c. MatchResult r (λ t. bytes t ≡ c.trusted) (λ e. e ≡ Named OutOfMemory))
+    → IfOk r (λ t. map_ok trusted_of (read_signature sig_text) ≡ Ok (bytes t))
+told_comment bytes pk_text sig_text key box read (Ok t) told =
+    let (s, signature_read, same) = mapped_of box_of (read_signature sig_text) box (both_read pk_text sig_text key box read).1 in
+    rw signature_read (ap Ok (sym (subst (λ (x : SignatureBoxRecord). MatchOption x.comments (Ok t ≡ Err (Named TrustedCommentAbsent)) (λ c. bytes t ≡ c.trusted)) (sym same) told)))
+told_comment bytes pk_text sig_text key box read (Err e) told = tt
 
 -- == The verdict ==
 
@@ -125,36 +147,62 @@ module _ (accepts : Verifier) (pk_text sig_text message : List ℕ) (legacy : Bo
   unfolding verdict
   signature_refused key e read refused = rw (read, refused) refl
 
-  -- what is left of the verdict where both texts are read, as a box
-  pub judged_verdict : (key : PublicKeyRecord) (box : SignatureBoxRecord) → ReadTexts pk_text sig_text key box
-      → (c : CommentsRecord) × (box.comments ≡ Some c)
-      × (verdict accepts pk_text sig_text message legacy ≡ and_then (judge accepts key box message legacy) (λ _. Ok c.trusted))
-  judged_verdict key box read =
-      let (t, signature_read, same) = mapped_of box_of (read_signature sig_text) box read.box_read in (
-        t.comments,
-        ap (λ x. x.comments) (sym same),
-        read_verdict key t read.key_read signature_read (judge accepts key box message legacy) (ap (λ x. judge accepts key x message legacy) (sym same)),
-      )
+  -- what is left of it where both are read, as a key and a box
+  abbrev left : PublicKeyRecord × SignatureBoxRecord → Result (List ℕ) Fault
+  left both = and_then (judge accepts both.0 both.1 message legacy) (λ _. Ok (comment_of both.1))
+
+  in_parts : (k : Result PublicKeyRecord Fault) (s : Result SignatureTextRecord Fault)
+      → and_then k (λ key. and_then s (λ t. and_then (judge accepts key (box_of t) message legacy) (λ _. Ok t.comments.trusted)))
+      ≡ and_then (and_then k (λ key. map_ok (λ box. (key, box)) (map_ok box_of s))) left
+  in_parts (Ok key) (Ok t) = refl
+  in_parts (Ok key) (Err e) = refl
+  in_parts (Err e) s = refl
+
+  -- so it is a function of what both read as
+  of_texts : (r : Result (PublicKeyRecord × SignatureBoxRecord) Fault) → read_texts pk_text sig_text ≡ r → verdict accepts pk_text sig_text message legacy ≡ and_then r left
+  unfolding verdict
+  of_texts r read = in_parts (read_public_key pk_text) (read_signature sig_text) ∙ ap (λ r. and_then r left) read
 
   -- a text is refused, or memory ran out for one
-  pub text_refused : (e : Fault) → TextsFail pk_text sig_text e → (e ≡ Named OutOfMemory) ⊎ (verdict accepts pk_text sig_text message legacy ≡ Err e)
-  text_refused e (inl memory) = inl memory
-  text_refused e (inr (inl refused)) = inr (key_refused e refused)
-  text_refused e (inr (inr ((key, read), refused))) = inr (signature_refused key e read refused)
+  pub text_refused : (e : Fault) → IsReadOrNoMemory (Err e) (read_texts pk_text sig_text) → IsReadOrNoMemory (Err e) (verdict accepts pk_text sig_text message legacy)
+  text_refused e (inl refused) = inl (sym (of_texts (Err e) (sym refused)))
+  text_refused e (inr memory) = inr (cc memory)
 
-  -- the box that the texts read as is refused
-  pub box_refused : (key : PublicKeyRecord) (box : SignatureBoxRecord) (e : Fault) → ReadTexts pk_text sig_text key box
-      → judge accepts key box message legacy ≡ Err e → verdict accepts pk_text sig_text message legacy ≡ Err e
-  box_refused key box e read refused =
-      let (c, both, is) = judged_verdict key box read in
-      is ∙ ap (λ r. and_then r (λ _. Ok c.trusted)) refused
+  module _ (key : PublicKeyRecord) (box : SignatureBoxRecord) (read : read_texts pk_text sig_text ≡ Ok (key, box)) where
+    -- the box that the texts read as is judged
+    pub judged_verdict : (r : Result ⊤ Fault) → judge accepts key box message legacy ≡ r → verdict accepts pk_text sig_text message legacy ≡ and_then r (λ _. Ok (comment_of box))
+    judged_verdict r judged = of_texts (Ok (key, box)) read ∙ ap (λ r. and_then r (λ _. Ok (comment_of box))) judged
+
+    untold : (r : Result ⊤ Fault) → map_ok (λ _. tt) (and_then r (λ _. Ok (comment_of box))) ≡ r
+    untold (Ok u) = refl
+    untold (Err e) = refl
+
+    pub told_nothing : (r : Result ⊤ Fault) → IsReadOrNoMemory r (judge accepts key box message legacy) → IsReadOrNoMemory r (map_ok (λ _. tt) (verdict accepts pk_text sig_text message legacy))
+    told_nothing r (inl judged) = inl (sym (ap (map_ok (λ _. tt)) (judged_verdict r (sym judged)) ∙ untold r))
+    told_nothing r (inr memory) = inr memory
+
+    pub told_success : (comment : List ℕ) → map_ok trusted_of (read_signature sig_text) ≡ Ok comment → (u : ⊤)
+        → IsReadOrNoMemory (Ok u) (judge accepts key box message legacy) → IsReadOrNoMemory (Ok comment) (verdict accepts pk_text sig_text message legacy)
+    told_success comment said u judged =
+        let (t, signature_read, same) = mapped_of box_of (read_signature sig_text) box (both_read pk_text sig_text key box read).1 in
+        let told : t.comments.trusted ≡ comment = let is = sym (ap (map_ok trusted_of) signature_read) ∙ said in cc is in
+        inl (sym (judged_verdict (Ok u) (read_value u _ judged) ∙ ap Ok (ap comment_of (sym same) ∙ told)))
+
+    pub told_refusal : (e : Fault) → IsReadOrNoMemory {V = ⊤} (Err e) (judge accepts key box message legacy) → IsReadOrNoMemory (Err e) (verdict accepts pk_text sig_text message legacy)
+    told_refusal e (inl judged) = inl (sym (judged_verdict (Err e) (sym judged)))
+    told_refusal e (inr memory) = inr (cc memory)
+
+  -- the comment that is vouched for
+  pub vouching_verdict : (v : TextsVouchFor accepts pk_text sig_text message legacy) → verdict accepts pk_text sig_text message legacy ≡ Ok (comment_of v.box)
+  vouching_verdict v =
+      judged_verdict v.key v.box (read_both pk_text sig_text v.key v.box v.key_read v.box_read) (Ok tt) (vouches_judged accepts v.key v.box message legacy v.vouches)
 
   pub vouched : (comment : List ℕ) → verdict accepts pk_text sig_text message legacy ≡ Ok comment → TextsVouchWith accepts pk_text sig_text message legacy comment
   unfolding verdict
   vouched comment h =
-      let (key, key_read, more) = then_of _ _ comment h in
-      let (signed, signed_read, rest) = then_of _ _ comment more in
-      let (u, judged, said) = then_of _ _ comment rest in
+      let (key, key_read, more) = read_before _ _ comment h in
+      let (signed, signed_read, rest) = read_before _ _ comment more in
+      let (u, judged, said) = read_before _ _ comment rest in
       record {
         vouched = record {
           key = key;
@@ -169,48 +217,20 @@ module _ (accepts : Verifier) (pk_text sig_text message : List ℕ) (legacy : Bo
       }
 
   pub vouched_verdict : (comment : List ℕ) → TextsVouchWith accepts pk_text sig_text message legacy comment → verdict accepts pk_text sig_text message legacy ≡ Ok comment
-  vouched_verdict comment v =
-      let (c, both, is) = judged_verdict v.vouched.key v.vouched.box (record { key_read = v.vouched.key_read; box_read = v.vouched.box_read }) in
-      let same : c ≡ v.comments = let both_are = sym both ∙ v.both in cc both_are in
-      is ∙ ap (λ r. and_then r (λ _. Ok c.trusted)) (vouches_judged accepts v.vouched.key v.vouched.box message legacy v.vouched.vouches)
-      ∙ ap Ok (ap (λ k. k.trusted) same ∙ v.trusted)
+  vouched_verdict comment v = vouching_verdict v.vouched ∙ ap Ok (ap (λ (c : Option CommentsRecord). option_map_or (λ c. c.trusted) c []) v.both ∙ v.trusted)
 
   pub verdict_decided : IsReading (TextsVouchWith accepts pk_text sig_text message legacy) (verdict accepts pk_text sig_text message legacy)
   verdict_decided =
       is_reading (TextsVouchWith accepts pk_text sig_text message legacy) (verdict accepts pk_text sig_text message legacy) (λ comment. (vouched comment, vouched_verdict comment))
 
-  -- what is judged, as the verdict that tells no comment
-  untold : (judged : Result ⊤ Fault) (comment : List ℕ) → judged ≡ map_ok (λ _. tt) (and_then judged (λ _. Ok comment))
-  untold (Ok u) comment = refl
-  untold (Err e) comment = refl
-
-  pub told_nothing : (key : PublicKeyRecord) (box : SignatureBoxRecord) → ReadTexts pk_text sig_text key box → (r : Result ⊤ Fault)
-      → IsReadOrNoMemory r (judge accepts key box message legacy) → IsReadOrNoMemory r (map_ok (λ _. tt) (verdict accepts pk_text sig_text message legacy))
-  told_nothing key box read r =
-      let (c, both, is) = judged_verdict key box read in
-      subst (IsReadOrNoMemory r) (untold (judge accepts key box message legacy) c.trusted ∙ ap (map_ok (λ _. tt)) (sym is))
-
-  -- a text is refused, as an answer
-  pub refused_at_texts : {V : Type 0} (f : List ℕ → V) (e : Fault) → TextsFail pk_text sig_text e
-      → IsReadOrNoMemory (Err e) (map_ok f (verdict accepts pk_text sig_text message legacy))
-  refused_at_texts f e fails =
-      ⊎_elim (λ memory. inr (ap Err memory)) (λ is. inl (sym (ap (map_ok f) is))) (text_refused e fails)
-
-  pub plainly_refused_at_texts : (e : Fault) → TextsFail pk_text sig_text e → IsReadOrNoMemory (Err e) (verdict accepts pk_text sig_text message legacy)
-  plainly_refused_at_texts e fails = ⊎_elim (λ memory. inr (ap Err memory)) (λ is. inl (sym is)) (text_refused e fails)
-
-  -- the comment that is returned, or what was judged
-  pub told_comment : (key : PublicKeyRecord) (box : SignatureBoxRecord) → ReadTexts pk_text sig_text key box → (comment : List ℕ) → IsCommentOf sig_text comment
-      → (u : ⊤) → IsReadOrNoMemory (Ok u) (judge accepts key box message legacy) → IsReadOrNoMemory (Ok comment) (verdict accepts pk_text sig_text message legacy)
-  told_comment key box read comment said u judged =
-      inl (sym (vouched_verdict comment (record {
-        vouched = record { key = key; box = box; key_read = read.key_read; box_read = read.box_read; vouches = judged_or_not accepts key box message legacy u judged };
-        comments = said.comments;
-        both = ap (λ x. x.comments) (one_value (read_signature_box sig_text) box said.box read.box_read said.box_read) ∙ said.both;
-        trusted = said.trusted;
-      })))
-
-  pub told_refusal : (key : PublicKeyRecord) (box : SignatureBoxRecord) → ReadTexts pk_text sig_text key box → (e : Fault)
-      → IsReadOrNoMemory {V = ⊤} (Err e) (judge accepts key box message legacy) → IsReadOrNoMemory (Err e) (verdict accepts pk_text sig_text message legacy)
-  told_refusal key box read e (inl is) = inl (sym (box_refused key box e read (sym is)))
-  told_refusal key box read e (inr memory) = let same : e ≡ Named OutOfMemory = cc memory in inr (ap Err same)
+  -- the comment of the text is the one that was signed, where the texts vouch for the message
+  pub signed_comment : (comment : List ℕ) → TextsVouchFor accepts pk_text sig_text message legacy → map_ok trusted_of (read_signature sig_text) ≡ Ok comment
+      → TextsVouchWith accepts pk_text sig_text message legacy comment
+  signed_comment comment v said =
+      let (t, signature_read, same) = mapped_of box_of (read_signature sig_text) v.box v.box_read in
+      record {
+        vouched = v;
+        comments = t.comments;
+        both = ap (λ x. x.comments) (sym same);
+        trusted = let told = sym (ap (map_ok trusted_of) signature_read) ∙ said in cc told;
+      }

@@ -1,12 +1,14 @@
 -- What follows for verifying where its stages do not use the status, or the output: they end alike beside any other sink.
 use Rattle.std.proofs.Common.{ℕ, Bool, true, false, List, [], ◌∷◌, ◌++◌, Result, Ok, Err, ap, inl, inr, refl}
 use Rattle.std.specs.Prelude.{⊤}
+use Rattle.std.specs.List.{AllByRecursion}
 use Rattle.minisign_base.specs.Fault.{Fault}
+use Rattle.minisign_base.specs.Steps.{StepsEnd}
 use Rattle.minisign_base.specs.Members.{SinkOf}
 use Rattle.minisign_base.specs.DeviceCalls.{RereaderCall, SinkCall, sink_call, unused}
 use Rattle.minisign.specs.Acceptance.{Verifier, status_lines}
 use Rattle.minisign.specs.Records.{PublicKeyRecord, SignatureBoxRecord, is_prehashed}
-use Rattle.minisign.specs.Stages.{Compare, Copy, Flush, Judge, Mark, Put, Read, Report, Return, Stage, StageEnds, StagesEnd, copying_stages, is_reread, reading_stages, reporting_stages}
+use Rattle.minisign.specs.Stages.{Compare, Copy, Devices, Flush, Judge, Mark, Put, Read, Report, Return, Stage, StageEnds, StagesEnd, copying_stages, is_reread, reading_stages, reporting_stages}
 use Rattle.minisign.specs.Verifying.{VerifyingFails}
 
 -- the stages do not use the status
@@ -15,8 +17,7 @@ IsUnsaid (Report text) = ⊥
 IsUnsaid _ = ⊤
 
 abbrev pub UseNoStatus : List Stage → Type 0
-UseNoStatus [] = ⊤
-UseNoStatus (stage ∷ later) = IsUnsaid stage × UseNoStatus later
+UseNoStatus stages = AllByRecursion IsUnsaid stages
 
 -- the stages do not use the output
 abbrev IsUncopied : Stage → Type 0
@@ -26,8 +27,34 @@ IsUncopied Flush = ⊥
 IsUncopied _ = ⊤
 
 abbrev pub UseNoOutput : List Stage → Type 0
-UseNoOutput [] = ⊤
-UseNoOutput (stage ∷ later) = IsUncopied stage × UseNoOutput later
+UseNoOutput stages = AllByRecursion IsUncopied stages
+
+-- steps that end so end so beside other devices, where each step does
+steps_beside : {Step D F E : Type 0} (Ends : Step → D → D → Result ⊤ E → Type 0) (Others : Step → F → F → Result ⊤ E → Type 0) (other : D → F) (Uses : Step → Type 0)
+    → ((step : Step) (old new : D) (answer : Result ⊤ E) → Uses step → Ends step old new answer → Others step (other old) (other new) answer)
+    → (steps : List Step) (old new : D) (answer : Result ⊤ E) → AllByRecursion Uses steps → StepsEnd Ends steps old new answer
+    → StepsEnd Others steps (other old) (other new) answer
+steps_beside Ends Others other Uses one [] old new (Ok _) u same = ap other same
+steps_beside Ends Others other Uses one [] old new (Err e) u h = absurd h
+steps_beside Ends Others other Uses one (step ∷ later) old new (Ok _) (u, us) (d, done, ran) =
+    (other d, one step old d (Ok tt) u done, steps_beside Ends Others other Uses one later d new (Ok tt) us ran)
+steps_beside Ends Others other Uses one (step ∷ later) old new (Err e) (u, us) (inl h) = inl (one step old new (Err e) u h)
+steps_beside Ends Others other Uses one (step ∷ later) old new (Err e) (u, us) (inr (d, done, h)) =
+    inr (other d, one step old d (Ok tt) u done, steps_beside Ends Others other Uses one later d new (Err e) us h)
+
+module _ {R W O : Type 0} (reader : RereaderCall R) (status : SinkCall W) (out : SinkCall O) where
+  -- how a stage ends between two states of the devices
+  abbrev pub OneEnds : Stage → Devices R W O → Devices R W O → Result ⊤ Fault → Type 0
+  OneEnds stage old new =
+      StageEnds (record reader { old = old.reader; new = new.reader }) (record status { old = old.status; new = new.status })
+      (record out { old = old.out; new = new.out }) stage
+
+  -- the devices at the begin and in the end
+  abbrev pub begun : Devices R W O
+  begun = record { reader = reader.old; status = status.old; out = out.old }
+
+  abbrev pub ended : Devices R W O
+  ended = record { reader = reader.new; status = status.new; out = out.new }
 
 module _ {R W O V : Type 0} (sink : SinkOf V) (v : V) where
   one_beside_status : (reader : RereaderCall R) (status : SinkCall W) (out : SinkCall O) (stage : Stage) (answer : Result ⊤ Fault) → IsUnsaid stage
@@ -42,22 +69,6 @@ module _ {R W O V : Type 0} (sink : SinkOf V) (v : V) where
   one_beside_status reader status out (Put bytes) answer u (h, r, s) = (h, r, refl)
   one_beside_status reader status out Flush answer u (h, r, s) = (h, r, refl)
 
-  pub beside_status : (reader : RereaderCall R) (status : SinkCall W) (out : SinkCall O) (stages : List Stage) (answer : Result ⊤ Fault)
-      → UseNoStatus stages → StagesEnd reader status out stages answer → StagesEnd reader (sink_call sink v v) out stages answer
-  beside_status reader status out [] (Ok _) u same = ap (λ d. record { reader = d.reader; status = v; out = d.out }) same
-  beside_status reader status out [] (Err e) u h = absurd h
-  beside_status reader status out (stage ∷ later) (Ok _) (u, us) (d, done, ran) = (
-    record { reader = d.reader; status = v; out = d.out },
-    one_beside_status (record reader { new = d.reader }) (record status { new = d.status }) (record out { new = d.out }) stage (Ok tt) u done,
-    beside_status (record reader { old = d.reader }) (record status { old = d.status }) (record out { old = d.out }) later (Ok tt) us ran,
-  )
-  beside_status reader status out (stage ∷ later) (Err e) (u, us) (inl h) = inl (one_beside_status reader status out stage (Err e) u h)
-  beside_status reader status out (stage ∷ later) (Err e) (u, us) (inr (d, done, h)) = inr (
-    record { reader = d.reader; status = v; out = d.out },
-    one_beside_status (record reader { new = d.reader }) (record status { new = d.status }) (record out { new = d.out }) stage (Ok tt) u done,
-    beside_status (record reader { old = d.reader }) (record status { old = d.status }) (record out { old = d.out }) later (Err e) us h,
-  )
-
   one_beside_output : (reader : RereaderCall R) (status : SinkCall W) (out : SinkCall O) (stage : Stage) (answer : Result ⊤ Fault) → IsUncopied stage
       → StageEnds reader status out stage answer → StageEnds reader status (sink_call sink v v) stage answer
   one_beside_output reader status out Mark answer u (h, s, o) = (h, s, refl)
@@ -70,21 +81,18 @@ module _ {R W O V : Type 0} (sink : SinkOf V) (v : V) where
   one_beside_output reader status out (Put bytes) answer u h = absurd u
   one_beside_output reader status out Flush answer u h = absurd u
 
-  pub beside_output : (reader : RereaderCall R) (status : SinkCall W) (out : SinkCall O) (stages : List Stage) (answer : Result ⊤ Fault)
-      → UseNoOutput stages → StagesEnd reader status out stages answer → StagesEnd reader status (sink_call sink v v) stages answer
-  beside_output reader status out [] (Ok _) u same = ap (λ d. record { reader = d.reader; status = d.status; out = v }) same
-  beside_output reader status out [] (Err e) u h = absurd h
-  beside_output reader status out (stage ∷ later) (Ok _) (u, us) (d, done, ran) = (
-    record { reader = d.reader; status = d.status; out = v },
-    one_beside_output (record reader { new = d.reader }) (record status { new = d.status }) (record out { new = d.out }) stage (Ok tt) u done,
-    beside_output (record reader { old = d.reader }) (record status { old = d.status }) (record out { old = d.out }) later (Ok tt) us ran,
-  )
-  beside_output reader status out (stage ∷ later) (Err e) (u, us) (inl h) = inl (one_beside_output reader status out stage (Err e) u h)
-  beside_output reader status out (stage ∷ later) (Err e) (u, us) (inr (d, done, h)) = inr (
-    record { reader = d.reader; status = d.status; out = v },
-    one_beside_output (record reader { new = d.reader }) (record status { new = d.status }) (record out { new = d.out }) stage (Ok tt) u done,
-    beside_output (record reader { old = d.reader }) (record status { old = d.status }) (record out { old = d.out }) later (Err e) us h,
-  )
+  module _ (reader : RereaderCall R) (status : SinkCall W) (out : SinkCall O) (stages : List Stage) (answer : Result ⊤ Fault) where
+    pub beside_status : UseNoStatus stages → StagesEnd reader status out stages answer → StagesEnd reader (sink_call sink v v) out stages answer
+    beside_status =
+        steps_beside (OneEnds reader status out) (OneEnds reader (sink_call sink v v) out) (λ d. record { reader = d.reader; status = v; out = d.out }) IsUnsaid
+        (λ stage old new. one_beside_status (record reader { old = old.reader; new = new.reader }) (record status { old = old.status; new = new.status }) (record out { old = old.out; new = new.out }) stage)
+        stages (begun reader status out) (ended reader status out) answer
+
+    pub beside_output : UseNoOutput stages → StagesEnd reader status out stages answer → StagesEnd reader status (sink_call sink v v) stages answer
+    beside_output =
+        steps_beside (OneEnds reader status out) (OneEnds reader status (sink_call sink v v)) (λ d. record { reader = d.reader; status = d.status; out = v }) IsUncopied
+        (λ stage old new. one_beside_output (record reader { old = old.reader; new = new.reader }) (record status { old = old.status; new = new.status }) (record out { old = old.out; new = new.out }) stage)
+        stages (begun reader status out) (ended reader status out) answer
 
 -- verifying that says something and copies nothing does not use the output
 pub fails_without_output : {R W O : Type 0} (accepts : Verifier) (pk : PublicKeyRecord) (x : SignatureBoxRecord) (legacy : Bool)

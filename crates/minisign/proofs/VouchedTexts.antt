@@ -5,17 +5,16 @@ use Rattle.std.specs.declared.option.Option.TheVariants.{Some}
 use Rattle.std.specs.declared.result.Result.{Result}
 use Rattle.std.specs.declared.result.Result.TheVariants.{Ok, Err}
 use Rattle.minisign_hash.specs.Blake2b.{blake2b_digest}
-use Rattle.minisign_base.specs.DeviceCalls.{IsSteady, RereaderCall, SinkFails, SinkCall, SourceFails}
+use Rattle.minisign_base.specs.DeviceCalls.{RereaderCall, SinkCall}
 use Rattle.minisign_base.specs.Fault.{Fault}
 use Rattle.minisign.specs.Records.{PublicKeyRecord, SignatureBoxRecord}
 use Rattle.minisign.specs.Acceptance.{Flags, Verifier, Vouches, judge}
 use Rattle.minisign.specs.Reading.{IsAhead}
-use Rattle.minisign.specs.Texts.{IsReadOrNoMemory}
 use Rattle.minisign.specs.Verifying.{VerifyingFails, VerifyingSucceeds}
-use Rattle.minisign.specs.VerifyingTexts.{ReadTexts, VerifyingTextsFails, VerifyingTextsSucceeds}
+use Rattle.minisign.specs.VerifyingTexts.{VerifyingTextsFails, VerifyingTextsSucceeds, read_texts}
 use Rattle.minisign.specs.Headline.{CopyIsVouchedFor, WhereNothingFails}
 use Rattle.minisign.proofs.Passes.{IsReason, why_it_fails}
-use Rattle.minisign.proofs.Verdicts.{vouches_judged}
+use Rattle.minisign.proofs.Verdicts.{both_read, vouches_judged}
 
 -- what the output took is vouched for by the texts
 pub copy_vouched : {R W O T : Type 0} (accepts : Verifier) (pk sig : List ℕ) (flags : Flags) (reader : RereaderCall R) (status : SinkCall W) (out : SinkCall O)
@@ -27,17 +26,17 @@ copy_vouched accepts pk sig flags reader status out (Ok v) h wanted =
       copy = copied.copy;
       taken = copied.all;
       flushed = copied.flushed;
-      vouched = record { key = h.key; box = h.box; key_read = h.read.key_read; box_read = h.read.box_read; vouches = copied.vouched };
+      vouched = record { key = h.key; box = h.box; key_read = h.key_read; box_read = h.box_read; vouches = copied.vouched };
     }
 copy_vouched accepts pk sig flags reader status out (Err e) h wanted = tt
 
 module _ {R W O : Type 0} (accepts : Verifier) (pk sig : List ℕ) (flags : Flags)
     (reader : RereaderCall R) (status : SinkCall W) (out : SinkCall O)
-    (key : PublicKeyRecord) (box : SignatureBoxRecord) (read : ReadTexts pk sig key box) where
+    (key : PublicKeyRecord) (box : SignatureBoxRecord) (read : read_texts pk sig ≡ Ok (key, box)) where
   -- verifying succeeds with what the texts read as
   pub succeeds_with : {T : Type 0} (r : Result T Fault) → OnOk r (VerifyingSucceeds accepts key box flags reader status out)
       → OnOk r (VerifyingTextsSucceeds accepts pk sig flags reader status out)
-  succeeds_with (Ok x) h = record { key = key; box = box; read = read; verified = h }
+  succeeds_with (Ok x) h = let (key_read, box_read) = both_read pk sig key box read in record { key = key; box = box; key_read = key_read; box_read = box_read; verified = h }
   succeeds_with (Err e) h = tt
 
   -- verifying fails with what the texts read as
@@ -52,7 +51,7 @@ module _ {R W O : Type 0} (accepts : Verifier) (key : PublicKeyRecord) (box : Si
   the_message m message told given = let same : message ≡ m = subst (λ o. IfSome o (λ xs. xs ≡ m)) told given in sym same
 
   refused_for : (e : Fault) → IsReason accepts key box flags.quiet flags.output flags.legacy reader status out e
-      → WhereNothingFails flags.output reader status out (λ message. IsReadOrNoMemory {V = ⊤} (Err e) (judge accepts key box message flags.legacy))
+      → WhereNothingFails {V = ⊤} flags.output reader status out (Err e) (λ message. judge accepts key box message flags.legacy)
   refused_for e (inl is) message told no_new_fault status_no_new_fault out_no_new_fault again = inr (ap Err is)
   refused_for e (inr (inl (wanted, rose))) message told no_new_fault status_no_new_fault out_no_new_fault again = absurd (no_new_fault rose)
   refused_for e (inr (inr (inl failed))) message told no_new_fault status_no_new_fault out_no_new_fault again = absurd (no_new_fault failed.rose)
@@ -67,7 +66,7 @@ module _ {R W O : Type 0} (accepts : Verifier) (key : PublicKeyRecord) (box : Si
   -- where nothing fails, the answer is the judge's
   pub judged_exactly : (r : Result ⊤ Fault) → OnOk r (VerifyingSucceeds accepts key box flags reader status out)
       → IfErr r (VerifyingFails accepts key box flags reader status out)
-      → WhereNothingFails flags.output reader status out (λ message. IsReadOrNoMemory r (judge accepts key box message flags.legacy))
+      → WhereNothingFails flags.output reader status out r (λ message. judge accepts key box message flags.legacy)
   judged_exactly (Ok u) ok err message told no_new_fault status_no_new_fault out_no_new_fault again =
       inl (sym (vouches_judged accepts key box message flags.legacy
       (subst (λ (t : List ℕ). Vouches accepts key box t flags.legacy) (the_message ok.message message told ok.given) ok.vouches)))
@@ -76,6 +75,6 @@ module _ {R W O : Type 0} (accepts : Verifier) (key : PublicKeyRecord) (box : Si
 
   -- the same where a refusal is passed up
   pub refused_exactly : (r : Result ⊤ Fault) (e : Fault) → IsErrAnd r (λ y. y ≡ e) → IfErr r (VerifyingFails accepts key box flags reader status out)
-      → WhereNothingFails flags.output reader status out (λ message. IsReadOrNoMemory r (judge accepts key box message flags.legacy))
+      → WhereNothingFails flags.output reader status out r (λ message. judge accepts key box message flags.legacy)
   refused_exactly (Ok u) e is err = absurd is
   refused_exactly (Err y) e is err = judged_exactly (Err y) tt err

@@ -2,7 +2,7 @@
 use Rattle.std.proofs.Common.{◌≡◌, ◌≢◌, ◌==◌, subst, ℕ, zero, suc, ◌+◌, ◌-◌, ◌<◌, ◌≤◌, Bool, true, false, ◌&&◌, List, [], ◌∷◌, ◌++◌, length, take, slice_index, refl, sym, ap, ◌∙◌, arith}
 use Rattle.std.proofs.Math.Dec.{eqb, leb}
 use Rattle.std.proofs.Math.Bool.{cond}
-use Rattle.std.proofs.lemmas.Bool.{cases_lt, ne_eqb, leb-true}
+use Rattle.std.proofs.lemmas.Bool.{and_parts, cases_lt, ne_eqb, leb-true}
 use Rattle.std.proofs.Math.Logic.{⊎_elim}
 use Rattle.std.proofs.Math.ListN.{get_or-append}
 use Rattle.std.proofs.Math.Seq.{get_or-append_right, take-append-add}
@@ -81,14 +81,10 @@ abbrev pub all_shown : List ℕ → Bool
 all_shown [] = true
 all_shown (c ∷ cs) = leb 32 c && all_shown cs
 
-both : (a b : Bool) → a && b ≡ true → (a ≡ true) × (b ≡ true)
-both true b h = (refl, h)
-both false b h = cc h
-
 pub shown_codes : (xs : List ℕ) → all_shown xs ≡ true → AllShown xs
 shown_codes [] h = tt
 shown_codes (x ∷ xs) h =
-    let (first, others) = both (leb 32 x) (all_shown xs) h in
+    let (first, others) = and_parts (leb 32 x) (all_shown xs) h in
     (leb-true 32 x first, shown_codes xs others)
 
 -- a line that begins with a label, and what stands behind it

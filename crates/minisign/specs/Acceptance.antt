@@ -1,12 +1,15 @@
 -- When a signature box vouches for data under a public key: as a record of conditions, and as a function that gives the
 -- first one that fails. And what is said where it does.
-use Rattle.std.specs.Prelude.{◌≡◌, ⊤, ℕ, ◌≤◌, Bool, true, IsTrue, ◌⊎◌, ◌||◌, ◌&&◌, if◌then◌else◌, nat_le, List, [], ◌++◌, length, take, Option, None, Some, IfSome, Result, Ok, codes, bytes_eq}
-use Rattle.std.specs.Option.{option_map_or}
+use Rattle.std.specs.Prelude.{◌≡◌, ⊤, ℕ, ◌≤◌, Bool, true, IsTrue, ◌⊎◌, ◌||◌, ◌&&◌, if◌then◌else◌, nat_le, List, []}
+use Rattle.std.specs.Prelude.{◌++◌, length, take, Option, None, Some, IfSome, Result, Ok, codes, bytes_eq}
+use Rattle.std.specs.Option.{option_map, option_map_or}
 use Rattle.minisign_hash.specs.Blake2b.{blake2b_digest}
 use Rattle.minisign_base.specs.Fault.{Fault}
-use Rattle.minisign_base.specs.declared.faults.NamedFault.TheVariants.{DifferentKeyIds, LegacyNotAccepted, SignatureRefused, CommentSignatureRefused}
+use Rattle.minisign_base.specs.declared.faults.NamedFault.TheVariants.{DifferentKeyIds, LegacyNotAccepted}
+use Rattle.minisign_base.specs.declared.faults.NamedFault.TheVariants.{SignatureRefused, CommentSignatureRefused}
 use Rattle.minisign.specs.Lines.{line}
-use Rattle.minisign.specs.Records.{PublicKeyRecord, SignatureRecord, CommentsRecord, SignatureBoxRecord, is_prehashed, prehashed_algorithm}
+use Rattle.minisign.specs.Records.{PublicKeyRecord, SignatureRecord, CommentsRecord, SignatureBoxRecord, is_prehashed}
+use Rattle.minisign.specs.Records.{prehashed_algorithm}
 use Rattle.minisign.specs.Texts.{and_then, require}
 
 -- what a scheme accepts: a message, a public key and a signature
@@ -19,28 +22,28 @@ pub record Flags : Type 0 where
   pub output : Bool
   pub legacy : Bool
 
+abbrev pub flags_of : Bool → Bool → Bool → Flags
+flags_of quiet output legacy = record { quiet = quiet; output = output; legacy = legacy }
+
 -- what the signature is over: the Blake2b digest of the message, which has 64 bytes, or the message itself
 abbrev pub signed_bytes : SignatureBoxRecord → List ℕ → List ℕ
 signed_bytes x message = if is_prehashed x.signature then blake2b_digest 64 message else message
 
 -- the comment signature has at least 64 bytes, and the first 64 are accepted for the signature
 -- followed by the trusted comment
-pub record CommentIsSigned (accepts : Verifier) (pk : PublicKeyRecord) (s : SignatureRecord) (c : CommentsRecord) : Type 0 where
+pub record CommentIsSigned (accepts : Verifier) (pk : PublicKeyRecord) (s : SignatureRecord)
+    (c : CommentsRecord) : Type 0 where
   pub long_enough : 64 ≤ length c.signature
   pub signed : IsTrue (accepts (s.signature ++ c.trusted) pk.key (take 64 c.signature))
 
 -- the box vouches for the message under the public key; legacy says whether a signature over the
 -- message itself will do
-pub record Vouches (accepts : Verifier) (pk : PublicKeyRecord) (x : SignatureBoxRecord) (message : List ℕ) (legacy : Bool) : Type 0 where
+pub record Vouches (accepts : Verifier) (pk : PublicKeyRecord) (x : SignatureBoxRecord) (message : List ℕ)
+    (legacy : Bool) : Type 0 where
   pub same_key : x.signature.keynum ≡ pk.keynum
   pub allowed : (x.signature.algorithm ≡ prehashed_algorithm) ⊎ IsTrue legacy
   pub signed : IsTrue (accepts (signed_bytes x message) pk.key x.signature.signature)
   pub comment_signed : IfSome x.comments (CommentIsSigned accepts pk x.signature)
-
--- the box vouches for the message under every public key that has these 32 bytes and this key ID
-abbrev pub VouchesUnderEachKey : Verifier → List ℕ → List ℕ → List ℕ → SignatureBoxRecord → Type 0
-VouchesUnderEachKey accepts key keynum message x =
-    (pk : PublicKeyRecord) (legacy : Bool) → pk.key ≡ key → pk.keynum ≡ keynum → Vouches accepts pk x message legacy
 
 -- the test of the comment signature
 abbrev pub accepts_comment : Verifier → PublicKeyRecord → SignatureRecord → CommentsRecord → Bool
@@ -66,30 +69,22 @@ judge_answers signature comments =
     (require comments CommentSignatureRefused
     (Ok tt))
 
--- whether the box vouches under the key, where its signature is over these bytes; or the first condition that fails
-abbrev pub judge_signed : Verifier → PublicKeyRecord → SignatureBoxRecord → List ℕ → Bool → Result ⊤ Fault
-judge_signed accepts pk x signed legacy =
-    and_then (judge_key pk x.signature legacy) (λ _.
-    judge_answers (accepts signed pk.key x.signature.signature) (accepts_comments accepts pk x))
-
 -- whether the box vouches for the message under the key, or the first condition that fails
 abbrev pub judge : Verifier → PublicKeyRecord → SignatureBoxRecord → List ℕ → Bool → Result ⊤ Fault
-judge accepts pk x message legacy = judge_signed accepts pk x (signed_bytes x message) legacy
+judge accepts pk x message legacy =
+    and_then (judge_key pk x.signature legacy) (λ _.
+    judge_answers (accepts (signed_bytes x message) pk.key x.signature.signature) (accepts_comments accepts pk x))
 
--- comments with the same trusted comment and the same first 64 bytes of the comment signature, or none
-abbrev pub SameComments : Option CommentsRecord → Option CommentsRecord → Type 0
-SameComments None None = ⊤
-SameComments None (Some d) = ⊥
-SameComments (Some c) None = ⊥
-SameComments (Some c) (Some d) = (d.trusted ≡ c.trusted) × (take 64 d.signature ≡ take 64 c.signature)
+-- the box vouches for the message under every public key that has these 32 bytes and this key ID
+abbrev pub VouchesUnderEachKey : Verifier → List ℕ → List ℕ → List ℕ → SignatureBoxRecord → Type 0
+VouchesUnderEachKey accepts key keynum message x =
+    (pk : PublicKeyRecord) (legacy : Bool) → pk.key ≡ key → pk.keynum ≡ keynum
+    → judge accepts pk x message legacy ≡ Ok tt
 
--- keys and boxes that differ at most in the key's algorithm, the untrusted comment, and the bytes past
--- the 64th of the comment signature
-pub record SameWhereVouched (pk other : PublicKeyRecord) (x y : SignatureBoxRecord) : Type 0 where
-  pub keynum : other.keynum ≡ pk.keynum
-  pub key : other.key ≡ pk.key
-  pub signature : y.signature ≡ x.signature
-  pub comments : SameComments x.comments y.comments
+-- all but the algorithm of a key, the untrusted comment, and the bytes past the 64th of the comment signature
+abbrev pub judged_parts : PublicKeyRecord → SignatureBoxRecord
+    → List ℕ × List ℕ × SignatureRecord × Option (List ℕ × List ℕ)
+judged_parts pk x = (pk.keynum, pk.key, x.signature, option_map (λ c. (c.trusted, take 64 c.signature)) x.comments)
 
 unfoldable pub verified_text : List ℕ
 verified_text = codes "Signature and comment signature verified"

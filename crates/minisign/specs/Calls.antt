@@ -1,38 +1,31 @@
 -- What the calls for callers promise: data is vouched for and this is the comment that was signed with it, or the
 -- first reason why it is not; and why bytes are not signed, and no pair is made.
-use Rattle.std.specs.Prelude.{◌≡◌, ℕ, ◌<◌, ◌≤◌, Bool, true, false, ◌⊎◌, List, length, Some, Ok, Err, IfSome}
+use Rattle.std.specs.Prelude.{◌≡◌, ℕ, ◌<◌, ◌≤◌, Bool, true, false, ◌⊎◌, List, length, Some, Err, IfSome}
 use Rattle.std.specs.declared.result.Result.{Result}
 use Rattle.minisign_base.specs.Fault.{Fault, Named}
-use Rattle.minisign_base.specs.declared.faults.NamedFault.TheVariants.{EncryptedKeyRefused, OutOfMemory, PasswordTooLong, ReadingFailed}
-use Rattle.minisign_base.specs.DeviceCalls.{IsFlushed, IsSteady, RandomCall, RereaderCall, SinkCall, Takes, unused}
-use Rattle.minisign.specs.Records.{CommentsRecord, PublicKeyRecord, SecretKeyRecord, SignatureBoxRecord}
-use Rattle.minisign.specs.Acceptance.{Flags, Verifier}
+use Rattle.minisign_base.specs.declared.faults.NamedFault.TheVariants.{EncryptedKeyRefused, OutOfMemory}
+use Rattle.minisign_base.specs.declared.faults.NamedFault.TheVariants.{PasswordTooLong, ReadingFailed}
+use Rattle.minisign_base.specs.DeviceCalls.{IsFlushed, IsSteady, RandomCall, RereaderCall, SinkCall, Takes}
+use Rattle.minisign.specs.Records.{CommentsRecord, SecretKeyRecord}
+use Rattle.minisign.specs.declared.options.VerifyOptions.{VerifyOptions}
+use Rattle.minisign.specs.Acceptance.{Flags, Verifier, flags_of}
 use Rattle.minisign.specs.Generation.{AllDrawn}
 use Rattle.minisign.specs.Headline.{TextsVouchFor, verdict}
 use Rattle.minisign.specs.Sealing.{is_encrypted}
-use Rattle.minisign.specs.SignatureText.{read_signature_box}
 use Rattle.minisign.specs.Signing.{DrawFails, RunsOutDrawing}
 use Rattle.minisign.specs.TextFiles.{IsTextFileFault}
-use Rattle.minisign.specs.Verifying.{ReadsTwice, VerifyingFails}
-use Rattle.minisign.specs.VerifyingTexts.{ReadTexts, TextsFail}
-
--- the text reads as a box whose trusted comment this is
-pub record IsCommentOf (sig_text comment : List ℕ) : Type 0 where
-  pub box : SignatureBoxRecord
-  pub comments : CommentsRecord
-  pub box_read : read_signature_box sig_text ≡ Ok box
-  pub both : box.comments ≡ Some comments
-  pub trusted : comments.trusted ≡ comment
+use Rattle.minisign.specs.Verifying.{ReadsTwice}
 
 -- the texts vouch for the message, and this is the comment that was signed with it
-pub record TextsVouchWith (accepts : Verifier) (pk_text sig_text message : List ℕ) (legacy : Bool) (comment : List ℕ) : Type 0 where
+pub record TextsVouchWith (accepts : Verifier) (pk_text sig_text message : List ℕ) (legacy : Bool)
+    (comment : List ℕ) : Type 0 where
   pub vouched : TextsVouchFor accepts pk_text sig_text message legacy
   pub comments : CommentsRecord
   pub both : vouched.box.comments ≡ Some comments
   pub trusted : comments.trusted ≡ comment
 
--- the answer is the verdict on some signature text and some data, or a fault of reading files: no byte of std's files is
--- known, so that these are those of the named files is not said
+-- the answer is the verdict on some signature text and some data, or a fault of reading files: no byte of std's files
+-- is known, so that these are those of the named files is not said
 abbrev pub IsFileVerdict : Verifier → List ℕ → Result (List ℕ) Fault → Type 0
 IsFileVerdict accepts pk_text r =
     ((sig_text : List ℕ) × (message : List ℕ) × (r ≡ verdict accepts pk_text sig_text message false))
@@ -40,7 +33,8 @@ IsFileVerdict accepts pk_text r =
 
 -- what the output took and flushed is vouched for, and this is the comment that was signed with it; a second reading
 -- gave it, with the digest of the first; it is what was ahead, of a steady source, where that is known
-pub record CopyIsVouchedWith {R O : Type 0} (accepts : Verifier) (pk_text sig_text : List ℕ) (reader : RereaderCall R) (out : SinkCall O) (comment : List ℕ) : Type 0 where
+pub record CopyIsVouchedWith {R O : Type 0} (accepts : Verifier) (pk_text sig_text : List ℕ) (reader : RereaderCall R)
+    (out : SinkCall O) (comment : List ℕ) : Type 0 where
   pub copy : List ℕ
   pub taken : Takes out copy
   pub flushed : IsFlushed out
@@ -49,29 +43,17 @@ pub record CopyIsVouchedWith {R O : Type 0} (accepts : Verifier) (pk_text sig_te
   pub read_twice : ReadsTwice reader out message copy
   pub same : IsSteady reader → IfSome (reader.source.ahead reader.old) (λ xs. copy ≡ xs)
 
+-- the flags in options with names
+abbrev pub flags_in : VerifyOptions → Flags
+flags_in options = flags_of options.quiet options.output options.allow_legacy
+
 -- nothing is said or copied, and legacy signatures are refused
 abbrev pub only_reads : Flags
-only_reads = record { quiet = true; output = false; legacy = false }
-
--- why verifying what a reader has ahead was refused: a text was, with nothing read; or it failed at one of the stages of
--- verifying with the key and the box that the texts read as, of which none uses a sink
-abbrev pub VerifyReaderFails : {R : Type 0} → Verifier → List ℕ → List ℕ → RereaderCall R → Fault → Type 0
-VerifyReaderFails accepts pk_text sig_text reader e =
-    (TextsFail pk_text sig_text e × (reader.new ≡ reader.old))
-    ⊎ ((key : PublicKeyRecord) × (box : SignatureBoxRecord) × ReadTexts pk_text sig_text key box
-    × VerifyingFails accepts key box only_reads reader unused unused e)
+only_reads = flags_of true false false
 
 -- nothing is said, the data is copied, and legacy signatures are refused
 abbrev pub only_copies : Flags
-only_copies = record { quiet = true; output = true; legacy = false }
-
--- why copying was refused: a text was, with nothing read or copied; or it failed at one of the stages of verifying
--- with the key and the box that the texts read as, of which none uses the status
-abbrev pub CopyVerifiedFails : {R O : Type 0} → Verifier → List ℕ → List ℕ → RereaderCall R → SinkCall O → Fault → Type 0
-CopyVerifiedFails accepts pk_text sig_text reader out e =
-    (TextsFail pk_text sig_text e × (reader.new ≡ reader.old) × (out.new ≡ out.old))
-    ⊎ ((key : PublicKeyRecord) × (box : SignatureBoxRecord) × ReadTexts pk_text sig_text key box
-    × VerifyingFails accepts key box only_copies reader unused out e)
+only_copies = flags_of true true false
 
 -- signing bytes with a key fails: the key is sealed, with nothing drawn; or it is opened, and memory runs out or
 -- the random source fails

@@ -2,10 +2,9 @@
 -- message, and which case fails first where they do not. Opening: when a sealed key opens under a password.
 -- Signing: what the text of a signature is worth. The sentence is in docs/PROMISES.md; docs/TRUSTED.md explains the
 -- notation, such as x.now, and that a key or a box of the code stands here for its record or its text.
-use Rattle.std.specs.Prelude.{◌≡◌, ℕ, Bool, true, ◌⊎◌, List, Option, Some, Ok, IfSome, MatchResult}
+use Rattle.std.specs.Prelude.{◌≡◌, ℕ, Bool, true, List, Option, Some, Ok, IfSome}
 use Rattle.std.specs.declared.result.Result.{Result}
-use Rattle.minisign_base.specs.Fault.{Fault, Named}
-use Rattle.minisign_base.specs.declared.faults.NamedFault.TheVariants.{OutOfMemory}
+use Rattle.minisign_base.specs.Fault.{Fault}
 use Rattle.minisign_base.specs.DeviceCalls.{IsFlushed, IsSteady, RereaderCall, SinkFails, SinkCall, SourceFails, Takes}
 use Rattle.minisign.specs.Records.{PublicKeyRecord, SecretKeyRecord, SignatureBoxRecord}
 use Rattle.minisign.specs.Acceptance.{Verifier, Vouches, VouchesUnderEachKey, judge}
@@ -36,15 +35,18 @@ pub record TextsVouchFor (accepts : Verifier) (pk_text sig_text message : List �
   pub box_read : read_signature_box sig_text ≡ Ok box
   pub vouches : Vouches accepts key box message legacy
 
--- over data that is known, where no device fails, and over a steady source where the data is copied, this holds of the
--- data
-abbrev pub WhereNothingFails : {R W O : Type 0} → Bool → RereaderCall R → SinkCall W → SinkCall O → (List ℕ → Type 0) → Type 0
-WhereNothingFails output reader status out holds =
-    (message : List ℕ) → reader.source.ahead reader.old ≡ Some message → ¬ (SourceFails reader) → ¬ (SinkFails status) → ¬ (SinkFails out)
-    → (output ≡ true → IsSteady reader) → holds message
+-- over data that is known, where no device fails, and over a steady source where the data is copied, the answer is what
+-- a function gives of the data, or out of memory
+abbrev pub WhereNothingFails : {R W O V : Type 0} → Bool → RereaderCall R → SinkCall W → SinkCall O
+    → Result V Fault → (List ℕ → Result V Fault) → Type 0
+WhereNothingFails output reader status out answer of_data =
+    (message : List ℕ) → reader.source.ahead reader.old ≡ Some message
+    → ¬ (SourceFails reader) → ¬ (SinkFails status) → ¬ (SinkFails out)
+    → (output ≡ true → IsSteady reader) → IsReadOrNoMemory answer (of_data message)
 
 -- what the output took, where this is known, is itself vouched for by the texts, and was flushed
-pub record CopyIsVouchedFor {O : Type 0} (accepts : Verifier) (pk_text sig_text : List ℕ) (legacy : Bool) (out : SinkCall O) : Type 0 where
+pub record CopyIsVouchedFor {O : Type 0} (accepts : Verifier) (pk_text sig_text : List ℕ) (legacy : Bool)
+    (out : SinkCall O) : Type 0 where
   pub copy : List ℕ
   pub taken : Takes out copy
   pub flushed : IsFlushed out
@@ -60,4 +62,5 @@ OpeningHeadline password text bound answer = IfSome password (λ p. IsReadOrNoMe
 abbrev pub SigningHeadline : Verifier → (List ℕ → List ℕ) → SecretKeyRecord → List ℕ → ChosenComments → List ℕ → Type 0
 SigningHeadline accepts public_of sk message chosen text =
     (seed : List ℕ) → IsGenuine public_of sk seed → AreOneLine chosen.untrusted chosen.trusted
-    → (x : SignatureBoxRecord) × (read_signature_box text ≡ Ok x) × VouchesUnderEachKey accepts (public_of seed) sk.keynum message x
+    → (x : SignatureBoxRecord) × (read_signature_box text ≡ Ok x)
+    × VouchesUnderEachKey accepts (public_of seed) sk.keynum message x

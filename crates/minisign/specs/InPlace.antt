@@ -1,6 +1,6 @@
 -- What is known of a signature text that is read where it lies, without memory.
-use Rattle.std.specs.Prelude.{◌≡◌, ℕ, List, if◌then◌else◌, length, take, nat_le, Option, None, Some}
-use Rattle.minisign.specs.Records.{SignatureRecord, SignatureBoxRecord, CommentsRecord}
+use Rattle.std.specs.Prelude.{ℕ, List, if◌then◌else◌, length, take, nat_le, Option, None, Some}
+use Rattle.minisign.specs.Records.{SignatureRecord}
 use Rattle.minisign.specs.SignatureText.{SignatureTextRecord}
 
 -- the first 64 bytes, where there are so many
@@ -22,12 +22,3 @@ view_of t = record {
   trusted = t.comments.trusted;
   comment_signature = first_64 t.comments.signature;
 }
-
--- the view tells this of the box
-pub record IsViewOf (v : SignatureViewRecord) (x : SignatureBoxRecord) : Type 0 where
-  pub comments : CommentsRecord
-  pub box : x.comments ≡ Some comments
-  pub signature : v.signature ≡ x.signature
-  pub untrusted : v.untrusted ≡ comments.untrusted
-  pub trusted : v.trusted ≡ comments.trusted
-  pub comment_signature : v.comment_signature ≡ first_64 comments.signature

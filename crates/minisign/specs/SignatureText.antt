@@ -1,16 +1,23 @@
--- Texts of signatures: what a text reads as, signature and comments or first fault; the same as a relation; and the text
--- that is written for a box.
-use Rattle.std.specs.Prelude.{◌≡◌, ◌≢◌, ◌||◌, ◌-◌, ℕ, Bool, List, [], ◌∷◌, ◌++◌, length, take, drop, slice_index, nat_eq, nat_le, bytes_eq, Some, Result, Ok, Err, codes}
+-- Texts of signatures: what a text reads as, signature and comments or first fault; the same as a relation; and the
+-- text that is written for a box.
+use Rattle.std.specs.Prelude.{◌≡◌, ◌≢◌, ◌||◌, ◌-◌, ℕ, Bool, List, [], ◌∷◌, ◌++◌, length, take, drop, slice_index}
+use Rattle.std.specs.Prelude.{nat_eq, nat_le, bytes_eq, Some, Result, Ok, Err, codes}
 use Rattle.std.specs.List.{starts_with}
 use Rattle.std.specs.Option.{option_map}
 use Rattle.std.specs.Str.{trim}
 use Rattle.std.specs.Str.Iter.{LacksByte}
 use Rattle.std.specs.Str.Lines.{lines, strip_carriage_return}
 use Rattle.minisign_base.specs.Fault.{Fault, Named}
-use Rattle.minisign_base.specs.declared.faults.NamedFault.TheVariants.{MissingUntrustedComment, MissingSignature, MissingTrustedComment, MissingGlobalSignature, UntrustedCommentPrefix, SignatureNotBase64, RecordTooShort, TrustedCommentPrefix, UnsupportedSignatureAlgorithm}
+use Rattle.minisign_base.specs.declared.faults.NamedFault.TheVariants.{MissingUntrustedComment, MissingSignature}
+use Rattle.minisign_base.specs.declared.faults.NamedFault.TheVariants.{MissingTrustedComment, MissingGlobalSignature}
+use Rattle.minisign_base.specs.declared.faults.NamedFault.TheVariants.{UntrustedCommentPrefix, SignatureNotBase64}
+use Rattle.minisign_base.specs.declared.faults.NamedFault.TheVariants.{RecordTooShort, TrustedCommentPrefix}
+use Rattle.minisign_base.specs.declared.faults.NamedFault.TheVariants.{UnsupportedSignatureAlgorithm}
 use Rattle.minisign.specs.Lines.{line}
-use Rattle.minisign.specs.Records.{CommentsRecord, SignatureRecord, SignatureBoxRecord, ReadsSignature, IsKnownAlgorithm, signature_bytes, legacy_algorithm, prehashed_algorithm}
-use Rattle.minisign.specs.Texts.{IsBase64Of, base64_of, base64_bytes, is_base64, map_ok, require, untrusted_comment_label}
+use Rattle.minisign.specs.Records.{CommentsRecord, SignatureRecord, SignatureBoxRecord, ReadsSignature}
+use Rattle.minisign.specs.Records.{IsKnownAlgorithm, signature_bytes, legacy_algorithm, prehashed_algorithm}
+use Rattle.minisign.specs.Texts.{IsBase64Of, base64_of, base64_bytes, is_base64, map_ok, require}
+use Rattle.minisign.specs.Texts.{untrusted_comment_label}
 
 unfoldable pub trusted_comment_label : List ℕ
 trusted_comment_label = codes "trusted comment: "
@@ -30,22 +37,23 @@ box_of t = record { signature = t.signature; comments = Some t.comments }
 abbrev pub is_known_algorithm : List ℕ → Bool
 is_known_algorithm a = bytes_eq a legacy_algorithm || bytes_eq a prehashed_algorithm
 
--- the signature in the first 74 bytes
-abbrev pub signature_of_bytes : List ℕ → SignatureRecord
-signature_of_bytes bytes = record { algorithm = take 2 bytes; keynum = take 8 (drop 2 bytes); signature = take 64 (drop 8 (drop 2 bytes)) }
-
--- the first and the third line are a label and a comment, the trusted one trimmed, and the second and the fourth,
--- trimmed, are base64
+-- the first and the third line are a label and a comment, the trusted one trimmed; the second and the fourth, trimmed,
+-- are base64, the second of bytes that begin with the 74 of the signature
 abbrev pub signature_in_four : List ℕ → List ℕ → List ℕ → List ℕ → Result SignatureTextRecord Fault
 signature_in_four first second third fourth =
+    let bytes = base64_bytes (trim second) in
     require (starts_with nat_eq first untrusted_comment_label) UntrustedCommentPrefix
     (require (is_base64 (trim second)) SignatureNotBase64
-    (require (nat_le 74 (length (base64_bytes (trim second)))) RecordTooShort
+    (require (nat_le 74 (length bytes)) RecordTooShort
     (require (starts_with nat_eq third trusted_comment_label) TrustedCommentPrefix
-    (require (is_known_algorithm (take 2 (base64_bytes (trim second)))) UnsupportedSignatureAlgorithm
+    (require (is_known_algorithm (take 2 bytes)) UnsupportedSignatureAlgorithm
     (require (is_base64 (trim fourth)) SignatureNotBase64
     (Ok (record {
-      signature = signature_of_bytes (base64_bytes (trim second));
+      signature = record {
+        algorithm = take 2 bytes;
+        keynum = take 8 (drop 2 bytes);
+        signature = take 64 (drop 8 (drop 2 bytes));
+      };
       comments = record {
         untrusted = drop (length untrusted_comment_label) first;
         trusted = trim (drop (length trusted_comment_label) third);
@@ -89,7 +97,8 @@ pub record SignatureText (text : List ℕ) (t : SignatureTextRecord) : Type 0 wh
   pub untrusted_comment : first ≡ untrusted_comment_label ++ t.comments.untrusted
   pub signature : EncodesSignature (trim second) t.signature
   pub algorithm : IsKnownAlgorithm t.signature.algorithm
-  pub trusted_comment : (comment : List ℕ) × (third ≡ trusted_comment_label ++ comment) × (trim comment ≡ t.comments.trusted)
+  pub trusted_comment : (comment : List ℕ)
+      × (third ≡ trusted_comment_label ++ comment) × (trim comment ≡ t.comments.trusted)
   pub comment_signature : IsBase64Of (trim fourth) t.comments.signature
 
 -- == Writing ==

@@ -1,9 +1,8 @@
 -- What is held of data that was read, for its signature to be judged, and what is copied of it.
-use Rattle.std.specs.Prelude.{◌≡◌, ℕ, Bool, true, false, ◌||◌, List, [], ◌∷◌}
+use Rattle.std.specs.Prelude.{◌≡◌, ℕ, Bool, true, false, List, [], ◌∷◌}
 use Rattle.minisign_hash.specs.Blake2b.{blake2b_digest}
 use Rattle.minisign.specs.declared.signed_data.SignedData.{SignedData}
 use Rattle.minisign.specs.declared.signed_data.SignedData.TheVariants.{Digest, Kept, Unkept}
-use Rattle.minisign.specs.Acceptance.{signed_bytes}
 use Rattle.minisign.specs.Records.{SignatureBoxRecord, is_prehashed}
 use Rattle.minisign.specs.Stages.{Flush, Put, Stage, second_copy_stages}
 
@@ -17,12 +16,9 @@ held_bytes Unkept = []
 -- nothing where it is not
 abbrev pub HoldsSigned : SignedData → SignatureBoxRecord → Bool → List ℕ → Type 0
 HoldsSigned (Digest digest) x legacy message = (is_prehashed x.signature ≡ true) × (digest ≡ blake2b_digest 64 message)
-HoldsSigned (Kept bytes) x legacy message = (is_prehashed x.signature ≡ false) × (bytes.items ≡ message) × (legacy ≡ true)
+HoldsSigned (Kept bytes) x legacy message =
+    (is_prehashed x.signature ≡ false) × (bytes.items ≡ message) × (legacy ≡ true)
 HoldsSigned Unkept x legacy message = (is_prehashed x.signature ≡ false) × (legacy ≡ false)
-
--- these bytes are those that the signature is over, where such a signature is allowed
-abbrev pub AreSigned : List ℕ → SignatureBoxRecord → Bool → List ℕ → Type 0
-AreSigned bytes x legacy message = (is_prehashed x.signature || legacy) ≡ true → bytes ≡ signed_bytes x message
 
 -- what is copied of data that was read
 abbrev pub held_copy_stages : Bool → SignedData → List ℕ → List Stage

@@ -1,11 +1,13 @@
 -- What verifying does stage by stage, and how each stage ends. The devices are the source of the data, the status, and
 -- the output.
-use Rattle.std.specs.Prelude.{◌≡◌, ◌≢◌, ◌⊎◌, ⊤, ℕ, Bool, true, false, ◌&&◌, List, [], ◌∷◌, ◌++◌, Result, Ok, Err, IsErrAnd}
+use Rattle.std.specs.Prelude.{◌≡◌, ◌≢◌, ◌⊎◌, ⊤, ℕ, Bool, true, false, ◌&&◌, List, [], ◌∷◌, ◌++◌, Result, Ok, Err}
+use Rattle.std.specs.Prelude.{IsErrAnd}
 use Rattle.minisign_hash.specs.Blake2b.{blake2b_digest}
 use Rattle.minisign_base.specs.Fault.{Fault, Named}
 use Rattle.minisign_base.specs.DeviceCalls.{Flushes, GoesBack, Marks, Puts, RereaderCall, SinkCall}
 use Rattle.minisign_base.specs.Steps.{EndsWith, StepsEnd}
-use Rattle.minisign_base.specs.declared.faults.NamedFault.TheVariants.{DataChanged, GoingBackFailed, OutOfMemory, WritingFailed}
+use Rattle.minisign_base.specs.declared.faults.NamedFault.TheVariants.{DataChanged, GoingBackFailed, OutOfMemory}
+use Rattle.minisign_base.specs.declared.faults.NamedFault.TheVariants.{WritingFailed}
 use Rattle.minisign.specs.Acceptance.{Flags, Verifier, judge, status_lines}
 use Rattle.minisign.specs.Reading.{Copies, Reads}
 use Rattle.minisign.specs.Records.{PublicKeyRecord, SignatureBoxRecord, is_prehashed}
@@ -35,22 +37,26 @@ module _ {R W O : Type 0} (reader : RereaderCall R) (status : SinkCall W) (out :
   -- how a stage ends; the devices that it does not use stay as they were
   abbrev pub StageEnds : Stage → Result ⊤ Fault → Type 0
   StageEnds Mark answer =
-      EndsWith (Marks reader (Ok tt)) GoingBackFailed (Marks reader (Err tt)) answer × (status.new ≡ status.old) × (out.new ≡ out.old)
+      EndsWith (Marks reader (Ok tt)) GoingBackFailed (Marks reader (Err tt)) answer
+      × (status.new ≡ status.old) × (out.new ≡ out.old)
   StageEnds (Read message) answer = Reads reader message answer × (status.new ≡ status.old) × (out.new ≡ out.old)
   StageEnds (Judge accepts pk x legacy message) answer =
-      IsReadOrNoMemory answer (judge accepts pk x message legacy) × (reader.new ≡ reader.old) × (status.new ≡ status.old) × (out.new ≡ out.old)
+      IsReadOrNoMemory answer (judge accepts pk x message legacy)
+      × (reader.new ≡ reader.old) × (status.new ≡ status.old) × (out.new ≡ out.old)
   StageEnds (Report text) answer =
       ((IsErrAnd answer (λ e. e ≡ Named OutOfMemory) × (status.new ≡ status.old)) ⊎ Puts status text answer)
       × (reader.new ≡ reader.old) × (out.new ≡ out.old)
   StageEnds Return answer =
-      EndsWith (GoesBack reader (Ok tt)) GoingBackFailed (GoesBack reader (Err tt)) answer × (status.new ≡ status.old) × (out.new ≡ out.old)
+      EndsWith (GoesBack reader (Ok tt)) GoingBackFailed (GoesBack reader (Err tt)) answer
+      × (status.new ≡ status.old) × (out.new ≡ out.old)
   StageEnds (Copy second) answer = Copies reader out second answer × (status.new ≡ status.old)
   StageEnds (Compare digest second) answer =
       EndsWith (blake2b_digest 64 second ≡ digest) DataChanged (blake2b_digest 64 second ≢ digest) answer
       × (reader.new ≡ reader.old) × (status.new ≡ status.old) × (out.new ≡ out.old)
   StageEnds (Put bytes) answer = Puts out bytes answer × (reader.new ≡ reader.old) × (status.new ≡ status.old)
   StageEnds Flush answer =
-      EndsWith (Flushes out (Ok tt)) WritingFailed (Flushes out (Err tt)) answer × (reader.new ≡ reader.old) × (status.new ≡ status.old)
+      EndsWith (Flushes out (Ok tt)) WritingFailed (Flushes out (Err tt)) answer
+      × (reader.new ≡ reader.old) × (status.new ≡ status.old)
 
 module _ {R W O : Type 0} (reader : RereaderCall R) (status : SinkCall W) (out : SinkCall O) where
   -- how these stages end, one after another: all were passed; or verifying failed at one of them, and none behind it
@@ -59,7 +65,8 @@ module _ {R W O : Type 0} (reader : RereaderCall R) (status : SinkCall W) (out :
   StagesEnd stages answer =
       StepsEnd (λ stage (old : Devices R W O) new. StageEnds (record reader { old = old.reader; new = new.reader })
       (record status { old = old.status; new = new.status }) (record out { old = old.out; new = new.out }) stage)
-      stages (record { reader = reader.old; status = status.old; out = out.old }) (record { reader = reader.new; status = status.new; out = out.new }) answer
+      stages (record { reader = reader.old; status = status.old; out = out.old })
+      (record { reader = reader.new; status = status.new; out = out.new }) answer
 
 -- the data is read, and its place is marked first where it is to be read again
 abbrev pub reading_stages : Bool → List ℕ → List Stage

@@ -5,16 +5,11 @@ use Rattle.minisign_base.specs.declared.faults.NamedFault.TheVariants.{OutOfMemo
 use Rattle.minisign_base.specs.Members.{SourceOf}
 use Rattle.minisign.specs.Reading.{IsReadFault, ReadsWhole}
 
--- the source was read to its end, and what it gave is not UTF-8
-pub record GivesNoText {R : Type 0} (source : SourceOf R) (old new : R) (e : Fault) : Type 0 where
-  pub bytes : List ℕ
-  pub read : ReadsWhole source old new bytes
-  pub unreadable : ¬ (IsUtf8 bytes)
-  pub fault : e ≡ Named NotUtf8
-
--- why a source gave no text: memory ran out, or it failed, or what it gave is not UTF-8
+-- why a source gave no text: memory ran out, or it failed, or it was read to its end, and what it gave is not UTF-8
 abbrev pub IsTextFault : {R : Type 0} → SourceOf R → R → R → Fault → Type 0
-IsTextFault source old new e = IsReadFault source old new e ⊎ GivesNoText source old new e
+IsTextFault source old new e =
+    IsReadFault source old new e
+    ⊎ ((bytes : List ℕ) × ReadsWhole source old new bytes × ¬ (IsUtf8 bytes) × (e ≡ Named NotUtf8))
 
 -- the faults of a file that gives no text: out of memory, reading failed, not UTF-8; when each comes is not said
 abbrev pub IsTextFileFault : Fault → Type 0

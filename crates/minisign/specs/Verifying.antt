@@ -3,7 +3,8 @@ use Rattle.std.specs.Prelude.{◌≡◌, ℕ, Bool, true, false, if◌then◌els
 use Rattle.std.specs.Io.KnownBytes.{IsAtEnd}
 use Rattle.minisign_hash.specs.Blake2b.{blake2b_digest}
 use Rattle.minisign_base.specs.Fault.{Fault}
-use Rattle.minisign_base.specs.DeviceCalls.{IsFlushed, IsSteady, IsUnflushed, RereaderCall, SinkCall, SinkHasNoNewFault, SourceHasNoNewFault, Takes, unused}
+use Rattle.minisign_base.specs.DeviceCalls.{IsFlushed, IsSteady, IsUnflushed, RereaderCall, SinkCall, SinkHasNoNewFault}
+use Rattle.minisign_base.specs.DeviceCalls.{SourceHasNoNewFault, Takes, unused}
 use Rattle.minisign.specs.Records.{PublicKeyRecord, SignatureBoxRecord, is_prehashed}
 use Rattle.minisign.specs.Acceptance.{Flags, Verifier, Vouches, signed_bytes, status_lines}
 use Rattle.minisign.specs.Reading.{IsAhead}
@@ -16,7 +17,9 @@ wanted_status quiet x = if quiet then [] else status_lines x
 -- the data was read to its end, which gave the message, and from its mark to its end again, which gave the copy, as
 -- long as both have one digest
 abbrev pub ReadsTwice : {R O : Type 0} → RereaderCall R → SinkCall O → List ℕ → List ℕ → Type 0
-ReadsTwice reader out message copy = StagesEnd reader unused out (reading_stages true message ++ second_copy_stages (blake2b_digest 64 message) copy) (Ok tt)
+ReadsTwice reader out message copy =
+    StagesEnd reader unused out
+    (reading_stages true message ++ second_copy_stages (blake2b_digest 64 message) copy) (Ok tt)
 
 -- the output holds a copy that the box vouches for, as it does for the message: the two have one digest, or are
 -- the same where the data itself is signed and over a steady source whose bytes are known; it was flushed, and for
@@ -34,8 +37,8 @@ pub record HasCopy {R O : Type 0} (accepts : Verifier) (pk : PublicKeyRecord) (x
 
 -- verifying succeeds: all the data was read to its end without a fault, the box vouches for it, what is to be
 -- said was said and not flushed, and the output holds a copy where one is wanted
-pub record VerifyingSucceeds {R W O : Type 0} (accepts : Verifier) (pk : PublicKeyRecord) (x : SignatureBoxRecord) (flags : Flags)
-    (reader : RereaderCall R) (status : SinkCall W) (out : SinkCall O) : Type 0 where
+pub record VerifyingSucceeds {R W O : Type 0} (accepts : Verifier) (pk : PublicKeyRecord) (x : SignatureBoxRecord)
+    (flags : Flags) (reader : RereaderCall R) (status : SinkCall W) (out : SinkCall O) : Type 0 where
   pub message : List ℕ
   pub given : IsAhead (reader.source.ahead reader.old) message
   pub vouches : Vouches accepts pk x message flags.legacy
@@ -53,4 +56,5 @@ pub record VerifyingSucceeds {R W O : Type 0} (accepts : Verifier) (pk : PublicK
 abbrev pub VerifyingFails : {R W O : Type 0} → Verifier → PublicKeyRecord → SignatureBoxRecord → Flags
     → RereaderCall R → SinkCall W → SinkCall O → Fault → Type 0
 VerifyingFails accepts pk x flags reader status out e =
-    (message : List ℕ) × (second : List ℕ) × StagesEnd reader status out (verifying_stages accepts pk x flags message second) (Err e)
+    (message : List ℕ) × (second : List ℕ)
+    × StagesEnd reader status out (verifying_stages accepts pk x flags message second) (Err e)

@@ -1,15 +1,17 @@
 //! Calls for callers: verifying with texts, and the comment that was signed.
 
-ghost use Rattle.std.specs.Prelude.{◌≡◌, ◌≤◌, ◌⊎◌, ℕ, List, Err, true, false, length, string_bytes, MatchResult, IfOk, IfErr, OnOk};
+ghost use Rattle.std.specs.Prelude.{◌≡◌, ◌≤◌, ◌⊎◌, ℕ, List, Ok, Err, true, false, length, string_bytes, IfOk, IfErr, OnOk};
 ghost use Rattle.minisign_base.specs.Fault.{Named};
 ghost use Rattle.minisign_base.specs.declared.faults.NamedFault.TheVariants.{OutOfMemory};
 ghost use Rattle.minisign_base.specs.DeviceCalls.{rereader_call, sink_call, unused};
 ghost use Rattle.minisign_base.specs.Devices.{HasGiven};
-ghost use Rattle.minisign.specs.Calls.{CopyIsVouchedWith, CopyVerifiedFails, IsCommentOf, IsFileVerdict, TextsVouchWith, VerifyReaderFails};
+ghost use Rattle.minisign.specs.Calls.{CopyIsVouchedWith, IsFileVerdict, TextsVouchWith, flags_in, only_copies, only_reads};
 ghost use Rattle.minisign.specs.Headline.{WhereNothingFails, verdict};
 ghost use Rattle.minisign.specs.Reading.{IsAhead, ReadingFails, ReadsWhole};
 ghost use Rattle.minisign.specs.Texts.{IsReadOrNoMemory, map_ok};
-ghost use Rattle.minisign.specs.VerifyingTexts.{ReadTexts, TextsFail, VerifyingTextsFails, VerifyingTextsSucceeds};
+ghost use Rattle.minisign.specs.Records.{PublicKeyRecord, SignatureBoxRecord};
+ghost use Rattle.minisign.specs.SignatureText.{read_signature};
+ghost use Rattle.minisign.specs.VerifyingTexts.{VerifyingTextsFails, VerifyingTextsSucceeds, read_texts};
 
 use crate::in_place::{read_public_key, read_signature};
 use crate::judging::judge_view;
@@ -46,21 +48,18 @@ pub fn verify_with<S: Scheme, R: Rereader, W: Sink, O: Sink>(
     // Over data that is known, where no device fails, and over a steady source where the data is copied: the answer is the
     // verdict, a function of the two texts, the data and the flag, or out of memory.
     ensures headline { WhereNothingFails options.output (rereader_call R.Source R.steady data_reader.old data_reader.new)
-        (sink_call W.Sink status.old status.new) (sink_call O.Sink out.old out.new)
-        (λ message. IsReadOrNoMemory (map_ok string_bytes result)
-        (verdict (S.accepts scheme.now) pk_text.now sig_text.now message options.allow_legacy)) }
+        (sink_call W.Sink status.old status.new) (sink_call O.Sink out.old out.new) (map_ok string_bytes result)
+        (λ message. verdict (S.accepts scheme.now) pk_text.now sig_text.now message options.allow_legacy) }
 
     // What is returned is the comment that the signature text holds.
-    ensures comment { IfOk result (λ t. IsCommentOf sig_text.now (string_bytes t)) }
+    ensures comment { IfOk result (λ t. map_ok (λ s. s.comments.trusted) (read_signature sig_text.now) ≡ Ok (string_bytes t)) }
 
     // What is said of success and of a refusal is what the clauses `accepted` and `refused` of
     // `verify_texts` say.
-    ensures accepted { OnOk result (VerifyingTextsSucceeds (S.accepts scheme.now) pk_text.now sig_text.now
-        (record { quiet = options.quiet; output = options.output; legacy = options.allow_legacy })
+    ensures accepted { OnOk result (VerifyingTextsSucceeds (S.accepts scheme.now) pk_text.now sig_text.now (flags_in options)
         (rereader_call R.Source R.steady data_reader.old data_reader.new)
         (sink_call W.Sink status.old status.new) (sink_call O.Sink out.old out.new)) }
-    ensures refused { IfErr result (VerifyingTextsFails (S.accepts scheme.now) pk_text.now sig_text.now
-        (record { quiet = options.quiet; output = options.output; legacy = options.allow_legacy })
+    ensures refused { IfErr result (VerifyingTextsFails (S.accepts scheme.now) pk_text.now sig_text.now (flags_in options)
         (rereader_call R.Source R.steady data_reader.old data_reader.new)
         (sink_call W.Sink status.old status.new) (sink_call O.Sink out.old out.new)) }
 
@@ -93,10 +92,9 @@ fn read_with_comment(
     pk_text: &str,
     sig_text: &str,
 ) -> Result<(PublicKey, SignatureBox, String)>
-    ensures read { MatchResult result
-        (λ all. ReadTexts pk_text.now sig_text.now all.0 all.1)
-        (TextsFail pk_text.now sig_text.now) }
-    ensures comment { IfOk result (λ all. IsCommentOf sig_text.now (string_bytes all.2)) }
+    ensures read { IsReadOrNoMemory {V = PublicKeyRecord × SignatureBoxRecord} (map_ok (λ all. (all.0, all.1)) result)
+        (read_texts pk_text.now sig_text.now) }
+    ensures comment { IfOk result (λ all. map_ok (λ s. s.comments.trusted) (read_signature sig_text.now) ≡ Ok (string_bytes all.2)) }
 {
     let (pk, signature_box) = read_texts(alloc, pk_text, sig_text)?;
     let comment = signature_box.trusted_comment(alloc)?;
@@ -222,7 +220,7 @@ pub fn verify_reader<S: Scheme, R: Rereader>(
     // Over a source whose bytes are known, if it does not fail: the answer is the verdict, a function of the two texts
     // and the data, or out of memory.
     ensures headline { WhereNothingFails false (rereader_call R.Source R.steady data_reader.old data_reader.new) unused unused
-        (λ message. IsReadOrNoMemory (map_ok string_bytes result) (verdict (S.accepts scheme.now) pk_text.now sig_text.now message false)) }
+        (map_ok string_bytes result) (λ message. verdict (S.accepts scheme.now) pk_text.now sig_text.now message false) }
 
     // Whether its bytes are known or not: on success the texts vouch for what was ahead, with the
     // comment that is returned; all of it was read to its end, without a fault.
@@ -237,8 +235,8 @@ pub fn verify_reader<S: Scheme, R: Rereader>(
     // After a refusal a text was refused, or memory ran out for one, with the reader as it was; or
     // it failed at one of the stages of `verify`: at the reading, where memory ran out or the reader
     // failed, or at the judging, which comes once all was read to its end without a fault.
-    ensures failed { IfErr result (VerifyReaderFails (S.accepts scheme.now) pk_text.now sig_text.now
-        (rereader_call R.Source R.steady data_reader.old data_reader.new)) }
+    ensures failed { IfErr result (VerifyingTextsFails (S.accepts scheme.now) pk_text.now sig_text.now only_reads
+        (rereader_call R.Source R.steady data_reader.old data_reader.new) unused unused) }
 
     // Whatever the result, the reader lost at most some bytes at its front.
     ensures given { HasGiven (R.ahead data_reader.old) (R.ahead data_reader.new) }
@@ -296,7 +294,7 @@ pub fn copy_verified<S: Scheme, R: Rereader, O: Sink>(
     // texts and the data, or out of memory.
     ensures headline { WhereNothingFails true (rereader_call R.Source R.steady data_reader.old data_reader.new) unused
         (sink_call O.Sink out.old out.new)
-        (λ message. IsReadOrNoMemory (map_ok string_bytes result) (verdict (S.accepts scheme.now) pk_text.now sig_text.now message false)) }
+        (map_ok string_bytes result) (λ message. verdict (S.accepts scheme.now) pk_text.now sig_text.now message false) }
 
     // What the output took and flushed is itself vouched for, with the comment that is returned; a
     // second reading gave it, with the digest of the first; and it is what was ahead of a steady
@@ -308,8 +306,8 @@ pub fn copy_verified<S: Scheme, R: Rereader, O: Sink>(
     // stages of `verify`. So nothing was copied, or the texts vouch for what was read first, and
     // going back, memory, the second reading or the output failed, or the second reading had
     // another digest.
-    ensures refused { IfErr result (CopyVerifiedFails (S.accepts scheme.now) pk_text.now sig_text.now
-        (rereader_call R.Source R.steady data_reader.old data_reader.new) (sink_call O.Sink out.old out.new)) }
+    ensures refused { IfErr result (VerifyingTextsFails (S.accepts scheme.now) pk_text.now sig_text.now only_copies
+        (rereader_call R.Source R.steady data_reader.old data_reader.new) unused (sink_call O.Sink out.old out.new)) }
 {
     verify_with(
         alloc,

@@ -1,7 +1,7 @@
 //! Copying the data of a box that was accepted: the data that was kept, or a second pass over the
 //! source that has to give the digest of the first.
 
-ghost use Rattle.std.specs.Prelude.{◌≡◌, ℕ, ◌<◌, ◌++◌, List, false, length, Ok, Err, IfErr, MatchResult};
+ghost use Rattle.std.specs.Prelude.{◌≡◌, ℕ, ◌<◌, ◌++◌, List, false, length, Ok, Err, IfOk, IfErr, OnOk, MatchResult};
 ghost use Rattle.minisign_hash.specs.Blake2b.{blake2b_digest};
 ghost use Rattle.minisign_hash.specs.Fed.{IsFed, has_finalized, output_length};
 ghost use Rattle.minisign_base.specs.Devices.{BeginsAnew};
@@ -29,11 +29,8 @@ pub(crate) fn copy_out<R: Rereader, O: Sink>(
     output: bool,
     out: &mut O,
 ) -> Result<()>
-    ensures { MatchResult result
-        (λ _. (second : List ℕ) × StagesEnd (rereader_call R.Source R.steady data_reader.old data_reader.new)
-        unused (sink_call O.Sink out.old out.new) (held_copy_stages output signed.now second) (Ok tt))
-        (λ e. (second : List ℕ) × StagesEnd (rereader_call R.Source R.steady data_reader.old data_reader.new)
-        unused (sink_call O.Sink out.old out.new) (held_copy_stages output signed.now second) (Err e)) }
+    ensures { (second : List ℕ) × StagesEnd (rereader_call R.Source R.steady data_reader.old data_reader.new) unused
+        (sink_call O.Sink out.old out.new) (held_copy_stages output signed.now second) result }
 {
     if !output {
         return Ok(());
@@ -55,11 +52,8 @@ fn copy_again<R: Rereader, O: Sink>(
     data_reader: &mut R,
     out: &mut O,
 ) -> Result<()>
-    ensures { MatchResult result
-        (λ _. (second : List ℕ) × StagesEnd (rereader_call R.Source R.steady data_reader.old data_reader.new)
-        unused (sink_call O.Sink out.old out.new) (second_copy_stages digest.now second) (Ok tt))
-        (λ e. (second : List ℕ) × StagesEnd (rereader_call R.Source R.steady data_reader.old data_reader.new)
-        unused (sink_call O.Sink out.old out.new) (second_copy_stages digest.now second) (Err e)) }
+    ensures { (second : List ℕ) × StagesEnd (rereader_call R.Source R.steady data_reader.old data_reader.new) unused
+        (sink_call O.Sink out.old out.new) (second_copy_stages digest.now second) result }
 {
     go_back(data_reader)?;
     let second = copy_hashed(alloc, data_reader, out)?;
@@ -76,10 +70,11 @@ fn copy_hashed<R: Rereader, O: Sink>(
     out: &mut O,
 ) -> Result<[u8; 64]>
     requires { BeginsAnew (R.since data_reader.old) }
-    ensures { MatchResult result
-        (λ d. (message : List ℕ) × Copies (rereader_call R.Source R.steady data_reader.old data_reader.new)
-        (sink_call O.Sink out.old out.new) message (Ok tt) × (d ≡ blake2b_digest 64 message))
-        (λ e. (message : List ℕ) × Copies (rereader_call R.Source R.steady data_reader.old data_reader.new)
+    ensures copied { IfOk result (λ d. (message : List ℕ) × (d ≡ blake2b_digest 64 message)
+        × Copies (rereader_call R.Source R.steady data_reader.old data_reader.new)
+        (sink_call O.Sink out.old out.new) message (Ok tt)) }
+    ensures refused { IfErr result (λ e. (message : List ℕ)
+        × Copies (rereader_call R.Source R.steady data_reader.old data_reader.new)
         (sink_call O.Sink out.old out.new) message (Err e)) }
 {
     let mut buf = piece_buffer(alloc)?;
@@ -98,11 +93,12 @@ fn copy_pieces<R: Rereader, O: Sink>(
     requires some { 0 < length buf.old }
     requires open { has_finalized hasher.old ≡ false }
     requires anew { BeginsAnew (R.since data_reader.old) }
-    ensures copied { MatchResult result
-        (λ _. (message : List ℕ) × Copies (rereader_call R.Source R.steady data_reader.old data_reader.new)
-        (sink_call O.Sink out.old out.new) message (Ok tt)
-        × ((m : List ℕ) → IsFed hasher.old m → IsFed hasher.new (m ++ message)))
-        (λ e. (message : List ℕ) × Copies (rereader_call R.Source R.steady data_reader.old data_reader.new)
+    ensures copied { OnOk result ((message : List ℕ)
+        × ((m : List ℕ) → IsFed hasher.old m → IsFed hasher.new (m ++ message))
+        × Copies (rereader_call R.Source R.steady data_reader.old data_reader.new)
+        (sink_call O.Sink out.old out.new) message (Ok tt)) }
+    ensures refused { IfErr result (λ e. (message : List ℕ)
+        × Copies (rereader_call R.Source R.steady data_reader.old data_reader.new)
         (sink_call O.Sink out.old out.new) message (Err e)) }
     ensures failed { IfErr result (IsCopyFault (rereader_call R.Source R.steady data_reader.old data_reader.new)
         (sink_call O.Sink out.old out.new)) }

@@ -1,22 +1,21 @@
 //! Reading the texts of public keys and signatures where they lie, without memory: what is decoded stands in arrays,
 //! and the comments stay in the text.
 
-ghost use Rattle.std.specs.Prelude.{◌≡◌, ◌⊎◌, ◌+◌, ◌≤◌, ◌<◌, true, false, Ok, Err, length, MatchResult, IfOk};
+ghost use Rattle.std.specs.Prelude.{◌≡◌, ◌==◌, ◌⊎◌, ◌+◌, ◌≤◌, ◌<◌, true, false, Ok, Err, length, MatchResult, IfOk, IfErr};
+ghost use Rattle.std.specs.Str.{trim};
 ghost use Rattle.minisign_base.specs.Fault.{Named};
-ghost use Rattle.minisign_base.specs.declared.faults.NamedFault.TheVariants.{RecordTooShort, SignatureNotBase64};
+ghost use Rattle.minisign_base.specs.declared.faults.NamedFault.TheVariants.{PublicKeyLineLength, PublicKeyLineNotBase64, RecordTooShort, SignatureNotBase64};
 ghost use Rattle.minisign.specs.InPlace.{first_64, view_of};
-ghost use Rattle.minisign.specs.PublicKeyText.{decoded_key, key_in_line, read_bare_public_key, read_public_key};
+ghost use Rattle.minisign.specs.PublicKeyText.{decoded_key, read_bare_public_key, read_public_key};
 ghost use Rattle.minisign.specs.Records.{IsKnownAlgorithm, is_prehashed};
 ghost use Rattle.minisign.specs.SignatureText.{EncodesSignature, read_signature, signature_in_four};
-ghost use Rattle.minisign.specs.Texts.{base64_bytes, is_base64, map_ok};
+ghost use Rattle.minisign.specs.Texts.{base64_bytes, is_base64, map_ok, require};
 
 use crate::base64_front::{decode_front, is_base64};
 use crate::constants::SIGALG_PREHASHED;
 use crate::public_key::PublicKey;
 use crate::signature::Signature;
-use crate::signature_box::{
-    TextLines, four_lines, known, trusted_comment_in, untrusted_comment_in,
-};
+use crate::signature_box::{four_lines, known, trusted_comment_in, untrusted_comment_in};
 use crate::texts::next_line;
 use minisign_base::{NamedFault, Result};
 use std::marker::Model;
@@ -146,7 +145,8 @@ pub fn read_signature(text: &str) -> Result<SignatureView<'_>>
 
 // Reads the second line of a public key text.
 fn read_key_line(encoded: &str) -> Result<PublicKey>
-    ensures { result ≡ key_in_line encoded.now }
+    ensures { result ≡ require (length encoded.now == 56) PublicKeyLineLength
+        (decoded_key PublicKeyLineNotBase64 (trim encoded.now)) }
 {
     if encoded.len() != ENCODED_BYTES {
         return Err(NamedFault::PublicKeyLineLength.into());
@@ -176,44 +176,51 @@ pub(crate) struct SignatureParts<'a> {
 
 // Reads a signature text.
 pub(crate) fn read_parts(text: &str) -> Result<SignatureParts<'_>>
-    ensures { MatchResult result
-        (λ p. (read_signature text.now ≡ Ok (record {
-          signature = p.signature;
-          comments = record {
-            untrusted = p.untrusted_comment.now;
-            trusted = p.trusted_comment.now;
-            signature = base64_bytes p.comment_signature.now;
-          };
-        }))
-        × (is_base64 p.comment_signature.now ≡ true) × IsKnownAlgorithm p.signature.algorithm
-        × (64 + length p.trusted_comment.now ≤ length text.now))
-        (λ e. read_signature text.now ≡ Err e) }
+    ensures read { IfOk result (λ p. read_signature text.now ≡ Ok (record {
+      signature = p.signature;
+      comments = record {
+        untrusted = p.untrusted_comment.now;
+        trusted = p.trusted_comment.now;
+        signature = base64_bytes p.comment_signature.now;
+      };
+    })) }
+    ensures parts { IfOk result (λ p. (is_base64 p.comment_signature.now ≡ true) × IsKnownAlgorithm p.signature.algorithm
+        × (64 + length p.trusted_comment.now ≤ length text.now)) }
+    ensures refused { IfErr result (λ e. read_signature text.now ≡ Err e) }
 {
     let lines = four_lines(text)?;
-    read_lines(lines)
+    read_lines(
+        lines.untrusted_comment,
+        lines.signature,
+        lines.trusted_comment,
+        lines.global_sig,
+    )
 }
 
-// What stands in the first four lines.
-fn read_lines(lines: TextLines<'_>) -> Result<SignatureParts<'_>>
-    ensures { MatchResult result
-        (λ p. (signature_in_four lines.entry.untrusted_comment.now lines.entry.signature.now lines.entry.trusted_comment.now lines.entry.global_sig.now
-        ≡ Ok (record {
-          signature = p.signature;
-          comments = record {
-            untrusted = p.untrusted_comment.now;
-            trusted = p.trusted_comment.now;
-            signature = base64_bytes p.comment_signature.now;
-          };
-        }))
-        × (is_base64 p.comment_signature.now ≡ true) × IsKnownAlgorithm p.signature.algorithm
-        × (64 + length p.trusted_comment.now ≤ length lines.entry.signature.now + length lines.entry.trusted_comment.now))
-        (λ e. signature_in_four lines.entry.untrusted_comment.now lines.entry.signature.now lines.entry.trusted_comment.now lines.entry.global_sig.now ≡ Err e) }
+// What stands in four lines.
+fn read_lines<'a>(
+    first: &'a str,
+    second: &'a str,
+    third: &'a str,
+    fourth: &'a str,
+) -> Result<SignatureParts<'a>>
+    ensures read { IfOk result (λ p. signature_in_four first.now second.now third.now fourth.now ≡ Ok (record {
+      signature = p.signature;
+      comments = record {
+        untrusted = p.untrusted_comment.now;
+        trusted = p.trusted_comment.now;
+        signature = base64_bytes p.comment_signature.now;
+      };
+    })) }
+    ensures parts { IfOk result (λ p. (is_base64 p.comment_signature.now ≡ true) × IsKnownAlgorithm p.signature.algorithm
+        × (64 + length p.trusted_comment.now ≤ length second.now + length third.now)) }
+    ensures refused { IfErr result (λ e. signature_in_four first.now second.now third.now fourth.now ≡ Err e) }
 {
-    let untrusted_comment = untrusted_comment_in(lines.untrusted_comment)?;
-    let signature = decode_signature(lines.signature.trim())?;
-    let trusted_comment = trusted_comment_in(lines.trusted_comment)?;
+    let untrusted_comment = untrusted_comment_in(first)?;
+    let signature = decode_signature(second.trim())?;
+    let trusted_comment = trusted_comment_in(third)?;
     let signature = known(signature)?;
-    let comment_signature = lines.global_sig.trim();
+    let comment_signature = fourth.trim();
     if !is_base64(comment_signature.as_bytes()) {
         return Err(NamedFault::SignatureNotBase64.into());
     }

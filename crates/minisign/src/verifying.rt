@@ -1,17 +1,17 @@
 //! Whether a signature box vouches for data under a public key.
 
-ghost use Rattle.std.specs.Prelude.{◌≡◌, ◌↔◌, ℕ, Bool, List, true, false, ◌⊎◌, Ok, Err, MatchResult, IfErr, OnOk, OnErr};
+ghost use Rattle.std.specs.Prelude.{◌≡◌, ◌↔◌, ℕ, Bool, List, true, false, ◌⊎◌, Ok, Err, IfOk, IfErr, OnOk, OnErr};
 ghost use Rattle.minisign_base.specs.Devices.{HasGiven};
 ghost use Rattle.minisign_base.specs.Fault.{Named};
 ghost use Rattle.minisign_base.specs.declared.faults.NamedFault.TheVariants.{GoingBackFailed, OutOfMemory};
 ghost use Rattle.minisign_base.specs.DeviceCalls.{IsWritingFault, Marks, Takes, TakesFront, rereader_call, sink_call, unused};
 ghost use Rattle.minisign.specs.Records.{PublicKeyRecord, SignatureBoxRecord};
-ghost use Rattle.minisign.specs.Acceptance.{Verifier, Vouches, SameWhereVouched, judge, judge_signed, status_lines};
+ghost use Rattle.minisign.specs.Acceptance.{Verifier, Vouches, accepts_comments, flags_of, judge, judge_answers, judge_key, judged_parts, status_lines};
 ghost use Rattle.minisign.specs.Calls.{TextsVouchWith};
 ghost use Rattle.minisign.specs.Headline.{WhereNothingFails, verdict};
 ghost use Rattle.minisign.specs.SignedData.{HoldsSigned};
 ghost use Rattle.minisign.specs.Stages.{StagesEnd, is_reread, reading_stages};
-ghost use Rattle.minisign.specs.Texts.{IsReadOrNoMemory, IsReading};
+ghost use Rattle.minisign.specs.Texts.{IsReadOrNoMemory, IsReading, and_then};
 ghost use Rattle.minisign.specs.Verifying.{VerifyingFails, VerifyingSucceeds, wanted_status};
 
 use crate::comment_signature::accepts_comments;
@@ -60,8 +60,8 @@ pub fn verify<S: Scheme, R: Rereader, W: Sink, O: Sink>(
     // Over data that is known, where no device fails, and over a steady source where the data is copied: the answer is
     // that of the function `judge`, of key, box, data and flag, or out of memory.
     ensures headline { WhereNothingFails output (rereader_call R.Source R.steady data_reader.old data_reader.new)
-        (sink_call W.Sink status.old status.new) (sink_call O.Sink out.old out.new)
-        (λ message. IsReadOrNoMemory result (judge (S.accepts scheme.now) pk.now signature_box.now message allow_legacy)) }
+        (sink_call W.Sink status.old status.new) (sink_call O.Sink out.old out.new) result
+        (λ message. judge (S.accepts scheme.now) pk.now signature_box.now message allow_legacy) }
 
     // On success the box vouches for all the bytes that were ahead: the key IDs are equal; the
     // box is prehashed or legacy ones are allowed; the scheme accepts the signature for the Blake2b
@@ -86,8 +86,7 @@ pub fn verify<S: Scheme, R: Rereader, W: Sink, O: Sink>(
     //
     // The copy is flushed on success (`flushed` of `HasCopy`), and by clause `refused` (`unflushed`
     // of `Copies`) on no refusal before the digests are compared.
-    ensures accepted { OnOk result (VerifyingSucceeds (S.accepts scheme.now) pk.now signature_box.now
-        (record { quiet = quiet; output = output; legacy = allow_legacy })
+    ensures accepted { OnOk result (VerifyingSucceeds (S.accepts scheme.now) pk.now signature_box.now (flags_of quiet output allow_legacy)
         (rereader_call R.Source R.steady data_reader.old data_reader.new)
         (sink_call W.Sink status.old status.new) (sink_call O.Sink out.old out.new)) }
 
@@ -120,14 +119,13 @@ pub fn verify<S: Scheme, R: Rereader, W: Sink, O: Sink>(
     //
     // Out of memory comes only where no count of faults rose: in the first reading, in judging or
     // before the status took anything, with status and output untouched; or behind the return,
-    // before the second reading began, with nothing copied (`NothingIsCopied`). So no fault of a
+    // before the second reading began, with nothing copied (`failed` of `Copies`). So no fault of a
     // device, and no half of a copy, is told as out of memory.
     //
     // A reading takes at most some bytes off the front of what the source has ahead; going back
     // puts those ahead that the mark keeps, which are what was ahead at first if it is steady
     // (`Read`, `Copy`, `Return`, `Mark`).
-    ensures refused { IfErr result (VerifyingFails (S.accepts scheme.now) pk.now signature_box.now
-        (record { quiet = quiet; output = output; legacy = allow_legacy })
+    ensures refused { IfErr result (VerifyingFails (S.accepts scheme.now) pk.now signature_box.now (flags_of quiet output allow_legacy)
         (rereader_call R.Source R.steady data_reader.old data_reader.new)
         (sink_call W.Sink status.old status.new) (sink_call O.Sink out.old out.new)) }
 
@@ -163,7 +161,7 @@ pub fn unvouched_parts_change_no_verdict()
     // The verdict does not depend on the untrusted comment, the key's algorithm bytes, or bytes
     // past the 64th of the comment signature.
     ensures { (accepts : Verifier) (pk key : PublicKeyRecord) (x other : SignatureBoxRecord)
-        (message : List ℕ) (legacy : Bool) → SameWhereVouched pk key x other →
+        (message : List ℕ) (legacy : Bool) → judged_parts key other ≡ judged_parts pk x →
         judge accepts key other message legacy ≡ judge accepts pk x message legacy }
 {}
 
@@ -189,11 +187,10 @@ fn read_data<R: Rereader>(
     output: bool,
     allow_legacy: bool,
 ) -> Result<SignedData>
-    ensures held { MatchResult result
-        (λ d. (message : List ℕ) × HoldsSigned d signature_box.now allow_legacy message
+    ensures held { IfOk result (λ d. (message : List ℕ) × HoldsSigned d signature_box.now allow_legacy message
         × StagesEnd (rereader_call R.Source R.steady data_reader.old data_reader.new) unused unused
-        (reading_stages (is_reread output signature_box.now) message) (Ok tt))
-        (λ e. (message : List ℕ)
+        (reading_stages (is_reread output signature_box.now) message) (Ok tt)) }
+    ensures refused { IfErr result (λ e. (message : List ℕ)
         × StagesEnd (rereader_call R.Source R.steady data_reader.old data_reader.new) unused unused
         (reading_stages (is_reread output signature_box.now) message) (Err e)) }
     ensures given { HasGiven (R.ahead data_reader.old) (R.ahead data_reader.new) }
@@ -235,7 +232,9 @@ fn judge<S: Scheme>(
     signed: &[u8],
     allow_legacy: bool,
 ) -> Result<()>
-    ensures { IsReadOrNoMemory result (judge_signed (S.accepts scheme.now) pk.now signature_box.now signed.now allow_legacy) }
+    ensures { IsReadOrNoMemory result (and_then (judge_key pk.now signature_box.now.signature allow_legacy) (λ _.
+        judge_answers (S.accepts scheme.now signed.now pk.now.key signature_box.now.signature.signature)
+        (accepts_comments (S.accepts scheme.now) pk.now signature_box.now))) }
 {
     let signature = &signature_box.signature;
     judge_key(pk, signature, allow_legacy)?;

@@ -1,12 +1,13 @@
 //! Whether a public key text and a signature text vouch for data.
 
-ghost use Rattle.std.specs.Prelude.{◌≡◌, ◌⊎◌, true, false, IfOk, IfErr, OnOk, OnErr};
+ghost use Rattle.std.specs.Prelude.{◌≡◌, ◌⊎◌, true, false, Ok, IfErr, OnOk, OnErr};
 ghost use Rattle.minisign_base.specs.Devices.{HasGiven};
 ghost use Rattle.minisign_base.specs.DeviceCalls.{TakesFront, rereader_call, sink_call};
+ghost use Rattle.minisign.specs.Acceptance.{flags_of};
 ghost use Rattle.minisign.specs.Records.{PublicKeyRecord, SignatureBoxRecord};
 ghost use Rattle.minisign.specs.Verifying.{wanted_status};
 ghost use Rattle.minisign.specs.Texts.{IsReadOrNoMemory, map_ok};
-ghost use Rattle.minisign.specs.VerifyingTexts.{ReadTexts, TextsFail, VerifyingTextsFails, VerifyingTextsSucceeds};
+ghost use Rattle.minisign.specs.VerifyingTexts.{VerifyingTextsFails, VerifyingTextsSucceeds, read_texts};
 ghost use Rattle.minisign.specs.Headline.{CopyIsVouchedFor, WhereNothingFails, verdict};
 
 use crate::in_place::read_public_key;
@@ -41,14 +42,12 @@ pub fn verify_texts<S: Scheme, R: Rereader, W: Sink, O: Sink>(
     // The headline's first part: over data that is known, where no device fails, and over a steady source where the data
     // is copied, the answer is the verdict, a function of the two texts, the data and the flag; or out of memory.
     ensures headline { WhereNothingFails output (rereader_call R.Source R.steady data_reader.old data_reader.new)
-        (sink_call W.Sink status.old status.new) (sink_call O.Sink out.old out.new)
-        (λ message. IsReadOrNoMemory result
-        (map_ok (λ _. tt) (verdict (S.accepts scheme.now) pk_text.now sig_text.now message allow_legacy))) }
+        (sink_call W.Sink status.old status.new) (sink_call O.Sink out.old out.new) result
+        (λ message. map_ok (λ _. tt) (verdict (S.accepts scheme.now) pk_text.now sig_text.now message allow_legacy)) }
 
     // On success both texts were read by the grammar, as a key and a box for which everything holds
     // that `verify` promises on success.
-    ensures accepted { OnOk result (VerifyingTextsSucceeds (S.accepts scheme.now) pk_text.now sig_text.now
-        (record { quiet = quiet; output = output; legacy = allow_legacy })
+    ensures accepted { OnOk result (VerifyingTextsSucceeds (S.accepts scheme.now) pk_text.now sig_text.now (flags_of quiet output allow_legacy)
         (rereader_call R.Source R.steady data_reader.old data_reader.new)
         (sink_call W.Sink status.old status.new) (sink_call O.Sink out.old out.new)) }
 
@@ -58,18 +57,17 @@ pub fn verify_texts<S: Scheme, R: Rereader, W: Sink, O: Sink>(
         (sink_call O.Sink out.old out.new)) }
 
     // A refusal of the public key text comes before one of the signature text, and both come before
-    // anything is read, said or copied; so does running out of memory for them (`StopsAtTexts`).
+    // anything is read, said or copied; so does running out of memory for them (`read_texts`).
     //
     // Otherwise verifying fails as `verify` does, with the key and the box that the texts read as
     // (`VerifyingFails`).
-    ensures refused { IfErr result (VerifyingTextsFails (S.accepts scheme.now) pk_text.now sig_text.now
-        (record { quiet = quiet; output = output; legacy = allow_legacy })
+    ensures refused { IfErr result (VerifyingTextsFails (S.accepts scheme.now) pk_text.now sig_text.now (flags_of quiet output allow_legacy)
         (rereader_call R.Source R.steady data_reader.old data_reader.new)
         (sink_call W.Sink status.old status.new) (sink_call O.Sink out.old out.new)) }
 
     // After a refusal the status is untouched, or took a beginning of the lines of the box.
     ensures said_front { OnErr result ((status.new ≡ status.old) ⊎ ((key : PublicKeyRecord) × (box : SignatureBoxRecord)
-        × ReadTexts pk_text.now sig_text.now key box
+        × (read_texts pk_text.now sig_text.now ≡ Ok (key, box))
         × TakesFront (sink_call W.Sink status.old status.new) (wanted_status quiet box))) }
 
     // Without `output` the source lost at most some bytes at its front.
@@ -102,8 +100,7 @@ pub(crate) fn read_texts(
     pk_text: &str,
     sig_text: &str,
 ) -> Result<(PublicKey, SignatureBox)>
-    ensures read { IfOk result (λ both. ReadTexts pk_text.now sig_text.now both.0 both.1) }
-    ensures refused { IfErr result (TextsFail pk_text.now sig_text.now) }
+    ensures { IsReadOrNoMemory result (read_texts pk_text.now sig_text.now) }
 {
     let pk = read_public_key(pk_text)?;
     let signature_box = SignatureBox::from_string(alloc, sig_text)?;

@@ -11,6 +11,7 @@ use Rattle.minisign.specs.Headline.{SigningHeadline}
 use Rattle.minisign.specs.Records.{PublicKeyRecord, SecretKeyRecord, SignatureBoxRecord}
 use Rattle.minisign.specs.SignatureText.{read_signature_box}
 use Rattle.minisign.specs.Signing.{AreChosenReadBack, ChosenComments}
+use Rattle.minisign.proofs.Laws.{judged_vouches}
 use Rattle.minisign_examples.specs.Releasing.{IsMemoryOrRandomFault}
 
 -- the text vouches for the message, and only memory may run out for it, or no random bytes come
@@ -20,7 +21,7 @@ pub signed_by_pair : {T Z : Type 0} (bytes : T → List ℕ) (r : Result T Fault
     → MatchResult r (λ t. (x : SignatureBoxRecord) × (read_signature_box (bytes t) ≡ Ok x) × Vouches accepts pk x message false) IsMemoryOrRandomFault
 signed_by_pair bytes (Ok t) accepts public_of pk sk message chosen z pair kept signed fails =
     let (x, read, each) = signed pair.seed pair.genuine kept.one_line in
-    (x, read, each pk false pair.key pair.keynum)
+    (x, read, judged_vouches accepts pk x message false tt (each pk false pair.key pair.keynum))
 signed_by_pair bytes (Err e) accepts public_of pk sk message chosen z pair kept signed (inl (fault, sealed, undrawn)) =
     absurd (true≢false (sym sealed ∙ pair.genuine.opened))
 signed_by_pair bytes (Err e) accepts public_of pk sk message chosen z pair kept signed (inr (opened, inl memory)) = inl memory.0

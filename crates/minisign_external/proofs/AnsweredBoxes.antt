@@ -5,6 +5,7 @@ use Rattle.minisign.specs.Records.{SecretKeyRecord}
 use Rattle.minisign.specs.SignatureText.{read_signature_box, signature_text}
 use Rattle.minisign.specs.Acceptance.{Verifier, VouchesUnderEachKey}
 use Rattle.minisign.specs.Signing.{ChosenComments, Signer, signed_box}
+use Rattle.minisign.proofs.Laws.{vouches_judged}
 use Rattle.minisign_external.specs.Signing.{AcceptsAnswers, IsAnsweredText, SignsSo, answered_box, answered_comments, answered_signature}
 
 pub answered_is_signed : (sign : Signer) (key : SecretKeyRecord) (message z1 z2 key_id : List ℕ) (chosen : ChosenComments) (first second : List ℕ)
@@ -16,12 +17,13 @@ answered_is_signed sign key message z1 z2 key_id chosen first second same answer
 pub answered_vouches : (accepts : Verifier) (public message key_id : List ℕ) (chosen : ChosenComments) (first second : List ℕ)
     → length second ≡ 64 → AcceptsAnswers accepts public message chosen.trusted first second
     → VouchesUnderEachKey accepts public key_id message (answered_box key_id chosen first second)
-answered_vouches accepts public message key_id chosen first second long answers pk legacy key same_id = record {
-  same_key = sym same_id;
-  allowed = inl refl;
-  signed = rw key answers.to_first;
-  comment_signed = record { long_enough = omega (arith, long); signed = rw (take_all 64 second (omega (arith, long)), key) answers.to_second };
-}
+answered_vouches accepts public message key_id chosen first second long answers pk legacy key same_id =
+    vouches_judged accepts pk (answered_box key_id chosen first second) message legacy (record {
+      same_key = sym same_id;
+      allowed = inl refl;
+      signed = rw key answers.to_first;
+      comment_signed = record { long_enough = omega (arith, long); signed = rw (take_all 64 second (omega (arith, long)), key) answers.to_second };
+    })
 
 -- a text that is that of the answers, and reads as their box
 pub answered_text : (key_id : List ℕ) (chosen : ChosenComments) (first second text : List ℕ) → length second ≡ 64

@@ -1,5 +1,5 @@
 -- Verifying that copies nothing, where its output is left out.
-use Rattle.std.proofs.Common.{List, ℕ, Result, Ok, Err, IfErr, inl, inr, false, None}
+use Rattle.std.proofs.Common.{List, ℕ, Result, Ok, Err, IfErr, inl, inr, false, None, refl}
 use Rattle.minisign.specs.Fault.{Fault}
 use Rattle.minisign.specs.DeviceCalls.{RereaderCall, SinkCall, unused}
 use Rattle.minisign.specs.Acceptance.{Verifier}
@@ -7,7 +7,7 @@ use Rattle.minisign.specs.Records.{PublicKeyRecord, SignatureBoxRecord}
 use Rattle.minisign.specs.Verifying.{VerifyingFails}
 use Rattle.minisign.proofs.Laws.{fails_without_output}
 use Rattle.minisign.specs.VerifyingTexts.{VerifyingTextsFails}
-use Rattle.minisign_tool.specs.Verify.{VerifyFails, says_only}
+use Rattle.minisign_tool.specs.Verify.{says_only}
 
 -- an output of which no stage speaks
 abbrev pub silent : {O : Type 0} → O → O → SinkCall O
@@ -23,8 +23,8 @@ box_fails accepts key box reader status old new (Err e) h = fails_without_output
 -- with two texts
 pub texts_fail : {T R W O : Type 0} (accepts : Verifier) (pk sig : List ℕ) (reader : RereaderCall R) (status : SinkCall W)
     (out : SinkCall O) (r : Result T Fault) → IfErr r (VerifyingTextsFails accepts pk sig says_only reader status out)
-    → IfErr r (VerifyFails accepts pk sig reader status)
+    → IfErr r (VerifyingTextsFails accepts pk sig says_only reader status unused)
 texts_fail accepts pk sig reader status out (Ok x) h = tt
-texts_fail accepts pk sig reader status out (Err e) (inl stop) = inl (stop.why, stop.unread, stop.unsaid)
+texts_fail accepts pk sig reader status out (Err e) (inl (why, unread, unsaid, uncopied)) = inl (why, unread, unsaid, refl)
 texts_fail accepts pk sig reader status out (Err e) (inr (key, box, read, h)) =
     inr (key, box, read, fails_without_output accepts key box false reader status out e h)

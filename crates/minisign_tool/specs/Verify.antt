@@ -1,5 +1,5 @@
 -- How a run that verifies with two text files ends.
-use Rattle.std.specs.Prelude.{◌≡◌, ℕ, ◌⊎◌, true, false, List}
+use Rattle.std.specs.Prelude.{◌≡◌, ℕ, ◌⊎◌, true, false, List, Ok}
 use Rattle.minisign.specs.Fault.{Fault}
 use Rattle.minisign.specs.Members.{SourceOf}
 use Rattle.minisign.specs.DeviceCalls.{RereaderCall, SinkCall, SourceCall, TakesFront, rereader_call, source_call, unused}
@@ -7,8 +7,8 @@ use Rattle.minisign.specs.Records.{PublicKeyRecord, SignatureBoxRecord}
 use Rattle.minisign.specs.Acceptance.{Flags, Verifier, status_lines}
 use Rattle.minisign.specs.Headline.{CopyIsVouchedFor, TextsVouchFor}
 use Rattle.minisign.specs.Reading.{IsAhead}
-use Rattle.minisign.specs.Verifying.{HasCopy, VerifyingFails}
-use Rattle.minisign.specs.VerifyingTexts.{ReadTexts, TextsFail, VerifyingTextsFails}
+use Rattle.minisign.specs.Verifying.{HasCopy}
+use Rattle.minisign.specs.VerifyingTexts.{VerifyingTextsFails, read_texts}
 use Rattle.minisign_tool.specs.TextFiles.{EitherFails, ReadsBoth}
 use Rattle.minisign_tool.specs.declared.verify.VerifyingDevices.{VerifyingDevices}
 
@@ -35,19 +35,11 @@ verifying_call pk_file sig_file data_reader steady old new = record {
   data_reader = rereader_call data_reader steady old.data_reader new.data_reader;
 }
 
--- verifying with two texts fails, where nothing is to be copied: a text is refused, with nothing read or
--- said, or it failed at one of its stages with the key and the box that the texts read as
-abbrev pub VerifyFails : {R W : Type 0} → Verifier → List ℕ → List ℕ → RereaderCall R → SinkCall W → Fault → Type 0
-VerifyFails accepts pk_text sig_text reader status e =
-    (TextsFail pk_text sig_text e × (reader.new ≡ reader.old) × (status.new ≡ status.old))
-    ⊎ ((key : PublicKeyRecord) × (box : SignatureBoxRecord) × ReadTexts pk_text sig_text key box
-    × VerifyingFails accepts key box says_only reader status unused e)
-
 -- nothing was said, or a beginning of the status lines of the box that the texts read as
 abbrev pub SaysFront : {W : Type 0} → SinkCall W → List ℕ → List ℕ → Type 0
 SaysFront status pk_text sig_text =
-    (status.new ≡ status.old) ⊎ ((key : PublicKeyRecord) × (box : SignatureBoxRecord) × ReadTexts pk_text sig_text key box
-    × TakesFront status (status_lines box))
+    (status.new ≡ status.old) ⊎ ((key : PublicKeyRecord) × (box : SignatureBoxRecord)
+    × (read_texts pk_text sig_text ≡ Ok (key, box)) × TakesFront status (status_lines box))
 
 -- what both files held vouches for all of the data, and its status lines were said as Said says
 pub record FilesVouch {P Q R : Type 0} (accepts : Verifier) (d : VerifyingCall P Q R) (Said : List ℕ → Type 0) : Type 0 where
@@ -72,7 +64,7 @@ abbrev pub FilesFail : {P Q R W : Type 0} → Verifier → VerifyingCall P Q R �
 FilesFail accepts d status e =
     (EitherFails d.pk_file d.sig_file e × (d.data_reader.new ≡ d.data_reader.old) × (status.new ≡ status.old))
     ⊎ ((pk_text sig_text : List ℕ) × ReadsBoth d.pk_file d.sig_file pk_text sig_text
-    × VerifyFails accepts pk_text sig_text d.data_reader status e × SaysFront status pk_text sig_text)
+    × VerifyingTextsFails accepts pk_text sig_text says_only d.data_reader status unused e × SaysFront status pk_text sig_text)
 
 -- a file gave no text, with no data read or copied, or verifying with the texts and copying failed
 abbrev pub FilesFailToCopy : {P Q R O W : Type 0} → Verifier → VerifyingCall P Q R → SinkCall O → SinkCall W → Fault → Type 0

@@ -1,13 +1,16 @@
-use Rattle.std.proofs.Common.{inl, inr, refl, sym, ◌∙◌}
-use Rattle.std.proofs.lemmas.Result.{MatchResult-weaker}
-use Rattle.minisign.proofs.Beginnings.{passed_on}
+use Rattle.std.proofs.Common.{[], ◌∷◌, inl, inr, refl, sym, ◌∙◌}
+use Rattle.std.proofs.lemmas.Result.{err_from_is_err_and}
+use Rattle.minisign_base.specs.DeviceCalls.{rereader_call, sink_call, unused}
+use Rattle.minisign.specs.Stages.{Compare, Copy, Flush, Return}
 use Rattle.minisign.proofs.Copies.{different, not_different}
+use Rattle.minisign.proofs.Passes.{last_stage, next_stage}
 use Rattle.minisign.proofs.copying.copy_again.Goals as goal
 
 pub returns-in_err-second : goal.returns-in_err-second
 returns-in_err-second g c =
-    let (second, copies) = c.in_err-second.ensures in
-    passed_on _ _ _ _ c.from_residual-in_err-second.ensures.1 (
+    let p = err_from_is_err_and c.from_residual-in_err-second.result c.from_residual-in_err-second.ensures.1 in
+    let (second, copies) = c.in_err-second.ensures.refused in
+    rw (p.1, p.2) (
       second,
       inr (
         record { reader = c.go_back.new.data_reader; status = tt; out = c.args.out.now },
@@ -18,49 +21,27 @@ returns-in_err-second g c =
 
 pub returns : goal.returns
 returns g c =
-    let (second, copies, digest) = c.in_ok-second.ensures in
+    let (second, digest, copies) = c.in_ok-second.ensures.copied in
     let equal = not_different c.in_ok-second.second c.args.digest.now c.if-ne.ensures in
-    MatchResult-weaker c.flush.result c.flush.ensures
-    (λ _ flushed. (
+    let back = c.go_back.new.data_reader in
+    let end = c.copy_hashed.new.data_reader in
+    let taken = c.copy_hashed.new.out in
+    let reader = rereader_call g.R.Source g.R.Rereader.steady c.args.data_reader.now end in
+    let out = sink_call g.O.Sink c.args.out.now c.flush.new.out in (
       second,
-      (
-        record { reader = c.go_back.new.data_reader; status = tt; out = c.args.out.now },
-        (c.in_ok-go_back.ensures, refl, refl),
-        (
-          record { reader = c.copy_hashed.new.data_reader; status = tt; out = c.copy_hashed.new.out },
-          (copies, refl),
-          (
-            record { reader = c.copy_hashed.new.data_reader; status = tt; out = c.copy_hashed.new.out },
-            (sym digest ∙ equal, refl, refl, refl),
-            (
-              record { reader = c.copy_hashed.new.data_reader; status = tt; out = c.flush.new.out },
-              (flushed, refl, refl),
-              refl,
-            ),
-          ),
-        ),
-      ),
-    ))
-    (λ e failed. (
-      second,
-      inr (
-        record { reader = c.go_back.new.data_reader; status = tt; out = c.args.out.now },
-        (c.in_ok-go_back.ensures, refl, refl),
-        inr (
-          record { reader = c.copy_hashed.new.data_reader; status = tt; out = c.copy_hashed.new.out },
-          (copies, refl),
-          inr (
-            record { reader = c.copy_hashed.new.data_reader; status = tt; out = c.copy_hashed.new.out },
-            (sym digest ∙ equal, refl, refl, refl),
-            inl (failed, refl, refl),
-          ),
-        ),
-      ),
-    ))
+      next_stage reader unused out (record { reader = back; status = tt; out = c.args.out.now }) Return (Copy second ∷ Compare c.args.digest.now second ∷ Flush ∷ []) c.flush.result
+          (c.in_ok-go_back.ensures, refl, refl)
+          (next_stage (record reader { old = back }) unused out (record { reader = end; status = tt; out = taken }) (Copy second) (Compare c.args.digest.now second ∷ Flush ∷ []) c.flush.result
+          (copies, refl)
+          (next_stage (record reader { old = end }) unused (record out { old = taken }) (record { reader = end; status = tt; out = taken }) (Compare c.args.digest.now second) (Flush ∷ []) c.flush.result
+          (sym digest ∙ equal, refl, refl, refl)
+          (last_stage (record reader { old = end }) unused (record out { old = taken }) Flush c.flush.result (c.flush.ensures, refl, refl)))),
+    )
 
 pub returns-then-ne : goal.returns-then-ne
 returns-then-ne g c =
-    let (second, copies, digest) = c.in_ok-second.ensures in (
+    let (second, digest, copies) = c.in_ok-second.ensures.copied in
+    rw c.into.ensures (
       second,
       inr (
         record { reader = c.go_back.new.data_reader; status = tt; out = c.args.out.now },
@@ -68,7 +49,7 @@ returns-then-ne g c =
         inr (
           record { reader = c.copy_hashed.new.data_reader; status = tt; out = c.copy_hashed.new.out },
           (copies, refl),
-          inl ((c.into.ensures, λ same. different _ _ c.if-ne.ensures (digest ∙ same)), refl, refl, refl),
+          inl ((refl, λ same. different _ _ c.if-ne.ensures (digest ∙ same)), refl, refl, refl),
         ),
       ),
     )

@@ -1,13 +1,13 @@
 use Rattle.std.proofs.Common.{[], refl, rules}
 use Rattle.minisign_base.proofs.Laws.{AppendsFront-keeps}
-use Rattle.minisign.proofs.Beginnings.{passed_on}
+use Rattle.minisign.proofs.Beginnings.{passed_up}
 use Rattle.minisign.proofs.Copies.{front_of_given, front_of_nothing, keeps_same}
 use Rattle.minisign.proofs.copying.copy_hashed.Goals as goal
 
-pub returns-in_err-buf : goal.returns-in_err-buf
-returns-in_err-buf g c =
+pub returns-in_err-buf-clause-refused : goal.returns-in_err-buf-clause-refused
+returns-in_err-buf-clause-refused g c =
     let (message, ahead, front) = front_of_nothing (g.R.Source.ahead c.args.data_reader.now) (g.O.Sink.taken c.args.out.now) _ (keeps_same _) in
-    passed_on _ _ _ _ c.from_residual.ensures.1 (
+    passed_up _ _ _ c.from_residual.ensures.1 (
       message,
       record {
         read = tt;

@@ -2,7 +2,7 @@ use Rattle.std.proofs.Common.{◌∙◌, ℕ, append_assoc, inr, rules, subst}
 use Rattle.std.proofs.KnownBytes.{Appends-trans, Consumes-trans}
 use Rattle.minisign_base.specs.Devices.{Rose}
 use Rattle.minisign_base.proofs.Laws.{AppendsFront-after}
-use Rattle.minisign.proofs.Beginnings.{consumed, passed_on}
+use Rattle.minisign.proofs.Beginnings.{consumed, passed_up}
 use Rattle.minisign.proofs.Copies.{front_of_ahead, front_of_all, front_of_given, given_more, given_still, keeps_same}
 use Rattle.minisign.proofs.copying.copy_pieces.Goals as goal
 
@@ -31,6 +31,7 @@ pub returns-then-n-eq0-clause-copied : goal.returns-then-n-eq0-clause-copied
 returns-then-n-eq0-clause-copied g c =
     let (done, given, taken, fed, since) = c.pieces.invariant.given in (
       done,
+      fed,
       record {
         read = search rules;
         since = search rules;
@@ -44,17 +45,16 @@ returns-then-n-eq0-clause-copied g c =
         marked = c.in-Ok.ensures.marked ∙ c.pieces.invariant.marked;
         unflushed = c.pieces.invariant.unflushed;
       },
-      fed,
     )
 
-pub returns-in_err-put_bytes-in-Ok-clause-copied : goal.returns-in_err-put_bytes-in-Ok-clause-copied
-returns-in_err-put_bytes-in-Ok-clause-copied g c =
+pub returns-in_err-put_bytes-in-Ok-clause-refused : goal.returns-in_err-put_bytes-in-Ok-clause-refused
+returns-in_err-put_bytes-in-Ok-clause-refused g c =
     let (done, given, taken, fed, since) = c.pieces.invariant.given in
     let more = Consumes-trans _ _ _ _ _ given c.in-Ok.ensures.bytes in
     let (((fault, rose), put_front), unflushed) = c.in_err-put_bytes-in-Ok.ensures in
     let put = AppendsFront-after _ _ _ _ _ taken put_front in
     let (message, ahead, front) = front_of_ahead _ (g.R.Source.ahead c.read.new.self) _ _ _ more put in
-    passed_on _ _ _ _ c.from_residual.ensures.1 (
+    passed_up _ _ _ c.from_residual.ensures.1 (
       message,
       record {
         read = tt;
@@ -71,8 +71,8 @@ returns-in_err-put_bytes-in-Ok-clause-copied g c =
       },
     )
 
-pub returns-in-Err-clause-copied : goal.returns-in-Err-clause-copied
-returns-in-Err-clause-copied g c =
+pub returns-in-Err-clause-refused : goal.returns-in-Err-clause-refused
+returns-in-Err-clause-refused g c =
     let (done, given, taken, fed, since) = c.pieces.invariant.given in
     let put = front_of_all _ (g.O.Sink.taken c.pieces.out) _ done taken (keeps_same _) in
     let (message, ahead, front) = front_of_ahead _ (g.R.Source.ahead c.pieces.data_reader) _ _ done given put in (

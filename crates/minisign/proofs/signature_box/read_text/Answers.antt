@@ -12,4 +12,4 @@ returns c =
     let untrusted : string_bytes c.in_ok-from_str.field-0 ≡ parts.untrusted_comment.now = c.in_ok-from_str.ensures.ok in
     let trusted : string_bytes c.in_ok-from_str-2.field-0 ≡ parts.trusted_comment.now = c.in_ok-from_str-2.ensures.ok in
     inl ((λ i. Ok (record { signature = parts.signature; comments = Some (record { untrusted = untrusted i; trusted = trusted i; signature = signed i }) }))
-    ∙ sym (ap (map_ok box_of) c.in_ok-parts.ensures.0))
+    ∙ sym (ap (map_ok box_of) c.in_ok-parts.ensures.read))

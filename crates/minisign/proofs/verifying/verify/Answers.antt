@@ -1,9 +1,11 @@
-use Rattle.std.proofs.lemmas.Result.{MatchResult-weaker}
+use Rattle.std.proofs.Common.{List, ℕ}
 use Rattle.minisign_base.specs.DeviceCalls.{rereader_call, sink_call, unused}
+use Rattle.minisign.specs.SignedData.{held_copy_stages}
+use Rattle.minisign.specs.Stages.{StagesEnd}
 use Rattle.minisign_base.proofs.Laws.{AppendsFront-keeps}
 use Rattle.minisign.proofs.Beginnings.{on_err_of, passed_up}
 use Rattle.minisign.proofs.Copies.{front_of_all, keeps_same}
-use Rattle.minisign.proofs.Passes.{copying_succeeds, first_pass, judged_signed, uncopied, unjudged, unread, unsaid}
+use Rattle.minisign.proofs.Passes.{copying_succeeds, first_pass, judged_signed, of_fault, uncopied, unjudged, unread, unsaid}
 use Rattle.minisign.proofs.Verdicts.{judged_held, judged_or_not}
 use Rattle.minisign.proofs.VouchedTexts.{judged_exactly, refused_exactly}
 use Rattle.minisign.proofs.verifying.verify.Goals as goal
@@ -19,7 +21,7 @@ returns-in_err-signed-clause-refused g c =
     passed_up _ _ _ c.from_residual.ensures.1
     (unread (g.S.Scheme.accepts c.args.scheme.now) c.args.pk.now c.args.signature_box.now c.args.quiet c.args.output c.args.allow_legacy
     g.R.Source g.R.Rereader.steady g.W.Sink g.O.Sink c.args.data_reader.now c.args.data_reader.now c.read_data.new.data_reader
-    c.args.status.now c.args.status.now c.args.out.now c.args.out.now _ c.in_err-signed.ensures.held)
+    c.args.status.now c.args.status.now c.args.out.now c.args.out.now _ c.in_err-signed.ensures.refused)
 
 pub returns-in_err-signed-clause-headline : goal.returns-in_err-signed-clause-headline
 returns-in_err-signed-clause-headline g c =
@@ -67,14 +69,15 @@ returns-clause-accepted g c =
     g.R.Source g.R.Rereader.steady c.args.data_reader.now c.read_data.new.data_reader c.copy_out.new.data_reader _ _ message
     c.args.output c.in_ok-signed.signed holds read pass (judged_or_not (g.S.Scheme.accepts c.args.scheme.now) c.args.pk.now c.args.signature_box.now message c.args.allow_legacy tt
     (judged_held (g.S.Scheme.accepts c.args.scheme.now) c.args.pk.now c.args.signature_box.now message c.args.allow_legacy _ same _ c.in_ok-judge.ensures)) c.in_ok-say.ensures.said
-    c.copy_out.result c.in_ok-say.ensures.no_new_fault c.say.ensures.unflushed
-    (MatchResult-weaker c.copy_out.result c.copy_out.ensures (λ _ copied. copied) (λ _ _. tt))
+    c.copy_out.result c.in_ok-say.ensures.no_new_fault c.say.ensures.unflushed c.copy_out.ensures
 
 pub returns-clause-refused : goal.returns-clause-refused
 returns-clause-refused g c =
     let (message, holds, read) = c.in_ok-signed.ensures.held in
     let same = judged_signed _ c.in_ok-signed.signed c.args.signature_box.now c.args.allow_legacy message c.as_bytes.ensures holds in
-    MatchResult-weaker c.copy_out.result c.copy_out.ensures (λ _ _. tt) (λ e stopped.
+    of_fault c.copy_out.result
+    (λ r. (second : List ℕ) × StagesEnd (rereader_call g.R.Source g.R.Rereader.steady c.read_data.new.data_reader c.copy_out.new.data_reader) unused
+    (sink_call g.O.Sink c.args.out.now c.copy_out.new.out) (held_copy_stages c.args.output c.in_ok-signed.signed second) r) _ c.copy_out.ensures (λ e stopped.
     uncopied (g.S.Scheme.accepts c.args.scheme.now) c.args.pk.now c.args.signature_box.now c.args.quiet c.args.output c.args.allow_legacy
     g.R.Source g.R.Rereader.steady g.W.Sink g.O.Sink c.args.data_reader.now c.read_data.new.data_reader c.copy_out.new.data_reader
     c.args.status.now c.say.new.status c.args.out.now c.copy_out.new.out e message read (judged_or_not (g.S.Scheme.accepts c.args.scheme.now) c.args.pk.now c.args.signature_box.now message c.args.allow_legacy tt

@@ -2,7 +2,7 @@ use Rattle.std.proofs.Common.{◌≡◌, Ok, inl, false, subst, sym, ◌∙◌}
 use Rattle.minisign.specs.Headline.{TextsVouchFor}
 use Rattle.minisign.specs.PublicKeyText.{read_public_key, public_key_text}
 use Rattle.minisign.specs.SignatureText.{read_signature_box}
-use Rattle.minisign.proofs.Laws.{accepted_vouches, only_memory}
+use Rattle.minisign.proofs.Laws.{accepted_vouches, judged_vouches, only_memory}
 use Rattle.minisign_examples.proofs.Refusals.{passed_up}
 use Rattle.minisign_examples.proofs.example.sign_and_verify.Goals as goal
 
@@ -15,7 +15,7 @@ returns-in_err-verify_bytes-clause-genuine g c seed genuine key keynum =
       box = x;
       key_read = subst (λ text. read_public_key text ≡ Ok c.args.public_key.now) (sym (c.as_str.ensures.value ∙ c.into_string-pk_text.ensures)) c.in_ok-to_box.ensures.reads_back;
       box_read = subst (λ text. read_signature_box text ≡ Ok x) (sym c.as_str-2.ensures.value) read;
-      vouches = each c.args.public_key.now false key keynum;
+      vouches = judged_vouches (g.S.Scheme.accepts c.args.scheme.now) c.args.public_key.now x c.args.message.now false tt (each c.args.public_key.now false key keynum);
     }) c.in_err-verify_bytes.ensures))
 
 pub returns-clause-accepted : goal.returns-clause-accepted
