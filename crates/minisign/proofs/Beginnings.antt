@@ -1,5 +1,5 @@
 -- What follows after a refusal, and after one draw and then another.
-use Rattle.std.proofs.Common.{◌≡◌, ℕ, List, ◌++◌, Option, None, Some, Result, Ok, Err, IsErrAnd, MatchResult, IfOk, IfErr, OnErr, append_assoc, ap, sym, subst, ◌∙◌}
+use Rattle.std.proofs.Common.{◌≡◌, ℕ, List, ◌++◌, Option, None, Some, Result, Ok, Err, IsErrAnd, IfOk, IfErr, OnErr, append_assoc, ap, sym, subst, ◌∙◌}
 use Rattle.std.specs.Io.KnownBytes.{Consumes}
 use Rattle.std.specs.Prelude.{⊤}
 use Rattle.minisign_base.specs.Devices.{HasGiven}
@@ -14,11 +14,6 @@ on_err_of (Err e) P h = h
 pub passed_up : {T E : Type 0} (r : Result T E) (e : E) (P : E → Type 0) → IsErrAnd r (λ y. y ≡ e) → P e → IfErr r P
 passed_up (Ok x) e P is h = tt
 passed_up (Err y) e P is h = subst P (sym is) h
-
--- and whatever would hold of a value
-pub passed_on : {T E : Type 0} (r : Result T E) (e : E) (P : T → Type 0) (Q : E → Type 0) → IsErrAnd r (λ y. y ≡ e) → Q e → MatchResult r P Q
-passed_on (Ok x) e P Q is h = absurd is
-passed_on (Err y) e P Q is h = subst Q (sym is) h
 
 -- what is told of how a call ended, where it gave a value and where it did not
 pub told_value : {T E : Type 0} (r : Result T E) (P : T → Type 0) (Ends : Result ⊤ E → Type 0) (Q : T → Type 0) → IfOk r P → Ends (without_value r)

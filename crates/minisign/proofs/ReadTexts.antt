@@ -7,7 +7,7 @@ use Rattle.std.specs.declared.result.Result.TheVariants.{Ok, Err}
 use Rattle.minisign_base.specs.Fault.{Fault}
 use Rattle.minisign_base.specs.Steps.{without_value}
 use Rattle.minisign_base.specs.declared.faults.NamedFault.{NamedFault}
-use Rattle.minisign.specs.Texts.{IsReadOrNoMemory, IsReading, and_then, require, unless}
+use Rattle.minisign.specs.Texts.{IsReadOrNoMemory, IsReading, and_then, require}
 
 -- what is read is one value at most
 pub one_value : {V : Type 0} (r : Result V Fault) (v w : V) → r ≡ Ok v → r ≡ Ok w → v ≡ w

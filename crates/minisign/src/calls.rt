@@ -165,9 +165,9 @@ pub fn verify_in_place<'a, S: Scheme>(
 /// the data. The paths are taken as they stand. The data is read in pieces of 64 KiB, so that
 /// memory does not grow with it.
 ///
-/// Refused are, in this order: a signature file that cannot be opened or read, `reading_failed`;
-/// one that is not UTF-8, `not_utf8`; a data file that cannot be opened, `reading_failed`; a text,
-/// as `verify_bytes` says; a data file that cannot be read, `reading_failed`; and what
+/// Refused are, in this order: a signature file that cannot be opened or read, `ReadingFailed`;
+/// one that is not UTF-8, `NotUtf8`; a data file that cannot be opened, `ReadingFailed`; a text,
+/// as `verify_bytes` says; a data file that cannot be read, `ReadingFailed`; and what
 /// `verify_bytes` refuses of the data. It may run out of memory at any time.
 ///
 /// ```
@@ -204,7 +204,7 @@ pub fn verify_file<F: Files, S: Scheme>(
 /// in pieces of 64 KiB, so that memory does not grow with it, and it is not copied.
 ///
 /// Refused are, in this order: a text, as `verify_bytes` says; data that cannot be read,
-/// `reading_failed`, which comes only where `data_reader` failed; and what `verify_bytes` refuses of
+/// `ReadingFailed`, which comes only where `data_reader` failed; and what `verify_bytes` refuses of
 /// the data. It may run out of memory at any time.
 ///
 /// ```
@@ -272,10 +272,10 @@ fn verify_opened_file<S: Scheme, R: Rereader>(
 ///
 /// The data is read twice in pieces of 64 KiB, so that memory does not grow with it, and nothing is
 /// copied before it is vouched for. Refused are, in this order: a text; for a prehashed signature a
-/// place that cannot be marked, `going_back_failed`; a first reading that fails, `reading_failed`;
+/// place that cannot be marked, `GoingBackFailed`; a first reading that fails, `ReadingFailed`;
 /// what `verify_bytes` refuses of the data; all these with `out` untouched. Then a source that
-/// cannot go back, `going_back_failed`; a second reading or an `out` that fails, whichever comes
-/// first; a second reading that has another digest, `data_changed`; an `out` that fails at its
+/// cannot go back, `GoingBackFailed`; a second reading or an `out` that fails, whichever comes
+/// first; a second reading that has another digest, `DataChanged`; an `out` that fails at its
 /// flush. It may run out of memory until the second reading begins. After any refusal nobody may rely on what `out`
 /// holds. On success `out` is flushed.
 ///

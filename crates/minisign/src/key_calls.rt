@@ -35,8 +35,8 @@ use std::rt::Files;
 /// with the password. Nothing is asked for and nothing is said.
 ///
 /// Refused are, in this order: a text that reads as no key; of a key that was never sealed a
-/// checksum that does not match, `corrupted_key`; of any other what `SecretKey::from_box` refuses
-/// with a password that is passed in, `wrong_password` among it. It may run out of memory at any
+/// checksum that does not match, `CorruptedKey`; of any other what `SecretKey::from_box` refuses
+/// with a password that is passed in, `WrongPassword` among it. It may run out of memory at any
 /// time: a sealed key takes 128 * 8 * N bytes, 32 MiB with the usual limits.
 ///
 /// ```
@@ -57,7 +57,7 @@ impl KeyPair {
     /// 32 of a salt. Nothing is asked for and nothing is said.
     ///
     /// Refused are, in this order: a password of more than 1024 bytes, which could not be typed
-    /// when the key is opened (`password_too_long`), with nothing drawn; a failing `random`; memory
+    /// when the key is opened (`PasswordTooLong`), with nothing drawn; a failing `random`; memory
     /// for the derivation, some 32 MiB. An empty password is taken.
     ///
     /// ```
@@ -104,7 +104,7 @@ impl KeyPair {
 /// gets `timestamp:` and the `moment`, in seconds since 1970; the untrusted one is
 /// `signature from rsign secret key`. Two draws of 64 random bytes are made.
 ///
-/// Refused are, in this order: a sealed key, `encrypted_key_refused`, with nothing drawn; a failing
+/// Refused are, in this order: a sealed key, `EncryptedKeyRefused`, with nothing drawn; a failing
 /// `random`. It may run out of memory at any time after the key was tested. A trusted comment with
 /// a line feed, or with white space at its ends, is written as it stands: the text need not verify
 /// then, or may read with another comment.
@@ -157,8 +157,8 @@ pub fn sign_bytes<S: Scheme, Z: RandomSource>(
 /// Signs all the data ahead of `data_reader`, as `sign_bytes` signs data in memory. The data is
 /// read in pieces of 64 KiB, so that memory does not grow with it.
 ///
-/// Refused are, in this order: a sealed key, `encrypted_key_refused`, with nothing read or drawn; a
-/// failing `data_reader`, `reading_failed`, with nothing drawn; a failing `random`, once the data
+/// Refused are, in this order: a sealed key, `EncryptedKeyRefused`, with nothing read or drawn; a
+/// failing `data_reader`, `ReadingFailed`, with nothing drawn; a failing `random`, once the data
 /// was read. It may run out of memory at any time after the key was tested. What `sign_bytes` says
 /// of the trusted comment holds here too.
 ///
@@ -212,8 +212,8 @@ pub fn sign_reader<S: Scheme, R: Source, Z: RandomSource>(
 /// taken as it stands. The data is read in pieces of 64 KiB, so that memory does not grow with it.
 /// The text is returned, and no file is written.
 ///
-/// Refused are, in this order: a sealed key, `encrypted_key_refused`, with nothing opened, read or
-/// drawn; a file that cannot be opened or read, `reading_failed`, with nothing drawn; a failing
+/// Refused are, in this order: a sealed key, `EncryptedKeyRefused`, with nothing opened, read or
+/// drawn; a file that cannot be opened or read, `ReadingFailed`, with nothing drawn; a failing
 /// `random`, once the file was read. It may run out of memory at any time after the key was tested.
 /// What `sign_bytes` says of the trusted comment holds here too.
 ///

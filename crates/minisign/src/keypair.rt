@@ -152,7 +152,7 @@ impl KeyPair {
     ///
     /// Refused are, in this order: a failing `random`, with nothing asked; what `get_password`
     /// refuses, at the first question and then at the second; two passwords that differ
-    /// (`passwords_differ`); memory for the derivation. A prompt that cannot be written to is
+    /// (`PasswordsDiffer`); memory for the derivation. A prompt that cannot be written to is
     /// refused at each text.
     pub fn generate_encrypted_keypair<S: Scheme, Z: RandomSource, R: Source, W: Sink>(
         alloc: Global,

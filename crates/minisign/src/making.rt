@@ -94,8 +94,8 @@ impl SecretKey {
 /// same for every k.
 ///
 /// Refused are, with a password: a memory limit above 1073741824 bytes or a cost above 2^20,
-/// `parameters_too_high`; limits that lead to parameters that scrypt does not take,
-/// `invalid_parameters`. These take no memory. Then it may run out of memory. A comment with a line
+/// `ParametersTooHigh`; limits that lead to parameters that scrypt does not take,
+/// `InvalidParameters`. These take no memory. Then it may run out of memory. A comment with a line
 /// feed is written as it stands, and the text reads as no key then, or as another one.
 pub fn make_secret_key(
     alloc: Global,

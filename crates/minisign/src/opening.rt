@@ -59,8 +59,8 @@ impl SecretKey {
     /// Reads the secret key text that the file at `path` holds, and opens the key with the
     /// password, as `from_box` does. The path is taken as it stands.
     ///
-    /// These are refused, in this order: a file that cannot be opened or read, `reading_failed`;
-    /// one that is not UTF-8, `not_utf8`; and what `from_box` refuses. It may run out of memory at
+    /// These are refused, in this order: a file that cannot be opened or read, `ReadingFailed`;
+    /// one that is not UTF-8, `NotUtf8`; and what `from_box` refuses. It may run out of memory at
     /// any time. Until the file is read the prompt is left alone. No byte of std's files is known, so of
     /// the text it is only said that there is one.
     pub fn from_file<F: Files, R: Source, W: Sink>(
@@ -84,7 +84,7 @@ impl SecretKey {
     }
 
     /// Reads a sealed key and opens it with the password: as `from_box_within`, with no bound, so
-    /// that `work_too_high` never comes.
+    /// that `WorkTooHigh` never comes.
     pub fn from_box<R: Source, W: Sink>(
         alloc: Global,
         sk_box: SecretKeyBox,
@@ -136,11 +136,11 @@ impl SecretKey {
     ///
     /// Refused are, in this order: a text without a first line, without a second one, with a second
     /// line that is not base64, or of fewer than 158 bytes; a key that was never sealed,
-    /// `key_not_encrypted`; one that is not sealed by scrypt, `unsupported_encryption_algorithm`;
+    /// `KeyNotEncrypted`; one that is not sealed by scrypt, `UnsupportedEncryptionAlgorithm`;
     /// what `get_password` refuses; a writer that fails before the derivation; a memory limit above
-    /// 1073741824 bytes or a cost above 2^20, `parameters_too_high`; limits that lead to parameters
-    /// that scrypt does not take, `invalid_parameters`; p above `max_p`, `work_too_high`; a writer
-    /// that fails at `done`; a checksum that opening does not restore, `wrong_password`. What the
+    /// 1073741824 bytes or a cost above 2^20, `ParametersTooHigh`; limits that lead to parameters
+    /// that scrypt does not take, `InvalidParameters`; p above `max_p`, `WorkTooHigh`; a writer
+    /// that fails at `done`; a checksum that opening does not restore, `WrongPassword`. What the
     /// limits and the bound refuse takes no memory for rows.
     pub fn from_box_within<R: Source, W: Sink>(
         alloc: Global,

@@ -64,8 +64,8 @@ impl SecretKey {
         &self.keynum_sk.chk
     }
 
-    /// Tests that the key was never sealed (otherwise `key_might_be_encrypted`), and then that its
-    /// checksum matches (otherwise `corrupted_key`). Takes no memory.
+    /// Tests that the key was never sealed (otherwise `KeyMightBeEncrypted`), and then that its
+    /// checksum matches (otherwise `CorruptedKey`). Takes no memory.
     pub fn test_unencrypted(&self) -> Result<()>
         // A key is taken exactly if it was never sealed and its checksum matches; otherwise it is
         // the first reason.
@@ -105,9 +105,9 @@ impl SecretKey {
     /// Opens a sealed key that was read with a password, within a bound on the work and with every k-th of scrypt's rows
     /// kept, for k from 1 on: as `from_box_keeping_within` does with its text. Nobody is asked for a password.
     ///
-    /// Refused are, in this order: a key that was never sealed, `key_not_encrypted`; one that is not sealed by scrypt,
-    /// `unsupported_encryption_algorithm`; limits, with `parameters_too_high` or `invalid_parameters`; p above `max_p`,
-    /// `work_too_high`; a checksum that opening does not restore, `wrong_password`. It may run out of memory for the rows.
+    /// Refused are, in this order: a key that was never sealed, `KeyNotEncrypted`; one that is not sealed by scrypt,
+    /// `UnsupportedEncryptionAlgorithm`; limits, with `ParametersTooHigh` or `InvalidParameters`; p above `max_p`,
+    /// `WorkTooHigh`; a checksum that opening does not restore, `WrongPassword`. It may run out of memory for the rows.
     pub fn open_keeping_within(
         self,
         alloc: Global,

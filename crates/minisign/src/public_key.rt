@@ -82,8 +82,8 @@ impl PublicKey {
     /// Reads the public key text that the file at `path` holds, as `from_box` does. The path is
     /// taken as it stands.
     ///
-    /// These are refused, in this order: a file that cannot be opened or read, `reading_failed`;
-    /// one that is not UTF-8, `not_utf8`; and what `from_box` refuses. It may run out of memory at
+    /// These are refused, in this order: a file that cannot be opened or read, `ReadingFailed`;
+    /// one that is not UTF-8, `NotUtf8`; and what `from_box` refuses. It may run out of memory at
     /// any time. No byte of std's files is known, so of the text it is only said that there is one.
     pub fn from_file<F: Files>(files: &F, alloc: Global, path: &str) -> Result<PublicKey>
         // What is returned is read from some text, as the calls over texts read it; otherwise it

@@ -31,8 +31,8 @@ pub(crate) fn read_text_file<F: Files>(files: &F, alloc: Global, path: &str) -> 
     }
 }
 
-/// All that is ahead, as a text in memory. Refused are a failing source (`reading_failed`), bytes
-/// that are not UTF-8 (`not_utf8`), and running out of memory, which may come at any time.
+/// All that is ahead, as a text in memory. Refused are a failing source (`ReadingFailed`), bytes
+/// that are not UTF-8 (`NotUtf8`), and running out of memory, which may come at any time.
 pub fn read_text<S: Source>(alloc: Global, source: &mut S) -> Result<String>
     // A text is all the bytes that were ahead, if these are UTF-8; otherwise memory ran out, with no
     // new fault of the source, the source failed, or they are not UTF-8.

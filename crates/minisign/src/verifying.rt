@@ -37,7 +37,7 @@ use std::alloc::Global;
 ///
 /// With `output` the data of a prehashed box is read twice: its place is marked first, and gone
 /// back to after the verdict; the second pass is hashed while it is copied. Where its digest is the
-/// first one's, `out` is flushed; otherwise `data_changed` is returned, `out` holds what the second
+/// first one's, `out` is flushed; otherwise `DataChanged` is returned, `out` holds what the second
 /// pass gave, and is not flushed: nobody may rely on it. The kept data of a legacy box is written
 /// and flushed without a second reading.
 ///

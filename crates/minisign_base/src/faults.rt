@@ -91,7 +91,7 @@ pub enum NamedFault {
     EncryptedKeyRefused,
     /// The public key that was passed in does not accept the comment signature.
     RefusedByGivenKey { key: [u8; 8] },
-    /// The identifier of a signature is not that of the public key.
+    /// The key ID of a signature is not that of the public key.
     DifferentKeyIds { signature: [u8; 8], key: [u8; 8] },
     /// A legacy signature where only prehashed ones are allowed.
     LegacyNotAccepted,

@@ -76,10 +76,10 @@ fn put_at(room: &mut [u8], at: usize, piece: &[u8]) -> usize
 /// line feed or the end. The line feed and one carriage return before it are no part of the
 /// password. Where the password is empty, `<empty>` and a line feed are written and flushed.
 ///
-/// Memory for one line is wanted first; where it runs out, that is `out_of_memory` and nothing was
-/// written or read. Then, in this order: `writing_failed` and `reading_failed` where a device
-/// fails, `end_of_input` where the input ends at once, `password_too_long` where 1026 bytes hold no
-/// line feed, of which no more are read, `not_utf8`, and `password_too_long` for more than 1024
+/// Memory for one line is wanted first; where it runs out, that is `OutOfMemory` and nothing was
+/// written or read. Then, in this order: `WritingFailed` and `ReadingFailed` where a device
+/// fails, `EndOfInput` where the input ends at once, `PasswordTooLong` where 1026 bytes hold no
+/// line feed, of which no more are read, `NotUtf8`, and `PasswordTooLong` for more than 1024
 /// bytes.
 pub fn get_password<R: Source, W: Sink>(
     alloc: Global,
@@ -119,7 +119,7 @@ fn line_buffer(alloc: Global) -> Result<Vec<u8>>
 }
 
 /// The seconds since 1970, rounded down. Where the clock can't be read or is set before 1970, that
-/// is `clock_incorrect`. Takes no memory.
+/// is `ClockIncorrect`. Takes no memory.
 pub fn unix_timestamp(clock: &impl Clock) -> Result<u64>
     // The only fault of the clock is `system clock is incorrect`. The number of seconds is in no
     // contract.
@@ -146,8 +146,8 @@ fn seconds_since_1970(now: SystemTime) -> Result<u64>
 /// 32nd of the memory they bound N and p is 1, otherwise the memory bounds N and the operations
 /// give p.
 ///
-/// `parameters_too_high` is returned exactly where N would be above 2^`n_log2_max`, and otherwise
-/// `invalid_parameters` exactly where scrypt does not take the parameters (RFC 7914, section 2).
+/// `ParametersTooHigh` is returned exactly where N would be above 2^`n_log2_max`, and otherwise
+/// `InvalidParameters` exactly where scrypt does not take the parameters (RFC 7914, section 2).
 /// Takes no memory.
 #[tactic(auto, unfolding(crate::specs::Limits::limits))]
 pub fn raw_scrypt_params(memlimit: u64, opslimit: u64, n_log2_max: u8) -> Result<Params>

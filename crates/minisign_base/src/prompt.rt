@@ -95,7 +95,7 @@ impl<R: Source, W: Sink> Prompt<R, W> {
 
 impl Prompt<NoSource, NoSink> {
     /// A silent prompt: nobody is asked and nothing is shown. What is written is dropped, and a
-    /// question is refused, `end_of_input`. Takes no memory.
+    /// question is refused, `EndOfInput`. Takes no memory.
     pub fn silent() -> Prompt<NoSource, NoSink>
         // No line that a silent prompt reads is a password: its input ends at once, and that is the
         // fault.

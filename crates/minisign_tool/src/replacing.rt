@@ -109,7 +109,7 @@ impl Stage {
 /// where that is allowed the owner and the group, of the file that was there, or else `mode`; but
 /// its group gets no right that not all others have. What is no regular file is written as it is.
 ///
-/// Where a file is refused, which is out of memory or `writing_failed`, the older one is as it was
+/// Where a file is refused, which is out of memory or `WritingFailed`, the older one is as it was
 /// and nothing is left beside it. Only where the folder cannot be brought to the disk the new one
 /// stands there already.
 pub fn replace_file(rt: &HostRuntime, contents: Contents<'_>) -> Result<()>
@@ -379,7 +379,7 @@ fn write_stream(rt: &HostRuntime, contents: Contents<'_>) -> Result<()>
 }
 
 // What the system returns from a call of writing: all that it refuses, except running out of
-// memory, is `writing_failed`.
+// memory, is `WritingFailed`.
 fn written<T>(answer: io::Result<T>) -> Result<T>
     ensures { IfErr result IsWriteFault }
 {

@@ -165,8 +165,8 @@ impl<W: Write> Sink for WriterSink<W> {
 /// Writes a label, a text and a line feed in one call of `write_all`, so that programs that run side
 /// by side do not mix their lines: a sink that takes all that it is given gets one write.
 ///
-/// Memory is wanted for the line. Where it runs out, that is `out_of_memory`, and the sink is as it
-/// was. Where the sink fails, that is `writing_failed`, and the sink took a beginning of the line.
+/// Memory is wanted for the line. Where it runs out, that is `OutOfMemory`, and the sink is as it
+/// was. Where the sink fails, that is `WritingFailed`, and the sink took a beginning of the line.
 pub fn put_line<S: Sink>(
     alloc: Global,
     sink: &mut S,
