@@ -240,7 +240,15 @@ fn installs_at(rt: &HostRuntime, place: &str, mode: u32) -> bool {
         numbering: Numbering::Timestamp,
     };
     let mut update = SliceSource::new(b"first");
-    install_files(rt, &ToyScheme::new(), wanted, true, &mut update, &mut folder).is_ok()
+    install_files(
+        rt,
+        &ToyScheme::new(),
+        wanted,
+        true,
+        &mut update,
+        &mut folder,
+    )
+    .is_ok()
 }
 
 #[test]
@@ -353,7 +361,16 @@ fn an_update_is_installed_until_it_expires(rt: HostRuntime) {
     let refusal = install(alloc, &mut folder, &DRAWN, b"second", EXPIRING_TWICE, true).err();
     assert!(rt; matches!(refusal, Some(InstallFault::BadExpiry)));
     assert!(rt; is_free(&folder, Name::Place) && is_free(&folder, Name::Record));
-    assert!(rt; installs(alloc, &mut folder, b"second", EXPIRING, true, b"timestamp:6"));
+    assert!(rt;
+        installs(
+            alloc,
+            &mut folder,
+            b"second",
+            EXPIRING,
+            true,
+            b"timestamp:6"
+        )
+    );
 }
 
 // What a check answers of the text of a signature.
@@ -365,7 +382,13 @@ fn offer(
     is_first: bool,
 ) -> Result<(Offer, u64), InstallFault> {
     let scheme = ToyScheme::new();
-    check_update(alloc, &scheme, wanted_at(sig_text, moment), is_first, folder)
+    check_update(
+        alloc,
+        &scheme,
+        wanted_at(sig_text, moment),
+        is_first,
+        folder,
+    )
 }
 
 #[test]

@@ -9,11 +9,10 @@ ghost use Rattle.minisign_install.specs.declared.comments.Numbering.TheVariants.
 ghost use Rattle.minisign_install_files.specs.Files.{name_of};
 
 use minisign::reading::read_text;
-use minisign_base::NamedFault;
 use minisign_base::devices::sources::ReaderSource;
 use minisign_base::scheme::Scheme;
 use minisign_base::toy::ToyScheme;
-use minisign_base::unix_timestamp;
+use minisign_base::{NamedFault, unix_timestamp};
 use minisign_install::{InstallFault, Numbering, Wanted};
 use minisign_install_files::{FileFolder, Trouble, Uninterrupted, install_files};
 use minisign_programs::arguments::{behind_program, read_arguments, words_of};
