@@ -223,7 +223,15 @@ fn installs_at(rt: &HostRuntime, place: &str, mode: u32) -> bool {
         numbering: Numbering::Timestamp,
     };
     let mut update = SliceSource::new(b"first");
-    install_files(rt, &ToyScheme::new(), wanted, true, &mut update, &mut folder).is_ok()
+    install_files(
+        rt,
+        &ToyScheme::new(),
+        wanted,
+        true,
+        &mut update,
+        &mut folder,
+    )
+    .is_ok()
 }
 
 #[test]

@@ -10,10 +10,9 @@ use minisign_base::devices::random_sources::SourceRandom;
 use minisign_base::devices::sources::{ReaderSource, Source};
 use minisign_base::scheme::Scheme;
 use minisign_install::{InstallFault, Wanted, install_update};
-use std::fs;
 use std::fs::File;
-use std::io;
 use std::io::Read;
+use std::{fs, io};
 
 // The device of random bytes.
 const RANDOM_BYTES: &str = "/dev/urandom";
@@ -61,5 +60,13 @@ pub fn install_files<S: Scheme, R: Source>(
 {
     let device = RandomBytes(fs::open(rt, RANDOM_BYTES));
     let mut random = SourceRandom::new(ReaderSource::new(Uninterrupted(device)));
-    install_update(rt.alloc(), scheme, &mut random, wanted, is_first, update, folder)
+    install_update(
+        rt.alloc(),
+        scheme,
+        &mut random,
+        wanted,
+        is_first,
+        update,
+        folder,
+    )
 }
