@@ -245,10 +245,7 @@ fn read_stage<F: Folder>(
 }
 
 // Gives the stage the rights of what stands at the place.
-fn take_rights<F: Folder>(
-    folder: &mut F,
-    stage: &Stage<F::Handle>,
-) -> Result<(), InstallFault>
+fn take_rights<F: Folder>(folder: &mut F, stage: &Stage<F::Handle>) -> Result<(), InstallFault>
     ensures given { Known (F.run folder.old) (HasTried (GivesRights (F.Handle.file stage.now.handle)) (Spoils (F.Handle.file stage.now.handle)) (F.run folder.old) (F.run folder.new) result) }
     ensures refused { IfErr result (λ e. (e ≡ Library (Named WritingFailed)) × Rose (F.folder_faults folder.old) (F.folder_faults folder.new)) }
     ensures no_new_fault { OnOk result (F.folder_faults folder.new ≡ F.folder_faults folder.old) }
@@ -294,11 +291,7 @@ fn write_number<F: Folder>(
 }
 
 // Gives the stage the lasting name.
-fn rename<F: Folder>(
-    folder: &mut F,
-    stage: &Stage<F::Handle>,
-    to: Name,
-) -> Result<(), InstallFault>
+fn rename<F: Folder>(folder: &mut F, stage: &Stage<F::Handle>, to: Name) -> Result<(), InstallFault>
     ensures renamed { Held (F.run folder.old) (MatchResult result
         (λ _. HasRenamed (drawn_bytes stage.now.name) to (F.run folder.old) (F.run folder.new))
         (λ _. Calls (Perhaps (Renames (drawn_bytes stage.now.name) to)) (F.run folder.old) (F.run folder.new))) }
