@@ -81,17 +81,16 @@ creating_wants P R e (inl (is, rest)) memory = cc
 creating_wants P R e (inr (is, rest)) memory = cc
 
 -- a source and a folder that are as they were have counted no fault
-pub untouched : {A B H : Type 0} (source_faults : A → ℕ) (folder_faults : B → ℕ) (random : ℕ) (u u' : A) (f f' : B) (made : Option (Stage H)) (r : Result Unit InstallFault)
-    → IfSome made (λ _. IfErr r (λ e. (fault : Fault) × (e ≡ Library fault) × (((fault ≡ Named OutOfMemory) × (f' ≡ f) × (u' ≡ u)) ⊎ ((fault ≡ Named ReadingFailed) × Rose (source_faults u) (source_faults u'))
-    ⊎ ((fault ≡ Named WritingFailed) × Rose (folder_faults f) (folder_faults f')))))
-    → IfSome made (λ _. IfErr r (λ e. (fault : Fault) × (e ≡ Library fault)
+pub untouched : {A B : Type 0} (source_faults : A → ℕ) (folder_faults : B → ℕ) (random : ℕ) (u u' : A) (f f' : B) (r : Result Unit InstallFault)
+    → IfErr r (λ e. (fault : Fault) × (e ≡ Library fault) × (((fault ≡ Named OutOfMemory) × (f' ≡ f) × (u' ≡ u)) ⊎ ((fault ≡ Named ReadingFailed) × Rose (source_faults u) (source_faults u'))
+    ⊎ ((fault ≡ Named WritingFailed) × Rose (folder_faults f) (folder_faults f'))))
+    → IfErr r (λ e. (fault : Fault) × (e ≡ Library fault)
     × (((fault ≡ Named OutOfMemory) × (counts random (source_faults u') (folder_faults f') ≡ counts random (source_faults u) (folder_faults f)))
-    ⊎ ((fault ≡ Named ReadingFailed) × Rose (source_faults u) (source_faults u')) ⊎ ((fault ≡ Named WritingFailed) × Rose (folder_faults f) (folder_faults f')))))
-untouched source_faults folder_faults random u u' f f' None r why = tt
-untouched source_faults folder_faults random u u' f f' (Some stage) (Ok x) why = tt
-untouched source_faults folder_faults random u u' f f' (Some stage) (Err e) (fault, is, (inl (memory, folder, source))) =
+    ⊎ ((fault ≡ Named ReadingFailed) × Rose (source_faults u) (source_faults u')) ⊎ ((fault ≡ Named WritingFailed) × Rose (folder_faults f) (folder_faults f'))))
+untouched source_faults folder_faults random u u' f f' (Ok x) why = tt
+untouched source_faults folder_faults random u u' f f' (Err e) (fault, is, (inl (memory, folder, source))) =
     (fault, is, inl (memory, same_counts random random (source_faults u) (source_faults u') (folder_faults f) (folder_faults f') refl (ap source_faults source) (ap folder_faults folder)))
-untouched source_faults folder_faults random u u' f f' (Some stage) (Err e) (fault, is, (inr device)) = (fault, is, inr device)
+untouched source_faults folder_faults random u u' f f' (Err e) (fault, is, (inr device)) = (fault, is, inr device)
 
 -- what follows of a call that was done
 pub map_ok : {A E : Type 0} {P Q : Type 0} (r : Result A E) → (P → Q) → OnOk r P → OnOk r Q
@@ -100,21 +99,11 @@ map_ok (Err e) f p = tt
 
 module _ (accepts : Verifier) (terms : Terms) (first : Bool) {H : Type 0} (file_of : H → ℕ) where
   -- what is so of a stage that was made is so of its name and its file
-  at_stage : (P : List ℕ → ℕ → Type 0) (made : Option (Stage H)) (name : List ℕ) (file : ℕ) → IsSome made → IsNamed file_of made name file
-      → IfSome made (λ stage. P (drawn_bytes stage.name) (file_of stage.handle)) → P name file
-  at_stage P None name file some named fact = absurd (true≢false (sym some))
-  at_stage P (Some stage) name file some (is_name, is_file) fact = subst (P name) is_file (subst (λ n. P n (file_of stage.handle)) is_name fact)
-
-  at_any : (P : Type 0) (made : Option (Stage H)) → IsSome made → IfSome made (λ stage. P) → P
-  at_any P None some fact = absurd (true≢false (sym some))
-  at_any P (Some stage) some fact = fact
-
-  -- what was read back of a stage
-  read_of : (made : Option (Stage H)) (state : State) (old : Run) → IsSome made
-      → IfSome made (λ stage. (m : List ℕ) × IsFedState state m × (old.known ≡ true → old.now.holds (file_of stage.handle) ≡ m))
-      → (m : List ℕ) × IsFedState state m × (old.known ≡ true → IfSome made (λ stage. old.now.holds (file_of stage.handle) ≡ m))
-  read_of None state old some fed = absurd (true≢false (sym some))
-  read_of (Some stage) state old some fed = fed
+  at_stage : (P : List ℕ → ℕ → Type 0) (made : Option (Stage H)) (stage : Stage H) (name : List ℕ) (file : ℕ) → made ≡ Some stage → IsNamed file_of made name file
+      → P (drawn_bytes stage.name) (file_of stage.handle) → P name file
+  at_stage P made stage name file is named fact =
+      let (is_name, is_file) = subst (λ m. IsNamed file_of m name file) is named in
+      subst (P name) is_file (subst (λ n. P n (file_of stage.handle)) is_name fact)
 
   -- the call that was due went, with what is held before and after it
   abbrev pub Goes : Due InstallFault → Outcome InstallFault → Work H → Work H → Host → Host → Type 0
@@ -168,7 +157,7 @@ module _ (accepts : Verifier) (terms : Terms) (first : Bool) {H : Type 0} (file_
     λ names named. (
       (no_stage w.stage names.name names.file has.0, named.1),
       record {
-        made = λ known may. (at_stage (λ name file. HasCreated name file h.run h'.run) (Some stage) names.name names.file refl named.0 (created known may), ahead, read);
+        made = λ known may. (at_stage (λ name file. HasCreated name file h.run h'.run) (Some stage) stage names.name names.file refl named.0 (created known may), ahead, read);
         explained = no_new_fault;
         memory = tt;
       },
@@ -192,7 +181,7 @@ module _ (accepts : Verifier) (terms : Terms) (first : Bool) {H : Type 0} (file_
     λ names named. (
       (named.0, no_stage w.record_stage names.record_name names.record_file has.1),
       record {
-        made = λ known may. (at_stage (λ name file. HasCreated name file h.run h'.run) (Some stage) names.record_name names.record_file refl named.1 (created known may), ahead, read);
+        made = λ known may. (at_stage (λ name file. HasCreated name file h.run h'.run) (Some stage) stage names.record_name names.record_file refl named.1 (created known may), ahead, read);
         explained = no_new_fault;
         memory = tt;
       },
@@ -209,75 +198,75 @@ module _ (accepts : Verifier) (terms : Terms) (first : Bool) {H : Type 0} (file_
 
   -- the call was made with the stage of the update, or with that of the record
   with_update : (due : Due InstallFault) (o : Outcome InstallFault) (w : Work H) (h h' : Host) (F : List ℕ → ℕ → Type 0) → HasMade (next due o) w → Knows accepts terms (next due o) w h'.read
-      → IsSome w.stage → IfSome w.stage (λ stage. F (drawn_bytes stage.name) (file_of stage.handle))
+      → (stage : Stage H) → w.stage ≡ Some stage → F (drawn_bytes stage.name) (file_of stage.handle)
       → ((names : Names) → h.run.known ≡ true → MayCall due h.run → F names.name names.file → Makes (setting accepts terms first names) due o h h')
       → ((names : Names) → Explains (setting accepts terms first names) due o h h') → WantsNoMemory due o → Goes due o w w h h'
-  with_update due o w h h' F has known some fact makes explains memory = (
+  with_update due o w h h' F has known stage is fact makes explains memory = (
     has,
     known,
     λ names named. (
       named,
-      record { made = λ known may. makes names known may (at_stage F w.stage names.name names.file some named.0 fact); explained = explains names; memory = memory },
+      record { made = λ known may. makes names known may (at_stage F w.stage stage names.name names.file is named.0 fact); explained = explains names; memory = memory },
     ),
   )
 
   with_record : (due : Due InstallFault) (o : Outcome InstallFault) (w : Work H) (h h' : Host) (F : List ℕ → ℕ → Type 0) → HasMade (next due o) w → Knows accepts terms (next due o) w h'.read
-      → IsSome w.record_stage → IfSome w.record_stage (λ stage. F (drawn_bytes stage.name) (file_of stage.handle))
+      → (stage : Stage H) → w.record_stage ≡ Some stage → F (drawn_bytes stage.name) (file_of stage.handle)
       → ((names : Names) → h.run.known ≡ true → MayCall due h.run → F names.record_name names.record_file → Makes (setting accepts terms first names) due o h h')
       → ((names : Names) → Explains (setting accepts terms first names) due o h h') → WantsNoMemory due o → Goes due o w w h h'
-  with_record due o w h h' F has known some fact makes explains memory = (
+  with_record due o w h h' F has known stage is fact makes explains memory = (
     has,
     known,
     λ names named. (
       named,
-      record { made = λ known may. makes names known may (at_stage F w.record_stage names.record_name names.record_file some named.1 fact); explained = explains names; memory = memory },
+      record { made = λ known may. makes names known may (at_stage F w.record_stage stage names.record_name names.record_file is named.1 fact); explained = explains names; memory = memory },
     ),
   )
 
   pub copy_goes : (kept : ℕ) (w : Work H) (h h' : Host) (r : Result Unit InstallFault) → HasMade {E = InstallFault} (Copy kept) w → h'.read ≡ h.read
-      → IfSome w.stage (λ stage. h.run.known ≡ true → MatchResult r
+      → (stage : Stage H) → w.stage ≡ Some stage → (h.run.known ≡ true → MatchResult r
       (λ _. (pieces : List (List ℕ)) × Writes (file_of stage.handle) pieces h.run h'.run × Consumes h.ahead h'.ahead (concat pieces) × IsAtEnd h'.ahead)
       (λ _. WritesInPart (file_of stage.handle) h.run h'.run))
-      → IfSome w.stage (λ _. IfErr r (λ e. (fault : Fault) × (e ≡ Library fault) × (((fault ≡ Named OutOfMemory) × (h'.faults ≡ h.faults)) ⊎ ((fault ≡ Named ReadingFailed) × Rose h.faults.update h'.faults.update)
-      ⊎ ((fault ≡ Named WritingFailed) × Rose h.faults.folder h'.faults.folder))))
+      → IfErr r (λ e. (fault : Fault) × (e ≡ Library fault) × (((fault ≡ Named OutOfMemory) × (h'.faults ≡ h.faults)) ⊎ ((fault ≡ Named ReadingFailed) × Rose h.faults.update h'.faults.update)
+      ⊎ ((fault ≡ Named WritingFailed) × Rose h.faults.folder h'.faults.folder)))
       → OnOk r (h'.faults ≡ h.faults) → Goes (Copy kept) (done_or r) w w h h'
-  copy_goes kept w h h' (Ok x) has read copied why no_new_fault =
+  copy_goes kept w h h' (Ok x) has read stage is copied why no_new_fault =
       with_update (Copy kept) Done w h h'
-      (λ name file. h.run.known ≡ true → (pieces : List (List ℕ)) × Writes file pieces h.run h'.run × Consumes h.ahead h'.ahead (concat pieces) × IsAtEnd h'.ahead) has tt has.0 copied
+      (λ name file. h.run.known ≡ true → (pieces : List (List ℕ)) × Writes file pieces h.run h'.run × Consumes h.ahead h'.ahead (concat pieces) × IsAtEnd h'.ahead) has tt stage is copied
       (λ names known may fact. let (pieces, writes, given, end) = fact known in (pieces, writes, given, end, read)) (λ names. no_new_fault) tt
-  copy_goes kept w h h' (Err e) has read copied why no_new_fault =
-      with_update (Copy kept) (Failed e) w h h' (λ name file. h.run.known ≡ true → WritesInPart file h.run h'.run) (has.0, tt) tt has.0 copied (λ names known may fact. fact known)
-      (λ names. copying_fails h h' e (at_any _ w.stage has.0 why)) (λ no. absurd (true≢false no))
+  copy_goes kept w h h' (Err e) has read stage is copied why no_new_fault =
+      with_update (Copy kept) (Failed e) w h h' (λ name file. h.run.known ≡ true → WritesInPart file h.run h'.run) (has.0, tt) tt stage is copied (λ names known may fact. fact known)
+      (λ names. copying_fails h h' e why) (λ no. absurd (true≢false no))
 
   pub read_back_step : (kept : ℕ) (w : Work H) (state : State) (old new : Run) (ahead : Option (List ℕ)) (read : List ℕ) (before after : Counts) (r : Result Unit InstallFault)
       → HasMade {E = InstallFault} (ReadBack kept) w → new ≡ old
-      → IfSome w.stage (λ stage. OnOk r ((m : List ℕ) × IsFedState state m × (old.known ≡ true → old.now.holds (file_of stage.handle) ≡ m)))
-      → IfSome w.stage (λ _. IfErr r (IsLibraryFault (IsReadingFault before.folder after.folder)))
+      → (stage : Stage H) → w.stage ≡ Some stage → (OnOk r ((m : List ℕ) × IsFedState state m × (old.known ≡ true → old.now.holds (file_of stage.handle) ≡ m)))
+      → IfErr r (IsLibraryFault (IsReadingFault before.folder after.folder))
       → OnOk r (after ≡ before) → (after.folder ≡ before.folder → after ≡ before)
       → HasMade (next (ReadBack kept) (done_or r)) (record w { state = state })
       × ((then : List ℕ) × Knows accepts terms (next (ReadBack kept) (done_or r)) (record w { state = state }) then
       × ((names : Names) → AreNamed file_of w names → AreNamed file_of w names
       × Went (setting accepts terms first names) (ReadBack kept) (done_or r) (host old ahead read before) (host new ahead then after)))
-  read_back_step kept w state old new ahead read before after (Ok x) has still fed why no_new_fault same =
-      let (m, is_fed, all) = read_of w.stage state old has.0 fed in (
+  read_back_step kept w state old new ahead read before after (Ok x) has still stage is fed why no_new_fault same =
+      let (m, is_fed, all) = fed in (
         has,
         (
           m,
           is_fed,
           λ names named. (
             named,
-            record { made = λ known may. (still, at_stage (λ name file. old.now.holds file ≡ m) w.stage names.name names.file has.0 named.0 (all known)); explained = no_new_fault; memory = tt },
+            record { made = λ known may. (still, at_stage (λ name file. old.now.holds file ≡ m) w.stage stage names.name names.file is named.0 (all known)); explained = no_new_fault; memory = tt },
           ),
         ),
       )
-  read_back_step kept w state old new ahead read before after (Err e) has still fed why no_new_fault same = (
+  read_back_step kept w state old new ahead read before after (Err e) has still stage is fed why no_new_fault same = (
     (has.0, tt),
     (
       read,
       tt,
       λ names named. (
         named,
-        record { made = λ known may. still; explained = reading_back_fails (host old ahead read before) (host new ahead read after) e same (at_any _ w.stage has.0 why); memory = λ no. absurd (true≢false no) },
+        record { made = λ known may. still; explained = reading_back_fails (host old ahead read before) (host new ahead read after) e same why; memory = λ no. absurd (true≢false no) },
       ),
     ),
   )
@@ -290,46 +279,46 @@ module _ (accepts : Verifier) (terms : Terms) (first : Bool) {H : Type 0} (file_
       ((has.0, tt), tt, λ names named. (named, record { made = λ known may. still; explained = ⊎_elim (λ memory. inr (memory_fails (state ≡ w.state) h h' e no_new_fault memory)) (λ refused. inl refused) judged; memory = λ no. absurd (true≢false no) }))
 
   pub take_rights_goes : (n : ℕ) (w : Work H) (h h' : Host) (r : Result Unit InstallFault) → HasMade {E = InstallFault} (TakeRights n) w → h'.ahead ≡ h.ahead → h'.read ≡ h.read
-      → IfSome w.stage (λ stage. h.run.known ≡ true → HasTried (GivesRights (file_of stage.handle)) (Spoils (file_of stage.handle)) h.run h'.run r)
-      → IfSome w.stage (λ _. IfErr r (λ e. (e ≡ Library (Named WritingFailed)) × Rose h.faults.folder h'.faults.folder)) → OnOk r (h'.faults ≡ h.faults) → Goes (TakeRights n) (done_or r) w w h h'
-  take_rights_goes n w h h' (Ok x) has ahead read given why no_new_fault =
-      with_update (TakeRights n) Done w h h' (λ name file. h.run.known ≡ true → Calls (GivesRights file) h.run h'.run) has tt has.0 given (λ names known may fact. (fact known, ahead, read)) (λ names. no_new_fault) tt
-  take_rights_goes n w h h' (Err e) has ahead read given why no_new_fault =
-      with_update (TakeRights n) (Failed e) w h h' (λ name file. h.run.known ≡ true → Calls (Spoils file) h.run h'.run) (has.0, tt) tt has.0 given (λ names known may fact. (fact known, ahead, read)) (λ names. writing_fails h h' e (at_any _ w.stage has.0 why)) (λ no. writing_wants _ e (at_any _ w.stage has.0 why))
+      → (stage : Stage H) → w.stage ≡ Some stage → (h.run.known ≡ true → HasTried (GivesRights (file_of stage.handle)) (Spoils (file_of stage.handle)) h.run h'.run r)
+      → IfErr r (λ e. (e ≡ Library (Named WritingFailed)) × Rose h.faults.folder h'.faults.folder) → OnOk r (h'.faults ≡ h.faults) → Goes (TakeRights n) (done_or r) w w h h'
+  take_rights_goes n w h h' (Ok x) has ahead read stage is given why no_new_fault =
+      with_update (TakeRights n) Done w h h' (λ name file. h.run.known ≡ true → Calls (GivesRights file) h.run h'.run) has tt stage is given (λ names known may fact. (fact known, ahead, read)) (λ names. no_new_fault) tt
+  take_rights_goes n w h h' (Err e) has ahead read stage is given why no_new_fault =
+      with_update (TakeRights n) (Failed e) w h h' (λ name file. h.run.known ≡ true → Calls (Spoils file) h.run h'.run) (has.0, tt) tt stage is given (λ names known may fact. (fact known, ahead, read)) (λ names. writing_fails h h' e why) (λ no. writing_wants _ e why)
 
   pub settle_goes : (n : ℕ) (w : Work H) (h h' : Host) (r : Result Unit InstallFault) → HasMade {E = InstallFault} (Settle n) w → h'.ahead ≡ h.ahead → h'.read ≡ h.read
-      → IfSome w.stage (λ stage. h.run.known ≡ true → HasTried (Settles (file_of stage.handle)) (Spoils (file_of stage.handle)) h.run h'.run r)
-      → IfSome w.stage (λ _. IfErr r (λ e. (e ≡ Library (Named WritingFailed)) × Rose h.faults.folder h'.faults.folder)) → OnOk r (h'.faults ≡ h.faults) → Goes (Settle n) (done_or r) w w h h'
-  settle_goes n w h h' (Ok x) has ahead read settled why no_new_fault =
-      with_update (Settle n) Done w h h' (λ name file. h.run.known ≡ true → Calls (Settles file) h.run h'.run) has tt has.0 settled (λ names known may fact. (fact known, ahead, read)) (λ names. no_new_fault) tt
-  settle_goes n w h h' (Err e) has ahead read settled why no_new_fault =
-      with_update (Settle n) (Failed e) w h h' (λ name file. h.run.known ≡ true → Calls (Spoils file) h.run h'.run) (has.0, tt) tt has.0 settled (λ names known may fact. (fact known, ahead, read)) (λ names. writing_fails h h' e (at_any _ w.stage has.0 why)) (λ no. writing_wants _ e (at_any _ w.stage has.0 why))
+      → (stage : Stage H) → w.stage ≡ Some stage → (h.run.known ≡ true → HasTried (Settles (file_of stage.handle)) (Spoils (file_of stage.handle)) h.run h'.run r)
+      → IfErr r (λ e. (e ≡ Library (Named WritingFailed)) × Rose h.faults.folder h'.faults.folder) → OnOk r (h'.faults ≡ h.faults) → Goes (Settle n) (done_or r) w w h h'
+  settle_goes n w h h' (Ok x) has ahead read stage is settled why no_new_fault =
+      with_update (Settle n) Done w h h' (λ name file. h.run.known ≡ true → Calls (Settles file) h.run h'.run) has tt stage is settled (λ names known may fact. (fact known, ahead, read)) (λ names. no_new_fault) tt
+  settle_goes n w h h' (Err e) has ahead read stage is settled why no_new_fault =
+      with_update (Settle n) (Failed e) w h h' (λ name file. h.run.known ≡ true → Calls (Spoils file) h.run h'.run) (has.0, tt) tt stage is settled (λ names known may fact. (fact known, ahead, read)) (λ names. writing_fails h h' e why) (λ no. writing_wants _ e why)
 
   pub write_record_goes : (n : ℕ) (w : Work H) (h h' : Host) (r : Result Unit InstallFault) → HasMade {E = InstallFault} (WriteRecord n) w → h'.ahead ≡ h.ahead → h'.read ≡ h.read
-      → IfSome w.record_stage (λ stage. h.run.known ≡ true → MatchResult r
+      → (stage : Stage H) → w.record_stage ≡ Some stage → (h.run.known ≡ true → MatchResult r
       (λ _. (pieces : List (List ℕ)) × Writes (file_of stage.handle) pieces h.run h'.run × (concat pieces ≡ record_of terms.numbering n)) (λ _. WritesInPart (file_of stage.handle) h.run h'.run))
-      → IfSome w.record_stage (λ _. IfErr r (λ e. (e ≡ Library (Named WritingFailed)) × Rose h.faults.folder h'.faults.folder)) → OnOk r (h'.faults ≡ h.faults) → Goes (WriteRecord n) (done_or r) w w h h'
-  write_record_goes n w h h' (Ok x) has ahead read written why no_new_fault =
-      with_record (WriteRecord n) Done w h h' (λ name file. h.run.known ≡ true → (pieces : List (List ℕ)) × Writes file pieces h.run h'.run × (concat pieces ≡ record_of terms.numbering n)) has tt has.1 written (λ names known may fact. (fact known, ahead, read)) (λ names. no_new_fault) tt
-  write_record_goes n w h h' (Err e) has ahead read written why no_new_fault =
-      with_record (WriteRecord n) (Failed e) w h h' (λ name file. h.run.known ≡ true → WritesInPart file h.run h'.run) has tt has.1 written (λ names known may fact. (fact known, ahead, read)) (λ names. writing_fails h h' e (at_any _ w.record_stage has.1 why)) (λ no. writing_wants _ e (at_any _ w.record_stage has.1 why))
+      → IfErr r (λ e. (e ≡ Library (Named WritingFailed)) × Rose h.faults.folder h'.faults.folder) → OnOk r (h'.faults ≡ h.faults) → Goes (WriteRecord n) (done_or r) w w h h'
+  write_record_goes n w h h' (Ok x) has ahead read stage is written why no_new_fault =
+      with_record (WriteRecord n) Done w h h' (λ name file. h.run.known ≡ true → (pieces : List (List ℕ)) × Writes file pieces h.run h'.run × (concat pieces ≡ record_of terms.numbering n)) has tt stage is written (λ names known may fact. (fact known, ahead, read)) (λ names. no_new_fault) tt
+  write_record_goes n w h h' (Err e) has ahead read stage is written why no_new_fault =
+      with_record (WriteRecord n) (Failed e) w h h' (λ name file. h.run.known ≡ true → WritesInPart file h.run h'.run) has tt stage is written (λ names known may fact. (fact known, ahead, read)) (λ names. writing_fails h h' e why) (λ no. writing_wants _ e why)
 
   pub settle_record_goes : (n : ℕ) (w : Work H) (h h' : Host) (r : Result Unit InstallFault) → HasMade {E = InstallFault} (SettleRecord n) w → h'.ahead ≡ h.ahead → h'.read ≡ h.read
-      → IfSome w.record_stage (λ stage. h.run.known ≡ true → HasTried (Settles (file_of stage.handle)) (Spoils (file_of stage.handle)) h.run h'.run r)
-      → IfSome w.record_stage (λ _. IfErr r (λ e. (e ≡ Library (Named WritingFailed)) × Rose h.faults.folder h'.faults.folder)) → OnOk r (h'.faults ≡ h.faults) → Goes (SettleRecord n) (done_or r) w w h h'
-  settle_record_goes n w h h' (Ok x) has ahead read settled why no_new_fault =
-      with_record (SettleRecord n) Done w h h' (λ name file. h.run.known ≡ true → Calls (Settles file) h.run h'.run) has tt has.1 settled (λ names known may fact. (fact known, ahead, read)) (λ names. no_new_fault) tt
-  settle_record_goes n w h h' (Err e) has ahead read settled why no_new_fault =
-      with_record (SettleRecord n) (Failed e) w h h' (λ name file. h.run.known ≡ true → Calls (Spoils file) h.run h'.run) has tt has.1 settled (λ names known may fact. (fact known, ahead, read)) (λ names. writing_fails h h' e (at_any _ w.record_stage has.1 why)) (λ no. writing_wants _ e (at_any _ w.record_stage has.1 why))
+      → (stage : Stage H) → w.record_stage ≡ Some stage → (h.run.known ≡ true → HasTried (Settles (file_of stage.handle)) (Spoils (file_of stage.handle)) h.run h'.run r)
+      → IfErr r (λ e. (e ≡ Library (Named WritingFailed)) × Rose h.faults.folder h'.faults.folder) → OnOk r (h'.faults ≡ h.faults) → Goes (SettleRecord n) (done_or r) w w h h'
+  settle_record_goes n w h h' (Ok x) has ahead read stage is settled why no_new_fault =
+      with_record (SettleRecord n) Done w h h' (λ name file. h.run.known ≡ true → Calls (Settles file) h.run h'.run) has tt stage is settled (λ names known may fact. (fact known, ahead, read)) (λ names. no_new_fault) tt
+  settle_record_goes n w h h' (Err e) has ahead read stage is settled why no_new_fault =
+      with_record (SettleRecord n) (Failed e) w h h' (λ name file. h.run.known ≡ true → Calls (Spoils file) h.run h'.run) has tt stage is settled (λ names known may fact. (fact known, ahead, read)) (λ names. writing_fails h h' e why) (λ no. writing_wants _ e why)
 
   pub rename_record_goes : (n : ℕ) (w : Work H) (h h' : Host) (r : Result Unit InstallFault) → HasMade {E = InstallFault} (RenameRecord n) w → h'.ahead ≡ h.ahead → h'.read ≡ h.read
-      → IfSome w.record_stage (λ stage. h.run.known ≡ true → h.run.locked ≡ true → MatchResult r
+      → (stage : Stage H) → w.record_stage ≡ Some stage → (h.run.known ≡ true → h.run.locked ≡ true → MatchResult r
       (λ _. HasRenamed (drawn_bytes stage.name) Record h.run h'.run) (λ _. Calls (Perhaps (Renames (drawn_bytes stage.name) Record)) h.run h'.run))
-      → IfSome w.record_stage (λ _. IfErr r (λ e. (e ≡ Library (Named WritingFailed)) × Rose h.faults.folder h'.faults.folder)) → OnOk r (h'.faults ≡ h.faults) → Goes (RenameRecord n) (done_or r) w w h h'
-  rename_record_goes n w h h' (Ok x) has ahead read renamed why no_new_fault =
-      with_record (RenameRecord n) Done w h h' (λ name file. h.run.known ≡ true → h.run.locked ≡ true → HasRenamed name Record h.run h'.run) has tt has.1 renamed (λ names known may fact. (fact known may, ahead, read)) (λ names. no_new_fault) tt
-  rename_record_goes n w h h' (Err e) has ahead read renamed why no_new_fault =
-      with_record (RenameRecord n) (Failed e) w h h' (λ name file. h.run.known ≡ true → h.run.locked ≡ true → Calls (Perhaps (Renames name Record)) h.run h'.run) has tt has.1 renamed (λ names known may fact. (fact known may, ahead, read)) (λ names. writing_fails h h' e (at_any _ w.record_stage has.1 why)) (λ no. writing_wants _ e (at_any _ w.record_stage has.1 why))
+      → IfErr r (λ e. (e ≡ Library (Named WritingFailed)) × Rose h.faults.folder h'.faults.folder) → OnOk r (h'.faults ≡ h.faults) → Goes (RenameRecord n) (done_or r) w w h h'
+  rename_record_goes n w h h' (Ok x) has ahead read stage is renamed why no_new_fault =
+      with_record (RenameRecord n) Done w h h' (λ name file. h.run.known ≡ true → h.run.locked ≡ true → HasRenamed name Record h.run h'.run) has tt stage is renamed (λ names known may fact. (fact known may, ahead, read)) (λ names. no_new_fault) tt
+  rename_record_goes n w h h' (Err e) has ahead read stage is renamed why no_new_fault =
+      with_record (RenameRecord n) (Failed e) w h h' (λ name file. h.run.known ≡ true → h.run.locked ≡ true → Calls (Perhaps (Renames name Record)) h.run h'.run) has tt stage is renamed (λ names known may fact. (fact known may, ahead, read)) (λ names. writing_fails h h' e why) (λ no. writing_wants _ e why)
 
   pub settle_record_name_goes : (n : ℕ) (w : Work H) (h h' : Host) (r : Result Unit InstallFault) → HasMade {E = InstallFault} (SettleRecordName n) w → h'.ahead ≡ h.ahead → h'.read ≡ h.read
       → (h.run.known ≡ true → HasTried SettlesNames KeepsNames h.run h'.run r)
@@ -340,13 +329,13 @@ module _ (accepts : Verifier) (terms : Terms) (first : Bool) {H : Type 0} (file_
       (has, tt, λ names named. (named, record { made = λ known may. (settled known, ahead, read); explained = writing_fails h h' e why; memory = λ no. writing_wants _ e why }))
 
   pub rename_goes : (n : ℕ) (w : Work H) (h h' : Host) (r : Result Unit InstallFault) → HasMade {E = InstallFault} (Rename n) w → h'.ahead ≡ h.ahead → h'.read ≡ h.read
-      → IfSome w.stage (λ stage. h.run.known ≡ true → h.run.locked ≡ true → MatchResult r
+      → (stage : Stage H) → w.stage ≡ Some stage → (h.run.known ≡ true → h.run.locked ≡ true → MatchResult r
       (λ _. HasRenamed (drawn_bytes stage.name) Place h.run h'.run) (λ _. Calls (Perhaps (Renames (drawn_bytes stage.name) Place)) h.run h'.run))
-      → IfSome w.stage (λ _. IfErr r (λ e. (e ≡ Library (Named WritingFailed)) × Rose h.faults.folder h'.faults.folder)) → OnOk r (h'.faults ≡ h.faults) → Goes (Rename n) (done_or r) w w h h'
-  rename_goes n w h h' (Ok x) has ahead read renamed why no_new_fault =
-      with_update (Rename n) Done w h h' (λ name file. h.run.known ≡ true → h.run.locked ≡ true → HasRenamed name Place h.run h'.run) has tt has.0 renamed (λ names known may fact. (fact known may, ahead, read)) (λ names. no_new_fault) tt
-  rename_goes n w h h' (Err e) has ahead read renamed why no_new_fault =
-      with_update (Rename n) (Failed e) w h h' (λ name file. h.run.known ≡ true → h.run.locked ≡ true → Calls (Perhaps (Renames name Place)) h.run h'.run) has tt has.0 renamed (λ names known may fact. (fact known may, ahead, read)) (λ names. at_any _ w.stage has.0 why) (λ no. writing_wants _ e (at_any _ w.stage has.0 why))
+      → IfErr r (λ e. (e ≡ Library (Named WritingFailed)) × Rose h.faults.folder h'.faults.folder) → OnOk r (h'.faults ≡ h.faults) → Goes (Rename n) (done_or r) w w h h'
+  rename_goes n w h h' (Ok x) has ahead read stage is renamed why no_new_fault =
+      with_update (Rename n) Done w h h' (λ name file. h.run.known ≡ true → h.run.locked ≡ true → HasRenamed name Place h.run h'.run) has tt stage is renamed (λ names known may fact. (fact known may, ahead, read)) (λ names. no_new_fault) tt
+  rename_goes n w h h' (Err e) has ahead read stage is renamed why no_new_fault =
+      with_update (Rename n) (Failed e) w h h' (λ name file. h.run.known ≡ true → h.run.locked ≡ true → Calls (Perhaps (Renames name Place)) h.run h'.run) has tt stage is renamed (λ names known may fact. (fact known may, ahead, read)) (λ names. why) (λ no. writing_wants _ e why)
 
   pub settle_name_goes : (n : ℕ) (w : Work H) (h h' : Host) (r : Result Unit InstallFault) → HasMade {E = InstallFault} (SettleName n) w → h'.ahead ≡ h.ahead → h'.read ≡ h.read
       → (h.run.known ≡ true → HasTried SettlesNames KeepsNames h.run h'.run r)
@@ -356,19 +345,19 @@ module _ (accepts : Verifier) (terms : Terms) (first : Bool) {H : Type 0} (file_
   settle_name_goes n w h h' (Err e) has ahead read settled why no_new_fault = (has, tt, λ names named. (named, record { made = λ known may. (settled known, ahead, read); explained = why; memory = λ no. folder_wants _ e why }))
 
   pub remove_record_goes : (f : InstallFault) (w : Work H) (h h' : Host) (r : Result Unit InstallFault) → HasMade (RemoveRecord f) w → h'.ahead ≡ h.ahead → h'.read ≡ h.read
-      → IfSome w.record_stage (λ stage. h.run.known ≡ true → h.run.locked ≡ true → MatchResult r
+      → (stage : Stage H) → w.record_stage ≡ Some stage → (h.run.known ≡ true → h.run.locked ≡ true → MatchResult r
       (λ _. Lets (drawn_bytes stage.name) (Removes (drawn_bytes stage.name)) h.run h'.run) (λ _. Lets (drawn_bytes stage.name) (Perhaps (Removes (drawn_bytes stage.name))) h.run h'.run))
-      → IfSome w.record_stage (λ _. IfErr r (λ e. e ≡ Library (Named WritingFailed))) → h'.faults ≡ h.faults → Goes (RemoveRecord f) (done_or r) w w h h'
-  remove_record_goes f w h h' (Ok x) has ahead read removed why no_new_fault =
-      with_record (RemoveRecord f) Done w h h' (λ name file. h.run.known ≡ true → h.run.locked ≡ true → Lets name (Removes name) h.run h'.run) (has.0, tt) tt has.1 removed (λ names known may fact. (fact known may, ahead, read)) (λ names. no_new_fault) tt
-  remove_record_goes f w h h' (Err e) has ahead read removed why no_new_fault =
-      with_record (RemoveRecord f) (Failed e) w h h' (λ name file. h.run.known ≡ true → h.run.locked ≡ true → Lets name (Perhaps (Removes name)) h.run h'.run) (has.0, tt) tt has.1 removed (λ names known may fact. (fact known may, ahead, read)) (λ names. no_new_fault) (λ no. writing_wants Unit e (at_any _ w.record_stage has.1 why, tt))
+      → IfErr r (λ e. e ≡ Library (Named WritingFailed)) → h'.faults ≡ h.faults → Goes (RemoveRecord f) (done_or r) w w h h'
+  remove_record_goes f w h h' (Ok x) has ahead read stage is removed why no_new_fault =
+      with_record (RemoveRecord f) Done w h h' (λ name file. h.run.known ≡ true → h.run.locked ≡ true → Lets name (Removes name) h.run h'.run) (has.0, tt) tt stage is removed (λ names known may fact. (fact known may, ahead, read)) (λ names. no_new_fault) tt
+  remove_record_goes f w h h' (Err e) has ahead read stage is removed why no_new_fault =
+      with_record (RemoveRecord f) (Failed e) w h h' (λ name file. h.run.known ≡ true → h.run.locked ≡ true → Lets name (Perhaps (Removes name)) h.run h'.run) (has.0, tt) tt stage is removed (λ names known may fact. (fact known may, ahead, read)) (λ names. no_new_fault) (λ no. writing_wants Unit e (why, tt))
 
   pub remove_goes : (f : InstallFault) (w : Work H) (h h' : Host) (r : Result Unit InstallFault) → HasMade (Remove f) w → h'.ahead ≡ h.ahead → h'.read ≡ h.read
-      → IfSome w.stage (λ stage. h.run.known ≡ true → h.run.locked ≡ true → MatchResult r
+      → (stage : Stage H) → w.stage ≡ Some stage → (h.run.known ≡ true → h.run.locked ≡ true → MatchResult r
       (λ _. Lets (drawn_bytes stage.name) (Removes (drawn_bytes stage.name)) h.run h'.run) (λ _. Lets (drawn_bytes stage.name) (Perhaps (Removes (drawn_bytes stage.name))) h.run h'.run))
-      → IfSome w.stage (λ _. IfErr r (λ e. e ≡ Library (Named WritingFailed))) → h'.faults ≡ h.faults → Goes (Remove f) (done_or r) w w h h'
-  remove_goes f w h h' (Ok x) has ahead read removed why no_new_fault =
-      with_update (Remove f) Done w h h' (λ name file. h.run.known ≡ true → h.run.locked ≡ true → Lets name (Removes name) h.run h'.run) (tt, tt) tt has.0 removed (λ names known may fact. (fact known may, ahead, read)) (λ names. no_new_fault) tt
-  remove_goes f w h h' (Err e) has ahead read removed why no_new_fault =
-      with_update (Remove f) (Failed e) w h h' (λ name file. h.run.known ≡ true → h.run.locked ≡ true → Lets name (Perhaps (Removes name)) h.run h'.run) (tt, tt) tt has.0 removed (λ names known may fact. (fact known may, ahead, read)) (λ names. no_new_fault) (λ no. writing_wants Unit e (at_any _ w.stage has.0 why, tt))
+      → IfErr r (λ e. e ≡ Library (Named WritingFailed)) → h'.faults ≡ h.faults → Goes (Remove f) (done_or r) w w h h'
+  remove_goes f w h h' (Ok x) has ahead read stage is removed why no_new_fault =
+      with_update (Remove f) Done w h h' (λ name file. h.run.known ≡ true → h.run.locked ≡ true → Lets name (Removes name) h.run h'.run) (tt, tt) tt stage is removed (λ names known may fact. (fact known may, ahead, read)) (λ names. no_new_fault) tt
+  remove_goes f w h h' (Err e) has ahead read stage is removed why no_new_fault =
+      with_update (Remove f) (Failed e) w h h' (λ name file. h.run.known ≡ true → h.run.locked ≡ true → Lets name (Perhaps (Removes name)) h.run h'.run) (tt, tt) tt stage is removed (λ names known may fact. (fact known may, ahead, read)) (λ names. no_new_fault) (λ no. writing_wants Unit e (why, tt))

@@ -1,6 +1,6 @@
 //! The calls of an installation over a folder: each is made as it is due, and says how it went.
 
-ghost use Rattle.std.specs.Prelude.{◌≡◌, ◌⊎◌, ◌<◌, ℕ, List, false, IfErr, IfSome, IsSomeAnd, OnOk, OnErr, MatchResult};
+ghost use Rattle.std.specs.Prelude.{◌≡◌, ◌⊎◌, ◌<◌, ℕ, List, Some, false, IfErr, IsSome, IsSomeAnd, OnOk, OnErr, MatchResult};
 ghost use Rattle.std.specs.Io.KnownBytes.{Consumes, IsAtEnd};
 ghost use Rattle.std.specs.List.{concat};
 ghost use Rattle.minisign_base.specs.Devices.{Rose};
@@ -78,6 +78,8 @@ pub(crate) fn make<S: Scheme, Z: RandomSource, R: Source, F: Folder>(
     due: &Due<InstallFault>,
     work: &mut Work<F::Handle>,
 ) -> Outcome<InstallFault>
+    // The stages were made that are used where this is due.
+    requires { HasMade due.now work.old }
     // The call that is due was made, and went as it is said; where it failed, this is why: for want of memory only where
     // it asks for memory and no device failed.
     ensures went { has_ended due.now ≡ false → (read : List ℕ) → HasMade due.now work.old → Knows (S.accepts scheme.now) (terms_of wanted.entry) due.now work.old read
@@ -94,26 +96,37 @@ pub(crate) fn make<S: Scheme, Z: RandomSource, R: Source, F: Folder>(
         Due::Clear => done_or(clear(folder)),
         Due::ReadRecord => number_or(read_number(alloc, folder, wanted.numbering, is_first)),
         Due::Create(_) => done_or(create(random, folder, &mut work.stage)),
-        Due::Copy(_) => done_or(copy(alloc, folder, &work.stage, update)),
-        Due::ReadBack(_) => done_or(read_stage(alloc, folder, &work.stage, &mut work.state)),
+        Due::Copy(_) => done_or(copy(alloc, folder, made(&work.stage), update)),
+        Due::ReadBack(_) => done_or(read_stage(alloc, folder, made(&work.stage), &mut work.state)),
         Due::Answer(kept) => number_or(judge(alloc, scheme, wanted, *kept, &mut work.state)),
-        Due::TakeRights(_) => done_or(take_rights(folder, &work.stage)),
-        Due::Settle(_) => done_or(settle(folder, &work.stage)),
+        Due::TakeRights(_) => done_or(take_rights(folder, made(&work.stage))),
+        Due::Settle(_) => done_or(settle(folder, made(&work.stage))),
         Due::CreateRecord(_) => done_or(create(random, folder, &mut work.record_stage)),
         Due::WriteRecord(number) => done_or(write_number(
             folder,
-            &work.record_stage,
+            made(&work.record_stage),
             wanted.numbering,
             *number,
         )),
-        Due::SettleRecord(_) => done_or(settle(folder, &work.record_stage)),
-        Due::RenameRecord(_) => done_or(rename(folder, &work.record_stage, Name::Record)),
+        Due::SettleRecord(_) => done_or(settle(folder, made(&work.record_stage))),
+        Due::RenameRecord(_) => done_or(rename(folder, made(&work.record_stage), Name::Record)),
         Due::SettleRecordName(_) => done_or(settle_names(folder, NamedFault::WritingFailed.into())),
-        Due::Rename(_) => done_or(rename(folder, &work.stage, Name::Place)),
+        Due::Rename(_) => done_or(rename(folder, made(&work.stage), Name::Place)),
         Due::SettleName(_) => done_or(settle_names(folder, InstallFault::FolderNotOnDisk)),
-        Due::RemoveRecord(_) => done_or(remove(folder, &work.record_stage)),
-        Due::Remove(_) => done_or(remove(folder, &work.stage)),
+        Due::RemoveRecord(_) => done_or(remove(folder, made(&work.record_stage))),
+        Due::Remove(_) => done_or(remove(folder, made(&work.stage))),
         Due::Installed | Due::Refused(_) => Outcome::Done,
+    }
+}
+
+// The stage, which was made.
+fn made<H: Drop>(stage: &Option<Stage<H>>) -> &Stage<H>
+    requires { IsSome stage.now }
+    ensures { stage.now ≡ Some result.now }
+{
+    match stage {
+        Some(made) => made,
+        None => unreachable!(),
     }
 }
 
@@ -193,23 +206,20 @@ fn create<Z: RandomSource, F: Folder>(
 fn copy<R: Source, F: Folder>(
     alloc: Global,
     folder: &mut F,
-    stage: &Option<Stage<F::Handle>>,
+    stage: &Stage<F::Handle>,
     update: &mut R,
 ) -> Result<(), InstallFault>
-    ensures copied { IfSome stage.now (λ made. Known (F.run folder.old) (MatchResult result
-        (λ _. (pieces : List (List ℕ)) × Writes (F.Handle.file made.handle) pieces (F.run folder.old) (F.run folder.new)
+    ensures copied { Known (F.run folder.old) (MatchResult result
+        (λ _. (pieces : List (List ℕ)) × Writes (F.Handle.file stage.now.handle) pieces (F.run folder.old) (F.run folder.new)
         × Consumes (R.ahead update.old) (R.ahead update.new) (concat pieces) × IsAtEnd (R.ahead update.new))
-        (λ _. WritesInPart (F.Handle.file made.handle) (F.run folder.old) (F.run folder.new)))) }
-    ensures refused { IfSome stage.now (λ _. IfErr result (λ e. (fault : Fault) × (e ≡ Library fault) × (((fault ≡ Named OutOfMemory) × (folder.new ≡ folder.old) × (update.new ≡ update.old)) ⊎ ((fault ≡ Named ReadingFailed) × Rose (R.faults update.old) (R.faults update.new))
-        ⊎ ((fault ≡ Named WritingFailed) × Rose (F.folder_faults folder.old) (F.folder_faults folder.new))))) }
+        (λ _. WritesInPart (F.Handle.file stage.now.handle) (F.run folder.old) (F.run folder.new))) }
+    ensures refused { IfErr result (λ e. (fault : Fault) × (e ≡ Library fault) × (((fault ≡ Named OutOfMemory) × (folder.new ≡ folder.old) × (update.new ≡ update.old)) ⊎ ((fault ≡ Named ReadingFailed) × Rose (R.faults update.old) (R.faults update.new))
+        ⊎ ((fault ≡ Named WritingFailed) × Rose (F.folder_faults folder.old) (F.folder_faults folder.new)))) }
     ensures no_new_fault { OnOk result ((R.faults update.new ≡ R.faults update.old) × (F.folder_faults folder.new ≡ F.folder_faults folder.old)) }
 {
-    match stage {
-        Some(made) => match fill(alloc, folder, &made.handle, update) {
-            Ok(()) => Ok(()),
-            Err(fault) => Err(fault.into()),
-        },
-        None => Err(unmade()),
+    match fill(alloc, folder, &stage.handle, update) {
+        Ok(()) => Ok(()),
+        Err(fault) => Err(fault.into()),
     }
 }
 
@@ -217,102 +227,80 @@ fn copy<R: Source, F: Folder>(
 fn read_stage<F: Folder>(
     alloc: Global,
     folder: &mut F,
-    stage: &Option<Stage<F::Handle>>,
+    stage: &Stage<F::Handle>,
     state: &mut State,
 ) -> Result<(), InstallFault>
     ensures still { F.run folder.new ≡ F.run folder.old }
-    ensures fed { IfSome stage.now (λ made. OnOk result ((m : List ℕ) × IsFedState state.new m × Known (F.run folder.old) ((F.run folder.old).now.holds (F.Handle.file made.handle) ≡ m))) }
-    ensures refused { IfSome stage.now (λ _. IfErr result (IsLibraryFault (IsReadingFault (F.folder_faults folder.old) (F.folder_faults folder.new)))) }
+    ensures fed { OnOk result ((m : List ℕ) × IsFedState state.new m × Known (F.run folder.old) ((F.run folder.old).now.holds (F.Handle.file stage.now.handle) ≡ m)) }
+    ensures refused { IfErr result (IsLibraryFault (IsReadingFault (F.folder_faults folder.old) (F.folder_faults folder.new))) }
     ensures no_new_fault { OnOk result (F.folder_faults folder.new ≡ F.folder_faults folder.old) }
 {
-    match stage {
-        Some(made) => match read_back(alloc, folder, &made.handle) {
-            Ok(fed) => {
-                *state = fed;
-                Ok(())
-            }
-            Err(fault) => Err(fault.into()),
-        },
-        None => Err(unmade()),
+    match read_back(alloc, folder, &stage.handle) {
+        Ok(fed) => {
+            *state = fed;
+            Ok(())
+        }
+        Err(fault) => Err(fault.into()),
     }
 }
 
 // Gives the stage the rights of what stands at the place.
-fn take_rights<F: Folder>(
-    folder: &mut F,
-    stage: &Option<Stage<F::Handle>>,
-) -> Result<(), InstallFault>
-    ensures given { IfSome stage.now (λ made. Known (F.run folder.old) (HasTried (GivesRights (F.Handle.file made.handle)) (Spoils (F.Handle.file made.handle)) (F.run folder.old) (F.run folder.new) result)) }
-    ensures refused { IfSome stage.now (λ _. IfErr result (λ e. (e ≡ Library (Named WritingFailed)) × Rose (F.folder_faults folder.old) (F.folder_faults folder.new))) }
+fn take_rights<F: Folder>(folder: &mut F, stage: &Stage<F::Handle>) -> Result<(), InstallFault>
+    ensures given { Known (F.run folder.old) (HasTried (GivesRights (F.Handle.file stage.now.handle)) (Spoils (F.Handle.file stage.now.handle)) (F.run folder.old) (F.run folder.new) result) }
+    ensures refused { IfErr result (λ e. (e ≡ Library (Named WritingFailed)) × Rose (F.folder_faults folder.old) (F.folder_faults folder.new)) }
     ensures no_new_fault { OnOk result (F.folder_faults folder.new ≡ F.folder_faults folder.old) }
 {
-    match stage {
-        Some(made) => match folder.take_rights(&made.handle) {
-            Ok(()) => Ok(()),
-            Err(_) => Err(NamedFault::WritingFailed.into()),
-        },
-        None => Err(unmade()),
+    match folder.take_rights(&stage.handle) {
+        Ok(()) => Ok(()),
+        Err(_) => Err(NamedFault::WritingFailed.into()),
     }
 }
 
 // Brings to the disk what the stage holds.
-fn settle<F: Folder>(folder: &mut F, stage: &Option<Stage<F::Handle>>) -> Result<(), InstallFault>
-    ensures settled { IfSome stage.now (λ made. Known (F.run folder.old) (HasTried (Settles (F.Handle.file made.handle)) (Spoils (F.Handle.file made.handle)) (F.run folder.old) (F.run folder.new) result)) }
-    ensures refused { IfSome stage.now (λ _. IfErr result (λ e. (e ≡ Library (Named WritingFailed)) × Rose (F.folder_faults folder.old) (F.folder_faults folder.new))) }
+fn settle<F: Folder>(folder: &mut F, stage: &Stage<F::Handle>) -> Result<(), InstallFault>
+    ensures settled { Known (F.run folder.old) (HasTried (Settles (F.Handle.file stage.now.handle)) (Spoils (F.Handle.file stage.now.handle)) (F.run folder.old) (F.run folder.new) result) }
+    ensures refused { IfErr result (λ e. (e ≡ Library (Named WritingFailed)) × Rose (F.folder_faults folder.old) (F.folder_faults folder.new)) }
     ensures no_new_fault { OnOk result (F.folder_faults folder.new ≡ F.folder_faults folder.old) }
 {
-    match stage {
-        Some(made) => match folder.settle(&made.handle) {
-            Ok(()) => Ok(()),
-            Err(_) => Err(NamedFault::WritingFailed.into()),
-        },
-        None => Err(unmade()),
+    match folder.settle(&stage.handle) {
+        Ok(()) => Ok(()),
+        Err(_) => Err(NamedFault::WritingFailed.into()),
     }
 }
 
 // Writes the number, behind the label of its field, into the stage of the record, which is empty.
 fn write_number<F: Folder>(
     folder: &mut F,
-    stage: &Option<Stage<F::Handle>>,
+    stage: &Stage<F::Handle>,
     numbering: Numbering,
     number: u64,
 ) -> Result<(), InstallFault>
-    ensures written { IfSome stage.now (λ made. Known (F.run folder.old) (MatchResult result
-        (λ _. (pieces : List (List ℕ)) × Writes (F.Handle.file made.handle) pieces (F.run folder.old) (F.run folder.new) × (concat pieces ≡ record_of numbering number))
-        (λ _. WritesInPart (F.Handle.file made.handle) (F.run folder.old) (F.run folder.new)))) }
-    ensures refused { IfSome stage.now (λ _. IfErr result (λ e. (e ≡ Library (Named WritingFailed)) × Rose (F.folder_faults folder.old) (F.folder_faults folder.new))) }
+    ensures written { Known (F.run folder.old) (MatchResult result
+        (λ _. (pieces : List (List ℕ)) × Writes (F.Handle.file stage.now.handle) pieces (F.run folder.old) (F.run folder.new) × (concat pieces ≡ record_of numbering number))
+        (λ _. WritesInPart (F.Handle.file stage.now.handle) (F.run folder.old) (F.run folder.new))) }
+    ensures refused { IfErr result (λ e. (e ≡ Library (Named WritingFailed)) × Rose (F.folder_faults folder.old) (F.folder_faults folder.new)) }
     ensures no_new_fault { OnOk result (F.folder_faults folder.new ≡ F.folder_faults folder.old) }
 {
     let mut buffer = [0u8; MOST_WRITTEN];
     let written = write_record(numbering, number, &mut buffer);
     let (text, _) = buffer.split_at(written);
-    match stage {
-        Some(made) => match write_all(folder, &made.handle, text) {
-            Ok(()) => Ok(()),
-            Err(_) => Err(NamedFault::WritingFailed.into()),
-        },
-        None => Err(unmade()),
+    match write_all(folder, &stage.handle, text) {
+        Ok(()) => Ok(()),
+        Err(_) => Err(NamedFault::WritingFailed.into()),
     }
 }
 
 // Gives the stage the lasting name.
-fn rename<F: Folder>(
-    folder: &mut F,
-    stage: &Option<Stage<F::Handle>>,
-    to: Name,
-) -> Result<(), InstallFault>
-    ensures renamed { IfSome stage.now (λ made. Held (F.run folder.old) (MatchResult result
-        (λ _. HasRenamed (drawn_bytes made.name) to (F.run folder.old) (F.run folder.new))
-        (λ _. Calls (Perhaps (Renames (drawn_bytes made.name) to)) (F.run folder.old) (F.run folder.new)))) }
-    ensures refused { IfSome stage.now (λ _. IfErr result (λ e. (e ≡ Library (Named WritingFailed)) × Rose (F.folder_faults folder.old) (F.folder_faults folder.new))) }
+fn rename<F: Folder>(folder: &mut F, stage: &Stage<F::Handle>, to: Name) -> Result<(), InstallFault>
+    ensures renamed { Held (F.run folder.old) (MatchResult result
+        (λ _. HasRenamed (drawn_bytes stage.now.name) to (F.run folder.old) (F.run folder.new))
+        (λ _. Calls (Perhaps (Renames (drawn_bytes stage.now.name) to)) (F.run folder.old) (F.run folder.new))) }
+    ensures refused { IfErr result (λ e. (e ≡ Library (Named WritingFailed)) × Rose (F.folder_faults folder.old) (F.folder_faults folder.new)) }
     ensures no_new_fault { OnOk result (F.folder_faults folder.new ≡ F.folder_faults folder.old) }
 {
-    match stage {
-        Some(made) => match folder.rename(&made.name, to) {
-            Ok(()) => Ok(()),
-            Err(_) => Err(NamedFault::WritingFailed.into()),
-        },
-        None => Err(unmade()),
+    match folder.rename(&stage.name, to) {
+        Ok(()) => Ok(()),
+        Err(_) => Err(NamedFault::WritingFailed.into()),
     }
 }
 
@@ -329,23 +317,15 @@ fn settle_names<F: Folder>(folder: &mut F, fault: InstallFault) -> Result<(), In
 }
 
 // Removes the stage. Where it cannot be removed, it is left to `clear` of a later run, and no fault is counted.
-fn remove<F: Folder>(folder: &mut F, stage: &Option<Stage<F::Handle>>) -> Result<(), InstallFault>
-    ensures removed { IfSome stage.now (λ made. Held (F.run folder.old) (MatchResult result
-        (λ _. Lets (drawn_bytes made.name) (Removes (drawn_bytes made.name)) (F.run folder.old) (F.run folder.new))
-        (λ _. Lets (drawn_bytes made.name) (Perhaps (Removes (drawn_bytes made.name))) (F.run folder.old) (F.run folder.new)))) }
-    ensures refused { IfSome stage.now (λ _. IfErr result (λ e. e ≡ Library (Named WritingFailed))) }
+fn remove<F: Folder>(folder: &mut F, stage: &Stage<F::Handle>) -> Result<(), InstallFault>
+    ensures removed { Held (F.run folder.old) (MatchResult result
+        (λ _. Lets (drawn_bytes stage.now.name) (Removes (drawn_bytes stage.now.name)) (F.run folder.old) (F.run folder.new))
+        (λ _. Lets (drawn_bytes stage.now.name) (Perhaps (Removes (drawn_bytes stage.now.name))) (F.run folder.old) (F.run folder.new))) }
+    ensures refused { IfErr result (λ e. e ≡ Library (Named WritingFailed)) }
     ensures uncounted { F.folder_faults folder.new ≡ F.folder_faults folder.old }
 {
-    match stage {
-        Some(made) => match folder.remove(&made.name) {
-            Ok(()) => Ok(()),
-            Err(_) => Err(NamedFault::WritingFailed.into()),
-        },
-        None => Err(unmade()),
+    match folder.remove(&stage.name) {
+        Ok(()) => Ok(()),
+        Err(_) => Err(NamedFault::WritingFailed.into()),
     }
-}
-
-// What no call is told: a stage is used only once it was made.
-fn unmade() -> InstallFault {
-    NamedFault::WritingFailed.into()
 }

@@ -165,7 +165,8 @@ impl Installation {
     }
 }
 
-// The fault of a signed comment by its number.
+// The fault of a signed comment by its number. Another number is there only where a host has written into the
+// installation, and counts as the last.
 fn comment_fault(number: u32) -> InstallFault
     ensures { (terms : Terms) (kept : ℕ) (comment : List ℕ) (e : InstallFault) → number ≡ install_number e → IsCommentRefused terms kept comment e
         → result ≡ e }

@@ -38,7 +38,7 @@ pub returns-in-Copy-clause-went : goal.returns-in-Copy-clause-went
 returns-in-Copy-clause-went g c = rw (c.in-Copy.is, c.done_or-in-Copy.ensures) (λ going read made knows.
     let h = host (g.F.Folder.run c.args.folder.now) (g.R.Source.ahead c.args.update.now) read (counts (g.Z.RandomSource.random_faults c.args.random.now) (g.R.Source.faults c.args.update.now) (g.F.Folder.folder_faults c.args.folder.now)) in
     let then = host (g.F.Folder.run c.copy.new.folder) (g.R.Source.ahead c.copy.new.update) read (counts (g.Z.RandomSource.random_faults c.args.random.now) (g.R.Source.faults c.copy.new.update) (g.F.Folder.folder_faults c.copy.new.folder)) in
-    let (has, known, went) = copy_goes (g.S.Scheme.accepts c.args.scheme.now) (terms_of c.args.wanted) c.args.is_first g.F.Handle.Handle.file c.in-Copy.field-0 c.args.work.now h then c.copy.result made refl c.copy.ensures.copied (untouched (g.R.Source.faults) (g.F.Folder.folder_faults) _ _ _ _ _ c.args.work.now.stage c.copy.result c.copy.ensures.refused) (map_ok c.copy.result (λ no_new_fault. same_counts _ _ _ _ _ _ refl no_new_fault.0 no_new_fault.1) c.copy.ensures.no_new_fault) in
+    let (has, known, went) = copy_goes (g.S.Scheme.accepts c.args.scheme.now) (terms_of c.args.wanted) c.args.is_first g.F.Handle.Handle.file c.in-Copy.field-0 c.args.work.now h then c.copy.result made refl c.made.result.now c.made.ensures c.copy.ensures.copied (untouched (g.R.Source.faults) (g.F.Folder.folder_faults) _ _ _ _ _ c.copy.result c.copy.ensures.refused) (map_ok c.copy.result (λ no_new_fault. same_counts _ _ _ _ _ _ refl no_new_fault.0 no_new_fault.1) c.copy.ensures.no_new_fault) in
     (has, (read, known, went)))
 
 pub returns-in-ReadBack-clause-went : goal.returns-in-ReadBack-clause-went
@@ -46,7 +46,7 @@ returns-in-ReadBack-clause-went g c = rw (c.in-ReadBack.is, c.done_or-in-ReadBac
     read_back_step (g.S.Scheme.accepts c.args.scheme.now) (terms_of c.args.wanted) c.args.is_first g.F.Handle.Handle.file c.in-ReadBack.field-0 c.args.work.now c.read_stage.new.state (g.F.Folder.run c.args.folder.now) (g.F.Folder.run c.read_stage.new.folder) (g.R.Source.ahead c.args.update.now) read
     (counts (g.Z.RandomSource.random_faults c.args.random.now) (g.R.Source.faults c.args.update.now) (g.F.Folder.folder_faults c.args.folder.now))
     (counts (g.Z.RandomSource.random_faults c.args.random.now) (g.R.Source.faults c.args.update.now) (g.F.Folder.folder_faults c.read_stage.new.folder))
-    c.read_stage.result made c.read_stage.ensures.still c.read_stage.ensures.fed c.read_stage.ensures.refused (map_ok c.read_stage.result (λ no_new_fault. same_counts _ _ _ _ _ _ refl refl no_new_fault) c.read_stage.ensures.no_new_fault) (λ same. same_counts _ _ _ _ _ _ refl refl same))
+    c.read_stage.result made c.read_stage.ensures.still c.made-in-ReadBack.result.now c.made-in-ReadBack.ensures c.read_stage.ensures.fed c.read_stage.ensures.refused (map_ok c.read_stage.result (λ no_new_fault. same_counts _ _ _ _ _ _ refl refl no_new_fault) c.read_stage.ensures.no_new_fault) (λ same. same_counts _ _ _ _ _ _ refl refl same))
 
 pub returns-in-Answer-clause-went : goal.returns-in-Answer-clause-went
 returns-in-Answer-clause-went g c = rw (c.in-Answer.is, c.number_or-in-Answer.ensures) (λ going read made knows.
@@ -59,14 +59,14 @@ pub returns-in-TakeRights-clause-went : goal.returns-in-TakeRights-clause-went
 returns-in-TakeRights-clause-went g c = rw (c.in-TakeRights.is, c.done_or-in-TakeRights.ensures) (λ going read made knows.
     let h = host (g.F.Folder.run c.args.folder.now) (g.R.Source.ahead c.args.update.now) read (counts (g.Z.RandomSource.random_faults c.args.random.now) (g.R.Source.faults c.args.update.now) (g.F.Folder.folder_faults c.args.folder.now)) in
     let then = host (g.F.Folder.run c.take_rights.new.folder) (g.R.Source.ahead c.args.update.now) read (counts (g.Z.RandomSource.random_faults c.args.random.now) (g.R.Source.faults c.args.update.now) (g.F.Folder.folder_faults c.take_rights.new.folder)) in
-    let (has, known, went) = take_rights_goes (g.S.Scheme.accepts c.args.scheme.now) (terms_of c.args.wanted) c.args.is_first g.F.Handle.Handle.file c.in-TakeRights.field-0 c.args.work.now h then c.take_rights.result made refl refl c.take_rights.ensures.given c.take_rights.ensures.refused (map_ok c.take_rights.result (λ no_new_fault. same_counts _ _ _ _ _ _ refl refl no_new_fault) c.take_rights.ensures.no_new_fault) in
+    let (has, known, went) = take_rights_goes (g.S.Scheme.accepts c.args.scheme.now) (terms_of c.args.wanted) c.args.is_first g.F.Handle.Handle.file c.in-TakeRights.field-0 c.args.work.now h then c.take_rights.result made refl refl c.made-in-TakeRights.result.now c.made-in-TakeRights.ensures c.take_rights.ensures.given c.take_rights.ensures.refused (map_ok c.take_rights.result (λ no_new_fault. same_counts _ _ _ _ _ _ refl refl no_new_fault) c.take_rights.ensures.no_new_fault) in
     (has, (read, known, went)))
 
 pub returns-in-Settle-clause-went : goal.returns-in-Settle-clause-went
 returns-in-Settle-clause-went g c = rw (c.in-Settle.is, c.done_or-in-Settle.ensures) (λ going read made knows.
     let h = host (g.F.Folder.run c.args.folder.now) (g.R.Source.ahead c.args.update.now) read (counts (g.Z.RandomSource.random_faults c.args.random.now) (g.R.Source.faults c.args.update.now) (g.F.Folder.folder_faults c.args.folder.now)) in
     let then = host (g.F.Folder.run c.settle.new.folder) (g.R.Source.ahead c.args.update.now) read (counts (g.Z.RandomSource.random_faults c.args.random.now) (g.R.Source.faults c.args.update.now) (g.F.Folder.folder_faults c.settle.new.folder)) in
-    let (has, known, went) = settle_goes (g.S.Scheme.accepts c.args.scheme.now) (terms_of c.args.wanted) c.args.is_first g.F.Handle.Handle.file c.in-Settle.field-0 c.args.work.now h then c.settle.result made refl refl c.settle.ensures.settled c.settle.ensures.refused (map_ok c.settle.result (λ no_new_fault. same_counts _ _ _ _ _ _ refl refl no_new_fault) c.settle.ensures.no_new_fault) in
+    let (has, known, went) = settle_goes (g.S.Scheme.accepts c.args.scheme.now) (terms_of c.args.wanted) c.args.is_first g.F.Handle.Handle.file c.in-Settle.field-0 c.args.work.now h then c.settle.result made refl refl c.made-in-Settle.result.now c.made-in-Settle.ensures c.settle.ensures.settled c.settle.ensures.refused (map_ok c.settle.result (λ no_new_fault. same_counts _ _ _ _ _ _ refl refl no_new_fault) c.settle.ensures.no_new_fault) in
     (has, (read, known, went)))
 
 pub returns-in-CreateRecord-clause-went : goal.returns-in-CreateRecord-clause-went
@@ -80,21 +80,21 @@ pub returns-in-WriteRecord-clause-went : goal.returns-in-WriteRecord-clause-went
 returns-in-WriteRecord-clause-went g c = rw (c.in-WriteRecord.is, c.done_or-in-WriteRecord.ensures) (λ going read made knows.
     let h = host (g.F.Folder.run c.args.folder.now) (g.R.Source.ahead c.args.update.now) read (counts (g.Z.RandomSource.random_faults c.args.random.now) (g.R.Source.faults c.args.update.now) (g.F.Folder.folder_faults c.args.folder.now)) in
     let then = host (g.F.Folder.run c.write_number.new.folder) (g.R.Source.ahead c.args.update.now) read (counts (g.Z.RandomSource.random_faults c.args.random.now) (g.R.Source.faults c.args.update.now) (g.F.Folder.folder_faults c.write_number.new.folder)) in
-    let (has, known, went) = write_record_goes (g.S.Scheme.accepts c.args.scheme.now) (terms_of c.args.wanted) c.args.is_first g.F.Handle.Handle.file c.in-WriteRecord.number c.args.work.now h then c.write_number.result made refl refl c.write_number.ensures.written c.write_number.ensures.refused (map_ok c.write_number.result (λ no_new_fault. same_counts _ _ _ _ _ _ refl refl no_new_fault) c.write_number.ensures.no_new_fault) in
+    let (has, known, went) = write_record_goes (g.S.Scheme.accepts c.args.scheme.now) (terms_of c.args.wanted) c.args.is_first g.F.Handle.Handle.file c.in-WriteRecord.number c.args.work.now h then c.write_number.result made refl refl c.made-in-WriteRecord.result.now c.made-in-WriteRecord.ensures c.write_number.ensures.written c.write_number.ensures.refused (map_ok c.write_number.result (λ no_new_fault. same_counts _ _ _ _ _ _ refl refl no_new_fault) c.write_number.ensures.no_new_fault) in
     (has, (read, known, went)))
 
 pub returns-in-SettleRecord-clause-went : goal.returns-in-SettleRecord-clause-went
 returns-in-SettleRecord-clause-went g c = rw (c.in-SettleRecord.is, c.done_or-in-SettleRecord.ensures) (λ going read made knows.
     let h = host (g.F.Folder.run c.args.folder.now) (g.R.Source.ahead c.args.update.now) read (counts (g.Z.RandomSource.random_faults c.args.random.now) (g.R.Source.faults c.args.update.now) (g.F.Folder.folder_faults c.args.folder.now)) in
     let then = host (g.F.Folder.run c.settle-in-SettleRecord.new.folder) (g.R.Source.ahead c.args.update.now) read (counts (g.Z.RandomSource.random_faults c.args.random.now) (g.R.Source.faults c.args.update.now) (g.F.Folder.folder_faults c.settle-in-SettleRecord.new.folder)) in
-    let (has, known, went) = settle_record_goes (g.S.Scheme.accepts c.args.scheme.now) (terms_of c.args.wanted) c.args.is_first g.F.Handle.Handle.file c.in-SettleRecord.field-0 c.args.work.now h then c.settle-in-SettleRecord.result made refl refl c.settle-in-SettleRecord.ensures.settled c.settle-in-SettleRecord.ensures.refused (map_ok c.settle-in-SettleRecord.result (λ no_new_fault. same_counts _ _ _ _ _ _ refl refl no_new_fault) c.settle-in-SettleRecord.ensures.no_new_fault) in
+    let (has, known, went) = settle_record_goes (g.S.Scheme.accepts c.args.scheme.now) (terms_of c.args.wanted) c.args.is_first g.F.Handle.Handle.file c.in-SettleRecord.field-0 c.args.work.now h then c.settle-in-SettleRecord.result made refl refl c.made-in-SettleRecord.result.now c.made-in-SettleRecord.ensures c.settle-in-SettleRecord.ensures.settled c.settle-in-SettleRecord.ensures.refused (map_ok c.settle-in-SettleRecord.result (λ no_new_fault. same_counts _ _ _ _ _ _ refl refl no_new_fault) c.settle-in-SettleRecord.ensures.no_new_fault) in
     (has, (read, known, went)))
 
 pub returns-in-RenameRecord-clause-went : goal.returns-in-RenameRecord-clause-went
 returns-in-RenameRecord-clause-went g c = rw (c.in-RenameRecord.is, c.done_or-in-RenameRecord.ensures) (λ going read made knows.
     let h = host (g.F.Folder.run c.args.folder.now) (g.R.Source.ahead c.args.update.now) read (counts (g.Z.RandomSource.random_faults c.args.random.now) (g.R.Source.faults c.args.update.now) (g.F.Folder.folder_faults c.args.folder.now)) in
     let then = host (g.F.Folder.run c.rename.new.folder) (g.R.Source.ahead c.args.update.now) read (counts (g.Z.RandomSource.random_faults c.args.random.now) (g.R.Source.faults c.args.update.now) (g.F.Folder.folder_faults c.rename.new.folder)) in
-    let (has, known, went) = rename_record_goes (g.S.Scheme.accepts c.args.scheme.now) (terms_of c.args.wanted) c.args.is_first g.F.Handle.Handle.file c.in-RenameRecord.field-0 c.args.work.now h then c.rename.result made refl refl c.rename.ensures.renamed c.rename.ensures.refused (map_ok c.rename.result (λ no_new_fault. same_counts _ _ _ _ _ _ refl refl no_new_fault) c.rename.ensures.no_new_fault) in
+    let (has, known, went) = rename_record_goes (g.S.Scheme.accepts c.args.scheme.now) (terms_of c.args.wanted) c.args.is_first g.F.Handle.Handle.file c.in-RenameRecord.field-0 c.args.work.now h then c.rename.result made refl refl c.made-in-RenameRecord.result.now c.made-in-RenameRecord.ensures c.rename.ensures.renamed c.rename.ensures.refused (map_ok c.rename.result (λ no_new_fault. same_counts _ _ _ _ _ _ refl refl no_new_fault) c.rename.ensures.no_new_fault) in
     (has, (read, known, went)))
 
 pub returns-in-SettleRecordName-clause-went : goal.returns-in-SettleRecordName-clause-went
@@ -108,7 +108,7 @@ pub returns-in-Rename-clause-went : goal.returns-in-Rename-clause-went
 returns-in-Rename-clause-went g c = rw (c.in-Rename.is, c.done_or-in-Rename.ensures) (λ going read made knows.
     let h = host (g.F.Folder.run c.args.folder.now) (g.R.Source.ahead c.args.update.now) read (counts (g.Z.RandomSource.random_faults c.args.random.now) (g.R.Source.faults c.args.update.now) (g.F.Folder.folder_faults c.args.folder.now)) in
     let then = host (g.F.Folder.run c.rename-in-Rename.new.folder) (g.R.Source.ahead c.args.update.now) read (counts (g.Z.RandomSource.random_faults c.args.random.now) (g.R.Source.faults c.args.update.now) (g.F.Folder.folder_faults c.rename-in-Rename.new.folder)) in
-    let (has, known, went) = rename_goes (g.S.Scheme.accepts c.args.scheme.now) (terms_of c.args.wanted) c.args.is_first g.F.Handle.Handle.file c.in-Rename.field-0 c.args.work.now h then c.rename-in-Rename.result made refl refl c.rename-in-Rename.ensures.renamed c.rename-in-Rename.ensures.refused (map_ok c.rename-in-Rename.result (λ no_new_fault. same_counts _ _ _ _ _ _ refl refl no_new_fault) c.rename-in-Rename.ensures.no_new_fault) in
+    let (has, known, went) = rename_goes (g.S.Scheme.accepts c.args.scheme.now) (terms_of c.args.wanted) c.args.is_first g.F.Handle.Handle.file c.in-Rename.field-0 c.args.work.now h then c.rename-in-Rename.result made refl refl c.made-in-Rename.result.now c.made-in-Rename.ensures c.rename-in-Rename.ensures.renamed c.rename-in-Rename.ensures.refused (map_ok c.rename-in-Rename.result (λ no_new_fault. same_counts _ _ _ _ _ _ refl refl no_new_fault) c.rename-in-Rename.ensures.no_new_fault) in
     (has, (read, known, went)))
 
 pub returns-in-SettleName-clause-went : goal.returns-in-SettleName-clause-went
@@ -122,12 +122,12 @@ pub returns-in-RemoveRecord-clause-went : goal.returns-in-RemoveRecord-clause-we
 returns-in-RemoveRecord-clause-went g c = rw (c.in-RemoveRecord.is, c.done_or-in-RemoveRecord.ensures) (λ going read made knows.
     let h = host (g.F.Folder.run c.args.folder.now) (g.R.Source.ahead c.args.update.now) read (counts (g.Z.RandomSource.random_faults c.args.random.now) (g.R.Source.faults c.args.update.now) (g.F.Folder.folder_faults c.args.folder.now)) in
     let then = host (g.F.Folder.run c.remove.new.folder) (g.R.Source.ahead c.args.update.now) read (counts (g.Z.RandomSource.random_faults c.args.random.now) (g.R.Source.faults c.args.update.now) (g.F.Folder.folder_faults c.remove.new.folder)) in
-    let (has, known, went) = remove_record_goes (g.S.Scheme.accepts c.args.scheme.now) (terms_of c.args.wanted) c.args.is_first g.F.Handle.Handle.file c.in-RemoveRecord.field-0 c.args.work.now h then c.remove.result made refl refl c.remove.ensures.removed c.remove.ensures.refused (same_counts _ _ _ _ _ _ refl refl c.remove.ensures.uncounted) in
+    let (has, known, went) = remove_record_goes (g.S.Scheme.accepts c.args.scheme.now) (terms_of c.args.wanted) c.args.is_first g.F.Handle.Handle.file c.in-RemoveRecord.field-0 c.args.work.now h then c.remove.result made refl refl c.made-in-RemoveRecord.result.now c.made-in-RemoveRecord.ensures c.remove.ensures.removed c.remove.ensures.refused (same_counts _ _ _ _ _ _ refl refl c.remove.ensures.uncounted) in
     (has, (read, known, went)))
 
 pub returns-in-Remove-clause-went : goal.returns-in-Remove-clause-went
 returns-in-Remove-clause-went g c = rw (c.in-Remove.is, c.done_or-in-Remove.ensures) (λ going read made knows.
     let h = host (g.F.Folder.run c.args.folder.now) (g.R.Source.ahead c.args.update.now) read (counts (g.Z.RandomSource.random_faults c.args.random.now) (g.R.Source.faults c.args.update.now) (g.F.Folder.folder_faults c.args.folder.now)) in
     let then = host (g.F.Folder.run c.remove-in-Remove.new.folder) (g.R.Source.ahead c.args.update.now) read (counts (g.Z.RandomSource.random_faults c.args.random.now) (g.R.Source.faults c.args.update.now) (g.F.Folder.folder_faults c.remove-in-Remove.new.folder)) in
-    let (has, known, went) = remove_goes (g.S.Scheme.accepts c.args.scheme.now) (terms_of c.args.wanted) c.args.is_first g.F.Handle.Handle.file c.in-Remove.field-0 c.args.work.now h then c.remove-in-Remove.result made refl refl c.remove-in-Remove.ensures.removed c.remove-in-Remove.ensures.refused (same_counts _ _ _ _ _ _ refl refl c.remove-in-Remove.ensures.uncounted) in
+    let (has, known, went) = remove_goes (g.S.Scheme.accepts c.args.scheme.now) (terms_of c.args.wanted) c.args.is_first g.F.Handle.Handle.file c.in-Remove.field-0 c.args.work.now h then c.remove-in-Remove.result made refl refl c.made-in-Remove.result.now c.made-in-Remove.ensures c.remove-in-Remove.ensures.removed c.remove-in-Remove.ensures.refused (same_counts _ _ _ _ _ _ refl refl c.remove-in-Remove.ensures.uncounted) in
     (has, (read, known, went)))
