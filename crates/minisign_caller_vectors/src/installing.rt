@@ -320,7 +320,16 @@ fn an_update_is_installed_until_it_expires(rt: HostRuntime) {
     let refusal = install(alloc, &mut folder, &DRAWN, b"second", EXPIRING_TWICE, true).err();
     assert!(rt; matches!(refusal, Some(InstallFault::BadExpiry)));
     assert!(rt; is_free(&folder, Name::Place) && is_free(&folder, Name::Record));
-    assert!(rt; installs(alloc, &mut folder, b"second", EXPIRING, true, b"timestamp:6"));
+    assert!(rt;
+        installs(
+            alloc,
+            &mut folder,
+            b"second",
+            EXPIRING,
+            true,
+            b"timestamp:6"
+        )
+    );
 }
 
 // What a check answers of the text of a signature.
@@ -332,7 +341,13 @@ fn offer(
     is_first: bool,
 ) -> Result<(Offer, u64), InstallFault> {
     let scheme = ToyScheme::new();
-    check_update(alloc, &scheme, wanted_at(sig_text, moment), is_first, folder)
+    check_update(
+        alloc,
+        &scheme,
+        wanted_at(sig_text, moment),
+        is_first,
+        folder,
+    )
 }
 
 #[test]
