@@ -610,8 +610,8 @@ pub extern "C" fn minisign_install_answer(
 ) -> u32
     // **For every relation that answers the two questions so, and every message: 0, and the rights are due, for the
     // number n, exactly where the texts vouch for the message, not by a signature over the data itself, and the comment
-    // that was signed with it names the file, has not expired at the moment of asking, and has the number n, which is not
-    // below the kept one. Otherwise the stage is to be removed, for the first reason, whose number is answered.**
+    // that was signed with it names the file, has not expired at the moment of asking, and has the number n, which is
+    // not below the kept one. Otherwise the stage is to be removed, for the first reason, whose number is answered.**
     ensures answer { (terms : Terms) (kept : ℕ) (message : List ℕ) (accepts : Verifier)
         → IsAsking installation.old terms kept → IsAnswer first → IsAnswer second
         → AnswersTexts accepts terms.pk_text terms.sig_text message (first == answer_yes) (second == answer_yes)
@@ -672,9 +672,9 @@ pub extern "C" fn minisign_judge_comment(
     kept: u64,
     number: &mut u64,
 ) -> u32
-    // The number of the comment is told exactly where the comment and the name are UTF-8, the comment names the file, has
-    // this number and has not expired, and it is not below the kept one; otherwise the number is that of the first reason,
-    // and nothing is written.
+    // The number of the comment is told exactly where the comment and the name are UTF-8, the comment names the file,
+    // has this number and has not expired, and it is not below the kept one; otherwise the number is that of the first
+    // reason, and nothing is written.
     ensures says { result ≡ 0 → (k : Numbering) × (numbering ≡ numbering_number k) × IsUtf8 comment.now × IsUtf8 file.now
         × Says comment.now file.now k moment number.new × (kept ≤ number.new) }
     ensures refused { 0 < result → IsCommentNumber comment.now file.now numbering moment kept result }
@@ -704,9 +704,9 @@ pub extern "C" fn minisign_check_comment(
     offer: &mut u32,
     number: &mut u64,
 ) -> u32
-    // What the update is beside the kept number, and its own number, are told exactly where the comment and the name are
-    // UTF-8, the record has a number of the field, or this is the first installation, and the comment names the file, has a
-    // number of the field, and has not expired.
+    // What the update is beside the kept number, and its own number, are told exactly where the comment and the name
+    // are UTF-8, the record has a number of the field, or this is the first installation, and the comment names the
+    // file, has a number of the field, and has not expired.
     ensures checked { result ≡ 0 → HasChecked comment.now file.now numbering moment is_first (Some record.now) offer.new number.new }
 
     // Otherwise the number is that of the first reason, and nothing is written.
