@@ -16,7 +16,7 @@ ghost use Rattle.minisign_external.specs.Questions.{Answers, AnswersComment, Ans
 ghost use Rattle.minisign_external.specs.Numbers.{IsAnswer, WritesCut, answer_yes, misuse_number};
 ghost use Rattle.minisign_external.specs.PublicKeys.{read_utf8, told_key_number};
 ghost use Rattle.minisign_external.specs.Making.{HoldsPublicKey, HoldsSecretKey, IsMakingNumber, IsPublicKeyNumber};
-ghost use Rattle.minisign_external.specs.SecretKeys.{HoldsKey, IsOpeningNumber, OpensAs, is_opened, is_read, open_read_key, passed_in, public_value_of, read_value, reading_number, record_of, taken_key, told_public_key};
+ghost use Rattle.minisign_external.specs.SecretKeys.{HoldsKey, IsOpeningNumber, OpensAs, is_opened, is_read, open_read_key, passed_in, public_value_of, read_value, reading_number, unopened_record, taken_key, told_public_key};
 ghost use Rattle.minisign_external.specs.Signing.{AreReadByMinisign, HoldsText, IsWritingNumber, comments_of};
 ghost use Rattle.minisign_external.specs.declared.public_keys.PublicKeyValue.{PublicKeyValue};
 ghost use Rattle.minisign_external.specs.declared.state.Misuse.TheVariants.{BadFirstFlag, BadNumbering, BadPasswordFlag, NoRoom, NotDue};
@@ -230,7 +230,7 @@ pub extern "C" fn minisign_read_secret_key(sk_text: &[u8], unopened: &mut Unopen
     // What was read holds the record of the key that the text reads as, and tells what opening it takes: whether a
     // password, how many rows of scrypt and how often. Opening it gives what the text gives, under each password and
     // within each bound on the work.
-    ensures read { result ≡ 0 → read_utf8 read_secret_key sk_text.now ≡ Ok (record_of unopened.new) }
+    ensures read { result ≡ 0 → read_utf8 read_secret_key sk_text.now ≡ Ok (unopened_record unopened.new) }
     ensures told { result ≡ 0 → unopened.new ≡ read_value unopened.new.bytes }
     ensures opens { result ≡ 0 → OpensAs unopened.new sk_text.now }
 {
@@ -254,7 +254,7 @@ pub extern "C" fn minisign_open_secret_key(
     // The secret and the key ID are those of the key that the one which was read gives, with the mark of one that was
     // opened.
     ensures opened { result ≡ 0 → (is_read unopened.now ≡ true) × ((k : SecretKeyRecord)
-        × (open_read_key (record_of unopened.now) (passed_in with_password password.now) greatest_work ≡ Ok k)
+        × (open_read_key (unopened_record unopened.now) (passed_in with_password password.now) greatest_work ≡ Ok k)
         × HoldsKey key.new k) }
     ensures number { result ≡ 0 → with_password < 2 }
     ensures flag { 1 < with_password → result ≡ misuse_number BadPasswordFlag }

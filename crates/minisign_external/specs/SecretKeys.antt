@@ -29,8 +29,8 @@ abbrev pub is_read : UnopenedKeyValue → Bool
 is_read v = v.mark == read_mark
 
 -- the key that a value holds, as its text has it
-abbrev pub record_of : UnopenedKeyValue → SecretKeyRecord
-record_of v = secret_key_of_bytes v.bytes
+abbrev pub unopened_record : UnopenedKeyValue → SecretKeyRecord
+unopened_record v = secret_key_of_bytes v.bytes
 
 -- the value of the key in these 158 bytes, with what opening it takes
 abbrev pub read_value : List ℕ → UnopenedKeyValue
@@ -74,7 +74,7 @@ read_key_to_sign text (Some password) greatest_work = open_key text password (So
 -- opening the value gives what its text gives, under each password and within each bound on the work
 abbrev pub OpensAs : UnopenedKeyValue → List ℕ → Type 0
 OpensAs v text =
-    (password : Option (List ℕ)) (greatest_work : ℕ) → open_read_key (record_of v) password greatest_work ≡ read_key_to_sign text password greatest_work
+    (password : Option (List ℕ)) (greatest_work : ℕ) → open_read_key (unopened_record v) password greatest_work ≡ read_key_to_sign text password greatest_work
 
 -- a key that was read was not opened: the password is not UTF-8; or memory ran out, which no key takes without a
 -- password; or it gives no key
@@ -86,7 +86,7 @@ IsOpeningFault k password greatest_work e =
 -- opening was refused: the key was not read, or else as above
 abbrev pub IsOpeningRefusal : UnopenedKeyValue → Option (List ℕ) → ℕ → Refusal → Type 0
 IsOpeningRefusal v password greatest_work (WrongUse m) = (m ≡ KeyNotRead) × (is_read v ≡ false)
-IsOpeningRefusal v password greatest_work (Refused e) = (is_read v ≡ true) × IsOpeningFault (record_of v) password greatest_work e
+IsOpeningRefusal v password greatest_work (Refused e) = (is_read v ≡ true) × IsOpeningFault (unopened_record v) password greatest_work e
 
 -- the number of such a refusal: a number that is no flag, with nothing looked at, and only then the other reasons
 abbrev pub IsOpeningNumber : UnopenedKeyValue → Option (List ℕ) → ℕ → ℕ → ℕ → Type 0

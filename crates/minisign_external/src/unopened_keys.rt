@@ -8,7 +8,7 @@ ghost use Rattle.minisign.specs.Records.{SecretKeyRecord};
 ghost use Rattle.minisign.specs.SecretKeyText.{read_secret_key, secret_key_of_bytes};
 ghost use Rattle.minisign.specs.Texts.{map_ok};
 ghost use Rattle.minisign_external.specs.PublicKeys.{read_utf8};
-ghost use Rattle.minisign_external.specs.SecretKeys.{HoldsKey, IsOpeningFault, IsOpeningRefusal, OpensAs, is_read, lacks_checksum, open_read_key, open_unsealed, read_value, record_of};
+ghost use Rattle.minisign_external.specs.SecretKeys.{HoldsKey, IsOpeningFault, IsOpeningRefusal, OpensAs, is_read, lacks_checksum, open_read_key, open_unsealed, read_value, unopened_record};
 
 use crate::secrets::SecretKeyValue;
 use crate::state::{Misuse, Refusal};
@@ -112,7 +112,7 @@ pub fn read_unopened_key(sk_text: &[u8], value: &mut UnopenedKeyValue) -> Result
 
     // The value holds the record of the key that the text reads as, and tells what opening it takes. Opening it gives
     // what the text gives, under each password and within each bound on the work.
-    ensures read { OnOk result (read_utf8 read_secret_key sk_text.now ≡ Ok (record_of value.new)) }
+    ensures read { OnOk result (read_utf8 read_secret_key sk_text.now ≡ Ok (unopened_record value.new)) }
     ensures told { OnOk result (value.new ≡ read_value value.new.bytes) }
     ensures opens { OnOk result (OpensAs value.new sk_text.now) }
 {
@@ -154,7 +154,7 @@ pub fn open_secret_key(
     // The secret and the key ID are those of the key that the one which was read gives, whatever number of rows is kept,
     // and the value has the mark of one that was opened.
     ensures opened { OnOk result ((is_read unopened.now ≡ true) × ((key : SecretKeyRecord)
-        × (open_read_key (record_of unopened.now) (option_map (λ p. p.now) password.entry) greatest_work ≡ Ok key)
+        × (open_read_key (unopened_record unopened.now) (option_map (λ p. p.now) password.entry) greatest_work ≡ Ok key)
         × HoldsKey value.new key)) }
 
     // What is refused comes in this order: a key that was not read; a password that is not UTF-8; and the first reason for
@@ -184,8 +184,8 @@ fn open(
     keep_every: u64,
     greatest_work: u32,
 ) -> Result<SecretKey>
-    ensures opened { IfOk result (λ key. open_read_key (record_of unopened.now) (option_map (λ p. p.now) password.entry) greatest_work ≡ Ok key) }
-    ensures refused { IfErr result (IsOpeningFault (record_of unopened.now) (option_map (λ p. p.now) password.entry) greatest_work) }
+    ensures opened { IfOk result (λ key. open_read_key (unopened_record unopened.now) (option_map (λ p. p.now) password.entry) greatest_work ≡ Ok key) }
+    ensures refused { IfErr result (IsOpeningFault (unopened_record unopened.now) (option_map (λ p. p.now) password.entry) greatest_work) }
 {
     match password {
         Some(password) => open_sealed(alloc, unopened, password, keep_every, greatest_work),
@@ -196,7 +196,7 @@ fn open(
 // The key that was never sealed: one with 32 zeros in place of its checksum, as Minisign writes it, or else what
 // `SecretKey::test_unencrypted` takes.
 fn open_unsealed(unopened: &UnopenedKeyValue) -> Result<SecretKey>
-    ensures { result ≡ open_unsealed (record_of unopened.now) }
+    ensures { result ≡ open_unsealed (unopened_record unopened.now) }
 {
     let key = key_of(&unopened.bytes)?;
     if lacks_checksum(&key) {
@@ -223,8 +223,8 @@ fn open_sealed(
     keep_every: u64,
     greatest_work: u32,
 ) -> Result<SecretKey>
-    ensures opened { IfOk result (λ key. open_read_key (record_of unopened.now) (Some password.now) greatest_work ≡ Ok key) }
-    ensures refused { IfErr result (IsOpeningFault (record_of unopened.now) (Some password.now) greatest_work) }
+    ensures opened { IfOk result (λ key. open_read_key (unopened_record unopened.now) (Some password.now) greatest_work ≡ Ok key) }
+    ensures refused { IfErr result (IsOpeningFault (unopened_record unopened.now) (Some password.now) greatest_work) }
 {
     let Ok(password) = str::from_utf8(password) else {
         return Err(NamedFault::NotUtf8.into());
