@@ -143,22 +143,21 @@ static void read_keys(const struct request *request)
     }
 }
 
-/* The key that has to have made the signature: of two the second where the signature has its key ID and not that of the
- * first. */
+/* The key that has to have made the signature: of two the second, where the signature has not the key ID of the first. */
 static const minisign_public_key *key_of_signature(const struct request *request)
 {
     static uint8_t message[TEXT_BYTES];
     minisign_questions q;
     minisign_state state;
 
-    for (int i = 0; i < request->key_count; i++) {
-        minisign_init(&state);
-        if (minisign_ask(&state, &keys[i], signature.bytes, signature.len, 0, &q, message, sizeof message)
-            != MINISIGN_DIFFERENT_KEY_IDS) {
-            return &keys[i];
-        }
+    if (request->key_count < MOST_KEYS) {
+        return &keys[0];
     }
-    return &keys[0];
+    minisign_init(&state);
+    return minisign_ask(&state, &keys[0], signature.bytes, signature.len, 0, &q, message, sizeof message)
+                   == MINISIGN_DIFFERENT_KEY_IDS
+               ? &keys[1]
+               : &keys[0];
 }
 
 static struct data open_data(const struct request *request)

@@ -376,7 +376,7 @@ enum minisign_error {
     MINISIGN_TRUSTED_COMMENT_PREFIX = 27,
     /* The algorithm of a signature is neither Ed nor ED. */
     MINISIGN_UNSUPPORTED_ALGORITHM = 28,
-    /* The identifier of a signature is not that of the public key. */
+    /* The key ID of a signature is not that of the public key. */
     MINISIGN_DIFFERENT_KEY_IDS = 29,
     /* A legacy signature where only prehashed ones are allowed. */
     MINISIGN_LEGACY_NOT_ACCEPTED = 30,

@@ -179,7 +179,7 @@ class UnsupportedAlgorithm(MinisignError):
 
 
 class DifferentKeyIds(MinisignError):
-    """The identifier of a signature is not that of the public key."""
+    """The key ID of a signature is not that of the public key."""
 
     number = 29
 

@@ -65,7 +65,7 @@ impl Reason {
     pub const TRUSTED_COMMENT_PREFIX: Reason = Reason(27);
     /// The algorithm of a signature is neither Ed nor ED.
     pub const UNSUPPORTED_ALGORITHM: Reason = Reason(28);
-    /// The identifier of a signature is not that of the public key.
+    /// The key ID of a signature is not that of the public key.
     pub const DIFFERENT_KEY_IDS: Reason = Reason(29);
     /// A legacy signature where only prehashed ones are allowed.
     pub const LEGACY_NOT_ACCEPTED: Reason = Reason(30);
@@ -120,7 +120,8 @@ impl Reason {
     pub const KEPT_BY_VERSION: Reason = Reason(54);
     /// The update has expired at the moment that the caller passes.
     pub const EXPIRED: Reason = Reason(55);
-    /// The trusted comment has more than one field for when the update expires, or one with no number in decimal digits alone, or none below 2^64.
+    /// The trusted comment has more than one field for when the update expires, or one with no number in decimal digits
+    /// alone, or none below 2^64.
     pub const BAD_EXPIRY: Reason = Reason(56);
     /// A secret key that is to be opened was not read.
     pub const KEY_NOT_READ: Reason = Reason(63);
