@@ -226,7 +226,8 @@ static void clear(char *block, size_t len)
 struct grant rattle_alloc(size_t len, size_t alignment)
 {
     int is_large = len >= LARGE_BYTES;
-    size_t unit = is_large ? HUGE_PAGE_BYTES : sizeof(struct front), front = is_large ? LARGE_FRONT_BYTES : sizeof(struct front);
+    size_t unit = is_large ? HUGE_PAGE_BYTES : sizeof(struct front);
+    size_t front = is_large ? LARGE_FRONT_BYTES : sizeof(struct front);
     char *taken, *block;
 
     unit = alignment > unit ? alignment : unit;

@@ -413,18 +413,13 @@ enum minisign_error remove_leftovers(struct folder *folder)
     return number == 0 ? MINISIGN_OK : fails(folder, &folder->itself, NULL, MINISIGN_WRITING_FAILED);
 }
 
-/* Reads the record that is open, of which the name has to lead to it still. */
+/* Reads the record that is open. */
 static enum minisign_error read_kept(struct folder *folder, int fd, uint8_t record[RECORD_BYTES], size_t *len)
 {
     uint8_t bytes[RECORD_BYTES + 1];
     size_t at = 0;
     ssize_t n;
 
-    switch (leads_to(folder, &folder->record, fd)) {
-    case THERE: break;
-    case NOT_THERE: return fails(folder, &folder->record, "others remove it again and again", MINISIGN_READING_FAILED);
-    case UNUSABLE: return MINISIGN_READING_FAILED;
-    }
     do {
         AGAIN(n, read(fd, bytes + at, sizeof bytes - at));
         at += n > 0 ? (size_t) n : 0;
@@ -440,26 +435,41 @@ static enum minisign_error read_kept(struct folder *folder, int fd, uint8_t reco
     return MINISIGN_OK;
 }
 
+/* Opens the record, to which its name has to lead still once it is open: where the place is not locked, another may get it. */
+static enum found open_record(struct folder *folder, int *fd)
+{
+    struct stat named;
+    enum found found = find(folder, &folder->record, &named);
+
+    if (found != THERE) {
+        return found;
+    }
+    AGAIN(*fd, openat(folder->fd, folder->record.name, O_RDONLY | SAFELY));
+    if (*fd < 0) {
+        (void) fails_to_open(folder, &folder->record);
+        return UNUSABLE;
+    }
+    return leads_to(folder, &folder->record, *fd);
+}
+
 enum minisign_error read_record(struct folder *folder, uint8_t record[RECORD_BYTES], size_t *len, bool *is_there)
 {
-    struct stat found;
-    enum minisign_error error;
-    int fd;
-
     *is_there = false;
-    switch (find(folder, &folder->record, &found)) {
-    case THERE: break;
-    case NOT_THERE: return MINISIGN_OK;
-    case UNUSABLE: return MINISIGN_READING_FAILED;
+    for (int i = 0; i < MOST_OPENINGS; i++) {
+        int fd = -1;
+        enum found found = open_record(folder, &fd);
+        enum minisign_error error = found == THERE ? read_kept(folder, fd, record, len) : MINISIGN_READING_FAILED;
+
+        if (fd < 0) {
+            return found == NOT_THERE ? MINISIGN_OK : error;
+        }
+        close(fd);
+        if (found != NOT_THERE) {
+            *is_there = error == MINISIGN_OK;
+            return error;
+        }
     }
-    AGAIN(fd, openat(folder->fd, folder->record.name, O_RDONLY | SAFELY));
-    if (fd < 0) {
-        return fails_to_open(folder, &folder->record);
-    }
-    error = read_kept(folder, fd, record, len);
-    close(fd);
-    *is_there = error == MINISIGN_OK;
-    return error;
+    return fails(folder, &folder->record, "others remove it again and again", MINISIGN_READING_FAILED);
 }
 
 /* ---- Stages ---- */

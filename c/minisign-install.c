@@ -308,8 +308,8 @@ static void answer(minisign_installation *machine, const struct request *request
     const char *name = wanted_name(request, folder);
     minisign_questions q;
 
-    if (minisign_install_ask(machine, key_of_signature(request), signature.bytes, signature.len, (const uint8_t *) name, strlen(name), now(), &q,
-                             message, sizeof message)
+    if (minisign_install_ask(machine, key_of_signature(request), signature.bytes, signature.len, (const uint8_t *) name,
+                             strlen(name), now(), &q, message, sizeof message)
         == MINISIGN_OK) {
         enum minisign_answer first = answer_of(q.signature, q.digest, sizeof q.digest, q.public_key);
         enum minisign_answer second = answer_of(q.comment_signature, message, q.message_len, q.public_key);

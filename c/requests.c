@@ -23,7 +23,7 @@
     "  --first            take the update also where no number of FIELD is kept\n" \
     "                     beside PLACE\n" \
     "  --key KEY          the public key itself, in base64: PK is not named then;\n" \
-    "                     given twice, either key will do\n" \
+    "                     given twice, either will do, by its key ID\n" \
     "  --numbering FIELD  the update's number is the field `timestamp` of the signed\n" \
     "                     comment, as without this option, or `version`\n" \
     "  --name NAME        the name that the signed comment has to have for the file;\n" \
@@ -65,7 +65,8 @@ struct line {
     const char *values[VALUED];
     const char *keys[MOST_KEYS];
     int key_count;
-    const char *paths[PATHS];
+    /* One more than there may be, if so many are named. */
+    const char *paths[PATHS + 1];
     int count;
 };
 
@@ -87,10 +88,9 @@ static _Noreturn void misuse(const char *word, const char *what)
 
 static void add_path(struct line *line, const char *word)
 {
-    if (line->count == PATHS) {
-        misuse(word, "there are four paths, and this is a fifth");
+    if (line->count <= PATHS) {
+        line->paths[line->count++] = word;
     }
-    line->paths[line->count++] = word;
 }
 
 /* An option without a value, which comes at most once. */
@@ -103,15 +103,15 @@ static void add_flag(bool *flag, const char *word)
 }
 
 /* Keeps the value of an option, which comes at most once, but for that of a key. */
-static void add_value(struct line *line, int option, const char *value)
+static void add_value(struct line *line, int option, const char *word, const char *value)
 {
     if (option == KEY) {
         if (line->key_count == MOST_KEYS) {
-            misuse(valued[option], "it came twice before");
+            misuse(word, "it came twice before");
         }
         line->keys[line->key_count++] = value;
     } else if (line->values[option] != NULL) {
-        misuse(valued[option], "it came before");
+        misuse(word, "it came before");
     } else {
         line->values[option] = value;
     }
@@ -128,7 +128,8 @@ static void judge_line(const struct line *line)
 {
     static const char *const fewer[] = { "there are fewer than two paths", "there are fewer than three paths",
                                          "there are fewer than four paths" };
-    static const char *const more[] = { "there are two paths, and this is a third", "there are three paths, and this is a fourth",
+    static const char *const more[] = { "there are two paths, and this is a third",
+                                        "there are three paths, and this is a fourth",
                                         "there are four paths, and this is a fifth" };
     int wanted = paths_of(line);
 
@@ -180,7 +181,7 @@ static struct line read_line(int argc, char *argv[])
         } else if (++i == argc) {
             misuse(NULL, "a value has to follow the last word");
         } else {
-            add_value(&line, option, argv[i]);
+            add_value(&line, option, word, argv[i]);
         }
     }
     judge_line(&line);

@@ -139,9 +139,11 @@ static void verify_signature(const struct options *options, const minisign_state
     }
     fputs("Verification would fail with the given public key\n", stderr);
     if (!has_own_halves()) {
-        fprintf(stderr, "%s: this secret key is damaged: its two halves do not belong together\n", visible(options->secret_file));
+        fprintf(stderr, "%s: this secret key is damaged: its two halves do not belong together\n",
+                visible(options->secret_file));
     } else if (name_of_public_key(options) != NULL) {
-        fprintf(stderr, "%s: this is not the public key of %s\n", visible(name_of_public_key(options)), visible(options->secret_file));
+        fprintf(stderr, "%s: this is not the public key of %s\n", visible(name_of_public_key(options)),
+                visible(options->secret_file));
     }
     exit(TROUBLE);
 }

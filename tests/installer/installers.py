@@ -34,6 +34,8 @@ class Updater:
     called = {"write": "write", "read-back": "pread", "rights": "fchmod", "sync": "fsync", "rename": "rename"}
     # Whether it is the one in C: that looks up all names in the folder that it has opened, and reads access control lists.
     is_in_c = False
+    # Whether it tells if there is anything newer, and takes keys that are named themselves.
+    has_checks = False
     permissions = (COMMON,)
     # What it leaves of the mode 751.
     kept_mode = 0o711
@@ -89,6 +91,7 @@ class RealInstaller:
                    "getrandom", "unlinkat", "fgetxattr", "fremovexattr", "fchown")
     called = {**Updater.called, "rename": "renameat"}
     is_in_c = True
+    has_checks = True
     permissions = (COMMON, WITH_LISTS, ASKED, ASKED_WITH_LISTS)
     kept_mode = 0o751
     # The calls that are due, in the order of the machine: it is told of each.

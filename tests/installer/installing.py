@@ -314,7 +314,8 @@ class Installing:
             folder = Folder(path, self.kind)
             folder.offer("bad", NEW, 4)
             folder.put("bad.sig", folder.holds("bad.sig").replace(b"timestamp:4", b"timestamp:9"))
-            self.check_words(folder, ["--check", PK, "bad.sig", PLACE], REFUSED, self.kind.changed_comment)
+            self.check_words(folder, ["--check", PK, "bad.sig", PLACE], REFUSED,
+                             b"error: bad.sig: Comment signature verification failed\n")
 
     def check_words(self, folder, words, status, said=b""):
         ended, text = self.run(folder, words)
@@ -331,13 +332,34 @@ class Installing:
             self.check_words(folder, ["--check", PK, "new.sig", away], status, said)
 
     def checks_unlocked(self):
-        """While another run holds the lock, and by who may only read."""
+        """While another run holds the lock."""
         with self.folder() as path:
             folder = self.installed(path)
             folder.put(LOCK, b"")
             with open(os.path.join(path, LOCK), "rb") as lock:
                 fcntl.flock(lock, fcntl.LOCK_EX)
                 self.check_words(folder, ["--check", PK, "new.sig", PLACE], 0)
+
+    def checks_beside_installations(self):
+        """While installations rename new records into their place, a slow check reads an older one or a newer one, whole."""
+        with self.folder() as path:
+            folder, is_over = self.installed(path), threading.Event()
+
+            def rename():
+                while not is_over.wait(0.02):
+                    folder.put("made", b"timestamp:5")
+                    os.replace(os.path.join(path, "made"), os.path.join(path, RECORD))
+
+            renaming = threading.Thread(target=rename)
+            renaming.start()
+            try:
+                for _ in range(20):
+                    ended, text = self.run(folder, ["--check", PK, "new.sig", PLACE], {"LD_PRELOAD": self.trace, "SLOW": "5000"})
+                    if ended != 0 or text:
+                        raise Failure(f"it ended with status {ended}, and said {text}")
+            finally:
+                is_over.set()
+                renaming.join()
 
     # == Keys that are named themselves ==
 
@@ -1201,6 +1223,7 @@ def cases(it):
         yield from program_cases(it)
         yield from word_cases(it)
         yield from expiry_cases(it)
+    if it.kind.has_checks:
         yield from check_cases(it)
 
 
@@ -1265,6 +1288,7 @@ def check_cases(it):
     yield "a check: no folder", lambda: it.checks_where("none/place", FAILED, b"error: none: there is no such folder\n")
     yield "a check: a record that is a folder", lambda: it.checks_where(PLACE, FAILED, b"error: ./.place.number: a folder stands there\n")
     yield "a check: while the place is locked", it.checks_unlocked
+    yield "a check: beside installations", it.checks_beside_installations
     yield "keys that are named themselves", it.names_keys
     yield "a key that is too short", lambda: it.refuses_key("RWQ", b"error: RWQ: base64 conversion failed - was an actual public key given?\n")
     yield "a key that is no base64", lambda: it.refuses_key("*" * 56, b"error: " + b"*" * 56 + b": base64 conversion failed - was an actual public key given?: invalid base64\n")

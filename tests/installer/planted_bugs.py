@@ -53,7 +53,7 @@ BUGS = [
         "uint32_t is_first = 1;", "a check: no record"),
     Bug("the clock is not read", "minisign-install.c", "return shown < 0 ? UINT64_MAX : (uint64_t) shown;", "return (uint64_t) (shown - shown);",
         "an update that has expired"),
-    Bug("of two keys the second is not looked at", "minisign-install.c", "return &keys[i];", "return &keys[0];",
+    Bug("of two keys the second is not looked at", "minisign-install.c", "? &keys[1]", "? &keys[0]",
         "keys that are named themselves"),
     Bug("a short write is taken for whole", "folder.c", "        len -= (size_t) n;\n    }\n    return MINISIGN_OK;",
         "        len = 0;\n    }\n    return MINISIGN_OK;", "writes that take half"),
