@@ -915,8 +915,8 @@ MINISIGN_MUST_USE enum minisign_error minisign_install_piece(
  * clock shows. What came of that is told only after the answers, since nothing vouches for it before.
  *
  * The errors, in this order: MINISIGN_NOT_DUE; MINISIGN_NOT_UTF8 of the name; those of minisign_ask. After
- * MINISIGN_NOT_DUE, MINISIGN_ALREADY_ASKED and MINISIGN_NO_ROOM nothing changes. After the others the run is
- * rejected for that, and MINISIGN_DUE_REMOVE is due.
+ * MINISIGN_NOT_DUE, MINISIGN_ALREADY_ASKED and MINISIGN_NO_ROOM nothing changes, but that the key IDs are told after
+ * the last. After the others the run is rejected for that, and MINISIGN_DUE_REMOVE is due.
  */
 MINISIGN_MUST_USE enum minisign_error minisign_install_ask(
     minisign_installation *installation, const minisign_public_key *key, const uint8_t *sig_text, size_t sig_text_len,

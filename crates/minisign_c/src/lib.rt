@@ -61,7 +61,7 @@ pub extern "C" fn minisign_error_text(error: u32, text: &mut [u8]) -> usize
 /// Begins: the state was fed nothing.
 #[unsafe(no_mangle)]
 pub extern "C" fn minisign_init(state: &mut State)
-    // A new state was fed nothing, and nothing was asked of it: whatever it held before is gone.
+    // A new state was fed nothing, and nothing was asked of it: what was fed or asked before counts no more.
     ensures fed { IsFedState state.new [] }
     ensures blank { IsBlank state.new }
 {
@@ -154,6 +154,9 @@ pub extern "C" fn minisign_ask(
     ensures key_ids { allow_legacy < 2 → IsMarkedFed state.old → is_asked state.old ≡ false
         → (t : SignatureTextRecord) → read_utf8 read_signature sig_text.now ≡ Ok t
         → (questions.new.public_key_id ≡ key.now.key_id) × (questions.new.signature_key_id ≡ t.signature.keynum) }
+
+    // After a refused flag, and of a state that may not be asked, the questions stay.
+    ensures unasked { (questions.new ≡ questions.old) ⊎ ((allow_legacy < 2) × IsMarkedFed state.old × (is_asked state.old ≡ false)) }
 {
     if allow_legacy > 1 {
         return Misuse::BadLegacyFlag.number();
@@ -594,6 +597,9 @@ pub extern "C" fn minisign_install_ask(
     // reason the stage is to be removed. The message buffer is as it was.
     ensures refused { 0 < result → IsAskNumber installation.old installation.new key.now sig_text.now file.now (length message.old) result }
     ensures kept { 0 < result → message.new ≡ message.old }
+
+    // Where the answers are not due the questions stay.
+    ensures unasked { (questions.new ≡ questions.old) ⊎ ((kept : ℕ) × IsDue installation.old (Answer kept)) }
 {
     match installation.ask(key, sig_text, file, moment, questions, message) {
         Ok(()) => 0,
@@ -736,7 +742,7 @@ pub extern "C" fn minisign_check_first_comment(
     offer: &mut u32,
     number: &mut u64,
 ) -> u32
-    // The same where there is no record.
+    // What the update is, and its number, are told as by `minisign_check_comment`, for a place without a record.
     ensures checked { result ≡ 0 → HasChecked comment.now file.now numbering moment is_first None offer.new number.new }
     ensures refused { 0 < result → IsCheckNumber comment.now file.now numbering moment is_first None result }
     ensures kept { 0 < result → (offer.new ≡ offer.old) × (number.new ≡ number.old) }

@@ -264,9 +264,9 @@ pub fn install_in_memory<S: Scheme, Z: RandomSource, R: Source>(
 ) -> Result<(), InstallFault>
     // Where memory is found and no device fails, the update is installed exactly where the record
     // had a number for the field before the call, or it is the first installation, the two texts
-    // vouch for the data, and the signed comment names the file and has a number that is not below
-    // the kept one; and where it is not installed, the first of these that fails is returned
-    // (`CanBeInstalled`, `CannotBeInstalled`).
+    // vouch for the data, and the signed comment names the file, has not expired, and has a number
+    // that is not below the kept one; and where it is not installed, the first of these that fails
+    // is returned (`CanBeInstalled`, `CannotBeInstalled`).
     ensures exactly { InstallsAt (S.accepts scheme.now) (terms_of wanted.entry) is_first (R.ahead update.old) (counts (Z.random_faults random.old) (R.faults update.old) (faults_of folder.old)) (counts (Z.random_faults random.new) (R.faults update.new) (faults_of folder.new)) (past_of folder.old).now result }
 
     // What `install_update` promises of a folder whose run is known holds of this one with no

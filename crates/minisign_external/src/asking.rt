@@ -1,13 +1,13 @@
 //! Asking, and the verdict, over the state that a program in another language holds.
 
-ghost use Rattle.std.specs.Prelude.{◌≡◌, ◌<◌, ◌≤◌, ◌+◌, ℕ, Bool, List, Ok, true, false, OnOk, OnErr, IfOk, IfErr, MatchResult, length};
+ghost use Rattle.std.specs.Prelude.{◌≡◌, ◌⊎◌, ◌<◌, ◌≤◌, ◌+◌, ℕ, Bool, List, Ok, true, false, OnOk, OnErr, IfOk, IfErr, MatchResult, length};
 ghost use Rattle.minisign_hash.specs.Blake2b.{blake2b_digest};
 ghost use Rattle.minisign.specs.Acceptance.{Verifier};
 ghost use Rattle.minisign.specs.InPlace.{view_of};
 ghost use Rattle.minisign.specs.SignatureText.{SignatureTextRecord, read_signature};
 ghost use Rattle.minisign_external.specs.PublicKeys.{read_utf8};
 ghost use Rattle.minisign_external.specs.Questions.{Answers, AnswersComment, HoldsMessage, IsKeyText, comment_verdict_under, has_whole_signature, read_under, verdict_under};
-ghost use Rattle.minisign_external.specs.States.{AreQuestions, GivesVerdict, HasAsked, HasEnded, HasToldDigest, IsAskFedRefusal, IsCommentRefusal, IsFedState, IsMarkedTold, IsTextRefusal, IsVerdictRefusal, asked_of, asking_misuse, asking_result, fed_mark, given_verdict, is_asked, is_begun, questions_of, verdict_misuse};
+ghost use Rattle.minisign_external.specs.States.{AreQuestions, GivesVerdict, HasAsked, HasEnded, HasToldDigest, IsAskFedRefusal, IsCommentRefusal, IsFedState, IsMarkedFed, IsMarkedTold, IsTextRefusal, IsVerdictRefusal, asked_of, asking_misuse, asking_result, fed_mark, given_verdict, is_asked, is_begun, questions_of, verdict_misuse};
 ghost use Rattle.minisign_external.specs.declared.public_keys.PublicKeyValue.{PublicKeyValue};
 ghost use Rattle.minisign_external.specs.declared.state.Misuse.TheVariants.{NoRoom};
 ghost use Rattle.minisign_external.specs.declared.state.Refusal.TheVariants.{WrongUse};
@@ -25,7 +25,7 @@ impl State {
     /// `message`; as many bytes as `sig_text` has are always room enough.
     ///
     /// What is refused, and in which order, its clause `value` says. After a refusal the two key IDs are written to
-    /// `questions` where the text of the signature reads. Does not allocate.
+    /// `questions` where the state may be asked and the text of the signature reads. Does not allocate.
     pub fn ask(
         &mut self,
         key: &PublicKeyValue,
@@ -59,6 +59,9 @@ impl State {
         ensures kept { OnErr result ((self.new ≡ self.old) × (message.new ≡ message.old)) }
         ensures key_ids { (self.old.mark ≡ fed_mark) → is_asked self.old ≡ false → (t : SignatureTextRecord) → read_utf8 read_signature sig_text.now ≡ Ok t
             → (questions.new.public_key_id ≡ key.now.key_id) × (questions.new.signature_key_id ≡ t.signature.keynum) }
+
+        // Of a state that may not be asked the questions stay.
+        ensures unasked { (questions.new ≡ questions.old) ⊎ (IsMarkedFed self.old × (is_asked self.old ≡ false)) }
     {
         if self.mark != FED || self.is_asked() {
             return Err(Refusal::WrongUse(self.asking_misuse()));
@@ -71,7 +74,7 @@ impl State {
 
     /// The same about all that the state was fed, also where it was asked before: the digest is told as well, and the
     /// state takes no more data. Returns the trusted comment, which nothing vouches for yet. A wrong use changes
-    /// nothing.
+    /// nothing, but that the two key IDs are told where the buffer is too short.
     pub fn ask_fed<'a>(
         &mut self,
         key: &PublicKeyValue,
@@ -93,6 +96,9 @@ impl State {
         ensures room { length sig_text.now ≤ length message.old → IfErr result (λ r. ¬ (r ≡ WrongUse NoRoom)) }
         ensures texts { IfErr result (IsTextRefusal key.now sig_text.now allow_legacy) }
         ensures kept { OnErr result ((self.new ≡ self.old) × (message.new ≡ message.old)) }
+
+        // Of a state that is not being fed the questions stay.
+        ensures unasked { (questions.new ≡ questions.old) ⊎ IsMarkedFed self.old }
     {
         let mut told = *self;
         let mut digest = [0u8; 64];

@@ -1,5 +1,5 @@
 -- Whether an update is newer than what is kept, from its signature alone.
-use Rattle.std.specs.Prelude.{◌≡◌, ◌⊎◌, ◌<◌, ◌==◌, ℕ, Bool, false, true, if◌then◌else◌, nat_le, List, [], Option, Some, None, IfSome, MatchResult}
+use Rattle.std.specs.Prelude.{◌≡◌, ◌⊎◌, ◌<◌, ◌==◌, ℕ, Bool, false, true, if◌then◌else◌, nat_le, List, [], Option, Some, None, IfSome}
 use Rattle.std.specs.declared.result.Result.{Result}
 use Rattle.std.specs.declared.result.Result.TheVariants.{Ok, Err}
 use Rattle.std.specs.Str.{IsUtf8}
@@ -54,14 +54,6 @@ IsOffered terms first found comment (Ok (offer, n)) =
 IsOffered terms first found comment (Err e) =
     IsRecordRefused terms.numbering first found e
     ⊎ ((kept : Option ℕ) × IsKeptOrNone terms.numbering first found kept × IsCommentRefused terms 0 comment e)
-
--- The answer by the texts and by what the record was found to hold: the first case of the texts that fails, otherwise
--- what is answered of the comment that was signed.
-abbrev pub CheckAnswers : Verifier → Terms → Bool → Option (List ℕ) → Result (Offer × ℕ) InstallFault → Type 0
-CheckAnswers accepts terms first found r =
-    MatchResult (signed_comment accepts terms.pk_text terms.sig_text)
-    (λ comment. IsOffered terms first found comment r)
-    (λ f. r ≡ Err (Library f))
 
 -- How a check ends. Memory runs out, or the texts are refused, before anything is asked of the folder. Otherwise the
 -- record was read, by one call that changed nothing, and the answer is the one by what it was found to hold; or reading

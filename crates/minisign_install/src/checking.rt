@@ -56,7 +56,7 @@ pub fn check_update<S: Scheme, F: Folder>(
 ) -> Result<(Offer, u64), InstallFault>
     // The answer is the one by what the record was found to hold, which one call told that changed nothing: the first
     // case of the texts that fails; else the refusal of the record; else that of the signed comment; else the number
-    // that the comment has for the wanted field, and what that is beside the kept one (`CheckAnswers`, `IsOffered`,
+    // that the comment has for the wanted field, and what that is beside the kept one (`ChecksSo`, `IsOffered`,
     // `offer_beside`). Before the texts have passed nothing is asked of the folder. Only memory can run out besides,
     // with nothing asked, or reading the record fail, which is counted.
     ensures outcome { ChecksSo (S.accepts scheme.now) (terms_of wanted.entry) is_first (F.folder_faults folder.old) (F.folder_faults folder.new) (F.run folder.old) (F.run folder.new) result }

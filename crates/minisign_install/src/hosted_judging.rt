@@ -1,6 +1,6 @@
 //! Asking a signature scheme about what a host has read back, and judging the signed comment. None of it takes memory.
 
-ghost use Rattle.std.specs.Prelude.{◌≡◌, ◌≤◌, ℕ, Bool, List, false, OnOk, OnErr, IfErr, IfOk, MatchResult, [], true, Ok, length};
+ghost use Rattle.std.specs.Prelude.{◌≡◌, ◌⊎◌, ◌≤◌, ℕ, Bool, List, false, OnOk, OnErr, IfErr, IfOk, MatchResult, [], true, Ok, length};
 ghost use Rattle.std.specs.Str.{IsUtf8};
 ghost use Rattle.minisign_hash.specs.Blake2b.{blake2b_digest};
 ghost use Rattle.minisign.specs.Acceptance.{Verifier};
@@ -56,10 +56,13 @@ impl Installation {
         ensures field { numbering_of self.new ≡ numbering_of self.old }
 
         // The refusals come in one order: answers that are not due; a name that is not UTF-8; what `State::ask_fed`
-        // refuses, in its order. A wrong use and a buffer without room change nothing. For any other the stage is to be
-        // removed, and the run is refused for that. The message buffer is as it was.
+        // refuses, in its order. A wrong use and a buffer without room leave the installation as it was. For any other the
+        // stage is to be removed, and the run is refused for that. The message buffer is as it was.
         ensures refused { IfErr result (IsAskRefusal self.old self.new key.now sig_text.now file.now (length message.old)) }
         ensures kept { OnErr result (message.new ≡ message.old) }
+
+        // Where the answers are not due the questions stay.
+        ensures unasked { (questions.new ≡ questions.old) ⊎ ((kept : ℕ) × IsDue self.old (Answer kept)) }
     {
         let Some(Due::Answer(kept)) = self.due() else {
             return Err(HostRefusal::WrongUse(Misuse::NotDue));

@@ -45,12 +45,12 @@ pub fn install_files<S: Scheme, R: Source>(
     update: &mut R,
     folder: &mut FileFolder<'_>,
 ) -> Result<(), InstallFault>
-    // Success only if the texts that are wanted vouch for some data, and the comment that was signed with it names the file
-    // and has a number in the wanted field; that this is the data ahead, and what the folder holds then, the code and tests
-    // show, since nothing is known of std's files.
+    // Success only if the texts that are wanted vouch for some data, and the comment that was signed with it names the file,
+    // has not expired, and has a number in the wanted field; that this is the data ahead, and what the folder holds then,
+    // the code and tests show, since nothing is known of std's files.
     ensures vouched { OnOk result (IsVouched (S.accepts scheme.now) (terms_of wanted.entry)) }
 
-    // Why a fault may come: a device's only where that device's count of faults rose, as the folder's does where a call on
+    // Why a fault may come: the data's only where its source's count of faults rose, as the folder's does where a call on
     // its files failed, and want of memory only where no count rose; the record is refused only where it is not the first
     // installation, and all that is said of the data only where some data has it.
     ensures causes { IfErr result (HasCause (S.accepts scheme.now) (terms_of wanted.entry) is_first (R.faults update.old) (R.faults update.new) (faults_of folder.old) (faults_of folder.new)) }

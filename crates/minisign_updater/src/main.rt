@@ -62,7 +62,7 @@ fn update<S: Scheme>(
     folder: &mut FileFolder<'_>,
 ) -> Result<(), InstallFault>
     // Success only if two texts vouch for some data, and the comment that was signed with it has the name of the place, and
-    // a timestamp, and had not expired at some moment, which is the one that the clock shows.
+    // a timestamp, and had not expired at some moment. That it is the one that the clock shows is tested.
     ensures { OnOk result ((pk_text sig_text : List ℕ) × (moment : ℕ)
         × IsVouched (S.accepts scheme.now) (record { pk_text = pk_text; sig_text = sig_text; file = name_of folder.old; numbering = Timestamp; moment = moment })) }
 {
