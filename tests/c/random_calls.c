@@ -247,7 +247,7 @@ static void on_key(void)
             minisign_secret_key again = { 0 };
 
             CHECK(minisign_open_secret_key(&unopened, 0, NULL, 0, 1, 1, &again) == MINISIGN_KEY_NOT_READ && again.mark == 0);
-            CHECK(minisign_read_secret_key(text, draw((uint32_t) len), &unopened) != MINISIGN_OK && unopened.mark == 0);
+            CHECK(minisign_read_secret_key(text, draw((uint32_t) len - 1), &unopened) != MINISIGN_OK && unopened.mark == 0);
             CHECK(minisign_read_secret_key(text, len, &unopened) == MINISIGN_OK);
             CHECK(unopened.is_sealed == 0 && unopened.log2_rows == 0 && unopened.work == 0);
             CHECK(minisign_open_secret_key(&unopened, 0, NULL, 0, 1, 1, &again) == MINISIGN_OK);
