@@ -238,6 +238,7 @@ fn installs_at(rt: &HostRuntime, place: &str, mode: u32) -> bool {
         sig_text: FIRST,
         file: folder.name(),
         numbering: Numbering::Timestamp,
+        moment: NOW,
     };
     let mut update = SliceSource::new(b"first");
     install_files(
