@@ -7,6 +7,9 @@
 // How long a thread may take to say that it is there, in milliseconds.
 const MOST_MILLISECONDS = 10000;
 const THREADS = 3;
+// How many bytes of the file a thread reads and hashes at a time. Of a slice there are two copies for a moment, and the page is
+// to take at most 32 MiB more than an empty one.
+const SLICE_BYTES = 3 * 1048576;
 // What a thread hashes before there is a file, and how often, so that the browser makes its better code of the module meanwhile.
 const WARMING_BYTES = 262144;
 const WARMING_TIMES = 8;
@@ -49,7 +52,7 @@ function placeSlice(own, file, begin, end) {
 // slice was not read, and then the thread's next slice is read.
 async function serve() {
   const own = await Library.load(moduleBytes());
-  const slice = own.pieceBytes;
+  const slice = Math.min(own.pieceBytes, SLICE_BYTES);
   for (let times = 0; times < WARMING_TIMES; times += 1) {
     own.feed(own.begin(), new Uint8Array(WARMING_BYTES));
   }
