@@ -25,7 +25,7 @@ class Updater:
     name = "minisign_updater"
     # Which ending of `minisign-install` the number of a fault stands for; all others refuse the update.
     endings = {0: 0, 1: MISUSED, 7: FAILED, 64: FAILED, 65: FAILED, 67: FAILED, 46: IN_USE, 47: UNRECORDED, 48: UNRECORDED, 51: OLDER,
-               52: NOT_ON_DISK, 53: UNRECORDED, 54: UNRECORDED}
+               52: NOT_ON_DISK, 53: UNRECORDED, 54: UNRECORDED, 55: EXPIRED}
     # Each of these calls fails in turn, and is interrupted in turn.
     failing = ("open", "openat", "write", "fsync", "rename", "read", "pread", "flock", "getdents64", "fchmod", "statx", "close")
     interrupted = ("open", "openat", "read", "write", "fsync", "rename", "unlink", "pread", "flock", "getdents64", "fchmod",

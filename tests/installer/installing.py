@@ -1219,10 +1219,10 @@ def cases(it):
     yield "four at once", it.at_once
     yield "four slow ones at once", lambda: it.at_once(rounds=8, slow=20000)
     yield "while another holds the lock", it.while_locked
+    yield from expiry_cases(it)
     if it.kind.is_in_c:
         yield from program_cases(it)
         yield from word_cases(it)
-        yield from expiry_cases(it)
     if it.kind.has_checks:
         yield from check_cases(it)
 
