@@ -46,7 +46,7 @@ padded_sixteen numeral =
     let count : 16 - length numeral - 0 - 0 ≡ 16 - length numeral = omega arith in
     ap (λ (k : ℕ). replicate k 48 ++ (numeral ++ [])) count ∙ ap (λ (z : List ℕ). replicate (16 - length numeral) 48 ++ z) (append-nil numeral)
 
--- an identifier is shown as the last 16 digits of its number
+-- a key ID is shown as the last 16 digits of its number
 pub identifier_by_digits : (id : List ℕ) → from_le_bytes w64 id < 2 ^ 64 → identifier_text id ≡ last_digits 16 (from_le_bytes w64 id) []
 unfolding identifier_text digits
 identifier_by_digits id h =

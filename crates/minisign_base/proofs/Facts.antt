@@ -6,10 +6,10 @@ use lib.Utf8.{encode}
 use Rattle.minisign_base.specs.Identifiers.{identifier_text}
 use Rattle.minisign_base.specs.Fault.{Named}
 use Rattle.minisign_base.specs.declared.faults.NamedFault.TheVariants.{EndOfInput, InvalidParameters, NotUtf8, ParametersTooHigh, PasswordTooLong}
-use Rattle.minisign_base.specs.Limits.{cost_log2, limits, sealing_limits}
+use Rattle.minisign_base.specs.Limits.{cost_log2, limits, numbers, sealing_limits}
 use Rattle.minisign_base.specs.Passwords.{accepted_line, first_line, password_of, read_count}
 
--- the identifier of the bytes 1 to 8
+-- the key ID of the bytes 1 to 8
 pub identifier_of_counted_bytes : identifier_text (1 ∷ 2 ∷ 3 ∷ 4 ∷ 5 ∷ 6 ∷ 7 ∷ 8 ∷ []) ≡ codes "0807060504030201"
 unfolding identifier_text padded_integral digits char_count
 identifier_of_counted_bytes = refl
@@ -21,32 +21,32 @@ identifier_of_one_byte = refl
 
 -- the limits of generated keys
 pub limits_of_generated_keys : sealing_limits 33554432 1048576 ≡ Ok (record { n_log2 = 15; r = 8; p = 1 })
-unfolding limits cost_log2
+unfolding limits numbers cost_log2
 limits_of_generated_keys = refl
 
 -- the limits that the C program minisign seals with
 pub limits_of_sensitive_keys : sealing_limits 1073741824 33554432 ≡ Ok (record { n_log2 = 20; r = 8; p = 1 })
-unfolding limits cost_log2
+unfolding limits numbers cost_log2
 limits_of_sensitive_keys = refl
 
 -- few operations for the memory: they are the measure
-pub limits_of_few_operations : limits 2147483648 0 20 ≡ Ok (record { n_log2 = 10; r = 8; p = 1 })
-unfolding limits cost_log2
+pub limits_of_few_operations : limits (numbers 2147483648 0) 20 ≡ Ok (record { n_log2 = 10; r = 8; p = 1 })
+unfolding limits numbers cost_log2
 limits_of_few_operations = refl
 
 -- that memory limit is refused where a key is opened
 pub limits_above_sealing : sealing_limits 2147483648 0 ≡ Err (Named ParametersTooHigh)
-unfolding limits cost_log2
+unfolding limits numbers cost_log2
 limits_above_sealing = refl
 
 -- the cost is bounded by the third number
-pub limits_above_the_bound : limits 33554432 1048576 14 ≡ Err (Named ParametersTooHigh)
-unfolding limits cost_log2
+pub limits_above_the_bound : limits (numbers 33554432 1048576) 14 ≡ Err (Named ParametersTooHigh)
+unfolding limits numbers cost_log2
 limits_above_the_bound = refl
 
 -- the cut to 32 bits leaves no parallelization
-pub limits_without_parallelization : limits 0 1099511627776 20 ≡ Err (Named InvalidParameters)
-unfolding limits cost_log2
+pub limits_without_parallelization : limits (numbers 0 1099511627776) 20 ≡ Err (Named InvalidParameters)
+unfolding limits numbers cost_log2
 limits_without_parallelization = refl
 
 -- a line feed ends a password, with one carriage return before it, and no other byte does

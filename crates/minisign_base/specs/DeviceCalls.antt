@@ -2,7 +2,8 @@
 -- the return (new); and what is said of that.
 use Rattle.std.specs.Prelude.{◌≡◌, ⊤, ℕ, List, None, Result, MatchResult}
 use Rattle.std.specs.Io.KnownBytes.{Appends}
-use Rattle.minisign_base.specs.Devices.{AllFlushed, AppendsFront, HasFlushed, HasGiven, HasGoneBack, HasMarked, Rose}
+use Rattle.minisign_base.specs.Devices.{AppendsFront, HasFlushed, HasGiven, HasGoneBack, HasMarked, Rose}
+use Rattle.minisign_base.specs.Devices.{SameWhereKnown}
 use Rattle.minisign_base.specs.Fault.{Fault, Named}
 use Rattle.minisign_base.specs.declared.faults.NamedFault.TheVariants.{WritingFailed}
 use Rattle.minisign_base.specs.Members.{RandomOf, SinkOf, SourceOf}
@@ -72,7 +73,7 @@ TakesFront out bytes = AppendsFront (out.sink.taken out.old) (out.sink.taken out
 
 -- the sink flushed all that it took; where it is not known what was flushed, nothing is said
 abbrev pub IsFlushed : {W : Type 0} → SinkCall W → Type 0
-IsFlushed out = AllFlushed (out.sink.flushed out.new) (out.sink.taken out.new)
+IsFlushed out = SameWhereKnown (out.sink.taken out.new) (out.sink.flushed out.new)
 
 -- the sink took all of a text, and flushed it
 pub record TakesPart {W : Type 0} (out : SinkCall W) (part : List ℕ) : Type 0 where

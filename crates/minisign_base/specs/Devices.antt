@@ -5,17 +5,13 @@ use Rattle.std.specs.Prelude.{◌≡◌, ℕ, ◌+◌, ◌-◌, ◌^◌, ◌<◌
 use Rattle.std.specs.Prelude.{Option, Some, IfSome, Result, IsErr, IfOk, OnOk, OnErr}
 use Rattle.std.specs.Io.KnownBytes.{append_known, Appends, Consumes, IsAtEnd, Keeps}
 
--- the greatest value of a count
-abbrev pub most_faults : ℕ
-most_faults = 2 ^ 64 - 1
-
 -- the count rose, or stood at its greatest value
 abbrev pub Rose : ℕ → ℕ → Type 0
-Rose old new = min (old + 1) most_faults ≤ new
+Rose old new = min (old + 1) (2 ^ 64 - 1) ≤ new
 
--- the list stays, or is known no more
-abbrev pub StaysOrHides : Option (List ℕ) → Option (List ℕ) → Type 0
-StaysOrHides old new = IfSome new (λ ys. old ≡ Some ys)
+-- the second list, where it is known, is the first one
+abbrev pub SameWhereKnown : Option (List ℕ) → Option (List ℕ) → Type 0
+SameWhereKnown whole known = IfSome known (λ ys. whole ≡ Some ys)
 
 -- what is known began anew: nothing
 abbrev pub BeginsAnew : Option (List ℕ) → Type 0
@@ -29,10 +25,6 @@ HasGiven old new = IfSome new (λ ys. IfSome old (λ xs. (front : List ℕ) × (
 abbrev pub AppendsFront : Option (List ℕ) → Option (List ℕ) → List ℕ → Type 0
 AppendsFront old new bs = (n : ℕ) × IfSome old (λ xs. new ≡ Some (xs ++ take n bs))
 
--- all that was taken was flushed; where it is not known what was flushed, nothing is said
-abbrev pub AllFlushed : Option (List ℕ) → Option (List ℕ) → Type 0
-AllFlushed flushed taken = IfSome flushed (λ xs. taken ≡ Some xs)
-
 -- a read moved the next n bytes to the front of the buffer, 0 only where there is no room or no byte is
 -- left, or failed; a place that is marked stays marked
 pub record HasRead {S E : Type 0} (ahead_of behind_of since_of : S → Option (List ℕ))
@@ -45,11 +37,11 @@ pub record HasRead {S E : Type 0} (ahead_of behind_of since_of : S → Option (L
   pub no_new_fault : OnOk answer (faults_of new ≡ faults_of old)
   pub mark : OnOk answer (behind_of new ≡ behind_of old)
   pub fault : OnErr answer (Rose (faults_of old) (faults_of new))
-  pub kept : OnErr answer (StaysOrHides (ahead_of old) (ahead_of new))
+  pub kept : OnErr answer (SameWhereKnown (ahead_of old) (ahead_of new))
   pub err_left : OnErr answer (left_of new ≤ left_of old)
   pub marked : is_marked_of new ≡ is_marked_of old
   pub since : IfOk answer (λ n. since_of new ≡ append_known (since_of old) (take n buffer))
-  pub since_kept : OnErr answer (StaysOrHides (since_of old) (since_of new))
+  pub since_kept : OnErr answer (SameWhereKnown (since_of old) (since_of new))
 
 -- a steady source remembers the bytes ahead, which stay; a place is marked now, or after a fault none is
 pub record HasMarked {S A E : Type 0} (steady_of : S → Type 0) (ahead_of behind_of since_of : S → Option (List ℕ))
@@ -59,7 +51,7 @@ pub record HasMarked {S A E : Type 0} (steady_of : S → Type 0) (ahead_of behin
   pub mark : steady_of old → OnOk answer (behind_of new ≡ ahead_of old)
   pub no_new_fault : OnOk answer (faults_of new ≡ faults_of old)
   pub fault : OnErr answer (Rose (faults_of old) (faults_of new))
-  pub kept : OnErr answer (StaysOrHides (ahead_of old) (ahead_of new))
+  pub kept : OnErr answer (SameWhereKnown (ahead_of old) (ahead_of new))
   pub marked : OnOk answer (is_marked_of new ≡ true)
   pub unmarked : OnErr answer (is_marked_of new ≡ false)
   pub since : OnOk answer (BeginsAnew (since_of new))
@@ -70,7 +62,7 @@ pub record HasGoneBack {S A E : Type 0} (ahead_of behind_of since_of : S → Opt
     (is_marked_of : S → Bool) (faults_of : S → ℕ)
     (old new : S) (answer : Result A E) : Type 0 where
   pub needs_mark : is_marked_of old ≡ false → IsErr answer
-  pub bytes : OnOk answer (IfSome (behind_of old) (λ xs. ahead_of new ≡ Some xs))
+  pub bytes : OnOk answer (SameWhereKnown (ahead_of new) (behind_of old))
   pub mark : OnOk answer (behind_of new ≡ behind_of old)
   pub no_new_fault : OnOk answer (faults_of new ≡ faults_of old)
   pub fault : OnErr answer (Rose (faults_of old) (faults_of new))
@@ -101,7 +93,7 @@ pub record HasWritten {S E : Type 0} (taken_of flushed_of : S → Option (List �
 pub record HasFlushed {S A E : Type 0} (taken_of flushed_of : S → Option (List ℕ)) (faults_of : S → ℕ)
     (old new : S) (answer : Result A E) : Type 0 where
   pub bytes : Keeps (taken_of old) (taken_of new)
-  pub all : OnOk answer (AllFlushed (flushed_of new) (taken_of new))
-  pub err_flushed : OnErr answer (StaysOrHides (flushed_of old) (flushed_of new))
+  pub all : OnOk answer (SameWhereKnown (taken_of new) (flushed_of new))
+  pub err_flushed : OnErr answer (SameWhereKnown (flushed_of old) (flushed_of new))
   pub no_new_fault : OnOk answer (faults_of new ≡ faults_of old)
   pub fault : OnErr answer (Rose (faults_of old) (faults_of new))

@@ -7,15 +7,6 @@ use Rattle.minisign_kdf.specs.Params.{Numbers, is_accepted}
 use Rattle.minisign_base.specs.Fault.{Fault, Named}
 use Rattle.minisign_base.specs.declared.faults.NamedFault.TheVariants.{ParametersTooHigh, InvalidParameters}
 
--- the operations that count: at least 32768
-abbrev pub operations : ℕ → ℕ
-operations opslimit = max 32768 opslimit
-
--- what N is measured by: the operations where they are below a 32nd of the memory, otherwise the memory
-abbrev pub greatest_cost : ℕ → ℕ → ℕ
-greatest_cost memlimit opslimit =
-    if nat_lt (operations opslimit) (memlimit / 32) then operations opslimit / 32 else memlimit / 1024
-
 -- n is the least number from 1 whose power of two is above half of the greatest cost, at most 63
 pub record IsCostLog2 (greatest n : ℕ) : Type 0 where
   pub from_one : 1 ≤ n
@@ -27,29 +18,24 @@ pub record IsCostLog2 (greatest n : ℕ) : Type 0 where
 unfoldable pub cost_log2 : ℕ → ℕ
 cost_log2 greatest = unwrap_or (find (λ n. nat_lt (greatest / 2) (2 ^ n)) (range_with_len 1 62)) 63
 
--- p where the memory is the measure: a quarter of the counted operations divided by N, of that the low
--- 32 bits, of those at most 0x3fffffff, divided by r
-abbrev pub parallelization : ℕ → ℕ → ℕ
-parallelization count n_log2 = min 0x3fffffff (count / 4 / 2 ^ n_log2 % 2 ^ 32) / 8
-
--- the numbers of a memory limit and an operations limit
-abbrev pub numbers : ℕ → ℕ → Numbers
+-- the numbers of a memory limit and an operations limit; at least 32768 operations count. Where they are below a 32nd
+-- of the memory, they bound N, and p is 1. Otherwise the memory bounds N, and p is a quarter of the operations divided
+-- by N, of that the low 32 bits, of those at most 0x3fffffff, divided by r
+unfoldable pub numbers : ℕ → ℕ → Numbers
 numbers memlimit opslimit =
-    let n_log2 = cost_log2 (greatest_cost memlimit opslimit) in
-    let p = if nat_lt (operations opslimit) (memlimit / 32) then 1 else parallelization (operations opslimit) n_log2 in
+    let operations = max 32768 opslimit in
+    let few = nat_lt operations (memlimit / 32) in
+    let n_log2 = cost_log2 (if few then operations / 32 else memlimit / 1024) in
+    let p = if few then 1 else min 0x3fffffff (operations / 4 / 2 ^ n_log2 % 2 ^ 32) / 8 in
     record { n_log2 = n_log2; r = 8; p = p }
 
--- a cost above the allowed one is refused, and then what scrypt does not take
-abbrev pub checked_numbers : Numbers → ℕ → Result Numbers Fault
-checked_numbers v n_log2_max =
+-- numbers, or the fault: a cost above the allowed one is refused, and then what scrypt does not take
+unfoldable pub limits : Numbers → ℕ → Result Numbers Fault
+limits v n_log2_max =
     if nat_lt n_log2_max v.n_log2 then Err (Named ParametersTooHigh)
     else (if is_accepted v then Ok v else Err (Named InvalidParameters))
-
--- the parameters that two limits lead to, or the fault
-unfoldable pub limits : ℕ → ℕ → ℕ → Result Numbers Fault
-limits memlimit opslimit n_log2_max = checked_numbers (numbers memlimit opslimit) n_log2_max
 
 -- the limits of sealing and opening: at most 1073741824 bytes, and N at most 2 ^ 20
 abbrev pub sealing_limits : ℕ → ℕ → Result Numbers Fault
 sealing_limits memlimit opslimit =
-    if nat_lt 1073741824 memlimit then Err (Named ParametersTooHigh) else limits memlimit opslimit 20
+    if nat_lt 1073741824 memlimit then Err (Named ParametersTooHigh) else limits (numbers memlimit opslimit) 20

@@ -5,8 +5,7 @@ pub mod random_sources;
 pub mod sinks;
 pub mod sources;
 
-ghost use Rattle.std.specs.Prelude.{◌≡◌, ◌+◌, min};
-ghost use Rattle.minisign_base.specs.Devices.{most_faults};
+ghost use Rattle.std.specs.Prelude.{◌≡◌, ◌+◌, ◌-◌, ◌^◌, min};
 
 /// A device failed. Each call names its own fault by the device that failed.
 #[derive(Clone, Copy, Debug, PartialEq, Eq)]
@@ -19,7 +18,7 @@ struct FaultCount(u64);
 impl FaultCount {
     // One more fault. The count stays at its greatest value.
     fn raise(&mut self) -> DeviceFault
-        ensures { self.new.0 ≡ min (self.old.0 + 1) most_faults }
+        ensures { self.new.0 ≡ min (self.old.0 + 1) (2 ^ 64 - 1) }
     {
         self.0 = self.0.saturating_add(1);
         DeviceFault

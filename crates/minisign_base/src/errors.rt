@@ -97,7 +97,7 @@ impl PError {
         }
     }
 
-    /// The text, which `Display` writes. One with identifiers is put together in `room`. Takes no
+    /// The text, which `Display` writes. One with key IDs is put together in `room`. Takes no
     /// memory.
     pub fn text<'a>(&'a self, room: &'a mut [u8; TEXT_ROOM]) -> &'a [u8]
         ensures { result.now ≡ text_of self.now }

@@ -11,7 +11,7 @@ use crate::helpers::joined;
 use crate::identifiers::Identifier;
 use std::{fmt, str};
 
-/// How many bytes a text with identifiers takes at most.
+/// How many bytes a text with key IDs takes at most.
 pub const TEXT_ROOM: usize = 96;
 
 /// A fault that a call of Minisign returns. `Display` writes its text.
@@ -118,7 +118,7 @@ pub enum NamedFault {
 }
 
 impl NamedFault {
-    /// All named faults, with identifiers of zeros.
+    /// All named faults, with key IDs of zeros.
     pub const ALL: [NamedFault; 49] = [
         NamedFault::OutOfMemory,
         NamedFault::ReadingFailed,
@@ -188,7 +188,7 @@ impl NamedFault {
         self.row().0
     }
 
-    /// What the fault says without its identifiers, at most 127 bytes: but for three faults all of
+    /// What the fault says without its key IDs, at most 127 bytes: but for three faults all of
     /// its text.
     pub fn summary(&self) -> &'static str
         ensures { result.now ≡ (fault_row self.now).summary }
@@ -196,7 +196,7 @@ impl NamedFault {
         self.row().2
     }
 
-    /// The text, which `Display` writes. One with identifiers is put together in `room`. Takes no
+    /// The text, which `Display` writes. One with key IDs is put together in `room`. Takes no
     /// memory.
     pub fn text<'a>(&self, room: &'a mut [u8; TEXT_ROOM]) -> &'a [u8]
         ensures { result.now ≡ named_text self.now }

@@ -1,12 +1,13 @@
 //! Numbers as bytes, the parameters of scrypt that a key's limits lead to, asking for a password,
 //! and the clock.
 
-ghost use Rattle.std.specs.Prelude.{◌≡◌, ℕ, ◌+◌, ◌/◌, ◌^◌, ◌<◌, ◌≤◌, ◌++◌, List, Ok, Err, IfOk, IfErr, length, string_bytes, take};
+ghost use Rattle.std.specs.Prelude.{◌≡◌, ℕ, ◌+◌, ◌/◌, ◌%◌, ◌^◌, ◌<◌, ◌≤◌, ◌++◌, List, Ok, Err, IfOk, IfErr, length, string_bytes, take};
+ghost use Rattle.std.specs.Prelude.{if◌then◌else◌, max, min, nat_lt};
 ghost use Rattle.std.specs.Int.{from_le_bytes, to_le_bytes, w64};
 ghost use Rattle.std.specs.Time.{system_time_nanos};
 ghost use Rattle.minisign_base.specs.Fault.{Named};
 ghost use Rattle.minisign_base.specs.declared.faults.NamedFault.TheVariants.{ClockIncorrect, OutOfMemory};
-ghost use Rattle.minisign_base.specs.Limits.{IsCostLog2, checked_numbers, cost_log2, greatest_cost, limits, numbers, parallelization};
+ghost use Rattle.minisign_base.specs.Limits.{IsCostLog2, cost_log2, limits, numbers};
 ghost use Rattle.minisign_base.specs.DeviceCalls.{prompt_call};
 ghost use Rattle.minisign_base.specs.Prompts.{ConversationEnds, asking_steps};
 ghost use Rattle.minisign_base.specs.Passwords.{password_of};
@@ -149,14 +150,14 @@ fn seconds_since_1970(now: SystemTime) -> Result<u64>
 /// `ParametersTooHigh` is returned exactly where N would be above 2^`n_log2_max`, and otherwise
 /// `InvalidParameters` exactly where scrypt does not take the parameters (RFC 7914, section 2).
 /// Takes no memory.
-#[tactic(auto, unfolding(crate::specs::Limits::limits))]
+#[tactic(auto, unfolding(crate::specs::Limits::numbers))]
 pub fn raw_scrypt_params(memlimit: u64, opslimit: u64, n_log2_max: u8) -> Result<Params>
     // Limits become parameters exactly by their definition, and each fault comes exactly in its
     // case.
-    ensures outcome { result ≡ limits memlimit opslimit n_log2_max }
+    ensures outcome { result ≡ limits (numbers memlimit opslimit) n_log2_max }
 
     // The logarithm of the cost is the one that the greatest cost within the limits has.
-    ensures least { IsCostLog2 (greatest_cost memlimit opslimit)
+    ensures least { IsCostLog2 (if nat_lt (max 32768 opslimit) (memlimit / 32) then max 32768 opslimit / 32 else memlimit / 1024)
         (numbers memlimit opslimit).n_log2 }
 {
     let operations = opslimit.max(32768);
@@ -169,8 +170,9 @@ pub fn raw_scrypt_params(memlimit: u64, opslimit: u64, n_log2_max: u8) -> Result
 
 // The parameters with this cost and this parallelization, unless the cost is above the allowed one
 // or scrypt does not take them.
+#[tactic(auto, unfolding(crate::specs::Limits::limits))]
 fn checked_params(n_log2: u8, p: u32, n_log2_max: u8) -> Result<Params>
-    ensures { result ≡ checked_numbers (record { n_log2 = n_log2; r = 8; p = p }) n_log2_max }
+    ensures { result ≡ limits (record { n_log2 = n_log2; r = 8; p = p }) n_log2_max }
 {
     if n_log2 > n_log2_max {
         return Err(NamedFault::ParametersTooHigh.into());
@@ -192,7 +194,7 @@ fn cost_log2(greatest: u64) -> u8
 // The parallelization where the memory is the measure: the quotient is cut to 32 bits first.
 fn parallelization(operations: u64, n_log2: u8) -> u32
     requires n_log2 { n_log2 < 64 }
-    ensures { result ≡ parallelization operations n_log2 }
+    ensures { result ≡ min 0x3fffffff (operations / 4 / 2 ^ n_log2 % 2 ^ 32) / 8 }
 {
     let quotient = (operations / 4) >> n_log2;
     let low = (quotient & 0xffff_ffff) as u32;

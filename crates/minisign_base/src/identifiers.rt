@@ -1,4 +1,4 @@
-//! How a key's identifier is shown.
+//! How a key ID is shown.
 
 ghost use Rattle.std.specs.Prelude.{◌≡◌, ◌<◌, Some, true, []};
 ghost use Rattle.std.specs.Fmt.{digit_glyph};

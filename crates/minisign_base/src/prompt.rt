@@ -3,7 +3,7 @@
 ghost use Rattle.std.specs.Prelude.{◌≡◌, ◌⊎◌, ℕ, ◌+◌, ◌≤◌, List, [], ◌∷◌, length, take, Ok, Err, IfOk, IfErr, OnOk, OnErr, MatchOption, MatchResult, string_bytes};
 ghost use Rattle.std.specs.Io.KnownBytes.{Appends, Consumes, IsAtEnd};
 ghost use Rattle.std.specs.Str.Lines.{strip_carriage_return};
-ghost use Rattle.minisign_base.specs.Devices.{AppendsFront, Rose, StaysOrHides};
+ghost use Rattle.minisign_base.specs.Devices.{AppendsFront, Rose, SameWhereKnown};
 ghost use Rattle.minisign_base.specs.DeviceCalls.{FailsAtPart, TakesPart, prompt_call, sink_call, source_call};
 ghost use Rattle.minisign_base.specs.Fault.{Fault, Named};
 ghost use Rattle.minisign_base.specs.declared.faults.NamedFault.TheVariants.{EndOfInput, ReadingFailed, WritingFailed};
@@ -155,7 +155,7 @@ fn next_byte<R: Source>(source: &mut R) -> Result<Option<u8>>
     ensures no_new_fault { OnOk result (R.faults source.new ≡ R.faults source.old) }
     ensures refused { IfErr result
         (λ e. (e ≡ Named ReadingFailed) × Rose (R.faults source.old) (R.faults source.new)) }
-    ensures kept { OnErr result (StaysOrHides (R.ahead source.old) (R.ahead source.new)) }
+    ensures kept { OnErr result (SameWhereKnown (R.ahead source.old) (R.ahead source.new)) }
 {
     let mut byte = [0u8; 1];
     match source.read(&mut byte) {

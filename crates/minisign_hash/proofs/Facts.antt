@@ -3,8 +3,8 @@
 -- definitions does not check.
 use Rattle.std.proofs.Common.{◌≡◌, ℕ, ◌+◌, ◌*◌, ◌^◌, ◌&&◌, nat_le, nat_lt, Bool, true, List, [], ◌∷◌, codes, refl, slice_index}
 use Rattle.std.specs.List.{list_all, range_with_len}
-use Rattle.minisign_hash.specs.Blake2b.{blake2b_digest, padded_block, compress, first_state, iv, last_state, mix, mixed_words, round, rounds, sigma, state_after, work_vector}
-use Rattle.minisign_hash.specs.Words.{bytes_of_words64, word_at, words64_of}
+use Rattle.minisign_hash.specs.Blake2b.{blake2b_digest, padded_block, compress, iv, mix, round, rounds, sigma, state_after, work_vector}
+use Rattle.minisign_hash.specs.Words.{bytes_of_words64, words64_of}
 
 -- the first eight primes, and the whole parts of their square roots
 abbrev primes : List ℕ
@@ -31,7 +31,7 @@ pub digest_of_nothing : blake2b_digest 64 [] ≡
     0xE2 ∷ 0x17 ∷ 0xF7 ∷ 0x1F ∷ 0x54 ∷ 0x19 ∷ 0xD2 ∷ 0x5E ∷ 0x10 ∷ 0x31 ∷ 0xAF ∷ 0xEE ∷ 0x58 ∷
     0x53 ∷ 0x13 ∷ 0x89 ∷ 0x64 ∷ 0x44 ∷ 0x93 ∷ 0x4E ∷ 0xB0 ∷ 0x4B ∷ 0x90 ∷ 0x3A ∷ 0x68 ∷ 0x5B ∷
     0x14 ∷ 0x48 ∷ 0xB7 ∷ 0x55 ∷ 0xD5 ∷ 0x6F ∷ 0x70 ∷ 0x1A ∷ 0xFE ∷ 0x9B ∷ 0xE2 ∷ 0xCE ∷ []
-unfolding blake2b_digest last_state state_after padded_block first_state compress work_vector rounds round mix mixed_words iv sigma words64_of word_at bytes_of_words64
+unfolding blake2b_digest state_after padded_block compress work_vector rounds round mix iv sigma words64_of bytes_of_words64
 digest_of_nothing = refl
 
 -- RFC 7693, appendix A
@@ -41,7 +41,7 @@ pub digest_of_abc : blake2b_digest 64 (codes "abc") ≡
     0xBB ∷ 0x6F ∷ 0xDB ∷ 0xFF ∷ 0xA2 ∷ 0xD1 ∷ 0x7D ∷ 0x87 ∷ 0xC5 ∷ 0x39 ∷ 0x2A ∷ 0xAB ∷ 0x79 ∷
     0x2D ∷ 0xC2 ∷ 0x52 ∷ 0xD5 ∷ 0xDE ∷ 0x45 ∷ 0x33 ∷ 0xCC ∷ 0x95 ∷ 0x18 ∷ 0xD3 ∷ 0x8A ∷ 0xA8 ∷
     0xDB ∷ 0xF1 ∷ 0x92 ∷ 0x5A ∷ 0xB9 ∷ 0x23 ∷ 0x86 ∷ 0xED ∷ 0xD4 ∷ 0x00 ∷ 0x99 ∷ 0x23 ∷ []
-unfolding blake2b_digest last_state state_after padded_block first_state compress work_vector rounds round mix mixed_words iv sigma words64_of word_at bytes_of_words64
+unfolding blake2b_digest state_after padded_block compress work_vector rounds round mix iv sigma words64_of bytes_of_words64
 digest_of_abc = refl
 
 -- the bytes 0 to 127: one whole block, which is the last
@@ -51,7 +51,7 @@ pub digest_of_one_block : blake2b_digest 64 (range_with_len 0 128) ≡
     0xEC ∷ 0xBF ∷ 0xD6 ∷ 0x4B ∷ 0x7E ∷ 0x0E ∷ 0x8C ∷ 0xCF ∷ 0xF4 ∷ 0x39 ∷ 0xAC ∷ 0x33 ∷ 0x3B ∷
     0x04 ∷ 0x0F ∷ 0x19 ∷ 0xB0 ∷ 0xC4 ∷ 0xDD ∷ 0xD1 ∷ 0x1A ∷ 0x61 ∷ 0xE2 ∷ 0x4A ∷ 0xC1 ∷ 0xFE ∷
     0x0F ∷ 0x10 ∷ 0xA0 ∷ 0x39 ∷ 0x80 ∷ 0x6C ∷ 0x5D ∷ 0xCC ∷ 0x0D ∷ 0xA3 ∷ 0xD1 ∷ 0x15 ∷ []
-unfolding blake2b_digest last_state state_after padded_block first_state compress work_vector rounds round mix mixed_words iv sigma words64_of word_at bytes_of_words64
+unfolding blake2b_digest state_after padded_block compress work_vector rounds round mix iv sigma words64_of bytes_of_words64
 digest_of_one_block = refl
 
 -- the bytes 0 to 128, of which the last stands in a second block
@@ -61,33 +61,33 @@ pub digest_of_two_blocks : blake2b_digest 64 (range_with_len 0 129) ≡
     0xBA ∷ 0xD2 ∷ 0xFD ∷ 0x44 ∷ 0x4D ∷ 0x3E ∷ 0x44 ∷ 0x18 ∷ 0xBE ∷ 0x19 ∷ 0xAE ∷ 0xC4 ∷ 0xE1 ∷
     0x14 ∷ 0x49 ∷ 0xAC ∷ 0x1A ∷ 0x57 ∷ 0x20 ∷ 0x78 ∷ 0x98 ∷ 0xBC ∷ 0x57 ∷ 0xD7 ∷ 0x6A ∷ 0x1B ∷
     0xCF ∷ 0x35 ∷ 0x66 ∷ 0x29 ∷ 0x2C ∷ 0x20 ∷ 0xC6 ∷ 0x83 ∷ 0xA5 ∷ 0xC4 ∷ 0x64 ∷ 0x8F ∷ []
-unfolding blake2b_digest last_state state_after padded_block first_state compress work_vector rounds round mix mixed_words iv sigma words64_of word_at bytes_of_words64
+unfolding blake2b_digest state_after padded_block compress work_vector rounds round mix iv sigma words64_of bytes_of_words64
 digest_of_two_blocks = refl
 
 pub short_digest_of_nothing : blake2b_digest 32 [] ≡
     0x0E ∷ 0x57 ∷ 0x51 ∷ 0xC0 ∷ 0x26 ∷ 0xE5 ∷ 0x43 ∷ 0xB2 ∷ 0xE8 ∷ 0xAB ∷ 0x2E ∷ 0xB0 ∷ 0x60 ∷
     0x99 ∷ 0xDA ∷ 0xA1 ∷ 0xD1 ∷ 0xE5 ∷ 0xDF ∷ 0x47 ∷ 0x77 ∷ 0x8F ∷ 0x77 ∷ 0x87 ∷ 0xFA ∷ 0xAB ∷
     0x45 ∷ 0xCD ∷ 0xF1 ∷ 0x2F ∷ 0xE3 ∷ 0xA8 ∷ []
-unfolding blake2b_digest last_state state_after padded_block first_state compress work_vector rounds round mix mixed_words iv sigma words64_of word_at bytes_of_words64
+unfolding blake2b_digest state_after padded_block compress work_vector rounds round mix iv sigma words64_of bytes_of_words64
 short_digest_of_nothing = refl
 
 pub short_digest_of_abc : blake2b_digest 32 (codes "abc") ≡
     0xBD ∷ 0xDD ∷ 0x81 ∷ 0x3C ∷ 0x63 ∷ 0x42 ∷ 0x39 ∷ 0x72 ∷ 0x31 ∷ 0x71 ∷ 0xEF ∷ 0x3F ∷ 0xEE ∷
     0x98 ∷ 0x57 ∷ 0x9B ∷ 0x94 ∷ 0x96 ∷ 0x4E ∷ 0x3B ∷ 0xB1 ∷ 0xCB ∷ 0x3E ∷ 0x42 ∷ 0x72 ∷ 0x62 ∷
     0xC8 ∷ 0xC0 ∷ 0x68 ∷ 0xD5 ∷ 0x23 ∷ 0x19 ∷ []
-unfolding blake2b_digest last_state state_after padded_block first_state compress work_vector rounds round mix mixed_words iv sigma words64_of word_at bytes_of_words64
+unfolding blake2b_digest state_after padded_block compress work_vector rounds round mix iv sigma words64_of bytes_of_words64
 short_digest_of_abc = refl
 
 pub short_digest_of_one_block : blake2b_digest 32 (range_with_len 0 128) ≡
     0xC3 ∷ 0x58 ∷ 0x2F ∷ 0x71 ∷ 0xEB ∷ 0xB2 ∷ 0xBE ∷ 0x66 ∷ 0xFA ∷ 0x5D ∷ 0xD7 ∷ 0x50 ∷ 0xF8 ∷
     0x0B ∷ 0xAA ∷ 0xE9 ∷ 0x75 ∷ 0x54 ∷ 0xF3 ∷ 0xB0 ∷ 0x15 ∷ 0x66 ∷ 0x3C ∷ 0x8B ∷ 0xE3 ∷ 0x77 ∷
     0xCF ∷ 0xCB ∷ 0x24 ∷ 0x88 ∷ 0xC1 ∷ 0xD1 ∷ []
-unfolding blake2b_digest last_state state_after padded_block first_state compress work_vector rounds round mix mixed_words iv sigma words64_of word_at bytes_of_words64
+unfolding blake2b_digest state_after padded_block compress work_vector rounds round mix iv sigma words64_of bytes_of_words64
 short_digest_of_one_block = refl
 
 pub short_digest_of_two_blocks : blake2b_digest 32 (range_with_len 0 129) ≡
     0xF7 ∷ 0xF3 ∷ 0xC4 ∷ 0x6B ∷ 0xA2 ∷ 0x56 ∷ 0x4F ∷ 0xF4 ∷ 0xC4 ∷ 0xC1 ∷ 0x62 ∷ 0xDA ∷ 0x1F ∷
     0x5B ∷ 0x60 ∷ 0x5F ∷ 0x9F ∷ 0x1C ∷ 0x4A ∷ 0xA6 ∷ 0xA2 ∷ 0x06 ∷ 0x52 ∷ 0xA9 ∷ 0xF9 ∷ 0xA3 ∷
     0x37 ∷ 0xC1 ∷ 0xA2 ∷ 0xF5 ∷ 0xB9 ∷ 0xC9 ∷ []
-unfolding blake2b_digest last_state state_after padded_block first_state compress work_vector rounds round mix mixed_words iv sigma words64_of word_at bytes_of_words64
+unfolding blake2b_digest state_after padded_block compress work_vector rounds round mix iv sigma words64_of bytes_of_words64
 short_digest_of_two_blocks = refl

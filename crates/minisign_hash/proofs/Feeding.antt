@@ -1,8 +1,8 @@
 -- How the state and the buffer follow a message as it grows.
 use Rattle.std.proofs.Common.{◌≡◌, ℕ, zero, suc, ◌+◌, ◌-◌, ◌*◌, ◌/◌, ◌%◌, ◌^◌, ◌<◌, ◌≤◌, true, false, List, [], ◌++◌, length, take, drop, replicate, refl, sym, ap, ◌∙◌, arith, length-append, length-drop}
 use Rattle.std.proofs.lemmas.List.{append-nil, drop-append-le, drop-drop, drop_all, drop_at, length-take-le, take-append-le, take_all}
-use Rattle.minisign_hash.specs.Blake2b.{padded_block, block_count, compress, last_state, state_after}
-use Rattle.minisign_hash.specs.Words.{words64_of}
+use Rattle.minisign_hash.specs.Blake2b.{blake2b_digest, compress, padded_block, state_after}
+use Rattle.minisign_hash.specs.Words.{bytes_of_words64, words64_of}
 use Rattle.minisign_hash.specs.Fed.{HeldAfter}
 
 -- state_after reads only the blocks that it counts
@@ -80,12 +80,13 @@ held_taken n g count k b used m i s none len whole ec ek eg =
 -- what is left behind whole blocks is the last block
 pub last_taken : (n : ℕ) (h m blocks last : List ℕ) (i k : ℕ) → drop (128 * i) m ≡ blocks ++ last → length m ≡ 128 * i + length (blocks ++ last)
     → length blocks % 128 ≡ 0 → length last ≤ 128 → (0 < length m → 0 < length last) → h ≡ state_after n m (i + length blocks / 128)
-    → k ≡ length m % 2 ^ 128 → compress h (words64_of (last ++ replicate (128 - length last) 0)) k true ≡ last_state n m
-unfolding last_state
+    → k ≡ length m % 2 ^ 128
+    → take n (bytes_of_words64 (compress h (words64_of (last ++ replicate (128 - length last) 0)) k true)) ≡ blake2b_digest n m
+unfolding blake2b_digest
 last_taken n h m blocks last i k ahead len whole fits some eh ek =
     let j : ℕ = i + length blocks / 128 in
     let both : length (blocks ++ last) ≡ length blocks + length last = length-append blocks last in
-    let number : block_count m - 1 ≡ j = grind (arith, len, both, whole, some) in
+    let number : (length m - 1) / 128 ≡ j = grind (arith, len, both, whole, some, fits) in
     let place : 128 * j ≡ 128 * i + length blocks = omega (arith, whole) in
     let rest : last ≡ drop (128 * j) m =
     sym (ap (λ (p : ℕ). drop p m) place ∙ sym (drop-drop (length blocks) (128 * i) m) ∙ ap (drop (length blocks)) ahead ∙ drop_at blocks last (length blocks) refl) in

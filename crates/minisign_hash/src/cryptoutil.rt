@@ -1,9 +1,9 @@
 //! Words of 32 and 64 bits in little endian bytes, and copying.
 
-ghost use Rattle.std.specs.Prelude.{◌≡◌, ◌+◌, ◌*◌, ◌≤◌, ◌++◌, ◌∷◌, [], length, drop, OnOk};
-ghost use Rattle.std.specs.Int.{w32, w64, to_le_bytes};
+ghost use Rattle.std.specs.Prelude.{◌≡◌, ◌+◌, ◌*◌, ◌≤◌, ◌++◌, ◌∷◌, [], length, take, drop, OnOk};
+ghost use Rattle.std.specs.Int.{w32, w64, from_le_bytes, to_le_bytes};
 ghost use Rattle.std.specs.Io.KnownBytes.{Appends};
-ghost use Rattle.minisign_hash.specs.Words.{bytes_of_words64, word_at, words64_of};
+ghost use Rattle.minisign_hash.specs.Words.{bytes_of_words64, words64_of};
 
 use std::io;
 use std::io::Write;
@@ -90,10 +90,9 @@ pub fn read_u64v_le(dst: &mut [u64], input: &[u8])
 
 // Word number `i` of `input`.
 #[inline(always)]
-#[tactic(auto, unfolding(crate::specs::Words::word_at))]
 fn read_word(input: &[u8], i: usize) -> u64
     requires { 8 * i + 8 ≤ length input.now }
-    ensures { result ≡ word_at input.now i }
+    ensures { result ≡ from_le_bytes w64 (take 8 (drop (8 * i) input.now)) }
 {
     let at = 8 * i;
     u64::from_le_bytes([

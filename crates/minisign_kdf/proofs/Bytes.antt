@@ -9,7 +9,8 @@ use Rattle.std.proofs.lemmas.Grind.{flat_map-append}
 use Rattle.std.specs.Int.{w32, from_le_bytes, to_le_bytes}
 use Rattle.std.specs.Simd.Lanes.{number_l, zip2}
 use Rattle.minisign_kdf.specs.Blocks.{block}
-use Rattle.minisign_kdf.specs.Salsa20.{bytes_of_words32, words32_of, salsa20_8, salsa_words}
+use Rattle.minisign_kdf.specs.Diagonal.{salsa_words}
+use Rattle.minisign_kdf.specs.Salsa20.{bytes_of_words32, words32_of, salsa20_8}
 
 pub bytes_of_words32-append : (xs ys : List ℕ) → bytes_of_words32 (xs ++ ys) ≡ bytes_of_words32 xs ++ bytes_of_words32 ys
 bytes_of_words32-append xs ys = flat_map-append (to_le_bytes w32) xs ys
@@ -52,7 +53,7 @@ words32_of-bytes_of_words32 (x ∷ xs) fits =
     (λ i. from_le_bytes-to_le_bytes_4 x (fits 0) i ∷ words32_of-bytes_of_words32 xs (λ k. fits (suc k)) i)
 
 pub salsa20_8-bytes_of_words32 : (xs : List ℕ) → ((i : ℕ) → slice_index xs i < 2 ^ 32) → salsa20_8 (bytes_of_words32 xs) ≡ bytes_of_words32 (salsa_words xs)
-unfolding salsa20_8
+unfolding salsa20_8 salsa_words
 salsa20_8-bytes_of_words32 xs fits = ap (λ (l : List ℕ). bytes_of_words32 (salsa_words l)) (words32_of-bytes_of_words32 xs fits)
 
 -- a block of sixteen words is a block of 64 bytes

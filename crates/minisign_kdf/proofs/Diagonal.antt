@@ -3,8 +3,8 @@
 use Rattle.std.proofs.Common.{◌≡◌, ℕ, zero, suc, ◌+◌, ◌*◌, ◌%◌, ◌^◌, ◌<◌, List, [], ◌∷◌, ◌++◌, length, map, slice_index, bit_xor, lit<, refl, ap, ◌∙◌}
 use Rattle.std.specs.List.{range_with_len}
 use Rattle.std.specs.Simd.Lanes.{number_l, zip2}
-use Rattle.minisign_kdf.specs.Diagonal.{standard_order, transposed_square}
-use Rattle.minisign_kdf.specs.Salsa20.{add32, bytes_of_words32, column_round, double_round, quarter_at, row_round, salsa_words}
+use Rattle.minisign_kdf.specs.Diagonal.{column_round, row_round, salsa_words, standard_order, transposed_square}
+use Rattle.minisign_kdf.specs.Salsa20.{add32, bytes_of_words32, double_round, quarter_at}
 use Rattle.minisign_kdf.proofs.Bytes.{low_words}
 use Rattle.minisign_kdf.proofs.Sixteen.{sixteen_of}
 

@@ -1,12 +1,12 @@
 -- What callers need of a derived key: its length, and that it is bytes.
-use Rattle.std.proofs.Common.{◌≡◌, ℕ, zero, suc, ◌+◌, ◌/◌, ◌^◌, ◌<◌, List, [], ◌∷◌, length, slice_index, All, mod-lt, lit<, subst, refl, sym, ap, ◌∙◌, arith, add-one}
+use Rattle.std.proofs.Common.{◌≡◌, ℕ, zero, suc, ◌+◌, ◌/◌, ◌^◌, ◌<◌, List, [], ◌∷◌, ◌++◌, length, slice_index, All, mod-lt, lit<, subst, refl, sym, ap, ◌∙◌, arith, add-one}
 use Rattle.std.proofs.lemmas.List.{length-take-le}
 use Rattle.std.proofs.lemmas.List.Elements.{All-append, All-get_or, All-take}
 use Rattle.std.specs.Int.{w32, to_be_bytes}
 use Rattle.sha2.specs.Sha256.{digest_bytes, sha256}
 use Rattle.minisign_kdf.specs.Blocks.{joined_lists}
 use Rattle.minisign_kdf.specs.Hmac.{hmac}
-use Rattle.minisign_kdf.specs.Pbkdf2.{derived_block, pbkdf2}
+use Rattle.minisign_kdf.specs.Pbkdf2.{pbkdf2}
 use Rattle.minisign_kdf.specs.Scrypt.{scrypt}
 use Rattle.minisign_kdf.proofs.Joined.{joined_lists_next, joined_lists_none, length-joined_lists}
 
@@ -14,15 +14,11 @@ pub length-hmac : (key text : List ℕ) → length (hmac key text) ≡ 32
 unfolding hmac sha256 digest_bytes
 length-hmac key text = refl
 
-length-derived_block : (password salt : List ℕ) (i : ℕ) → length (derived_block password salt i) ≡ 32
-unfolding derived_block
-length-derived_block password salt i = length-hmac password _
-
 pub length-pbkdf2 : (password salt : List ℕ) (len : ℕ) → length (pbkdf2 password salt len) ≡ len
 unfolding pbkdf2
 length-pbkdf2 password salt len =
-    let whole = length-joined_lists (λ (i : ℕ). derived_block password salt (i + 1)) 32 ((len + 31) / 32) (λ i. length-derived_block password salt (i + 1)) in
-    length-take-le len (joined_lists (λ i. derived_block password salt (i + 1)) ((len + 31) / 32)) (omega (arith, whole))
+    let whole = length-joined_lists (λ (i : ℕ). hmac password (salt ++ to_be_bytes w32 (i + 1))) 32 ((len + 31) / 32) (λ i. length-hmac password _) in
+    length-take-le len (joined_lists (λ i. hmac password (salt ++ to_be_bytes w32 (i + 1))) ((len + 31) / 32)) (omega (arith, whole))
 
 pub length-scrypt : (password salt : List ℕ) (n r p len : ℕ) → length (scrypt password salt n r p len) ≡ len
 unfolding scrypt
@@ -58,9 +54,9 @@ joined_lists_is f (suc n) each =
     subst (All IsByte) (sym (joined_lists_next f n) ∙ ap (joined_lists f) (add-one n)) (All-append IsByte (joined_lists f n) (f n) (joined_lists_is f n each) (each n))
 
 pbkdf2_is : (password salt : List ℕ) (len : ℕ) → All IsByte (pbkdf2 password salt len)
-unfolding pbkdf2 derived_block
+unfolding pbkdf2
 pbkdf2_is password salt len =
-    All-take IsByte len _ (joined_lists_is (λ (i : ℕ). derived_block password salt (i + 1)) ((len + 31) / 32) (λ i. hmac_is password _))
+    All-take IsByte len _ (joined_lists_is (λ (i : ℕ). hmac password (salt ++ to_be_bytes w32 (i + 1))) ((len + 31) / 32) (λ i. hmac_is password _))
 
 pub scrypt_bytes : (password salt : List ℕ) (n r p len : ℕ) (i : ℕ) → i < len → slice_index (scrypt password salt n r p len) i < 2 ^ 8
 unfolding scrypt

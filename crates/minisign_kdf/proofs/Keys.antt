@@ -2,8 +2,10 @@
 use Rattle.std.proofs.Common.{◌≡◌, ℕ, ◌+◌, ◌*◌, ◌/◌, ◌<◌, ◌≤◌, List, [], ◌∷◌, ◌++◌, length, take, map, slice_index, slice_set, bit_xor, sym, ap, ◌∙◌, arith}
 use Rattle.std.proofs.Math.Seq.{take-append-add}
 use Rattle.std.proofs.lemmas.List.{append-nil, nil_from_length, take_all, get_or-map, length-map, take_more, take_more_set}
+use Rattle.std.specs.Int.{w32, to_be_bytes}
 use Rattle.minisign_kdf.specs.Blocks.{joined_lists}
-use Rattle.minisign_kdf.specs.Pbkdf2.{derived_block, pbkdf2}
+use Rattle.minisign_kdf.specs.Hmac.{hmac}
+use Rattle.minisign_kdf.specs.Pbkdf2.{pbkdf2}
 use Rattle.minisign_kdf.proofs.Joined.{joined_lists_next}
 
 -- one more byte is padded
@@ -16,20 +18,20 @@ padded_next pad i block out done lo lb =
     ∙ sym (take_more (map f block) i 0 (omega (arith, length-map block f)))
 
 -- a derived key of whole blocks
-pub pbkdf2_whole : (password salt w rest : List ℕ) (count len : ℕ) → w ≡ joined_lists (λ i. derived_block password salt (i + 1)) count → length w ≡ 32 * count
+pub pbkdf2_whole : (password salt w rest : List ℕ) (count len : ℕ) → w ≡ joined_lists (λ i. hmac password (salt ++ to_be_bytes w32 (i + 1))) count → length w ≡ 32 * count
     → len ≡ 32 * count → length rest ≡ 0 → w ++ rest ≡ pbkdf2 password salt len
 unfolding pbkdf2
 pbkdf2_whole password salt w rest count len ew lw el none =
     let blocks : (len + 31) / 32 ≡ count = omega arith in
     ap (λ (l : List ℕ). w ++ l) (nil_from_length rest none) ∙ append-nil w ∙ sym (take_all len w (omega arith))
-    ∙ ap (take len) (ew ∙ ap (joined_lists (λ (i : ℕ). derived_block password salt (i + 1))) (sym blocks))
+    ∙ ap (take len) (ew ∙ ap (joined_lists (λ (i : ℕ). hmac password (salt ++ to_be_bytes w32 (i + 1)))) (sym blocks))
 
 -- a derived key whose last block is cut
-pub pbkdf2_cut : (password salt w y : List ℕ) (count n len : ℕ) → w ≡ joined_lists (λ i. derived_block password salt (i + 1)) count → length w ≡ 32 * count
-    → len ≡ 32 * count + n → 0 < n → n ≤ 32 → y ≡ take n (derived_block password salt (count + 1)) → w ++ y ≡ pbkdf2 password salt len
+pub pbkdf2_cut : (password salt w y : List ℕ) (count n len : ℕ) → w ≡ joined_lists (λ i. hmac password (salt ++ to_be_bytes w32 (i + 1))) count → length w ≡ 32 * count
+    → len ≡ 32 * count + n → 0 < n → n ≤ 32 → y ≡ take n (hmac password (salt ++ to_be_bytes w32 (count + 1))) → w ++ y ≡ pbkdf2 password salt len
 unfolding pbkdf2
 pbkdf2_cut password salt w y count n len ew lw el some few ey =
-    let f : ℕ → List ℕ = λ i. derived_block password salt (i + 1) in
+    let f : ℕ → List ℕ = λ i. hmac password (salt ++ to_be_bytes w32 (i + 1)) in
     let blocks : (len + 31) / 32 ≡ count + 1 = omega arith in
     let at : len ≡ length w + n = omega arith in
     ap (λ (l : List ℕ). w ++ l) ey ∙ sym (take-append-add w (f count) n)

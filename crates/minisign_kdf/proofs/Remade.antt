@@ -8,8 +8,8 @@ use Rattle.std.specs.List.{range_with_len}
 use Rattle.std.specs.Simd.Lanes.{zip2}
 use Rattle.minisign_kdf.specs.Blocks.{block}
 use Rattle.minisign_kdf.specs.Diagonal.{diagonal_bytes}
-use Rattle.minisign_kdf.specs.Kept.{kept_rows, remade_row, rom_mix_from, rows_of}
-use Rattle.minisign_kdf.specs.Scrypt.{block_mix, integerify, mixed_part, row_at}
+use Rattle.minisign_kdf.specs.Kept.{integerify, kept_rows, remade_row, rom_mix_from, rows_of}
+use Rattle.minisign_kdf.specs.Scrypt.{block_mix, mixed_part, row_at}
 use Rattle.minisign_kdf.proofs.Blocks.{block_front, block_new, block_whole, row_before}
 use Rattle.minisign_kdf.proofs.Kept.{quotient_kept, row_at-add, some_kept}
 use Rattle.minisign_kdf.proofs.RowMixing.{mod_64, row_at_none}

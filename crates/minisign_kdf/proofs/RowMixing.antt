@@ -5,7 +5,8 @@ use Rattle.std.proofs.lemmas.List.{get_or-drop, get_or-take}
 use Rattle.std.proofs.lemmas.Nat.{mod-pow-add}
 use Rattle.std.specs.Simd.Lanes.{zip2}
 use Rattle.minisign_kdf.specs.Diagonal.{diagonal_bytes}
-use Rattle.minisign_kdf.specs.Scrypt.{block_mix, integerify, mixed_part, row_at}
+use Rattle.minisign_kdf.specs.Kept.{integerify}
+use Rattle.minisign_kdf.specs.Scrypt.{block_mix, mixed_part, row_at}
 use Rattle.minisign_kdf.proofs.Diagonal.{low_bits_places}
 use Rattle.minisign_kdf.proofs.Ordered.{block-diagonal_bytes}
 
@@ -13,7 +14,6 @@ use Rattle.minisign_kdf.proofs.Ordered.{block-diagonal_bytes}
 
 pub integerify_low : (r : ℕ) (xs : List ℕ) (x y : ℕ) → 1 ≤ r → length xs ≡ 32 * r → ((i : ℕ) → slice_index xs i < 2 ^ 32)
     → x ≡ slice_index xs (32 * r - 16) → y ≡ slice_index xs (32 * r - 16 + 13) → x + y * 2 ^ 32 % 2 ^ 64 ≡ integerify r (diagonal_bytes xs) % 2 ^ 64
-unfolding integerify
 integerify_low r xs x y some len fits ex ey =
     let n : ℕ = 32 * r - 16 in
     let at : 16 * (2 * r - 1) ≡ n = omega arith in

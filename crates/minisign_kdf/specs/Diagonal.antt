@@ -3,7 +3,8 @@
 use Rattle.std.specs.Prelude.{ℕ, ◌+◌, ◌*◌, ◌/◌, ◌%◌, List, ◌++◌, length, map, slice_index}
 use Rattle.std.specs.List.{range_with_len}
 use Rattle.minisign_kdf.specs.Blocks.{block, joined_lists}
-use Rattle.minisign_kdf.specs.Salsa20.{bytes_of_words32}
+use Rattle.std.specs.Simd.Lanes.{zip2}
+use Rattle.minisign_kdf.specs.Salsa20.{add32, bytes_of_words32, double_round, quarter_at}
 use Rattle.minisign_kdf.specs.declared.salsa.Block.{Block}
 
 -- the words that stand in diagonal order, in the order of RFC 7914
@@ -17,6 +18,19 @@ diagonal_bytes xs = joined_lists (λ i. bytes_of_words32 (standard_order (block 
 -- sixteen words as a square of four rows of four, with its rows and columns swapped
 unfoldable pub transposed_square : List ℕ → List ℕ
 transposed_square x = map (λ w. slice_index x (4 * (w % 4) + w / 4)) (range_with_len 0 16)
+
+-- the round on the columns, and the one on the rows: both halves of a double round
+unfoldable pub column_round : List ℕ → List ℕ
+column_round x =
+    quarter_at (quarter_at (quarter_at (quarter_at x 0 4 8 12) 5 9 13 1) 10 14 2 6) 15 3 7 11
+
+unfoldable pub row_round : List ℕ → List ℕ
+row_round x =
+    quarter_at (quarter_at (quarter_at (quarter_at x 0 1 2 3) 5 6 7 4) 10 11 8 9) 15 12 13 14
+
+-- eight rounds, and the input words added
+unfoldable pub salsa_words : List ℕ → List ℕ
+salsa_words x = zip2 add32 (double_round (double_round (double_round (double_round x)))) x
 
 -- the words of a block as they stand, and in the order of RFC 7914
 abbrev pub placed_words : Block → List ℕ

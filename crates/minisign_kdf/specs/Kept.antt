@@ -2,9 +2,14 @@
 use Rattle.std.specs.Prelude.{ℕ, ◌-◌, ◌*◌, ◌/◌, ◌%◌, List, [], length, map, slice_index_or}
 use Rattle.std.specs.Int.{div_ceil}
 use Rattle.std.specs.List.{range_with_len}
+use Rattle.std.specs.Simd.Lanes.{number_l}
 use Rattle.minisign_kdf.specs.Blocks.{block}
 use Rattle.minisign_kdf.specs.Diagonal.{diagonal_bytes}
 use Rattle.minisign_kdf.specs.Scrypt.{mixed_part, row_at}
+
+-- Integerify: the last block of a part as a number, low byte first (section 5)
+abbrev pub integerify : ℕ → List ℕ → ℕ
+integerify r x = number_l 256 (block 64 x (2 * r - 1))
 
 -- kept rows, with the block size r and n for N: the rows are bytes in the order of the RFC
 pub record KeptRows : Type 0 where

@@ -20,16 +20,13 @@ unfoldable pub row_at : ℕ → List ℕ → ℕ → List ℕ
 row_at r b zero = b
 row_at r b (suc i) = block_mix r (row_at r b i)
 
--- Integerify: the last block of a part as a number, low byte first (section 5)
-unfoldable pub integerify : ℕ → List ℕ → ℕ
-integerify r x = number_l 256 (block 64 x (2 * r - 1))
-
--- x after t times j = Integerify(X) mod N, X = scryptBlockMix(X xor V_j), with n for N (section 5)
+-- x after t times j = Integerify(X) mod N, X = scryptBlockMix(X xor V_j), with n for N; Integerify reads the last block
+-- as a number, low byte first (section 5)
 unfoldable pub mixed_part : ℕ → ℕ → (ℕ → List ℕ) → List ℕ → ℕ → List ℕ
 mixed_part r n v x zero = x
 mixed_part r n v x (suc t) =
     let y = mixed_part r n v x t in
-    block_mix r (zip2 bit_xor y (v (integerify r y % n)))
+    block_mix r (zip2 bit_xor y (v (number_l 256 (block 64 y (2 * r - 1)) % n)))
 
 -- scryptROMix: X begins as scryptBlockMix applied N times to B, and is mixed N times (section 5)
 unfoldable pub rom_mix : ℕ → ℕ → List ℕ → List ℕ

@@ -1,8 +1,10 @@
 //! PBKDF2 (RFC 8018, section 5.2) with one iteration of HMAC with SHA-256.
 
-ghost use Rattle.std.specs.Prelude.{◌≡◌, ◌+◌, ◌*◌, ◌^◌, ◌≤◌, length};
+ghost use Rattle.std.specs.Prelude.{◌≡◌, ◌+◌, ◌*◌, ◌^◌, ◌≤◌, ◌++◌, length};
+ghost use Rattle.std.specs.Int.{w32, to_be_bytes};
 ghost use Rattle.minisign_kdf.specs.Blocks.{joined_lists};
-ghost use Rattle.minisign_kdf.specs.Pbkdf2.{derived_block, longest_key, pbkdf2};
+ghost use Rattle.minisign_kdf.specs.Hmac.{hmac};
+ghost use Rattle.minisign_kdf.specs.Pbkdf2.{longest_key, pbkdf2};
 
 use crate::hmac::hmac_sha256;
 
@@ -28,7 +30,7 @@ pub fn pbkdf2_once(password: &[u8], salt: &[u8], out: &mut [u8])
 // Fills `out` with whole blocks, from T_1 on.
 fn write_blocks(password: &[u8], salt: &[u8], count: u32, out: &mut [u8])
     requires { length out.old ≡ 32 * count }
-    ensures { out.new ≡ joined_lists (λ i. derived_block password.now salt.now (i + 1)) count }
+    ensures { out.new ≡ joined_lists (λ i. hmac password.now (salt.now ++ to_be_bytes w32 (i + 1))) count }
 {
     'whole: for i in 0..count {
         let at = BLOCK_LEN * i as usize;
@@ -37,9 +39,8 @@ fn write_blocks(password: &[u8], salt: &[u8], count: u32, out: &mut [u8])
 }
 
 // T_i.
-#[tactic(auto, unfolding(crate::specs::Pbkdf2::derived_block))]
 fn derived_block(password: &[u8], salt: &[u8], i: u32) -> [u8; 32]
-    ensures { result ≡ derived_block password.now salt.now i }
+    ensures { result ≡ hmac password.now (salt.now ++ to_be_bytes w32 i) }
 {
     hmac_sha256(password, &[salt, &i.to_be_bytes()])
 }

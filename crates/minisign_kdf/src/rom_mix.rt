@@ -7,8 +7,8 @@ ghost use Rattle.std.specs.Int.{div_ceil};
 ghost use Rattle.std.specs.Simd.Lanes.{zip2};
 ghost use Rattle.minisign_kdf.specs.Blocks.{block};
 ghost use Rattle.minisign_kdf.specs.Diagonal.{diagonal_bytes};
-ghost use Rattle.minisign_kdf.specs.Kept.{kept_rows, remade_row, rom_mix_from, rows_of};
-ghost use Rattle.minisign_kdf.specs.Scrypt.{block_mix, integerify, rom_mix, row_at};
+ghost use Rattle.minisign_kdf.specs.Kept.{integerify, kept_rows, remade_row, rom_mix_from, rows_of};
+ghost use Rattle.minisign_kdf.specs.Scrypt.{block_mix, rom_mix, row_at};
 
 use crate::block_mix::{mix_times, xor_block_mix};
 use crate::kept_rows::{kept_count, row_count};

@@ -2,7 +2,7 @@
 
 ghost use Rattle.std.specs.Prelude.{Option, ◌≡◌, ◌⊎◌, ℕ, ◌<◌, List, [], ◌∷◌, ◌++◌, length, None, Some, IsOk, IfOk, IfErr, OnOk, OnErr};
 ghost use Rattle.std.specs.Io.KnownBytes.{Appends};
-ghost use Rattle.minisign_base.specs.Devices.{AllFlushed, Rose, AppendsFront, HasWritten, HasFlushed};
+ghost use Rattle.minisign_base.specs.Devices.{Rose, AppendsFront, HasWritten, HasFlushed, SameWhereKnown};
 ghost use Rattle.minisign_base.specs.Fault.{Named};
 ghost use Rattle.minisign_base.specs.declared.faults.NamedFault.TheVariants.{OutOfMemory, WritingFailed};
 
@@ -197,7 +197,7 @@ pub fn put_and_flush<S: Sink>(sink: &mut S, bytes: &[u8]) -> Result<(), DeviceFa
     ensures bytes { OnOk result (Appends (S.taken sink.old) (S.taken sink.new) bytes.now) }
 
     // On success all that the sink took is flushed.
-    ensures flushed { OnOk result (AllFlushed (S.flushed sink.new) (S.taken sink.new)) }
+    ensures flushed { OnOk result (SameWhereKnown (S.taken sink.new) (S.flushed sink.new)) }
 
     // The count of faults rose exactly where it is refused, and then a beginning was written.
     ensures no_new_fault { OnOk result (S.sink_faults sink.new ≡ S.sink_faults sink.old) }

@@ -3,7 +3,7 @@
 ghost use Rattle.std.specs.Prelude.{Bool, true, false, IsTrue, Option, ◌≡◌, ◌==◌, ℕ, ◌+◌, ◌-◌, ◌<◌, ◌≤◌, ◌^◌, ◌↔◌, min, List, [], length, take, drop, Some, None, IsOk, IsErr, IsOkAnd, IsNone, OnOk, OnErr, if◌then◌else◌, ⊤, ◌⊎◌};
 ghost use Rattle.std.specs.Option.{is_some};
 ghost use Rattle.std.specs.Io.KnownBytes.{Consumes, IsAtEnd};
-ghost use Rattle.minisign_base.specs.Devices.{Rose, most_faults, HasGiven, HasRead, HasMarked, HasGoneBack};
+ghost use Rattle.minisign_base.specs.Devices.{Rose, HasGiven, HasRead, HasMarked, HasGoneBack};
 
 use super::{DeviceFault, FaultCount};
 use std::io::{Read, Seek, SeekFrom};
@@ -276,7 +276,7 @@ impl<F: Read + Seek> FileSource<F> {
     // One more fault, and no place is marked.
     fn lose_mark(&mut self) -> DeviceFault
         ensures unmarked { self.new.marked ≡ None }
-        ensures raised { self.new.reader.faults.0 ≡ min (self.old.reader.faults.0 + 1) most_faults }
+        ensures raised { self.new.reader.faults.0 ≡ min (self.old.reader.faults.0 + 1) (2 ^ 64 - 1) }
     {
         self.marked = None;
         self.reader.faults.raise()

@@ -1,6 +1,6 @@
 use Rattle.std.proofs.Common.{◌≡◌, length, refl, arith}
-use Rattle.minisign_kdf.specs.Diagonal.{standard_order}
-use Rattle.minisign_kdf.specs.Salsa20.{column_round, quarter_at, quarter_round}
+use Rattle.minisign_kdf.specs.Diagonal.{column_round, standard_order}
+use Rattle.minisign_kdf.specs.Salsa20.{quarter_at, quarter_round}
 use Rattle.minisign_kdf.proofs.Sixteen.{four_of}
 use Rattle.minisign_kdf.proofs.salsa.column_round.Goals as goal
 

@@ -1,6 +1,5 @@
 use Rattle.std.proofs.Common.{◌∙◌, ap, sym}
-use Rattle.minisign_kdf.specs.Diagonal.{placed_words, transposed_square}
-use Rattle.minisign_kdf.specs.Salsa20.{column_round}
+use Rattle.minisign_kdf.specs.Diagonal.{column_round, placed_words, transposed_square}
 use Rattle.minisign_kdf.proofs.Diagonal.{length-standard_order, row_round-transposed_square}
 use Rattle.minisign_kdf.proofs.salsa.row_round.Goals as goal
 

@@ -1,5 +1,6 @@
 use Rattle.std.proofs.Common.{◌≡◌, ◌+◌, ◌*◌, ◌%◌, ◌^◌, ◌<◌, ◌++◌, List, ℕ, refl, drop, length, length-append, take, arith, sym, ap, ◌∙◌}
 use Rattle.std.proofs.lemmas.List.{length-take-le}
+use Rattle.minisign_hash.specs.Words.{bytes_of_words64}
 use Rattle.minisign_hash.specs.Fed.{Holds, IsFed}
 use Rattle.minisign_hash.proofs.Feeding.{last_taken}
 use Rattle.minisign_hash.proofs.blake2b.Blake2b.last_state.Goals as goal
@@ -19,5 +20,5 @@ returns c = λ m ((i, held), lazy).
     let counted : ((s.count + length blocks) % 2 ^ 128 + length last) % 2 ^ 128 ≡ length m % 2 ^ 128 =
     omega (arith, held.len, held.counted, joined, length-append blocks last) in
     let before = c.after_blocks-h.ensures.whole refl refl whole s.outlen m last i ahead held.state held.counted in
-    rw c.padded.ensures at (c.after_blocks.ensures.one (omega arith))
+    ap (λ (h : List ℕ). take s.outlen (bytes_of_words64 h)) (rw c.padded.ensures at (c.after_blocks.ensures.one (omega arith)))
     ∙ last_taken s.outlen _ m blocks last i _ ahead (rw joined held.len) whole c.split_last_block.ensures.fits some before counted

@@ -1,9 +1,8 @@
-use Rattle.std.proofs.Common.{arith}
-use Rattle.minisign_hash.specs.Blake2b.{state_after}
+use Rattle.std.proofs.Common.{[], arith}
 use Rattle.minisign_hash.specs.Fed.{Holds, IsFed}
 use Rattle.minisign_hash.proofs.Feeding.{held_none}
 use Rattle.minisign_hash.proofs.blake2b.Blake2b.new.Goals as goal
 
 pub returns-clause-fed : goal.returns-clause-fed
-unfolding Holds IsFed state_after
-returns-clause-fed c = ((0, held_none _ _ _ c.first_state.ensures), λ some. absurd (omega arith))
+unfolding Holds IsFed
+returns-clause-fed c = ((0, held_none _ _ _ (c.first_state.ensures [])), λ some. absurd (omega arith))
